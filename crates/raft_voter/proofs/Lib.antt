@@ -4,6 +4,7 @@ pub mod Following
 pub mod VoterSteps
 pub mod RunLaws
 pub mod Appends
+pub mod Sameness
 pub mod Standing
 pub mod Repeating
 mod Owning

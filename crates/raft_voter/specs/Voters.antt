@@ -1,5 +1,6 @@
-use Rattle.std.specs.Prelude.{◌≡◌, ◌⊎◌, ℕ, None, unwrap_or}
-use Rattle.std.specs.BTreeMap.{get}
+use Rattle.std.specs.Prelude.{◌≡◌, ◌⊎◌, ℕ, Bool, List, None, unwrap_or}
+use Rattle.std.specs.BTreeMap.{get, is_at}
+use Rattle.std.specs.List.{list_any}
 use Rattle.std.specs.Ordering.{nat_cmp}
 use Rattle.raft_voter.specs.declared.voters.Voters.{Voters}
 use Rattle.raft_voter_messages.specs.declared.request.Request.{Request}
@@ -14,3 +15,7 @@ world_of v = λ g. unwrap_or (get nat_cmp v.voters g) fresh
 -- a group needs memory for a request: it has no voter here yet, or entries are copied
 abbrev pub NeedsMemory : Voters → ℕ → Request → Type 0
 NeedsMemory v g q = (get nat_cmp v.voters g ≡ None) ⊎ Copies (world_of v g) q
+
+-- a group is among these
+abbrev pub is_listed : List ℕ → ℕ → Bool
+is_listed groups g = list_any (is_at (nat_cmp g)) groups

@@ -1,8 +1,12 @@
 //! The voters of many groups, in memory.
-ghost use Rattle.std.specs.Prelude.{◌≡◌, ◌<◌, ℕ, IsTrue, length, IfOk, OnOk, OnErr};
-ghost use Rattle.raft_voter.specs.Rounds.{after, after_one, are_rising, fresh_world, is_among, replies_from, taken_from, TakesFirst};
+ghost use Rattle.std.specs.Prelude.{◌≡◌, ◌<◌, ℕ, false, IsTrue, length, unwrap_or, IfOk, OnOk, OnErr};
+ghost use Rattle.std.specs.BTreeMap.{get};
+ghost use Rattle.std.specs.Ordering.{nat_cmp};
+ghost use Rattle.std.specs.Bool.{Decides};
+ghost use Rattle.raft_voter.specs.Rounds.{after, after_one, are_rising, fresh_world, is_among, put, replies_from, taken_from, TakesFirst};
 ghost use Rattle.raft_voter_outline.specs.Rules.{reply};
-ghost use Rattle.raft_voter.specs.Voters.{NeedsMemory, world_of};
+ghost use Rattle.raft_voter_outline.specs.State.{fresh};
+ghost use Rattle.raft_voter.specs.Voters.{is_listed, NeedsMemory, world_of};
 
 use crate::{Items, Memory, Reply, Request, Voter};
 use std::alloc::Global;
@@ -37,6 +41,45 @@ impl Voters {
     {
         let voter = self.voters.entry(group)?.or_insert(Voter::new(self.alloc));
         voter.step(request)
+    }
+
+    /// One group's voter is this one from now on. Where memory is refused every voter is as before.
+    pub fn put(&mut self, group: u64, voter: Voter) -> Result<(), Memory>
+        ensures ok { OnOk result (world_of self.new ≡ put (world_of self.old) group voter) }
+        ensures err { OnErr result (world_of self.new ≡ world_of self.old) }
+    {
+        self.voters.insert(group, voter)?;
+        Ok(())
+    }
+
+    /// The groups that have a voter here, from the least up; the voter of any other is a fresh one.
+    pub fn groups(&self) -> Result<Vec<u64>, Memory>
+        ensures { IfOk result (λ groups.
+            (g : ℕ) → is_listed groups.items g ≡ false → world_of self.now g ≡ fresh) }
+    {
+        let mut groups = Vec::new(self.alloc);
+        for (group, _) in self.voters.iter() {
+            groups.push(*group)?;
+        }
+        Ok(groups)
+    }
+
+    /// Whether a group has the same voter here and there.
+    pub fn is_same_at(&self, other: &Voters, group: u64) -> bool
+        ensures { Decides result (world_of self.now group ≡ world_of other.now group) }
+    {
+        let blank = Voter::new(self.alloc);
+        is_same(self.voter_or(group, &blank), other.voter_or(group, &blank))
+    }
+
+    /// A group's voter, or the blank one where it has none.
+    fn voter_or<'a>(&'a self, group: u64, blank: &'a Voter) -> &'a Voter
+        ensures { result.now ≡ unwrap_or (get nat_cmp self.now.voters group) blank.now }
+    {
+        match self.voters.get(&group) {
+            Some(voter) => voter,
+            None => blank,
+        }
     }
 
     /// The voters take the requests of a round in order, but for those at the refused places, which rise.
@@ -80,4 +123,14 @@ fn is_next(ahead: &[usize], place: usize) -> bool
         Some(next) => *next == place,
         None => false,
     }
+}
+
+/// Whether two voters are the same.
+fn is_same(voter: &Voter, other: &Voter) -> bool
+    ensures { Decides result (voter.now ≡ other.now) }
+{
+    if voter.state() != other.state() {
+        return false;
+    }
+    voter.log() == other.log()
 }

@@ -1,0 +1,82 @@
+-- How far the rounds of a history that were cut off were taken.
+use Rattle.std.specs.Prelude.{◌≡◌, ℕ, ◌+◌, List, [], ◌∷◌, ◌++◌, length, Option, Some, None, unwrap_or}
+use Rattle.raft_voter_messages.specs.declared.round.Round.{Round}
+use Rattle.raft_voter.specs.Rounds.{World, after, taken_below}
+use Rattle.raft_voter.specs.Service.{CutRound, IsOpenAt, Service, uncut}
+use Rattle.raft_voter.specs.declared.service.Cause.{Cause}
+use Rattle.raft_voter.specs.declared.service.Cause.TheVariants.{FileSystem}
+use Rattle.raft_voter_world.specs.declared.notes.Lost.{Lost}
+use Rattle.raft_voter_world.specs.declared.notes.Loss.TheVariants.{NoPlace, Unread}
+use Rattle.raft_voter_world.specs.History.{Moment}
+use Rattle.raft_voter_world.specs.History.Moment.{opened, unread, fell, unopened, crashed, kept, answered, cut_off, idle}
+use Rattle.raft_voter_world.specs.Places.{IsPlaceFound}
+use Rattle.raft_voter_world.specs.Stores.{world_in}
+
+-- the place behind which the next open finds the voters that it shows; `last` where none follows, 0 where it
+-- finds none
+abbrev pub next_place : {S F : Type 0} → ℕ → List (Moment S F) → ℕ
+next_place last [] = last
+next_place last (opened workers store voters place now ∷ ms) = unwrap_or place 0
+next_place last (unread workers store now ∷ ms) = 0
+next_place last (m ∷ ms) = next_place last ms
+
+-- the place up to which a round was taken that was cut off for this cause: that of the next open where some of it
+-- may have been, else 0
+abbrev pub place_for : Cause → ℕ → ℕ
+place_for FileSystem place = place
+place_for cause place = 0
+
+-- the places up to which the rounds that were cut off were taken, `last` being that of the one that no open
+-- follows
+abbrev pub cuts_in : {S F : Type 0} → ℕ → List (Moment S F) → List ℕ
+cuts_in last [] = []
+cuts_in last (cut_off round cause now ∷ ms) = place_for cause (next_place last ms) ∷ cuts_in last ms
+cuts_in last (idle round files ∷ ms) = 0 ∷ cuts_in last ms
+cuts_in last (m ∷ ms) = cuts_in last ms
+
+-- the round that was cut off, and may have been taken up to some place, once this one was, for this cause
+abbrev pub cut_by : Cause → CutRound → Round → CutRound
+cut_by FileSystem cut round =
+    record { before = cut.before; requests = round.requests; refused = round.refused }
+cut_by cause cut round = cut
+
+-- the voters once an answered round was taken
+abbrev pub cut_after : CutRound → Round → CutRound
+cut_after cut round = uncut (after cut.before (taken_below round (length round.requests)))
+
+-- behind a round that was cut off, or none, each open finds the least place that fits the voters that it shows, or
+-- none where no place does
+abbrev pub AreLeast : {S F : Type 0} → CutRound → List (Moment S F) → Type 0
+AreLeast cut [] = Unit {0}
+AreLeast cut (opened workers store voters place now ∷ ms) =
+    IsPlaceFound cut (world_in voters) place × AreLeast (uncut (world_in voters)) ms
+AreLeast cut (unread workers store now ∷ ms) = AreLeast (uncut cut.before) ms
+AreLeast cut (answered round now ∷ ms) = AreLeast (cut_after cut round) ms
+AreLeast cut (cut_off round cause now ∷ ms) = AreLeast (cut_by cause cut round) ms
+AreLeast cut (m ∷ ms) = AreLeast cut ms
+
+-- what an event lost: at an open that shows voters which no place fits, or whose voters aren't read
+abbrev pub lost_at : {S F : Type 0} → ℕ → List (Moment S F) → List Lost
+lost_at event [] = []
+lost_at event (opened workers store voters None now ∷ ms) =
+    record { event = event; loss = NoPlace } ∷ lost_at event ms
+lost_at event (unread workers store now ∷ ms) = record { event = event; loss = Unread } ∷ lost_at event ms
+lost_at event (m ∷ ms) = lost_at event ms
+
+-- what events lost, of which the first has this number
+abbrev pub lost_from : {S F : Type 0} → ℕ → List (List (Moment S F)) → List Lost
+lost_from event [] = []
+lost_from event (ms ∷ mss) = lost_at event ms ++ lost_from (event + 1) mss
+
+-- each store that was opened serves voters, whichever they are
+abbrev pub ServeSome : {S F : Type 0} → Service S → List (Moment S F) → Type 0
+ServeSome v [] = Unit {0}
+ServeSome v (opened workers store voters place now ∷ ms) = ((W : World) × IsOpenAt v store W) × ServeSome v ms
+ServeSome v (m ∷ ms) = ServeSome v ms
+
+-- nothing was lost
+abbrev pub NoneLost : {S F : Type 0} → List (Moment S F) → Type 0
+NoneLost [] = Unit {0}
+NoneLost (opened workers store voters None now ∷ ms) = ⊥
+NoneLost (unread workers store now ∷ ms) = ⊥
+NoneLost (m ∷ ms) = NoneLost ms

@@ -1,0 +1,259 @@
+-- What happened to a store of voters and its disk.
+use Rattle.std.specs.Prelude.{◌≡◌, ℕ, ◌+◌, ◌<◌, ◌≤◌, ◌==◌, Bool, true, false, if◌then◌else◌, List, [], ◌∷◌, ◌++◌, length, Option, Some, None, Result, Ok, Err, map}
+use Rattle.std.specs.List.{flat_map}
+use Rattle.std.specs.Option.{option_to_list}
+use Rattle.std.specs.String.{string_bytes}
+use Rattle.raft_voter_messages.specs.declared.reply.Reply.{Reply}
+use Rattle.raft_voter_messages.specs.declared.request.Request.{Request}
+use Rattle.raft_voter_messages.specs.declared.round.Outcome.TheVariants.{Answered, Cut}
+use Rattle.raft_voter_messages.specs.declared.round.Round.{Round}
+use Rattle.raft_voter_outline.specs.State.{State}
+use Rattle.raft_voter.specs.Service.{AnswersRound, CutsOff, FailsAs, IsAlive, IsFromOutside, Service, refused_from}
+use Rattle.raft_voter.specs.declared.service.Cause.{Cause}
+use Rattle.raft_voter.specs.declared.service.Cause.TheVariants.{FileSystem}
+use Rattle.raft_voter_world.specs.declared.event.Event.{Event}
+use Rattle.raft_voter_world.specs.declared.event.Event.TheVariants.{Round as RoundEvent, Maintain, RewriteAppend, RewriteRewrite, Open as OpenEvent, Close, Crash, CrashAt, Refuse, Fork}
+use Rattle.raft_voter_world.specs.declared.event.Left.{Left}
+use Rattle.raft_voter_world.specs.declared.faults.Fault.{Fault}
+use Rattle.raft_voter_world.specs.declared.faults.Fault.TheVariants.{Stop, Refuse as RefuseCall}
+use Rattle.raft_voter_world.specs.declared.faults.Purge.{Purge}
+use Rattle.raft_voter_world.specs.declared.faults.Purge.TheVariants.{Expired, RewriteAppend as Append, RewriteRewrite as Rewrite}
+use Rattle.raft_voter_world.specs.declared.storage.Storage.{Storage}
+use Rattle.raft_voter_world.specs.declared.storage.Storage.TheVariants.{Closed, Open}
+use Rattle.raft_voter_world.specs.Stores.{Disk, FindsVoters, KeepsVoters, LeavesInFiles, LeavesStanding, LeavesUnder, StaysAsItWas, StaysInFiles, TellsVoters, Upkeep}
+
+-- Moments.
+
+-- calls that keep the voters: a close, a purge, a fault that is armed, a copy into a directory
+pub data Change : Type 0 where
+  closes : Change
+  purges : Purge → Change
+  arms : Fault → Change
+  copies : List ℕ → Change
+
+-- What happens, and the store or the files that are there behind it:
+-- so many workers opened a store; these voters were read from it, to be looked for among those that a round
+-- that was cut off may have left, and found behind this place, or behind none,
+-- the same, but its voters weren't read,
+-- the same, but the disk stopped in it, and a crash left these files,
+-- an open was refused, and handed back these files,
+-- a crash left these files,
+-- a call kept the voters,
+-- a store answered a round, or cut it off for a cause,
+-- and a round was cut off as no store was open.
+pub data Moment (S F : Type 0) : Type 0 where
+  opened : ℕ → S → List (ℕ × State) → Option ℕ → S → Moment S F
+  unread : ℕ → S → S → Moment S F
+  fell : ℕ → S → Left → F → Moment S F
+  unopened : ℕ → Cause → F → Moment S F
+  crashed : Left → F → Moment S F
+  kept : Change → Storage S F → Moment S F
+  answered : Round → S → Moment S F
+  cut_off : Round → Cause → S → Moment S F
+  idle : Round → F → Moment S F
+
+-- the storage behind a moment
+abbrev pub behind : {S F : Type 0} → Moment S F → Storage S F
+behind (opened workers store voters place now) = Open now
+behind (unread workers store now) = Open now
+behind (fell workers store gone files) = Closed files
+behind (unopened workers cause files) = Closed files
+behind (crashed gone files) = Closed files
+behind (kept change now) = now
+behind (answered round now) = Open now
+behind (cut_off round cause now) = Open now
+behind (idle round files) = Closed files
+
+-- the storage behind several
+abbrev pub behind_all : {S F : Type 0} → Storage S F → List (Moment S F) → Storage S F
+behind_all storage [] = storage
+behind_all storage (m ∷ ms) = behind_all (behind m) ms
+
+-- the round of a moment
+abbrev pub rounds_of : {S F : Type 0} → Moment S F → List Round
+rounds_of (answered round now) = round ∷ []
+rounds_of (cut_off round cause now) = round ∷ []
+rounds_of (idle round files) = round ∷ []
+rounds_of moment = []
+
+-- the rounds, in order
+abbrev pub rounds_in : {S F : Type 0} → List (Moment S F) → List Round
+rounds_in ms = flat_map rounds_of ms
+
+-- What each moment is.
+
+-- a round of which nothing was taken, as no store was open
+abbrev pub IsIdle : Round → Type 0
+IsIdle round = (round.outcome ≡ Cut) × (round.refused ≡ [])
+
+-- a store answered a round: its refused places are those of its replies, which it may refuse
+pub record IsAnswered {S : Type 0} (v : Service S) (old : S) (round : Round) (new : S) : Type 0 where
+  pub replies : List Reply
+  pub told : round.outcome ≡ Answered replies
+  pub places : round.refused ≡ refused_from 0 replies
+  pub answers : AnswersRound v round.requests replies old new
+  pub may_refuse : v.may_refuse old new round.requests round.refused
+  pub short : length round.requests ≤ 4096
+  pub alive : IsAlive (v.is_failed old) (v.is_failed new)
+
+-- a store cut a round off, for this cause
+pub record IsCutOff {S : Type 0} (v : Service S) (old : S) (round : Round) (cause : Cause) (new : S) : Type 0 where
+  pub told : round.outcome ≡ Cut
+  pub cuts : CutsOff v cause round.refused round.requests old new
+  pub fails : FailsAs cause (length round.requests) (v.is_failed old) (v.is_failed new)
+
+-- a store was opened over files
+pub record IsOpened {S F : Type 0} (v : Service S) (d : Disk S F) (files : F) (workers : ℕ) (store : S) : Type 0 where
+  pub opens : d.opens files workers store
+  pub alive : v.is_failed store ≡ false
+  pub finds : FindsVoters v d files store
+
+-- an open of files was refused
+pub record IsUnopened {S F : Type 0} (v : Service S) (d : Disk S F) (files : F) (workers : ℕ) (cause : Cause) (back : F)
+    : Type 0 where
+  pub refuses : d.refuses files workers cause back
+  pub outside : IsFromOutside cause
+  pub stands : LeavesStanding v d files files back
+
+-- a crash left these files of a storage, and nothing is armed in them
+abbrev pub Crashes : {S F : Type 0} → Service S → Disk S F → Storage S F → Left → F → Type 0
+Crashes v d (Closed files) gone left =
+    d.crashes files gone left × LeavesStanding v d files left left × (d.has_stopped left ≡ false)
+Crashes v d (Open store) gone left =
+    d.crashes_under store gone left × LeavesUnder v d store left × (d.has_stopped left ≡ false)
+
+-- a call kept the voters
+abbrev pub Keeps :
+    {S F : Type 0}
+    → Service S → Upkeep S → Disk S F → Change → Storage S F → Storage S F → Type 0
+Keeps v u d closes (Open store) (Closed files) = d.closes store files × LeavesInFiles v d store files
+Keeps v u d (purges purge) (Open old) (Open new) = u.purges purge old new × KeepsVoters v old new
+Keeps v u d (arms fault) (Open old) (Open new) = u.arms fault old new × StaysAsItWas v old new
+Keeps v u d (arms fault) (Closed old) (Closed new) = d.arms fault old new × StaysInFiles v d old new
+Keeps v u d (copies target) (Closed old) (Closed new) = d.forks target old new × StaysInFiles v d old new
+Keeps v u d change old new = ⊥
+
+-- the files of a storage, where a store that is open is closed
+abbrev pub IsClosedAs : {S F : Type 0} → Service S → Disk S F → Storage S F → F → Type 0
+IsClosedAs v d (Closed files) given = given ≡ files
+IsClosedAs v d (Open store) given = d.closes store given × LeavesInFiles v d store given
+
+-- this may happen to a storage
+abbrev pub Happens :
+    {S F : Type 0}
+    → Service S → Upkeep S → Disk S F → Storage S F → Moment S F → Type 0
+Happens v u d (Closed files) (opened workers store voters place now) =
+    IsOpened v d files workers store × TellsVoters v store voters × StaysAsItWas v store now
+Happens v u d (Closed files) (unread workers store now) =
+    IsOpened v d files workers store × StaysAsItWas v store now
+Happens v u d (Closed files) (fell workers store gone left) =
+    IsOpened v d files workers store × (u.has_stopped store ≡ true) × Crashes v d (Open store) gone left
+Happens v u d (Closed files) (unopened workers cause back) = IsUnopened v d files workers cause back
+Happens v u d storage (crashed gone left) = Crashes v d storage gone left
+Happens v u d storage (kept change now) = Keeps v u d change storage now
+Happens v u d (Open store) (answered round now) = IsAnswered v store round now
+Happens v u d (Open store) (cut_off round cause now) = IsCutOff v store round cause now
+Happens v u d (Closed files) (idle round now) = IsIdle round × (now ≡ files)
+Happens v u d storage moment = ⊥
+
+-- these may happen to it one after another
+abbrev pub Happen :
+    {S F : Type 0}
+    → Service S → Upkeep S → Disk S F → Storage S F → List (Moment S F) → Type 0
+Happen v u d storage [] = Unit {0}
+Happen v u d storage (m ∷ ms) = Happens v u d storage m × Happen v u d (behind m) ms
+
+-- Events.
+
+-- the disk has stopped
+abbrev pub has_stopped : {S F : Type 0} → Upkeep S → Disk S F → Storage S F → Bool
+has_stopped u d (Closed files) = d.has_stopped files
+has_stopped u d (Open store) = u.has_stopped store
+
+-- where the disk has stopped a crash follows at once, of which this is left; else nothing does
+abbrev pub Falls :
+    {S F : Type 0} → Upkeep S → Disk S F → Left → Storage S F → List (Moment S F) → Type 0
+Falls u d gone storage [] = has_stopped u d storage ≡ false
+Falls u d gone storage (crashed gone' files ∷ []) = (has_stopped u d storage ≡ true) × (gone' ≡ gone)
+Falls u d gone storage ms = ⊥
+
+-- one such moment, and the crash that follows where the disk stopped in it
+abbrev pub One :
+    {S F : Type 0} → Upkeep S → Disk S F → Left → (Moment S F → Type 0)
+    → List (Moment S F) → Type 0
+One u d gone IsSuch [] = ⊥
+One u d gone IsSuch (m ∷ ms) = IsSuch m × Falls u d gone (behind m) ms
+
+-- a round of these requests
+abbrev pub IsRoundOf : {S F : Type 0} → List (ℕ × Request) → Moment S F → Type 0
+IsRoundOf requests moment = map (λ round. round.requests) (rounds_of moment) ≡ requests ∷ []
+
+-- this change
+abbrev pub IsChange : {S F : Type 0} → Change → Moment S F → Type 0
+IsChange change (kept other now) = other ≡ change
+IsChange change moment = ⊥
+
+-- a crash that leaves this
+abbrev pub IsCrash : {S F : Type 0} → Left → Moment S F → Type 0
+IsCrash gone (crashed other files) = other ≡ gone
+IsCrash gone moment = ⊥
+
+-- an open by so many workers; where the disk stops in it, a crash leaves this
+abbrev pub IsOpening : {S F : Type 0} → Upkeep S → ℕ → Left → Moment S F → Type 0
+IsOpening u workers gone (opened n store voters place now) = (n ≡ workers) × (u.has_stopped now ≡ false)
+IsOpening u workers gone (unread n store now) = (n ≡ workers) × (u.has_stopped now ≡ false)
+IsOpening u workers gone (fell n store gone' files) = (n ≡ workers) × (gone' ≡ gone)
+IsOpening u workers gone (unopened n cause files) = n ≡ workers
+IsOpening u workers gone moment = ⊥
+
+-- the first where this is so, else the second
+abbrev pub Either : Bool → Type 0 → Type 0 → Type 0
+Either true First Second = First
+Either false First Second = Second
+
+-- an open of files, unless the disk has stopped
+abbrev pub Opens :
+    {S F : Type 0} → Upkeep S → Disk S F → ℕ → Left → F → List (Moment S F) → Type 0
+Opens u d workers gone files ms =
+    Either (d.has_stopped files) (Falls u d gone (Closed files) ms) (One u d gone (IsOpening u workers gone) ms)
+
+-- An event makes these moments. Behind each the crash follows at which the disk stops, if it did in it, and of
+-- which what the last event that armed one says is left.
+abbrev pub Turns :
+    {S F : Type 0} → Upkeep S → Disk S F → Left → Storage S F → Event → List (Moment S F) → Type 0
+Turns u d gone storage (RoundEvent requests) ms = One u d gone (IsRoundOf requests) ms
+Turns u d gone (Open store) Maintain ms = One u d gone (IsChange (purges Expired)) ms
+Turns u d gone (Open store) RewriteAppend ms = One u d gone (IsChange (purges Append)) ms
+Turns u d gone (Open store) RewriteRewrite ms = One u d gone (IsChange (purges Rewrite)) ms
+Turns u d gone (Open store) (OpenEvent workers) (kept closes (Closed files) ∷ ms) = Opens u d workers gone files ms
+Turns u d gone (Open store) (OpenEvent workers) ms = ⊥
+Turns u d gone (Closed files) (OpenEvent workers) ms = Opens u d workers gone files ms
+Turns u d gone (Open store) Close ms = One u d gone (IsChange closes) ms
+Turns u d gone storage (Crash gone') ms = One u d gone (IsCrash gone') ms
+Turns u d gone storage (CrashAt calls gone') ms =
+    Either (calls == 0) (Falls u d gone storage ms) (One u d gone' (IsChange (arms (Stop calls))) ms)
+Turns u d gone storage (Refuse calls) ms =
+    Either (calls == 0) (Falls u d gone storage ms) (One u d gone (IsChange (arms (RefuseCall calls))) ms)
+Turns u d gone (Closed files) (Fork target) ms = One u d gone (IsChange (copies (string_bytes target))) ms
+Turns u d gone storage event ms = Falls u d gone storage ms
+
+-- what a stop leaves from an event on
+abbrev pub left_from : Event → Left → Left
+left_from (CrashAt calls gone') gone = if calls == 0 then gone else gone'
+left_from event gone = gone
+
+-- these events make these moments, one after another
+abbrev pub Plays :
+    {S F : Type 0}
+    → Service S → Upkeep S → Disk S F → Left → Storage S F → List Event → List (List (Moment S F)) → Type 0
+Plays v u d gone storage [] [] = Unit {0}
+Plays v u d gone storage (e ∷ es) (ms ∷ mss) =
+    Turns u d gone storage e ms × Happen v u d storage ms
+    × Plays v u d (left_from e gone) (behind_all storage ms) es mss
+Plays v u d gone storage es mss = ⊥
+
+-- behind the last event a store that is open is closed
+abbrev pub Ends :
+    {S F : Type 0} → Upkeep S → Disk S F → Left → Storage S F → List (Moment S F) → Type 0
+Ends u d gone (Closed files) ms = Falls u d gone (Closed files) ms
+Ends u d gone (Open store) ms = One u d gone (IsChange closes) ms

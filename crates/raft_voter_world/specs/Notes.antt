@@ -1,0 +1,84 @@
+-- What is noted of a run.
+use Rattle.std.specs.Prelude.{◌≡◌, ℕ, List, [], ◌∷◌, ◌++◌, length, Option, Some, None, unwrap_or}
+use Rattle.raft_voter_messages.specs.declared.round.Round.{Round}
+use Rattle.raft_voter.specs.Rounds.{World, after, taken_below}
+use Rattle.raft_voter.specs.Service.{CutRound, uncut}
+use Rattle.raft_voter.specs.Voters.{world_of}
+use Rattle.raft_voter_world.specs.declared.notes.Lost.{Lost}
+use Rattle.raft_voter_world.specs.declared.notes.Loss.TheVariants.{NoPlace, Unread}
+use Rattle.raft_voter_world.specs.declared.notes.Notes.{Notes}
+use Rattle.raft_voter_world.specs.declared.notes.Unsettled.{Unsettled}
+use Rattle.raft_voter_world.specs.Places.{IsPlaceFound}
+
+-- the round that was cut off, if one is unsettled, from these voters on
+abbrev pub cut_from : World → Option Unsettled → CutRound
+cut_from W None = uncut W
+cut_from W (Some u) = record { before = W; requests = u.round.requests; refused = u.round.refused }
+
+abbrev pub cut_of : Notes → CutRound
+cut_of n = cut_from (world_of n.voters) n.unsettled
+
+-- the rounds that wait for the next open
+abbrev pub waiting : Option Unsettled → List Round
+waiting None = []
+waiting (Some u) = u.round ∷ u.rounds.items
+
+-- all rounds
+abbrev pub all_rounds : Notes → List Round
+all_rounds n = n.rounds.items ++ waiting n.unsettled
+
+-- their cuts, where that of the first is this place
+abbrev pub waiting_cuts : ℕ → Option Unsettled → List ℕ
+waiting_cuts place None = []
+waiting_cuts place (Some u) = place ∷ u.cuts.items
+
+-- all cuts, where that of the unsettled round is this place
+abbrev pub all_cuts : Notes → ℕ → List ℕ
+all_cuts n place = n.cuts.items ++ waiting_cuts place n.unsettled
+
+-- nothing waits any more, as the unsettled round was taken up to this place
+pub record Settles (old : Notes) (place : ℕ) (new : Notes) : Type 0 where
+  pub none : new.unsettled ≡ None
+  pub rounds : new.rounds.items ≡ all_rounds old
+  pub cuts : new.cuts.items ≡ all_cuts old place
+
+-- what is lost at an open that shows voters which this place, or none, fits
+abbrev pub lost_by : Option ℕ → ℕ → List Lost
+lost_by None event = record { event = event; loss = NoPlace } ∷ []
+lost_by (Some place) event = []
+
+-- voters were shown, and looked for
+pub record Shows (old : Notes) (event : ℕ) (X : World) (place : Option ℕ) (new : Notes) : Type 0 where
+  pub found : IsPlaceFound (cut_of old) X place
+  pub settled : Settles old (unwrap_or place 0) new
+  pub world : world_of new.voters ≡ X
+  pub lost : new.lost.items ≡ old.lost.items ++ lost_by place event
+
+-- voters weren't read
+pub record Misses (old : Notes) (event : ℕ) (new : Notes) : Type 0 where
+  pub settled : Settles old 0 new
+  pub world : world_of new.voters ≡ world_of old.voters
+  pub lost : new.lost.items ≡ old.lost.items ++ record { event = event; loss = Unread } ∷ []
+
+-- a round was answered
+pub record NotesAnswered (old : Notes) (round : Round) (new : Notes) : Type 0 where
+  pub none : new.unsettled ≡ None
+  pub rounds : new.rounds.items ≡ old.rounds.items ++ round ∷ []
+  pub cuts : new.cuts.items ≡ old.cuts.items
+  pub world : world_of new.voters ≡ after (world_of old.voters) (taken_below round (length round.requests))
+  pub lost : new.lost.items ≡ old.lost.items
+
+-- a round was cut off that may have been taken up to some place
+pub record NotesCut (old : Notes) (round : Round) (new : Notes) : Type 0 where
+  pub cut : cut_of new ≡ record { before = world_of old.voters; requests = round.requests; refused = round.refused }
+  pub rounds : all_rounds new ≡ old.rounds.items ++ round ∷ []
+  pub cuts : (place : ℕ) → all_cuts new place ≡ old.cuts.items ++ place ∷ []
+  pub lost : new.lost.items ≡ old.lost.items
+
+-- a round was cut off of which nothing was taken
+pub record NotesIdle (old : Notes) (round : Round) (new : Notes) : Type 0 where
+  pub cut : cut_of new ≡ cut_of old
+  pub rounds : all_rounds new ≡ all_rounds old ++ round ∷ []
+  pub cuts : (place : ℕ) → all_cuts new place ≡ all_cuts old place ++ 0 ∷ []
+  pub lost : new.lost.items ≡ old.lost.items
+  pub still : old.unsettled ≡ None → new.unsettled ≡ None

@@ -1,0 +1,113 @@
+-- A run, and what holds of it.
+use Rattle.std.specs.Prelude.{◌≡◌, ℕ, List, [], ◌∷◌, ◌++◌, Option, Some, None, IsSome}
+use Rattle.raft_voter_messages.specs.declared.round.Round.{Round}
+use Rattle.raft_voter.specs.Rounds.{World, Explains, Leads, fresh_world}
+use Rattle.raft_voter.specs.Service.{CutRound, IsOpenAt, MayFollow, Service, uncut}
+use Rattle.raft_voter_world.specs.declared.event.Event.{Event}
+use Rattle.raft_voter_world.specs.declared.event.Left.{Left}
+use Rattle.raft_voter_world.specs.declared.event.Left.TheVariants.{Last}
+use Rattle.raft_voter_world.specs.declared.report.WorldReport.{WorldReport}
+use Rattle.raft_voter_world.specs.declared.storage.Storage.{Storage}
+use Rattle.raft_voter_world.specs.declared.storage.Storage.TheVariants.{Closed, Open}
+use Rattle.raft_voter_world.specs.Cuts.{AreLeast, NoneLost, ServeSome, cut_after, cut_by, cuts_in, lost_from}
+use Rattle.raft_voter_world.specs.History.{Ends, Happen, Moment, Plays, behind_all, left_from, rounds_in}
+use Rattle.raft_voter_world.specs.History.Moment.{opened, unread, fell, unopened, crashed, kept, answered, cut_off, idle}
+use Rattle.raft_voter_world.specs.Stores.{Disk, Upkeep}
+
+-- behind such a round, cut off or not, stand the voters that are found in a storage
+abbrev pub Knows : {S F : Type 0} → Service S → Disk S F → Storage S F → CutRound → Type 0
+Knows v d (Closed files) cut = d.leaves files cut
+Knows v d (Open store) cut = v.leaves store cut
+
+-- What is known to be left in a storage goes on being so from moment to moment, and this holds in the end, unless
+-- something passes by chance of what is known: in the files that an open reads, or in those that a crash leaves.
+-- An open then shows voters that may have been left, and the place is found. Nothing is said behind an open whose
+-- voters weren't read.
+abbrev pub Goes :
+    {S F : Type 0}
+    → (v : Service S) (d : Disk S F) → (Storage S F → CutRound → Type 0)
+    → (storage : Storage S F) (cut : CutRound) → Knows v d storage cut → List (Moment S F) → Type 0
+Goes v d End storage cut known [] = End storage cut
+Goes v d End (Closed files) cut known (opened workers store voters place now ∷ ms) =
+    d.without_chance files cut known files
+    → IsSome place × ((W : World) × MayFollow cut W × ((at : IsOpenAt v now W) × Goes v d End (Open now) (uncut W) at.left ms))
+Goes v d End (Closed files) cut known (unread workers store now ∷ ms) = Unit {0}
+Goes v d End (Closed files) cut known (fell workers store gone left ∷ ms) =
+    d.without_chance files cut known files
+    → (W : World) × MayFollow cut W × ((under : d.leaves_under store (uncut W))
+    × (d.spares store (uncut W) under left
+    → (still : d.leaves left (uncut W)) × Goes v d End (Closed left) (uncut W) still ms))
+Goes v d End (Closed files) cut known (unopened workers cause back ∷ ms) =
+    d.without_chance files cut known files
+    → (still : d.leaves back cut) × Goes v d End (Closed back) cut still ms
+Goes v d End (Closed files) cut known (crashed gone left ∷ ms) =
+    d.without_chance files cut known left
+    → (still : d.leaves left cut) × Goes v d End (Closed left) cut still ms
+Goes v d End (Open store) cut known (crashed gone left ∷ ms) =
+    (under : d.leaves_under store cut)
+    × (d.spares store cut under left → (still : d.leaves left cut) × Goes v d End (Closed left) cut still ms)
+Goes v d End storage cut known (kept change now ∷ ms) =
+    (still : Knows v d now cut) × Goes v d End now cut still ms
+Goes v d End (Open store) cut known (answered round now ∷ ms) =
+    (still : v.leaves now (cut_after cut round)) × Goes v d End (Open now) (cut_after cut round) still ms
+Goes v d End (Open store) cut known (cut_off round cause now ∷ ms) =
+    (still : v.leaves now (cut_by cause cut round)) × Goes v d End (Open now) (cut_by cause cut round) still ms
+Goes v d End (Closed files) cut known (idle round now ∷ ms) =
+    (still : d.leaves now cut) × Goes v d End (Closed now) cut still ms
+Goes v d End storage cut known ms = ⊥
+
+-- what a stop leaves behind these events
+abbrev pub ending_left : Left → List Event → Left
+ending_left gone [] = gone
+ending_left gone (e ∷ es) = ending_left (left_from e gone) es
+
+-- all moments of these turns
+abbrev pub moments_of : {S F : Type 0} → List (List (Moment S F)) → List (Moment S F)
+moments_of [] = []
+moments_of (ms ∷ mss) = ms ++ moments_of mss
+
+-- Voters that never fail explain the rounds. Whatever is found in what is left in the end stands behind all of
+-- them, where the last round that was cut off, and that no open followed, may have been taken up to some other
+-- place.
+pub record EndsWell {S F : Type 0} (ms : List (Moment S F)) (cut : CutRound) : Type 0 where
+  pub explained : Explains (rounds_in ms) (cuts_in 0 ms)
+  pub found : (X : World) → MayFollow cut X → (place : ℕ) × Leads fresh_world (rounds_in ms) (cuts_in place ms) X
+
+-- Whatever happens from files on, with the least place found behind each round that was cut off: where nothing was
+-- lost, and each store that was opened serves voters, voters that never fail explain the rounds.
+abbrev pub AllExplained : {S F : Type 0} → Service S → Upkeep S → Disk S F → Type 0
+AllExplained {S} {F} v u d =
+    (files : F) (ms : List (Moment S F)) → Happen v u d (Closed files) ms → AreLeast (uncut fresh_world) ms
+    → ServeSome v ms → NoneLost ms → Explains (rounds_in ms) (cuts_in 0 ms)
+
+-- Whatever happens from files on in which no voter is stored: unless something passes by chance of what is known
+-- to be left, each open shows voters behind some place, voters that never fail explain the rounds, and what is
+-- left in the end means what they led to.
+abbrev pub AllTransparent : {S F : Type 0} → Service S → Upkeep S → Disk S F → Type 0
+AllTransparent {S} {F} v u d =
+    (files : F) (ms : List (Moment S F)) → Happen v u d (Closed files) ms → AreLeast (uncut fresh_world) ms
+    → (known : d.leaves files (uncut fresh_world))
+    → Goes v d (λ storage cut. EndsWell ms cut) (Closed files) (uncut fresh_world) known ms
+
+-- A run of these events, which began with these files: what happened, what its report says of it, and what holds
+-- of it.
+-- Where nothing was lost, and each store that was opened served voters, whichever they were, voters that never
+-- fail explain the transcript.
+-- And unless something passed by chance nothing is lost but where voters weren't read, they explain it, and what
+-- is left means them.
+pub record IsRun {S F : Type 0} (v : Service S) (u : Upkeep S) (d : Disk S F) (files : F) (events : List Event)
+    (report : WorldReport F) : Type 0 where
+  pub turns : List (List (Moment S F))
+  pub closing : List (Moment S F)
+  pub played : Plays v u d Last (Closed files) events turns
+  pub ended : Ends u d (ending_left Last events) (behind_all (Closed files) (moments_of turns)) closing
+  pub closed : Happen v u d (behind_all (Closed files) (moments_of turns)) closing
+  pub files_left : behind_all (Closed files) (moments_of turns ++ closing) ≡ Closed report.files
+  pub rounds : report.transcript.rounds ≡ rounds_in (moments_of turns ++ closing)
+  pub cuts : report.cuts ≡ cuts_in 0 (moments_of turns ++ closing)
+  pub least : AreLeast (uncut fresh_world) (moments_of turns ++ closing)
+  pub lost : report.lost ≡ lost_from 0 turns
+  pub explained : ServeSome v (moments_of turns) → report.lost ≡ [] → Explains report.transcript.rounds report.cuts
+  pub transparent : (known : d.leaves files (uncut fresh_world))
+      → Goes v d (λ storage cut. EndsWell (moments_of turns ++ closing) cut) (Closed files) (uncut fresh_world) known
+      (moments_of turns ++ closing)

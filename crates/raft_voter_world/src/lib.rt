@@ -1,0 +1,22 @@
+//! What happens to a store of voters and its disk, played event by event.
+#![tactic(auto)]
+
+mod disk;
+mod event;
+mod faults;
+pub mod laws;
+mod notes;
+mod places;
+mod report;
+mod storage;
+mod store;
+mod world;
+
+pub use disk::VoterDisk;
+pub use event::{Event, Left};
+pub use faults::{Fault, Purge};
+pub use notes::{Loss, Lost};
+pub use report::WorldReport;
+pub use storage::Storage;
+pub use store::VoterStorage;
+pub use world::World;

@@ -1,0 +1,184 @@
+//! What is noted of a run: its rounds, how far those were taken that were cut off, and the voters.
+ghost use Rattle.std.specs.Prelude.{◌≡◌, ℕ, ◌++◌, ◌∷◌, [], IsTrue, Option, None, IfOk, OnOk};
+ghost use Rattle.raft_voter.specs.Rounds.{are_rising, fresh_world};
+ghost use Rattle.raft_voter.specs.Voters.{world_of};
+ghost use Rattle.raft_voter_world.specs.Places.{IsPlaceFound};
+ghost use Rattle.raft_voter_world.specs.Notes.{cut_of, Misses, NotesAnswered, NotesCut, NotesIdle, Settles, Shows};
+
+use crate::places::find_place;
+use raft_voter::{Memory, Round, Voters};
+use std::alloc::Global;
+
+/// Why an open told nothing of the voters.
+#[derive(Clone, Copy, Debug, PartialEq, Eq)]
+pub enum Loss {
+    /// The voters that it shows can't stand behind the rounds so far.
+    NoPlace,
+    /// Its voters weren't read.
+    Unread,
+}
+
+/// An open that told nothing of the voters.
+#[derive(Clone, Copy, Debug, PartialEq, Eq)]
+pub struct Lost {
+    /// The event, counted from 0.
+    pub event: usize,
+    /// Why.
+    pub loss: Loss,
+}
+
+/// A round that was cut off and may have been taken up to some place, which the next open will show; and the
+/// rounds behind it, of which nothing was taken, with their cuts.
+#[derive(Drop)]
+struct Unsettled {
+    round: Round,
+    rounds: Vec<Round>,
+    cuts: Vec<usize>,
+}
+
+/// What is noted of a run: the rounds that are settled, with the cuts of those that were cut off; the voters
+/// behind them; the round that isn't settled, if there is one; and what was lost.
+#[derive(Drop)]
+pub struct Notes {
+    alloc: Global,
+    voters: Voters,
+    rounds: Vec<Round>,
+    cuts: Vec<usize>,
+    unsettled: Option<Unsettled>,
+    lost: Vec<Lost>,
+}
+
+impl Notes {
+    /// Nothing happened yet.
+    pub fn new(alloc: Global) -> Notes
+        ensures world { world_of result.voters ≡ fresh_world }
+        ensures none { result.unsettled ≡ None }
+        ensures rounds { result.rounds.items ≡ [] }
+        ensures cuts { result.cuts.items ≡ [] }
+        ensures lost { result.lost.items ≡ [] }
+    {
+        Notes {
+            alloc,
+            voters: Voters::new(alloc),
+            rounds: Vec::new(alloc),
+            cuts: Vec::new(alloc),
+            unsettled: None,
+            lost: Vec::new(alloc),
+        }
+    }
+
+    /// A round was answered: the voters take it.
+    pub fn answered(&mut self, round: Round) -> Result<(), Memory>
+        requires none { self.old.unsettled ≡ None }
+        requires rising { (high : ℕ) × IsTrue (are_rising 0 high round.refused) }
+        ensures { OnOk result (NotesAnswered self.old round self.new) }
+    {
+        self.voters
+            .serve(round.requests.as_slice(), round.refused.as_slice())?;
+        self.rounds.push(round)?;
+        Ok(())
+    }
+
+    /// A round was cut off, and may have been taken up to some place.
+    pub fn cut_off(&mut self, round: Round)
+        requires none { self.old.unsettled ≡ None }
+        ensures { NotesCut self.old round self.new }
+    {
+        self.unsettled = Some(Unsettled {
+            round,
+            rounds: Vec::new(self.alloc),
+            cuts: Vec::new(self.alloc),
+        });
+    }
+
+    /// A round was cut off of which nothing was taken.
+    pub fn idle(&mut self, round: Round) -> Result<(), Memory>
+        ensures { OnOk result (NotesIdle self.old round self.new) }
+    {
+        match &mut self.unsettled {
+            Some(unsettled) => {
+                unsettled.rounds.push(round)?;
+                unsettled.cuts.push(0)?;
+                Ok(())
+            }
+            None => {
+                self.rounds.push(round)?;
+                self.cuts.push(0)?;
+                Ok(())
+            }
+        }
+    }
+
+    /// An open shows these voters: the unsettled round was taken up to the least place that fits, and where
+    /// none does this event is lost.
+    pub fn show(&mut self, event: usize, shown: Voters) -> Result<(), Memory>
+        ensures { OnOk result ((place : Option ℕ) × Shows self.old event (world_of shown) place self.new) }
+    {
+        let found = self.look_for(&shown)?;
+        self.voters = shown;
+        match found {
+            Some(place) => self.settle(place),
+            None => {
+                self.lose(event, Loss::NoPlace)?;
+                self.settle(0)
+            }
+        }
+    }
+
+    /// The least place up to which the unsettled round was taken where these voters stand behind it, or 0 where
+    /// none is unsettled and these are the voters; the voters take it up to there.
+    fn look_for(&mut self, shown: &Voters) -> Result<Option<usize>, Memory>
+        ensures found { IfOk result (IsPlaceFound (cut_of self.old) (world_of shown.now)) }
+        ensures rounds { self.new.rounds ≡ self.old.rounds }
+        ensures cuts { self.new.cuts ≡ self.old.cuts }
+        ensures unsettled { self.new.unsettled ≡ self.old.unsettled }
+        ensures lost { self.new.lost ≡ self.old.lost }
+    {
+        let voters = &mut self.voters;
+        match &self.unsettled {
+            Some(unsettled) => {
+                let requests = unsettled.round.requests.as_slice();
+                let refused = unsettled.round.refused.as_slice();
+                find_place(self.alloc, voters, shown, requests, refused)
+            }
+            None => find_place(self.alloc, voters, shown, &[], &[]),
+        }
+    }
+
+    /// This event is lost.
+    fn lose(&mut self, event: usize, loss: Loss) -> Result<(), Memory>
+        ensures lost { OnOk result
+            (self.new.lost.items ≡ self.old.lost.items ++ record { event = event; loss = loss } ∷ []) }
+        ensures rounds { self.new.rounds ≡ self.old.rounds }
+        ensures cuts { self.new.cuts ≡ self.old.cuts }
+        ensures unsettled { self.new.unsettled ≡ self.old.unsettled }
+        ensures voters { self.new.voters ≡ self.old.voters }
+    {
+        self.lost.push(Lost { event, loss })?;
+        Ok(())
+    }
+
+    /// The voters that an open shows weren't read.
+    pub fn unread(&mut self, event: usize) -> Result<(), Memory>
+        ensures { OnOk result (Misses self.old event self.new) }
+    {
+        self.lose(event, Loss::Unread)?;
+        self.settle(0)
+    }
+
+    /// Nothing waits any more: the unsettled round, if there is one, was taken up to this place.
+    pub fn settle(&mut self, place: usize) -> Result<(), Memory>
+        ensures settles { OnOk result (Settles self.old place self.new) }
+        ensures voters { self.new.voters ≡ self.old.voters }
+        ensures lost { self.new.lost ≡ self.old.lost }
+    {
+        let Some(mut unsettled) = self.unsettled.take() else {
+            return Ok(());
+        };
+        self.rounds.push(unsettled.round)?;
+        self.rounds.append(&mut unsettled.rounds)?;
+        self.cuts.push(place)?;
+        self.cuts.append(&mut unsettled.cuts)?;
+        Ok(())
+    }
+}

@@ -1,0 +1,107 @@
+//! A store that is open, or the files of one that isn't.
+ghost use Rattle.std.specs.Prelude.{◌≡◌, IfOk, OnOk};
+ghost use Rattle.raft_voter_world.specs.History.{Crashes, has_stopped, IsClosedAs, Keeps};
+ghost use Rattle.raft_voter_world.specs.History.Change.{arms, copies, purges};
+ghost use Rattle.raft_voter_world.specs.Storages.{KeepsIfClosed, KeepsIfOpen};
+
+use crate::disk::VoterDisk;
+use crate::event::Left;
+use crate::faults::{Fault, Purge};
+use crate::store::VoterStorage;
+use raft_voter::Memory;
+use std::alloc::Global;
+
+/// A store that is open, or the files of one that isn't.
+#[derive(Drop)]
+pub enum Storage<S, F> {
+    /// No store is open.
+    Closed(F),
+    /// A store is open.
+    Open(S),
+}
+
+impl<S: Drop, F: Drop> Storage<S, F> {
+    /// Whether the disk has stopped.
+    pub fn has_stopped<R>(&self) -> bool
+    where
+        S: VoterStorage<R>,
+        F: VoterDisk<R, S>,
+        ensures { result ≡ has_stopped S.upkeep F.disk self.now }
+    {
+        match self {
+            Storage::Closed(files) => files.has_stopped(),
+            Storage::Open(store) => store.has_stopped(),
+        }
+    }
+
+    /// The files, where the store is closed if it is open.
+    pub fn into_files<R>(self, rt: &R) -> F
+    where
+        S: VoterStorage<R>,
+        F: VoterDisk<R, S>,
+        ensures { IsClosedAs S.service F.disk self result }
+    {
+        match self {
+            Storage::Closed(files) => files,
+            Storage::Open(store) => F::close(store, rt),
+        }
+    }
+
+    /// What a crash of the machine leaves: no store is open.
+    pub fn crashed<R>(&self, left: &Left) -> Result<F, Memory>
+    where
+        S: VoterStorage<R>,
+        F: VoterDisk<R, S>,
+        ensures { IfOk result (Crashes S.service F.disk self.now left.now) }
+    {
+        match self {
+            Storage::Closed(files) => files.crashed(left),
+            Storage::Open(store) => F::crashed_under(store, left),
+        }
+    }
+
+    /// Purges an open store; answered or refused, its voters are kept. Of files nothing is changed.
+    pub fn purge<R>(&mut self, rt: &R, purge: Purge)
+    where
+        S: VoterStorage<R>,
+        F: VoterDisk<R, S>,
+        ensures { KeepsIfOpen S.service S.upkeep F.disk (purges purge) self.old self.new }
+    {
+        let Storage::Open(store) = self else {
+            return;
+        };
+        match store.purge(rt, purge) {
+            Ok(()) => {}
+            Err(_) => {}
+        }
+    }
+
+    /// Makes a later call that changes files fail.
+    pub fn arm<R>(&mut self, fault: &Fault) -> Result<(), Memory>
+    where
+        S: VoterStorage<R>,
+        F: VoterDisk<R, S>,
+        ensures { OnOk result (Keeps S.service S.upkeep F.disk (arms fault.now) self.old self.new) }
+    {
+        match self {
+            Storage::Closed(files) => files.arm(fault),
+            Storage::Open(store) => store.arm(fault),
+        }
+    }
+
+    /// Copies files into a directory; answered or refused, they are kept. Of an open store nothing is changed.
+    pub fn fork<R>(&mut self, rt: &R, alloc: Global, target: &str)
+    where
+        S: VoterStorage<R>,
+        F: VoterDisk<R, S>,
+        ensures { KeepsIfClosed S.service S.upkeep F.disk (copies target.now) self.old self.new }
+    {
+        let Storage::Closed(files) = self else {
+            return;
+        };
+        match files.fork(rt, alloc, target) {
+            Ok(()) => {}
+            Err(_) => {}
+        }
+    }
+}

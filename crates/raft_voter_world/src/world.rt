@@ -1,0 +1,164 @@
+//! A store of voters and its disk, to which events happen one after another.
+ghost use Rattle.std.specs.Prelude.{◌≡◌, ℕ, [], IfOk};
+ghost use Rattle.raft_voter.specs.Rounds.{fresh_world};
+ghost use Rattle.raft_voter.specs.Service.{uncut};
+ghost use Rattle.raft_voter_world.specs.Notes.{all_rounds, cut_of};
+ghost use Rattle.raft_voter_world.specs.Steps.{event_of, Falling, IsStep};
+
+use crate::disk::VoterDisk;
+use crate::event::{Event, Left};
+use crate::faults::{Fault, Purge};
+use crate::notes::Notes;
+use crate::storage::Storage;
+use crate::store::VoterStorage;
+use raft_voter::Memory;
+use std::alloc::Global;
+use std::string::String;
+
+/// A store of voters and its disk: what is there, what is noted of the run so far, and what a stop leaves at
+/// the call that was armed last.
+#[derive(Drop)]
+pub struct World<S, F> {
+    alloc: Global,
+    storage: Storage<S, F>,
+    notes: Notes,
+    left: Left,
+}
+
+impl<S: Drop, F: Drop> World<S, F> {
+    /// These files, with nothing noted and nothing armed.
+    pub fn new(alloc: Global, files: F) -> World<S, F>
+        ensures storage { result.storage ≡ Storage.Closed files }
+        ensures world { cut_of result.notes ≡ uncut fresh_world }
+        ensures rounds { all_rounds result.notes ≡ [] }
+        ensures left { result.left ≡ Left.Last }
+    {
+        World {
+            alloc,
+            storage: Storage::Closed(files),
+            notes: Notes::new(alloc),
+            left: Left::Last,
+        }
+    }
+
+    /// Where the disk has stopped a crash follows.
+    fn fallen<R>(self) -> Result<World<S, F>, Memory>
+    where
+        S: VoterStorage<R>,
+        F: VoterDisk<R, S>,
+        ensures { (event : ℕ) → IfOk result (Falling S.service S.upkeep F.disk event self) }
+    {
+        if !self.storage.has_stopped() {
+            return Ok(self);
+        }
+        let files = self.storage.crashed(&self.left)?;
+        let World {
+            alloc,
+            storage: _storage,
+            notes,
+            left,
+        } = self;
+        Ok(World {
+            alloc,
+            storage: Storage::Closed(files),
+            notes,
+            left,
+        })
+    }
+
+    /// Purges the store, if one is open.
+    pub fn purge<R>(mut self, rt: &R, place: usize, purge: Purge) -> Result<World<S, F>, Memory>
+    where
+        S: VoterStorage<R>,
+        F: VoterDisk<R, S>,
+        ensures { IfOk result (IsStep S.service S.upkeep F.disk place (event_of purge) self) }
+    {
+        self.storage.purge(rt, purge);
+        self.fallen()
+    }
+
+    /// The machine stops: what a crash leaves is there, and no store is open.
+    pub fn crash<R>(self, place: usize, left: Left) -> Result<World<S, F>, Memory>
+    where
+        S: VoterStorage<R>,
+        F: VoterDisk<R, S>,
+        ensures { IfOk result (IsStep S.service S.upkeep F.disk place (Event.Crash left) self) }
+    {
+        let files = self.storage.crashed(&left)?;
+        let World {
+            alloc,
+            storage: _storage,
+            notes,
+            left: armed,
+        } = self;
+        Ok(World {
+            alloc,
+            storage: Storage::Closed(files),
+            notes,
+            left: armed,
+        })
+    }
+
+    /// A later call that changes files is refused, unless its number is 0.
+    pub fn refuse<R>(mut self, place: usize, calls: u64) -> Result<World<S, F>, Memory>
+    where
+        S: VoterStorage<R>,
+        F: VoterDisk<R, S>,
+        ensures { IfOk result (IsStep S.service S.upkeep F.disk place (Event.Refuse calls) self) }
+    {
+        if calls == 0 {
+            return self.fallen();
+        }
+        self.storage.arm(&Fault::Refuse { calls })?;
+        self.fallen()
+    }
+
+    /// Closes the store, if one is open.
+    pub fn close<R>(self, rt: &R, place: usize) -> Result<World<S, F>, Memory>
+    where
+        S: VoterStorage<R>,
+        F: VoterDisk<R, S>,
+        ensures { IfOk result (IsStep S.service S.upkeep F.disk place Event.Close self) }
+    {
+        let World {
+            alloc,
+            storage,
+            notes,
+            left,
+        } = self;
+        let files = storage.into_files(rt);
+        let closed = World {
+            alloc,
+            storage: Storage::Closed(files),
+            notes,
+            left,
+        };
+        closed.fallen()
+    }
+
+    /// Copies the files into a directory, where no store is open.
+    pub fn fork<R>(mut self, rt: &R, place: usize, target: String) -> Result<World<S, F>, Memory>
+    where
+        S: VoterStorage<R>,
+        F: VoterDisk<R, S>,
+        ensures { IfOk result (IsStep S.service S.upkeep F.disk place (Event.Fork target) self) }
+    {
+        self.storage.fork(rt, self.alloc, target.as_str());
+        self.fallen()
+    }
+
+    /// The disk stops at a later call that changes files, unless its number is 0; this is left then.
+    pub fn stop_at<R>(mut self, place: usize, calls: u64, left: Left) -> Result<World<S, F>, Memory>
+    where
+        S: VoterStorage<R>,
+        F: VoterDisk<R, S>,
+        ensures { IfOk result (IsStep S.service S.upkeep F.disk place (Event.CrashAt calls left) self) }
+    {
+        if calls == 0 {
+            return self.fallen();
+        }
+        self.storage.arm(&Fault::Stop { calls })?;
+        self.left = left;
+        self.fallen()
+    }
+}

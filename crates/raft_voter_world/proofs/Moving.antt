@@ -25,11 +25,11 @@ pub ok_weaker : {X E : Type 0} (r : Result X E) (P Q : X → Type 0) → ((x : X
 ok_weaker (Ok x) P Q f h = f x h
 ok_weaker (Err e) P Q f h = tt
 
-first_so : (b : Bool) (P Q : Type 0) → b ≡ true → P → Either b P Q
+pub first_so : (b : Bool) (P Q : Type 0) → b ≡ true → P → Either b P Q
 first_so true P Q e h = h
 first_so false P Q e h = absurd (false≢true e)
 
-second_so : (b : Bool) (P Q : Type 0) → b ≡ false → Q → Either b P Q
+pub second_so : (b : Bool) (P Q : Type 0) → b ≡ false → Q → Either b P Q
 second_so true P Q e h = absurd (false≢true (sym e))
 second_so false P Q e h = h
 
@@ -213,7 +213,7 @@ refuse_one v u d place calls old mid new e k notes left f =
     kept_step v u d place (Refuse calls) (arms (RefuseCall calls)) old mid new k notes left (λ ms h. one_refused u d old.left calls old.storage mid.storage ms e (subst (λ (g : Left). Falls u d g mid.storage ms) left h)) f
 
 -- nothing is changed
-same_moves : {S F : Type 0} (v : Service S) (u : Upkeep S) (d : Disk S F) (event : ℕ) (old mid new : World S F) (ms : List (Moment S F)) → mid.storage ≡ old.storage → mid.notes ≡ old.notes → Moves v u d event mid ms new → Moves v u d event old ms new
+pub same_moves : {S F : Type 0} (v : Service S) (u : Upkeep S) (d : Disk S F) (event : ℕ) (old mid new : World S F) (ms : List (Moment S F)) → mid.storage ≡ old.storage → mid.notes ≡ old.notes → Moves v u d event mid ms new → Moves v u d event old ms new
 same_moves {S} {F} v u d event old mid new ms there notes m = record {
   happened = subst (λ (x : Storage S F). Happen v u d x ms) there m.happened;
   now = subst (λ (x : Storage S F). new.storage ≡ behind_all x ms) there m.now;

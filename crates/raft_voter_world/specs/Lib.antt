@@ -5,5 +5,7 @@ pub mod History
 pub mod Storages
 pub mod Cuts
 pub mod Notes
+pub mod Openings
 pub mod Steps
 pub mod Run
+pub mod Played

@@ -1,9 +1,14 @@
 -- What calls make of a storage.
-use Rattle.std.specs.Prelude.{◌≡◌}
-use Rattle.raft_voter.specs.Service.{Service}
+use Rattle.std.specs.Prelude.{◌≡◌, ℕ, List}
+use Rattle.raft_voter_messages.specs.declared.request.Request.{Request}
+use Rattle.raft_voter.specs.Service.{Service, TakesNothing}
+use Rattle.raft_voter.specs.declared.service.Cause.{Cause}
+use Rattle.raft_voter.specs.declared.service.Cause.TheVariants.{FileSystem}
+use Rattle.raft_voter_world.specs.declared.serving.Served.{Served}
+use Rattle.raft_voter_world.specs.declared.serving.Served.TheVariants.{Answered, TookSome, TookNone}
 use Rattle.raft_voter_world.specs.declared.storage.Storage.{Storage}
 use Rattle.raft_voter_world.specs.declared.storage.Storage.TheVariants.{Closed, Open}
-use Rattle.raft_voter_world.specs.History.{Change, Keeps}
+use Rattle.raft_voter_world.specs.History.{Change, IsAnswered, IsCutOff, IsIdle, Keeps}
 use Rattle.raft_voter_world.specs.Stores.{Disk, Upkeep}
 
 -- where a store is open the call keeps the voters, else nothing is changed
@@ -17,3 +22,17 @@ abbrev pub KeepsIfClosed :
     {S F : Type 0} → Service S → Upkeep S → Disk S F → Change → Storage S F → Storage S F → Type 0
 KeepsIfClosed v u d change (Closed files) new = Keeps v u d change (Closed files) new
 KeepsIfClosed v u d change (Open store) new = new ≡ Open store
+
+-- a round of these requests was served: answered, or cut off by the store, which may have taken some of it where
+-- the file system failed, or of which nothing was taken as no store was open
+abbrev pub IsServed :
+    {S F : Type 0} → Service S → List (ℕ × Request) → Storage S F → Served → Storage S F → Type 0
+IsServed v requests (Open old) (Answered round) (Open new) =
+    (round.requests ≡ requests) × IsAnswered v old round new
+IsServed v requests (Open old) (TookSome round) (Open new) =
+    (round.requests ≡ requests) × IsCutOff v old round FileSystem new
+IsServed v requests (Open old) (TookNone round) (Open new) =
+    (round.requests ≡ requests) × ((cause : Cause) × TakesNothing cause × IsCutOff v old round cause new)
+IsServed v requests (Closed files) (TookNone round) (Closed new) =
+    (round.requests ≡ requests) × IsIdle round × (new ≡ files)
+IsServed v requests old served new = ⊥

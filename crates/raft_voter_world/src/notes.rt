@@ -6,7 +6,8 @@ ghost use Rattle.raft_voter_world.specs.Places.{IsPlaceFound};
 ghost use Rattle.raft_voter_world.specs.Notes.{cut_of, Misses, NotesAnswered, NotesCut, NotesIdle, Settles, Shows};
 
 use crate::places::find_place;
-use raft_voter::{Memory, Round, Voters};
+use crate::report::WorldReport;
+use raft_voter::{Items, Memory, Round, Transcript, Voters};
 use std::alloc::Global;
 
 /// Why an open told nothing of the voters.
@@ -164,6 +165,25 @@ impl Notes {
     {
         self.lose(event, Loss::Unread)?;
         self.settle(0)
+    }
+
+    /// What is told of a run, behind which these files are left.
+    pub fn into_report<F>(self, files: F) -> WorldReport<F>
+        ensures { result ≡ record {
+          transcript = record { rounds = self.rounds.items };
+          cuts = self.cuts.items;
+          files = files;
+          lost = self.lost.items;
+        } }
+    {
+        WorldReport {
+            transcript: Transcript {
+                rounds: Items::from_vec(self.rounds),
+            },
+            cuts: Items::from_vec(self.cuts),
+            files,
+            lost: Items::from_vec(self.lost),
+        }
     }
 
     /// Nothing waits any more: the unsettled round, if there is one, was taken up to this place.

@@ -2,13 +2,14 @@
 ghost use Rattle.std.specs.Prelude.{◌≡◌, IfOk, OnOk};
 ghost use Rattle.raft_voter_world.specs.History.{Crashes, has_stopped, IsClosedAs, Keeps};
 ghost use Rattle.raft_voter_world.specs.History.Change.{arms, copies, purges};
-ghost use Rattle.raft_voter_world.specs.Storages.{KeepsIfClosed, KeepsIfOpen};
+ghost use Rattle.raft_voter_world.specs.Storages.{IsServed, KeepsIfClosed, KeepsIfOpen};
 
 use crate::disk::VoterDisk;
 use crate::event::Left;
 use crate::faults::{Fault, Purge};
+use crate::serving::{Served, answered, cut_off};
 use crate::store::VoterStorage;
-use raft_voter::Memory;
+use raft_voter::{Cause, Items, Memory, Request};
 use std::alloc::Global;
 
 /// A store that is open, or the files of one that isn't.
@@ -57,6 +58,30 @@ impl<S: Drop, F: Drop> Storage<S, F> {
         match self {
             Storage::Closed(files) => files.crashed(left),
             Storage::Open(store) => F::crashed_under(store, left),
+        }
+    }
+
+    /// Serves a round, which is cut off where no store is open. Its requests, places and outcome are handed back.
+    pub fn serve<R>(
+        &mut self,
+        rt: &R,
+        alloc: Global,
+        requests: Items<(u64, Request)>,
+    ) -> Result<Served, Memory>
+    where
+        S: VoterStorage<R>,
+        F: VoterDisk<R, S>,
+        ensures { IfOk result (λ served. IsServed S.service requests self.old served self.new) }
+    {
+        let Storage::Open(store) = self else {
+            return Ok(Served::TookNone(cut_off(requests, Items::new(alloc))));
+        };
+        match store.serve(rt, requests.as_slice()) {
+            Ok(replies) => Ok(Served::Answered(answered(alloc, requests, replies)?)),
+            Err(fault) => match fault.cause {
+                Cause::FileSystem => Ok(Served::TookSome(cut_off(requests, fault.refused))),
+                _ => Ok(Served::TookNone(cut_off(requests, fault.refused))),
+            },
         }
     }
 

@@ -2,16 +2,21 @@
 ghost use Rattle.std.specs.Prelude.{◌≡◌, ℕ, [], IfOk};
 ghost use Rattle.raft_voter.specs.Rounds.{fresh_world};
 ghost use Rattle.raft_voter.specs.Service.{uncut};
-ghost use Rattle.raft_voter_world.specs.Notes.{all_rounds, cut_of};
-ghost use Rattle.raft_voter_world.specs.Steps.{event_of, Falling, IsStep};
+ghost use Rattle.raft_voter_world.specs.Notes.{all_cuts, all_rounds, cut_of};
+ghost use Rattle.raft_voter_world.specs.Steps.{event_of, Falling, IsReady, IsStep};
+
+mod running;
 
 use crate::disk::VoterDisk;
 use crate::event::{Event, Left};
 use crate::faults::{Fault, Purge};
 use crate::notes::Notes;
+use crate::opening::{Opened, open_files};
+use crate::serving::Served;
 use crate::storage::Storage;
 use crate::store::VoterStorage;
-use raft_voter::Memory;
+use raft_voter::{Items, Memory, Request};
+pub use running::run_world;
 use std::alloc::Global;
 use std::string::String;
 
@@ -31,6 +36,8 @@ impl<S: Drop, F: Drop> World<S, F> {
         ensures storage { result.storage ≡ Storage.Closed files }
         ensures world { cut_of result.notes ≡ uncut fresh_world }
         ensures rounds { all_rounds result.notes ≡ [] }
+        ensures cuts { (place : ℕ) → all_cuts result.notes place ≡ [] }
+        ensures lost { result.notes.lost.items ≡ [] }
         ensures left { result.left ≡ Left.Last }
     {
         World {
@@ -64,6 +71,27 @@ impl<S: Drop, F: Drop> World<S, F> {
             notes,
             left,
         })
+    }
+
+    /// Requests are handed in together: the store serves them, if one is open.
+    pub fn round<R>(
+        mut self,
+        rt: &R,
+        place: usize,
+        requests: Items<(u64, Request)>,
+    ) -> Result<World<S, F>, Memory>
+    where
+        S: VoterStorage<R>,
+        F: VoterDisk<R, S>,
+        requires { IsReady S.service self }
+        ensures { IfOk result (IsStep S.service S.upkeep F.disk place (Event.Round requests) self) }
+    {
+        match self.storage.serve(rt, self.alloc, requests)? {
+            Served::Answered(round) => self.notes.answered(round)?,
+            Served::TookSome(round) => self.notes.cut_off(round),
+            Served::TookNone(round) => self.notes.idle(round)?,
+        }
+        self.fallen()
     }
 
     /// Purges the store, if one is open.
@@ -134,6 +162,40 @@ impl<S: Drop, F: Drop> World<S, F> {
             left,
         };
         closed.fallen()
+    }
+
+    /// Opens the store by so many workers; one that is open is closed first. What it shows is noted.
+    pub fn open<R>(self, rt: &R, place: usize, workers: u64) -> Result<World<S, F>, Memory>
+    where
+        S: VoterStorage<R>,
+        F: VoterDisk<R, S>,
+        ensures { IfOk result (IsStep S.service S.upkeep F.disk place (Event.Open workers) self) }
+    {
+        let World {
+            alloc,
+            storage,
+            mut notes,
+            left,
+        } = self;
+        let files = storage.into_files(rt);
+        let storage = match open_files::<R, S, F>(rt, alloc, files, workers, &left)? {
+            Opened::Shown(store, shown) => {
+                notes.show(place, shown)?;
+                Storage::Open(store)
+            }
+            Opened::Unread(store) => {
+                notes.unread(place)?;
+                Storage::Open(store)
+            }
+            Opened::Closed(files) => Storage::Closed(files),
+        };
+        let opened = World {
+            alloc,
+            storage,
+            notes,
+            left,
+        };
+        opened.fallen()
     }
 
     /// Copies the files into a directory, where no store is open.

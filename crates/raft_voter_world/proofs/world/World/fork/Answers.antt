@@ -1,4 +1,4 @@
-use Rattle.std.proofs.Common.{refl, sym}
+use Rattle.std.proofs.Common.{refl}
 use Rattle.raft_voter_world.proofs.Moving.{fork_step, ok_weaker}
 use Rattle.raft_voter_world.proofs.world.World.fork.Goals as goal
 

@@ -1,0 +1,29 @@
+-- How an open of a store's files comes out.
+use Rattle.std.specs.Prelude.{◌≡◌, ◌⊎◌, ℕ, true, false, List}
+use Rattle.raft_voter_outline.specs.State.{State}
+use Rattle.raft_voter.specs.Service.{Service}
+use Rattle.raft_voter.specs.Voters.{world_of}
+use Rattle.raft_voter.specs.declared.service.Cause.{Cause}
+use Rattle.raft_voter_world.specs.declared.event.Left.{Left}
+use Rattle.raft_voter_world.specs.declared.opening.Opened.{Opened}
+use Rattle.raft_voter_world.specs.declared.opening.Opened.TheVariants.{Shown, Unread, Closed as IsClosed}
+use Rattle.raft_voter_world.specs.declared.storage.Storage.TheVariants.{Open as IsOpenStore}
+use Rattle.raft_voter_world.specs.History.{Crashes, IsOpened, IsUnopened}
+use Rattle.raft_voter_world.specs.Stores.{Disk, StaysAsItWas, TellsVoters, Upkeep, world_in}
+
+-- Of a store that was just opened: its voters were read, or weren't; or the disk had stopped, and a crash left
+-- files.
+abbrev pub ComesOf : {S F : Type 0} → Service S → Upkeep S → Disk S F → S → Left → Opened S F → Type 0
+ComesOf v u d store gone (Shown now voters) =
+    (listed : List (ℕ × State)) × TellsVoters v store listed × StaysAsItWas v store now
+    × (u.has_stopped now ≡ false) × (world_of voters ≡ world_in listed)
+ComesOf v u d store gone (Unread now) = StaysAsItWas v store now × (u.has_stopped now ≡ false)
+ComesOf v u d store gone (IsClosed files) = (u.has_stopped store ≡ true) × Crashes v d (IsOpenStore store) gone files
+
+-- Of files: a store was opened; or the open was refused; or the disk had stopped, and they are as they were.
+abbrev pub ComesOut : {S F : Type 0} → Service S → Upkeep S → Disk S F → F → ℕ → Left → Opened S F → Type 0
+ComesOut {S} {F} v u d files workers gone opened =
+    (((store : S) × (d.has_stopped files ≡ false) × IsOpened v d files workers store × ComesOf v u d store gone opened))
+    ⊎ (((cause : Cause) × ((back : F) × (d.has_stopped files ≡ false) × IsUnopened v d files workers cause back
+    × (opened ≡ IsClosed back)))
+    ⊎ ((d.has_stopped files ≡ true) × (opened ≡ IsClosed files)))

@@ -1,0 +1,69 @@
+//! How a round was served.
+ghost use Rattle.std.specs.Prelude.{◌≡◌, IfOk};
+ghost use Rattle.raft_voter.specs.Service.{is_refused, refused_from};
+
+use raft_voter::{Items, Memory, Outcome, Reply, Request, Round};
+use std::alloc::Global;
+
+/// How a round was served.
+#[derive(Drop)]
+pub enum Served {
+    /// It was answered.
+    Answered(Round),
+    /// It was cut off as the file system failed, and may have been taken up to some place.
+    TookSome(Round),
+    /// It was cut off, and nothing of it was taken.
+    TookNone(Round),
+}
+
+/// A round that was cut off.
+pub fn cut_off(requests: Items<(u64, Request)>, refused: Items<usize>) -> Round
+    ensures { result ≡ record { requests = requests; refused = refused; outcome = Outcome.Cut } }
+{
+    Round {
+        requests,
+        refused,
+        outcome: Outcome::Cut,
+    }
+}
+
+/// A round with its replies.
+pub fn answered(
+    alloc: Global,
+    requests: Items<(u64, Request)>,
+    replies: Items<Reply>,
+) -> Result<Round, Memory>
+    ensures { IfOk result (λ round. round ≡ record {
+      requests = requests;
+      refused = refused_from 0 replies;
+      outcome = Outcome.Answered replies;
+    }) }
+{
+    let refused = refused_places(alloc, replies.as_slice())?;
+    Ok(Round {
+        requests,
+        refused,
+        outcome: Outcome::Answered(replies),
+    })
+}
+
+/// The places whose reply is `Refused`.
+fn refused_places(alloc: Global, replies: &[Reply]) -> Result<Items<usize>, Memory>
+    ensures { IfOk result (λ places. places ≡ refused_from 0 replies.now) }
+{
+    let mut places = Items::new(alloc);
+    for (place, reply) in replies.iter().enumerate() {
+        if !is_refused(reply) {
+            continue;
+        }
+        places.push(place)?;
+    }
+    Ok(places)
+}
+
+/// Whether a reply is `Refused`.
+fn is_refused(reply: &Reply) -> bool
+    ensures { result ≡ is_refused reply.now }
+{
+    matches!(reply, Reply::Refused)
+}

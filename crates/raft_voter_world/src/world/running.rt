@@ -1,0 +1,105 @@
+//! Events that happen to a world one after another, and what is told of them in the end.
+ghost use Rattle.std.specs.Prelude.{IfOk};
+ghost use Rattle.raft_voter_world.specs.Run.{IsRun};
+ghost use Rattle.raft_voter_world.specs.Played.{Ended, HasPlayed, Stands};
+ghost use Rattle.raft_voter_world.specs.Steps.{IsReady, IsStep};
+
+use super::World;
+use crate::disk::VoterDisk;
+use crate::event::{Event, Left};
+use crate::faults::Purge;
+use crate::report::WorldReport;
+use crate::store::VoterStorage;
+use raft_voter::Memory;
+use std::alloc::Global;
+use std::collections::VecDeque;
+
+/// Plays events one after another from these files on; a store that is still open behind the last one is closed.
+/// It is told what the rounds came to, how far those were taken that were cut off, and the files.
+///
+/// `Memory`: there was no room for what is told, or for what a crash leaves; nothing is told then.
+pub fn run_world<R, S: VoterStorage<R> + Drop, F: VoterDisk<R, S> + Drop>(
+    rt: &R,
+    alloc: Global,
+    files: F,
+    events: VecDeque<Event>,
+) -> Result<WorldReport<F>, Memory>
+    ensures { IfOk result (IsRun S.service S.upkeep F.disk files events.items) }
+{
+    let world: World<S, F> = World::new(alloc, files);
+    let played = world.play(rt, events)?;
+    played.finish(rt)
+}
+
+/// These files or, where the disk has stopped, what a crash leaves of them.
+fn standing<R, S: VoterStorage<R>, F: VoterDisk<R, S> + Drop>(
+    files: F,
+    left: &Left,
+) -> Result<F, Memory>
+    ensures { IfOk result (Stands S.service F.disk files left.now) }
+{
+    if !files.has_stopped() {
+        return Ok(files);
+    }
+    files.crashed(left)
+}
+
+impl<S: Drop, F: Drop> World<S, F> {
+    /// One event happens; this is its place among all, counted from 0. Where the disk stops in it, the crash
+    /// follows at once.
+    pub fn step<R>(self, rt: &R, place: usize, event: Event) -> Result<World<S, F>, Memory>
+    where
+        S: VoterStorage<R>,
+        F: VoterDisk<R, S>,
+        requires { IsReady S.service self }
+        ensures { IfOk result (IsStep S.service S.upkeep F.disk place event self) }
+    {
+        match event {
+            Event::Round { requests } => self.round(rt, place, requests),
+            Event::Maintain => self.purge(rt, place, Purge::Expired),
+            Event::RewriteAppend => self.purge(rt, place, Purge::RewriteAppend),
+            Event::RewriteRewrite => self.purge(rt, place, Purge::RewriteRewrite),
+            Event::Open { workers } => self.open(rt, place, workers),
+            Event::Close => self.close(rt, place),
+            Event::Crash { left } => self.crash(place, left),
+            Event::CrashAt { calls, left } => self.stop_at(place, calls, left),
+            Event::Refuse { calls } => self.refuse(place, calls),
+            Event::Fork { target } => self.fork(rt, place, target),
+        }
+    }
+
+    /// Events happen one after another.
+    fn play<R>(self, rt: &R, mut events: VecDeque<Event>) -> Result<World<S, F>, Memory>
+    where
+        S: VoterStorage<R>,
+        F: VoterDisk<R, S>,
+        requires { IsReady S.service self }
+        ensures { IfOk result (HasPlayed S.service S.upkeep F.disk self events.items) }
+    {
+        let mut world = self;
+        let mut place = 0;
+        while let Some(event) = events.pop_front() {
+            world = world.step(rt, place, event)?;
+            place += 1;
+        }
+        Ok(world)
+    }
+
+    /// A store that is open is closed, nothing waits any more, and it is told what came of the run.
+    fn finish<R>(self, rt: &R) -> Result<WorldReport<F>, Memory>
+    where
+        S: VoterStorage<R>,
+        F: VoterDisk<R, S>,
+        ensures { IfOk result (Ended S.service S.upkeep F.disk self) }
+    {
+        let World {
+            alloc: _alloc,
+            storage,
+            mut notes,
+            left,
+        } = self;
+        let files = standing::<R, S, F>(storage.into_files(rt), &left)?;
+        notes.settle(0)?;
+        Ok(notes.into_report(files))
+    }
+}

@@ -6,7 +6,7 @@ ghost use Rattle.raft_log_table_lists.specs.Bridge.{unmarked};
 ghost use Rattle.raft_log_table_lists.specs.Shown.{nothing_shown, span, stepped, MayFollow};
 ghost use Rattle.raft_log_table_lists.specs.Replayed.{joined, merged, nothing_replayed, replayed, LeavesHole};
 ghost use Rattle.raft_log_record_marks.specs.Meaning.{key_meaning, meaning};
-ghost use Rattle.raft_log_table_lists.specs.Entries.{place_of, run_of};
+ghost use Rattle.raft_log_table_runs.specs.Entries.{place_of, run_of};
 ghost use Rattle.raft_log_table_one.specs.Files.{with_group, with_read_group, NotesGroup};
 ghost use Rattle.raft_log_table_one.specs.Replays.{in_append, MergeRefused};
 ghost use Rattle.raft_log_table_one.specs.Room.{

@@ -1,7 +1,5 @@
 pub mod ByteKeys
 pub mod JoinedKeys
-pub mod Replacing
-pub mod Sizing
 pub mod Listing
 pub mod LeastValues
 pub mod Queues
@@ -18,12 +16,3 @@ pub mod Joining
 pub mod Telling
 pub mod Merging
 pub mod Alone
-pub mod RunPlaces
-pub mod RunLists
-pub mod PieceRuns
-pub mod EntryPieces
-pub mod RunSpots
-pub mod RunTurns
-pub mod RunSteps
-pub mod RunRoom
-pub mod RunReplacing

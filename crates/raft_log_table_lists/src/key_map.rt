@@ -16,7 +16,7 @@ ghost use Rattle.raft_log_table_lists.specs.Keys.{
   with_value,
   HasKeyRoomFor,
 };
-ghost use Rattle.raft_log_table_lists.specs.Counts.{file_of_value, least_value, lesser, IsLeastValue};
+ghost use Rattle.raft_log_table_lists.specs.LeastFiles.{file_of_value, least_value, lesser, IsLeastValue};
 
 mod reads;
 

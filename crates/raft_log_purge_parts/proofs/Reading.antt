@@ -14,7 +14,7 @@ use Rattle.raft_log_record_marks.specs.Marking.{marking_of_items}
 use Rattle.raft_log_record_batches.specs.Batch.{Batch}
 use Rattle.raft_log_machine_laws.specs.Whereabouts.{top}
 use Rattle.raft_log_record_batches.specs.Entries.{IsEntriesRefusal, RisesFrom, entries_items, entries_of, indexes_of}
-use Rattle.raft_log_record_batches.specs.ItemBatch.{all_entries}
+use Rattle.raft_log_record_lists.specs.ItemBatch.{all_entries}
 use Rattle.raft_log_record_batches.specs.Places.{entry_bytes}
 use Rattle.raft_log_table_runs.specs.declared.place.Place.{Place}
 use Rattle.raft_log_table_runs.specs.Counts.{passing}

@@ -8,9 +8,9 @@ use Rattle.raft_log_record_items.specs.declared.item.LogItem.{LogItem}
 use Rattle.raft_log_record_items.specs.Placed.{placed}
 use Rattle.raft_log_record_frames.specs.Record.{IsFooterOf, placed_footer_of}
 use Rattle.raft_log_record_frames.proofs.Footers.{placed_footer_is_read}
-use Rattle.raft_log_record_batches.specs.Places.{AllLieIn}
-use Rattle.raft_log_record_batches.proofs.Places.{all_lie_in, footer_room}
-use Rattle.raft_log_record_batches.proofs.log_item_batch.LogItemBatch.decode.Goals as goal
+use Rattle.raft_log_record_lists.specs.ItemBatch.{AllLieIn}
+use Rattle.raft_log_record_lists.proofs.Placing.{all_lie_in, footer_room}
+use Rattle.raft_log_record_lists.proofs.log_item_batch.LogItemBatch.decode.Goals as goal
 
 pub returns-in_err-items-clause-only : goal.returns-in_err-items-clause-only
 returns-in_err-items-clause-only c = λ items h.

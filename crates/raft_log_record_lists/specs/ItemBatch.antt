@@ -1,6 +1,6 @@
 -- Lists of items: what callers see of one, about how many bytes it has, its entries, and what a footer says
 -- with its places.
-use Rattle.std.specs.Prelude.{◌≡◌, ℕ, ◌+◌, ◌*◌, ◌≤◌, List, [], ◌∷◌, ◌++◌, length, take, drop, map, flat_map, sum_by, Option, None, Result, Ok, Err, IfOk, MatchResult}
+use Rattle.std.specs.Prelude.{◌≡◌, ℕ, ◌+◌, ◌-◌, ◌*◌, ◌≤◌, List, [], ◌∷◌, ◌++◌, length, take, drop, map, flat_map, sum_by, All, Option, Some, None, Result, Ok, Err, IfOk, MatchResult}
 use Rattle.raft_log_record_base.specs.declared.errors.Error.{Error}
 use Rattle.raft_log_record_base.specs.declared.errors.Error.TheVariants as errors
 use Rattle.raft_log_record_base.specs.declared.pipe_log.FileBlockHandle.{FileBlockHandle}
@@ -86,6 +86,14 @@ content_entries (contents.Kv kv) = []
 -- the entries of these items, one after another
 abbrev pub all_entries : List LogItem → List EntryIndex
 all_entries xs = flat_map (λ x. content_entries x.content) xs
+
+-- the entry lies in this block, in front of its checksum
+abbrev pub IsEntryInBlock : FileBlockHandle → EntryIndex → Type 0
+IsEntryInBlock block e = (e.entries ≡ Some block) × (e.entry_offset + e.entry_len ≤ block.len - 4)
+
+-- each entry of these items lies in this block
+abbrev pub AllLieIn : FileBlockHandle → List LogItem → Type 0
+AllLieIn block items = All (IsEntryInBlock block) (all_entries items)
 
 -- the bytes are a footer that is signed with this, its entries fill the block at this place, and these are
 -- its items with their places

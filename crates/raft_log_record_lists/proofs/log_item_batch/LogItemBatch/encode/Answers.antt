@@ -2,9 +2,9 @@ use Rattle.std.proofs.Common.{◌≡◌, List, None, ap, subst, ◌∙◌}
 use Rattle.raft_log_record_items.specs.declared.item.LogItem.{LogItem}
 use Rattle.raft_log_record_frames.specs.Record.{footer_bytes}
 use Rattle.raft_log_record_frames.specs.Made.{IsPlainFooter}
-use Rattle.raft_log_record_batches.specs.ItemBatch.{ItemBatch}
-use Rattle.raft_log_record_batches.proofs.ItemBatches.{footers_are_read, on_answer}
-use Rattle.raft_log_record_batches.proofs.log_item_batch.LogItemBatch.encode.Goals as goal
+use Rattle.raft_log_record_lists.specs.ItemBatch.{ItemBatch}
+use Rattle.raft_log_record_lists.proofs.ItemBatches.{footers_are_read, on_answer}
+use Rattle.raft_log_record_lists.proofs.log_item_batch.LogItemBatch.encode.Goals as goal
 
 pub returns-clause-read : goal.returns-clause-read
 returns-clause-read c =

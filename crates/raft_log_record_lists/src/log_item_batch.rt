@@ -1,6 +1,6 @@
 //! Lists of items: what a footer holds, and what a record is made of.
 ghost use Rattle.std.specs.Prelude.{◌≡◌, ◌-◌, ◌^◌, min, slice_get};
-ghost use Rattle.raft_log_record_batches.specs.ItemBatch.{content_size, items_size, all_entries};
+ghost use Rattle.raft_log_record_lists.specs.ItemBatch.{content_size, items_size, all_entries};
 
 use raft_log_record_base::codec::or_cut_back;
 use raft_log_record_frames::decode_placed_footer;
@@ -25,7 +25,7 @@ pub struct LogItemBatch {
 
 impl Model for LogItemBatch {
     ghost use Rattle.std.specs.Vec.{vec_capacity};
-    ghost use Rattle.raft_log_record_batches.specs.ItemBatch.{ItemBatch};
+    ghost use Rattle.raft_log_record_lists.specs.ItemBatch.{ItemBatch};
 
     ghost Value = { ItemBatch };
 
@@ -59,11 +59,11 @@ impl LogItemBatch {
     ghost use Rattle.raft_log_record_base.specs.Files.{signature_of};
     ghost use Rattle.raft_log_record_frames.specs.Record.{footer_bytes, placed_footer_of};
     ghost use Rattle.raft_log_record_frames.specs.Made.{IsPlainFooter};
-    ghost use Rattle.raft_log_record_batches.specs.ItemBatch.{no_items, AddsItems, AddsPut, TakesItems, HasItemRoom};
-    ghost use Rattle.raft_log_record_batches.specs.ItemBatch.{IsSpelling, laid_from, run_item, command_item};
-    ghost use Rattle.raft_log_record_batches.specs.ItemBatch.{items_size, all_entries, FindsPlaced, OnlyPlaced};
-    ghost use Rattle.raft_log_record_batches.specs.ItemBatch.{GivesPlaced, AreRead};
-    ghost use Rattle.raft_log_record_batches.specs.Places.{AllLieIn};
+    ghost use Rattle.raft_log_record_lists.specs.ItemBatch.{no_items, AddsItems, AddsPut, TakesItems, HasItemRoom};
+    ghost use Rattle.raft_log_record_lists.specs.ItemBatch.{IsSpelling, laid_from, run_item, command_item};
+    ghost use Rattle.raft_log_record_lists.specs.ItemBatch.{items_size, all_entries, FindsPlaced, OnlyPlaced};
+    ghost use Rattle.raft_log_record_lists.specs.ItemBatch.{GivesPlaced, AreRead};
+    ghost use Rattle.raft_log_record_lists.specs.ItemBatch.{AllLieIn};
 
     /// An empty batch, which has no room yet.
     pub fn default(alloc: Global) -> Self
@@ -174,7 +174,7 @@ impl LogItemBatch {
     }
 
     /// Adds an item, for which there is room.
-    pub(crate) fn push_reserved(&mut self, item: LogItem)
+    pub fn push_reserved(&mut self, item: LogItem)
         requires { HasItemRoom self.old 1 }
         ensures { self.new ≡ record self.old { items = self.old.items ++ item ∷ [] } }
     {
@@ -182,7 +182,7 @@ impl LogItemBatch {
     }
 
     /// Lays out the items from this one on, from this offset in their block on.
-    pub(crate) fn lay_out_rest(&mut self, first: usize, offset: u32)
+    pub fn lay_out_rest(&mut self, first: usize, offset: u32)
         requires inside { first ≤ length self.old.items }
         requires fits { offset + entries_len (drop first self.old.items) < 2 ^ 32 }
         ensures items { self.new.items ≡ laid_from first offset self.old.items }
@@ -193,7 +193,7 @@ impl LogItemBatch {
     }
 
     /// The items are written, and their entry block lies at this place.
-    pub(crate) fn set_written(&mut self, handle: FileBlockHandle)
+    pub fn set_written(&mut self, handle: FileBlockHandle)
         ensures items { self.new.items ≡ written handle self.old.items }
         ensures room { self.new.capacity ≡ self.old.capacity }
     {
@@ -375,7 +375,7 @@ fn content_size(content: &LogItemContent) -> usize
 }
 
 /// About how many bytes these items have, or 2^64 - 1 where they have more.
-pub(crate) fn items_size(items: &[LogItem]) -> usize
+pub fn items_size(items: &[LogItem]) -> usize
     ensures { result ≡ min (items_size items.now) (2 ^ 64 - 1) }
 {
     let mut size: usize = 0;

@@ -14,7 +14,7 @@ use Rattle.raft_log_record_frames.specs.Record.{AddsUp}
 use Rattle.raft_log_record_frames.specs.Made.{IsPlainFooter}
 use Rattle.raft_log_record_frames.proofs.Written.{plain_len}
 use Rattle.raft_log_record_frames.proofs.Footers.{placed_footer_is_read}
-use Rattle.raft_log_record_batches.specs.ItemBatch.{content_entries, all_entries, AreRead}
+use Rattle.raft_log_record_lists.specs.ItemBatch.{content_entries, all_entries, AreRead}
 
 -- a list is what stands in front of a place, what stands there, and what stands behind it
 pub split_at : {A : Type 0} (xs : List A) (i : ℕ) (x : A) → i < length xs → x ≡ get_or xs i x → xs ≡ take i xs ++ x ∷ drop (suc i) xs

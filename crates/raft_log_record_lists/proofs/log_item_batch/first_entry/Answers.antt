@@ -1,7 +1,7 @@
 use Rattle.std.proofs.Common.{List, ap, ◌∙◌, slice_get}
 use Rattle.raft_log_record_items.specs.declared.entry.EntryIndex.{EntryIndex}
-use Rattle.raft_log_record_batches.proofs.ItemBatches.{first_of_all}
-use Rattle.raft_log_record_batches.proofs.log_item_batch.first_entry.Goals as goal
+use Rattle.raft_log_record_lists.proofs.ItemBatches.{first_of_all}
+use Rattle.raft_log_record_lists.proofs.log_item_batch.first_entry.Goals as goal
 
 pub returns-in-Some : goal.returns-in-Some
 returns-in-Some c =

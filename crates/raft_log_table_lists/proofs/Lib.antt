@@ -1,6 +1,7 @@
 pub mod ByteKeys
 pub mod JoinedKeys
 pub mod Listing
+pub mod Settling
 pub mod LeastValues
 pub mod Queues
 pub mod Spans

@@ -28,6 +28,7 @@ ghost use Rattle.raft_log_table_one.specs.Room.{
   taken_back,
   with_moves,
   with_room_for,
+  with_room_of,
   without_moves,
   CanTake,
 };
@@ -492,10 +493,11 @@ impl MemTable {
         self.rewritten = self.rewritten.max(position + count);
     }
 
-    /// No mark is owed any more: all of them were written to Rewrite, and synced.
+    /// No mark is owed any more: all of them were written to Rewrite, and synced. Of keys without a value
+    /// nothing is kept, nor room that was made for them.
     pub fn clear_marks(&mut self)
         ensures shows { shown self.new ≡ unmarked (shown self.old) }
-        ensures room { promise self.new ≡ promise self.old }
+        ensures room { promise self.new ≡ with_room_of (promise self.old) (shown self.old) }
         ensures bounds { IsBoundAs self.old self.new }
     {
         self.cleaned = false;

@@ -36,4 +36,8 @@ pub enum Fault {
     StopAt(u64),
     /// The n-th changing call has happened and is answered as refused, and the file system has stopped.
     StopAfter(u64),
+    /// The files of the directory with this path may have so many bytes in all, in place of what was set for
+    /// it: a write or an allocation that would make them grow past that is refused as `StorageFull`, and
+    /// nothing of it is done; `free_space` answers what is left.
+    Space(String, u64),
 }

@@ -18,7 +18,8 @@ use Rattle.raft_log_disk_storage.specs.Held.{Held, file_of}
 use Rattle.raft_log_disk_storage.specs.Storage.{contents_of}
 use Rattle.raft_log_disk_storage.specs.Steps.{IsSame, Makes}
 use Rattle.raft_log_disk_memory.specs.Memory.{disk_of, failed_once}
-use Rattle.raft_log_disk_memory.specs.Turns.{IsChangeEnded, IsCallEnded, at_the_stop, not_made}
+use Rattle.raft_log_disk_memory.specs.Answers.{LacksWriter}
+use Rattle.raft_log_disk_memory.specs.Turns.{IsRefusedChange, uncounted, IsChangeEnded, IsCallEnded, at_the_stop, not_made}
 use Rattle.raft_log_disk_storage.proofs.Fronts.{after_whole, front_change, front_torn}
 use Rattle.raft_log_disk_memory.proofs.Turns.{over, IsFrontOnDisk, counted_or_stop}
 
@@ -26,6 +27,12 @@ use Rattle.raft_log_disk_memory.proofs.Turns.{over, IsFrontOnDisk, counted_or_st
 pub any_err : {T E : Type 0} (r : Result T E) (P : E → Type 0) → ((e : E) → P e) → IfErr r P
 any_err (Ok v) P all = tt
 any_err (Err e) P all = all e
+
+-- a change after a stop, or by a wrong handle, doesn't count
+pub no_writer : (handle : Handle) (change : Change) (error : ErrorKind) (system : MemoryFileSystem) → LacksWriter handle (disk_of system) error
+    → IsRefusedChange handle.file change (WrongWriter handle (disk_of system)) error system system
+no_writer handle change error system (inl stopped) = uncounted (inl stopped) refl refl
+no_writer handle change error system (inr (runs, wrong)) = uncounted (inr wrong) refl refl
 
 -- a refused call that did nothing
 pub refused_whole : {done : Disk → Type 0} {wrong : ErrorKind → Type 0} {error : ErrorKind} (old mid new : Disk) → old.stopped ≡ false → IsRight wrong → mid ≡ old

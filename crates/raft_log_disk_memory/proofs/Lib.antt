@@ -2,3 +2,5 @@ pub mod Calls
 pub mod Turns
 pub mod CountDown
 pub mod Denied
+pub mod Once
+pub mod Space

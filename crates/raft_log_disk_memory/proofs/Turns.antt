@@ -10,11 +10,11 @@ use Rattle.raft_log_disk.specs.Disk.{Change, Wrote, File, Disk, overwritten, wit
 use Rattle.raft_log_disk.specs.Calls.{with_change, after_change, counted, at_stop, Changes}
 use Rattle.raft_log_disk_storage.specs.declared.storage.Storage.{Storage}
 use Rattle.raft_log_disk_storage.specs.Storage.{contents_of, unsynced_of}
-use Rattle.raft_log_disk_storage.specs.Steps.{IsSame, Makes, IsRoomFault}
+use Rattle.raft_log_disk_storage.specs.Steps.{IsSame, Makes}
 use Rattle.raft_log_disk_memory.specs.declared.memory.MemoryFileSystem.{MemoryFileSystem}
 use Rattle.raft_log_disk_memory.specs.Memory.{is_denied, disk_of, unsynced, Kept, kept, failed_once, most_failures}
 use Rattle.raft_log_disk_memory.specs.Answers.{HasRefused, HasFallen}
-use Rattle.raft_log_disk_memory.specs.Turns.{armed, ArmedRefusalFell, call_later, IsSpared, PartFalls, part_fell, Untouched, IsCounted, IsAnswered, IsRefusedCall, stop_fell, refusal_fell, room_short, after_failure, after_stop, IsRefusedWhole, IsRefusedChange, IsChangeEnded, IsCallEnded, LeftAtStop, StopsAfter, at_the_stop, not_made}
+use Rattle.raft_log_disk_memory.specs.Turns.{armed, ArmedRefusalFell, call_later, IsSpared, PartFalls, part_fell, Untouched, IsCounted, IsAnswered, IsRefusedCall, stop_fell, refusal_fell, room_short, after_failure, after_stop, IsRefusedWhole, NoRoomFor, HasSpaceFor, IsRefusedChange, IsChangeEnded, IsCallEnded, LeftAtStop, StopsAfter, at_the_stop, not_made}
 
 -- the contents as the file system's disk has them
 abbrev pub over : MemoryFileSystem → Disk → Disk
@@ -81,13 +81,14 @@ pub part_cause : {wrong : ErrorKind → Type 0} {error : ErrorKind} (id at : ℕ
     → MatchResult done (λ v. error ≡ Other) (λ kind. error ≡ kind)
     → MatchResult done (λ v. IsFrontOnDisk id at bytes count (disk_of old) (over begun (contents_of after))) (λ e. over begun (contents_of after) ≡ disk_of old)
     → begun.storage ≡ old.storage → OnOk done (Makes id (Wrote at (take count bytes)) (drop count bytes) begun.storage after) → OnErr done (IsSame begun.storage after)
-    → IfErr done (IsRoomFault (Wrote at bytes))
+    → OnOk done (HasSpaceFor id (Wrote at bytes) old) → IfErr done (NoRoomFor id (Wrote at bytes) old)
     → new.storage ≡ after → disk_of new ≡ failed_once (over begun (contents_of after)) → IsRefusedChange id (Wrote at bytes) wrong error old new
-part_cause id at bytes count (Ok v) old begun new after counts falls kind made storage makes same room stored failed =
+part_cause id at bytes count (Ok v) old begun new after counts falls kind made storage makes same space room stored failed =
     let left : Kept = record { disk = over begun (contents_of after); unsynced = unsynced new } in
     part_fell counts count falls left
     (inl (
       kind,
+      space,
       record {
         file = made.file;
         is = made.is;
@@ -96,8 +97,8 @@ part_cause id at bytes count (Ok v) old begun new after counts falls kind made s
       },
     ))
     (kept_ext (kept new) (after_failure left) failed refl)
-part_cause id at bytes count (Err k) old begun new after counts falls kind made storage makes same room stored failed =
-    part_fell counts count falls (kept old) (inr (subst (IsRoomFault (Wrote at bytes)) (sym kind) room, refl))
+part_cause id at bytes count (Err k) old begun new after counts falls kind made storage makes same space room stored failed =
+    part_fell counts count falls (kept old) (inr (subst (NoRoomFor id (Wrote at bytes) old) (sym kind) room, refl))
     (kept_ext (kept new) (after_failure (kept old)) (failed ∙ ap failed_once made) (ap unsynced_of stored ∙ (same.order ∙ ap unsynced_of storage)))
 
 -- an answered call that is done whole or not at all
@@ -151,20 +152,20 @@ pub change_cause : {T : Type 0} {wrong : ErrorKind → Type 0} (id : ℕ) (chang
     → IsCounted wrong old new → (IsTrue stops ↔ ((armed old).stop ≡ 1)) → (stops ≡ false → IsSpared (armed old))
     → MatchResult done (λ v. Changes id (after_change change) (disk_of old) mid) (λ e. mid ≡ disk_of old)
     → begun.storage ≡ old.storage → OnOk done (Makes id change [] begun.storage after) → OnErr done (IsSame begun.storage after) → new.storage ≡ after
-    → IfErr done (IsRoomFault change)
+    → OnOk done (HasSpaceFor id change old) → IfErr done (NoRoomFor id change old)
     → IfErr result (λ error. IsChangeEnded stops done error mid (disk_of new)) → IfErr result (λ error. IsRefusedChange id change wrong error old new)
-change_cause id change done stops mid old begun new after (Ok v) counts is spared made storage makes same stored room ended = tt
-change_cause id change (Ok v) stops mid old begun new after (Err e) counts is spared made storage makes same stored room (at_the_stop falls kind done_is) =
+change_cause id change done stops mid old begun new after (Ok v) counts is spared made storage makes same stored space room ended = tt
+change_cause id change (Ok v) stops mid old begun new after (Err e) counts is spared made storage makes same stored space room (at_the_stop falls kind done_is) =
     let left : Kept = record { disk = mid; unsynced = unsynced new } in
     stop_fell counts (is.0 falls) left
-    (inl (kind, record { disk = made; order = ap unsynced_of stored ∙ (makes.order ∙ ap (λ (s : Storage). unsynced_of s ++ (id, change) ∷ []) storage) }))
+    (inl (kind, space, record { disk = made; order = ap unsynced_of stored ∙ (makes.order ∙ ap (λ (s : Storage). unsynced_of s ++ (id, change) ∷ []) storage) }))
     (kept_ext (kept new) (after_stop left) done_is refl)
-change_cause id change (Err k) stops mid old begun new after (Err e) counts is spared made storage makes same stored room (at_the_stop falls kind done_is) =
+change_cause id change (Err k) stops mid old begun new after (Err e) counts is spared made storage makes same stored space room (at_the_stop falls kind done_is) =
     let order : unsynced new ≡ unsynced old = ap unsynced_of stored ∙ (same.order ∙ ap unsynced_of storage) in
-    stop_fell counts (is.0 falls) (kept old) (inr (subst (IsRoomFault change) (sym kind) room, refl))
+    stop_fell counts (is.0 falls) (kept old) (inr (subst (NoRoomFor id change old) (sym kind) room, refl))
     (kept_ext (kept new) (after_stop (kept old)) (done_is ∙ ap at_stop made) order)
-change_cause id change (Ok v) stops mid old begun new after (Err e) counts is spared made storage makes same stored room (not_made runs done_is failed) = absurd done_is
-change_cause id change (Err k) stops mid old begun new after (Err e) counts is spared made storage makes same stored room (not_made runs done_is failed) =
+change_cause id change (Ok v) stops mid old begun new after (Err e) counts is spared made storage makes same stored space room (not_made runs done_is failed) = absurd done_is
+change_cause id change (Err k) stops mid old begun new after (Err e) counts is spared made storage makes same stored space room (not_made runs done_is failed) =
     let order : unsynced new ≡ unsynced old = ap unsynced_of stored ∙ (same.order ∙ ap unsynced_of storage) in
-    room_short counts (spared runs) (subst (IsRoomFault change) (sym done_is) room)
+    room_short counts (spared runs) (subst (NoRoomFor id change old) (sym done_is) room)
     (kept_ext (kept new) (after_failure (kept old)) (failed ∙ ap failed_once made) order)

@@ -13,7 +13,7 @@ use Rattle.raft_log_disk_storage.specs.Left.{left_disk}
 use Rattle.raft_log_disk_memory.specs.declared.memory.MemoryFileSystem.{MemoryFileSystem}
 use Rattle.raft_log_disk_storage.specs.Order.{without_file}
 use Rattle.raft_log_disk_memory.specs.Memory.{disk_of, unsynced, Kept, kept, without_named, with_moved}
-use Rattle.raft_log_disk_memory.specs.Turns.{ArmedRefusalFell, ArmedPartFell, ArmedStopFell, IsRefusedWhole, IsRefusedChange}
+use Rattle.raft_log_disk_memory.specs.Turns.{ArmedRefusalFell, ArmedPartFell, ArmedStopFell, HasSpaceFor, IsRefusedWhole, IsRefusedChange}
 
 -- Why a call was refused.
 
@@ -31,6 +31,10 @@ abbrev pub RefusesChange : {A : Type 0} → Handle → Change → Result A Error
 RefusesChange handle change result old new =
     IfErr result (λ error.
     IsRefusedChange handle.file change (WrongWriter handle (disk_of old)) error old new)
+
+-- there was space for a change of a handle's file
+abbrev pub FindsSpace : Handle → Change → MemoryFileSystem → Type 0
+FindsSpace handle change old = HasSpaceFor handle.file change old
 
 -- no fault is armed after a stop, nor without memory
 abbrev pub ArmsNothing : MemoryFileSystem → ErrorKind → Type 0

@@ -1,4 +1,5 @@
 pub mod Memory
+pub mod Space
 pub mod Turns
 pub mod Answers
 -- a library below, passed on to who stands on this one

@@ -1,6 +1,10 @@
 -- Which changing calls of a file system in memory fail, and how.
 use Rattle.std.specs.Prelude.{◌≡◌, ℕ, ◌-◌, ◌⊎◌, Bool, true, false, cond, Option, Some, None, List, [], ◌∷◌, ◌++◌, Result}
 use Rattle.std.specs.Result.{MatchResult}
+use Rattle.std.specs.String.{string_bytes}
+use Rattle.std.specs.Str.{bytes_eq}
+use Rattle.std.specs.Map.{update}
+use Rattle.std.specs.BTreeMap.{get_by_text}
 use Rattle.std.specs.List.{Contains, filter}
 use Rattle.std.proofs.Common.{map, take, nat_eq, nat_lt}
 use Rattle.std.specs.declared.alloc.AllocError.{AllocError}
@@ -9,19 +13,20 @@ use Rattle.std.specs.declared.io.ErrorKind.TheVariants.{Other, OutOfMemory}
 use Rattle.raft_log_disk.specs.Disk.{Change, Wrote, ShortenedTo, GrewTo, File, Disk, overwritten, with_file}
 use Rattle.raft_log_disk.specs.Calls.{with_change, after_change, at_stop, Changes}
 use Rattle.raft_log_disk.specs.declared.handle.Fault.{Fault}
-use Rattle.raft_log_disk.specs.declared.handle.Fault.TheVariants.{Refuse, RefuseInPart, DenyRead, StopAt, StopAfter}
+use Rattle.raft_log_disk.specs.declared.handle.Fault.TheVariants.{Refuse, RefuseInPart, DenyRead, StopAt, StopAfter, Space}
 use Rattle.raft_log_disk_memory.specs.declared.memory.MemoryFileSystem.{MemoryFileSystem}
 use Rattle.raft_log_disk_memory.specs.Memory.{disk_of, Kept, kept, failed_once}
-use Rattle.raft_log_disk_storage.specs.Steps.{IsRoomFault}
+use Rattle.raft_log_disk_memory.specs.Space.{HasSpace, HasNoRoom}
 
 -- How many changing calls there are up to each one that is refused, up to each one that is refused in part,
 -- with the number of bytes that a write there writes, and up to the one at which the file system stops, or 0
--- where no stop is armed; and whether that call is done.
+-- where no stop is armed; whether that call is done; and which space is set for a directory.
 pub record Armed : Type 0 where
   pub refusals : List ℕ
   pub parts : List (ℕ × ℕ)
   pub stop : ℕ
   pub after : Bool
+  pub spaces : List ℕ → Option ℕ
 
 -- what is armed
 abbrev pub armed : MemoryFileSystem → Armed
@@ -30,11 +35,16 @@ armed system = record {
   parts = system.parts.items;
   stop = system.stop;
   after = system.after;
+  spaces = get_by_text system.spaces;
 }
 
--- no refusal and no stop
+-- no refusal, no stop and no space
 abbrev pub nothing_armed : Armed
-nothing_armed = record { refusals = []; parts = []; stop = 0; after = false }
+nothing_armed = record { refusals = []; parts = []; stop = 0; after = false; spaces = λ directory. None }
+
+-- a space for a directory, in place of what was set for it
+abbrev pub with_space : List ℕ → ℕ → Armed → Armed
+with_space directory space a = record a { spaces = update bytes_eq a.spaces directory (Some space) }
 
 -- one refusal more, or a stop in place of the one before; at the number 0 nothing is armed (a place that can't
 -- be read is a mark on the disk)
@@ -45,6 +55,7 @@ armed_with (RefuseInPart n count) a =
 armed_with (DenyRead name place) a = a
 armed_with (StopAt n) a = cond (nat_eq n 0) a (record a { stop = n; after = false })
 armed_with (StopAfter n) a = cond (nat_eq n 0) a (record a { stop = n; after = true })
+armed_with (Space directory space) a = with_space (string_bytes directory) space a
 
 -- the refusals that don't fall at the next changing call, one call nearer
 abbrev pub nearer : List ℕ → List ℕ
@@ -168,10 +179,11 @@ pub record IsChangeMade (id : ℕ) (change : Change) (old left : Kept) : Type 0 
   pub order : left.unsynced ≡ old.unsynced ++ (id, change) ∷ []
 
 -- What a stop, before or after it, leaves of the write, shortening or growth that it falls at: the change is
--- made, and isn't synced; it isn't made only where there is no room for it, and then the error says so.
-abbrev pub MadeUnlessShort : ℕ → Change → Kept → ErrorKind → Kept → Type 0
-MadeUnlessShort id change old error left =
-    ((error ≡ Other) × IsChangeMade id change old left) ⊎ (IsRoomFault change error × (left ≡ old))
+-- made, and isn't synced; it isn't made only where there is no room for it, as where there is no space, and
+-- then the error says so.
+abbrev pub MadeUnlessShort : Type 0 → (ErrorKind → Type 0) → ℕ → Change → Kept → ErrorKind → Kept → Type 0
+MadeUnlessShort space no_room id change old error left =
+    ((error ≡ Other) × space × IsChangeMade id change old left) ⊎ (no_room error × (left ≡ old))
 
 -- the first bytes of a write were written, and are the last change of all; the file isn't synced with the
 -- whole write
@@ -183,14 +195,13 @@ pub record IsFrontMade (id at : ℕ) (bytes : List ℕ) (count : ℕ) (old left 
   pub order : left.unsynced ≡ old.unsynced ++ (id, Wrote at (take count bytes)) ∷ []
 
 -- What a refusal in part leaves of the change that it falls at: of a write so many of its first bytes were
--- written; they weren't only where there was no room, and then the error says so. Of another change nothing
--- was done.
-abbrev pub LeftInPart : ℕ → Change → Kept → ℕ → ErrorKind → Kept → Type 0
-LeftInPart id (Wrote at bytes) old count error left =
-    ((error ≡ Other) × IsFrontMade id at bytes count old left)
-    ⊎ (IsRoomFault (Wrote at bytes) error × (left ≡ old))
-LeftInPart id (ShortenedTo size) old count error left = Untouched old error left
-LeftInPart id (GrewTo size) old count error left = Untouched old error left
+-- written; they weren't only where there was no room, as where there was no space for the whole write, and
+-- then the error says so. Of another change nothing was done.
+abbrev pub LeftInPart : Type 0 → (ErrorKind → Type 0) → ℕ → Change → Kept → ℕ → ErrorKind → Kept → Type 0
+LeftInPart space no_room id (Wrote at bytes) old count error left =
+    ((error ≡ Other) × space × IsFrontMade id at bytes count old left) ⊎ (no_room error × (left ≡ old))
+LeftInPart space no_room id (ShortenedTo size) old count error left = Untouched old error left
+LeftInPart space no_room id (GrewTo size) old count error left = Untouched old error left
 
 -- a refused call that is done whole or not at all
 abbrev pub IsRefusedWhole : (Disk → Type 0) → List (ℕ × Change) → (ErrorKind → Type 0) → ErrorKind
@@ -199,12 +210,21 @@ IsRefusedWhole done order wrong error old new =
     IsRefusedCall (LeftAtStop (armed old).after done order (kept old)) (λ count. Untouched (kept old)) wrong
     (λ e. e ≡ OutOfMemory) error old new
 
+-- why there is no room for a change
+abbrev pub NoRoomFor : ℕ → Change → MemoryFileSystem → ErrorKind → Type 0
+NoRoomFor id change old error = HasNoRoom (armed old).spaces id change (disk_of old) error
+
+-- there is space for a change
+abbrev pub HasSpaceFor : ℕ → Change → MemoryFileSystem → Type 0
+HasSpaceFor id change old = HasSpace (armed old).spaces id change (disk_of old)
+
 -- a refused write, shortening or growth
 abbrev pub IsRefusedChange : ℕ → Change → (ErrorKind → Type 0) → ErrorKind
     → MemoryFileSystem → MemoryFileSystem → Type 0
 IsRefusedChange id change wrong error old new =
-    IsRefusedCall (MadeUnlessShort id change (kept old)) (LeftInPart id change (kept old)) wrong
-    (IsRoomFault change) error old new
+    IsRefusedCall (MadeUnlessShort (HasSpaceFor id change old) (NoRoomFor id change old) id change (kept old))
+    (LeftInPart (HasSpaceFor id change old) (NoRoomFor id change old) id change (kept old)) wrong
+    (NoRoomFor id change old) error old new
 
 -- How a call ended, of which it is told whether the file system stops at it and whether it was done: at a
 -- stop the error says why it wasn't done, where it wasn't; else it wasn't done, and that is a failure.

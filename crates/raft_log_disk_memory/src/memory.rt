@@ -2,12 +2,14 @@
 
 mod calls;
 mod reading;
+mod space;
 mod turns;
 
 ghost use Rattle.raft_log_disk_storage.specs.Storage.{IsStorageSound, IsWhole-prop};
 
 use raft_log_disk_storage::{Remainder, Storage};
 use std::alloc::{AllocError, Global};
+use std::collections::BTreeMap;
 
 /// A file system in memory, for tests and for simulated crashes. It has no directory at first.
 #[derive(Drop)]
@@ -24,6 +26,8 @@ pub struct MemoryFileSystem {
     after: bool,
     // The places that can't be read, each with its file's node number.
     denied: Vec<(usize, usize)>,
+    // How many bytes the files of a directory may have in all, for those for which it is set.
+    spaces: BTreeMap<String, u64>,
     ghost whole: { IsStorageSound storage } by { IsWhole-prop storage },
 }
 
@@ -48,6 +52,7 @@ impl MemoryFileSystem {
             refusals: Vec::new(alloc),
             parts: Vec::new(alloc),
             denied: Vec::new(alloc),
+            spaces: BTreeMap::new(alloc),
             stop: 0,
             after: false,
         }
@@ -62,8 +67,8 @@ impl MemoryFileSystem {
 
     /// The file system that a restart finds after a crash at this moment, which leaves of the changes that
     /// weren't synced what is said. The names are as they stand, a gap before what is left of a write is
-    /// zeros, no fault is armed, each place can be read and no failure is counted. It is refused for want of
-    /// memory alone.
+    /// zeros, no fault is armed, each place can be read, no space is set and no failure is counted. It is
+    /// refused for want of memory alone.
     pub fn remainder(&self, what: &Remainder) -> Result<MemoryFileSystem, AllocError>
         ensures exact { IfOk result (IsLeftOf what.now self.now) }
         ensures synced { IfOk result (λ after. unsynced after ≡ []) }
@@ -78,6 +83,7 @@ impl MemoryFileSystem {
             refusals: Vec::new(self.storage.alloc),
             parts: Vec::new(self.storage.alloc),
             denied: Vec::new(self.storage.alloc),
+            spaces: BTreeMap::new(self.storage.alloc),
             stop: 0,
             after: false,
         })

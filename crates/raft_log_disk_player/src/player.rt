@@ -62,6 +62,10 @@ impl Player {
                 told(String::from_str(alloc, path))?,
                 number(word(words, 2))?,
             )),
+            "set-space" => self.arm(&Fault::Space(
+                told(String::from_str(alloc, path))?,
+                number(word(words, 2))? as u64,
+            )),
             "crash" => self.crash(words),
             _ => self.play_on(words),
         }

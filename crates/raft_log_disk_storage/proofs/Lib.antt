@@ -13,3 +13,4 @@ pub mod RemainsLaws
 pub mod Exits
 pub mod Fronts
 pub mod Listings
+pub mod Growing

@@ -18,10 +18,21 @@ use Rattle.raft_log_disk_storage.specs.Storage.{file_named}
 use Rattle.raft_log_disk_storage.specs.Listing.{ListsNames}
 use Rattle.raft_log_disk.specs.Reading.{IsListing}
 
--- an entry of the map, by recursion
-abbrev pub Stands : List (String Global × Node) → List ℕ → Node → Type 0
-Stands [] path node = ⊥
-Stands (e ∷ es) path node = ((string_bytes e.0 ≡ path) × (e.1 ≡ node)) ⊎ Stands es path node
+-- an entry of a map by texts, by recursion
+abbrev pub Stands : {V : Type 0} → List (String Global × V) → List ℕ → V → Type 0
+Stands [] path v = ⊥
+Stands (e ∷ es) path v = ((string_bytes e.0 ≡ path) × (e.1 ≡ v)) ⊎ Stands es path v
+
+-- an entry of one more is one of those before, or the last one
+pub stands_pushed : {V : Type 0} (es : List (String Global × V)) (e : String Global × V) (path : List ℕ) (v : V) → Stands (es ++ e ∷ []) path v
+    → Stands es path v ⊎ (string_bytes e.0 ≡ path)
+stands_pushed [] e path v (inl here) = inr here.0
+stands_pushed [] e path v (inr none) = absurd none
+stands_pushed (f ∷ es) e path v (inl here) = inl (inl here)
+stands_pushed (f ∷ es) e path v (inr there) = elim (stands_pushed es e path v there) [
+  | inl before ↦ inl (inr before)
+  | inr last ↦ inr last
+]
 
 same_text : (path : List ℕ) (k : String Global) → is_at (λ (q : String Global). slice_cmp nat_cmp path (string_bytes q)) k ≡ true → string_bytes k ≡ path
 same_text path k is = sym ((bytes_eq-Decides path (string_bytes k)).0 (sym (is_eq-slice_cmp path (string_bytes k)) ∙ is))
@@ -30,7 +41,7 @@ text_found : (path : List ℕ) (k : String Global) → string_bytes k ≡ path �
 text_found path k is = is_eq-slice_cmp path (string_bytes k) ∙ (bytes_eq-Decides path (string_bytes k)).1 (sym is)
 
 -- what a look-up finds stands there
-pub found_stands : (es : List (String Global × Node)) (path : List ℕ) (node : Node)
+pub found_stands : {V : Type 0} (es : List (String Global × V)) (path : List ℕ) (node : V)
     → lookup (is_at (λ (q : String Global). slice_cmp nat_cmp path (string_bytes q))) es ≡ Some node → Stands es path node
 found_stands [] path node is = cc
 found_stands (e ∷ es) path node is = elim (cases_Bool (is_at (λ (q : String Global). slice_cmp nat_cmp path (string_bytes q)) e.0)) [
@@ -109,7 +120,7 @@ names_once directory (e ∷ es) names sorted (inl (first, rest, same_list, child
     let one : first ≡ get_or rest k [] = sym (ap (λ (xs : List (List ℕ)). get_or xs zero []) same_list) ∙ (same ∙ ap (λ (xs : List (List ℕ)). get_or xs (suc k) []) same_list) in
     stands_below (directory ++ 47 ∷ get_or rest k []) e.0 es later.0 sorted.0 (child.joined ∙ ap (λ (n : List ℕ). directory ++ 47 ∷ n) one) later.1
 
-file_node : (o : Option Node) → (file_named o ≡ None → ⊥) → (node : Node) × (o ≡ Some node)
+pub file_node : (o : Option Node) → (file_named o ≡ None → ⊥) → (node : Node) × (o ≡ Some node)
 file_node None there = absurd (there refl)
 file_node (Some node) there = (node, refl)
 

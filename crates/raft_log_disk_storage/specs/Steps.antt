@@ -1,6 +1,6 @@
 -- What each change of a file system in memory makes of its disk, and of the order of the changes of all
 -- files.
-use Rattle.std.specs.Prelude.{◌≡◌, ℕ, ◌⊎◌, ◌≤◌, cond, nat_eq, Option, Some, None, List, [], ◌∷◌, ◌++◌}
+use Rattle.std.specs.Prelude.{◌≡◌, ℕ, ◌+◌, ◌⊎◌, ◌<◌, ◌≤◌, cond, nat_eq, Option, Some, None, List, [], ◌∷◌, ◌++◌, length}
 use Rattle.std.specs.declared.io.ErrorKind.{ErrorKind}
 use Rattle.std.specs.declared.io.ErrorKind.TheVariants.{OutOfMemory, StorageFull}
 use Rattle.raft_log_disk.specs.Disk.{Change, File, Disk, changed, with_file, file_limit}
@@ -58,6 +58,19 @@ pub record MovesName (from to : List ℕ) (id : ℕ) (old new : Storage) : Type 
   pub contents : contents_of new ≡ renamed from to id (contents_of old)
   pub order : unsynced_of new ≡ without_replaced id ((contents_of old).names to) (unsynced_of old)
 
--- why a change wasn't made: memory is short, or the file would get too long
-abbrev pub IsRoomFault : Change → ErrorKind → Type 0
-IsRoomFault change error = (error ≡ OutOfMemory) ⊎ ((error ≡ StorageFull) × (file_limit ≤ end_of change))
+-- how many bytes a file has; none where it isn't there
+abbrev pub size_of : Option File → ℕ
+size_of None = 0
+size_of (Some file) = length file.content
+
+-- a change would make its file grow by more than so many bytes
+pub record GrowsPast (free id : ℕ) (change : Change) (d : Disk) : Type 0 where
+  pub file : File
+  pub is : d.files id ≡ Some file
+  pub past : length file.content + free < length (changed change file.content)
+
+-- Why a change wasn't made: memory is short, or the file would get too long, or it would grow by more bytes
+-- than are free.
+abbrev pub IsRoomFault : ℕ → ℕ → Change → Disk → ErrorKind → Type 0
+IsRoomFault free id change d error = (error ≡ OutOfMemory)
+    ⊎ ((error ≡ StorageFull) × ((file_limit ≤ end_of change) ⊎ GrowsPast free id change d))

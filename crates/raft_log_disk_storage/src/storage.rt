@@ -47,7 +47,7 @@ impl Storage {
     ghost use Rattle.raft_log_disk_storage.specs.Listing.{ListsNames};
     ghost use Rattle.raft_log_disk_storage.specs.Held.{held_of, IfHeld, PutsHeld, ReadsNumber, ReadsFront};
     ghost use Rattle.raft_log_disk_storage.specs.Storage.{file_named, is_directory, node_at, SameNodes, PutsNode, contents_of, unsynced_of, IsStorageSound};
-    ghost use Rattle.raft_log_disk_storage.specs.Steps.{IsSame, IsLeftBy, Makes, SyncsFile, AddsName, DropsName, MovesName, IsRoomFault};
+    ghost use Rattle.raft_log_disk_storage.specs.Steps.{IsSame, IsLeftBy, Makes, SyncsFile, AddsName, DropsName, MovesName, size_of, GrowsPast, IsRoomFault};
 
     /// With no directory and no file.
     pub fn new(alloc: Global) -> Storage
@@ -118,9 +118,9 @@ impl Storage {
         0
     }
 
-    /// The size in bytes of a file that is there. For one that isn't nothing is said.
+    /// The size in bytes of a file; none where it isn't there.
     pub fn size(&self, id: usize) -> usize
-        ensures { IfHeld self.now.files.items id (λ file. result ≡ length file.content) }
+        ensures { result ≡ size_of ((contents_of self.now).files id) }
     {
         if id < self.files.len() {
             if let Some(stored) = &self.files[id] {
@@ -165,16 +165,28 @@ impl Storage {
     }
 
     /// Writes into a file that is there, with zeros in a gap. It is refused as `StorageFull` where the file
-    /// would reach 2^63 bytes, and as `OutOfMemory`.
-    pub fn write(&mut self, id: usize, offset: usize, bytes: &[u8]) -> Result<(), ErrorKind>
+    /// would reach 2^63 bytes or grow by more than `free`, and as `OutOfMemory`.
+    pub fn write(
+        &mut self,
+        id: usize,
+        offset: usize,
+        bytes: &[u8],
+        free: u64,
+    ) -> Result<(), ErrorKind>
         requires there { (held_of self.old.files.items id ≡ None) → ⊥ }
         requires whole { IsStorageSound self.old }
         ensures ok { OnOk result (Makes id (Wrote offset bytes.now) [] self.old self.new) }
+        ensures fits { OnOk result
+            (GrowsPast free id (Wrote offset bytes.now) (contents_of self.old) → ⊥) }
         ensures err { OnErr result (IsSame self.old self.new) }
-        ensures errors { IfErr result (IsRoomFault (Wrote offset bytes.now)) }
+        ensures errors { IfErr result
+            (IsRoomFault free id (Wrote offset bytes.now) (contents_of self.old)) }
         ensures whole { IsStorageSound self.new }
     {
         if LIMIT <= offset || LIMIT - offset <= bytes.len() {
+            return Err(ErrorKind::StorageFull);
+        }
+        if !bytes.is_empty() && self.grows_past(id, offset + bytes.len(), free) {
             return Err(ErrorKind::StorageFull);
         }
         let Ok(bytes) = Vec::from_slice(self.alloc, bytes) else {
@@ -190,23 +202,30 @@ impl Storage {
 
     /// Writes the first bytes of a write that is refused into a file that is there; the others count as asked
     /// for. Nothing is written, as `StorageFull`, where the whole write would make the file reach 2^63
-    /// bytes, and as `OutOfMemory`.
+    /// bytes or grow by more than `free`, and as `OutOfMemory`.
     pub fn write_front(
         &mut self,
         id: usize,
         offset: usize,
         bytes: &[u8],
         count: usize,
+        free: u64,
     ) -> Result<(), ErrorKind>
         requires there { (held_of self.old.files.items id ≡ None) → ⊥ }
         requires whole { IsStorageSound self.old }
         ensures ok { OnOk result
             (Makes id (Wrote offset (take count bytes.now)) (drop count bytes.now) self.old self.new) }
+        ensures fits { OnOk result
+            (GrowsPast free id (Wrote offset bytes.now) (contents_of self.old) → ⊥) }
         ensures err { OnErr result (IsSame self.old self.new) }
-        ensures errors { IfErr result (IsRoomFault (Wrote offset bytes.now)) }
+        ensures errors { IfErr result
+            (IsRoomFault free id (Wrote offset bytes.now) (contents_of self.old)) }
         ensures whole { IsStorageSound self.new }
     {
         if LIMIT <= offset || LIMIT - offset <= bytes.len() {
+            return Err(ErrorKind::StorageFull);
+        }
+        if !bytes.is_empty() && self.grows_past(id, offset + bytes.len(), free) {
             return Err(ErrorKind::StorageFull);
         }
         let (front, rest) = bytes.split_at(count.min(bytes.len()));
@@ -238,21 +257,40 @@ impl Storage {
     }
 
     /// Fills a file that is there up with zeros to `offset + size` bytes. It is refused as `StorageFull`
-    /// where these are 2^63 or more, and as `OutOfMemory`.
-    pub fn grow(&mut self, id: usize, offset: usize, size: usize) -> Result<(), ErrorKind>
+    /// where these are 2^63 or more or the file would grow by more than `free`, and as `OutOfMemory`.
+    pub fn grow(
+        &mut self,
+        id: usize,
+        offset: usize,
+        size: usize,
+        free: u64,
+    ) -> Result<(), ErrorKind>
         requires there { (held_of self.old.files.items id ≡ None) → ⊥ }
         requires whole { IsStorageSound self.old }
         ensures ok { OnOk result (Makes id (GrewTo (offset + size)) [] self.old self.new) }
+        ensures fits { OnOk result
+            (GrowsPast free id (GrewTo (offset + size)) (contents_of self.old) → ⊥) }
         ensures err { OnErr result (IsSame self.old self.new) }
-        ensures errors { IfErr result (IsRoomFault (GrewTo (offset + size))) }
+        ensures errors { IfErr result
+            (IsRoomFault free id (GrewTo (offset + size)) (contents_of self.old)) }
         ensures whole { IsStorageSound self.new }
     {
         if LIMIT <= offset || LIMIT - offset <= size {
             return Err(ErrorKind::StorageFull);
         }
         let size = offset + size;
+        if self.grows_past(id, size, free) {
+            return Err(ErrorKind::StorageFull);
+        }
         self.change(id, Change::Growth { size })
             .map_err(|_| ErrorKind::OutOfMemory)
+    }
+
+    // Whether a file would grow by more than `free` bytes, if it were to have so many.
+    fn grows_past(&self, id: usize, size: usize, free: u64) -> bool
+        ensures { IsTrue result ↔ (size_of ((contents_of self.now).files id) + free < size) }
+    {
+        free < size.saturating_sub(self.size(id)) as u64
     }
 
     // Makes a change of a file that is there. The 2^64-th one finds no stamp, and is refused as for want of
@@ -385,8 +423,8 @@ impl Storage {
     }
 }
 
-// The name in a directory, where the path is that of a file there.
-fn child<'a>(directory: &str, path: &'a str, node: Node) -> Option<&'a str>
+/// The name in a directory, where the path is that of a file there.
+pub fn child<'a>(directory: &str, path: &'a str, node: Node) -> Option<&'a str>
     ensures { TellsChild directory.now path.now node result }
 {
     let Node::File(_) = node else {

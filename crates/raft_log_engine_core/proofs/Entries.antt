@@ -10,12 +10,12 @@ use Rattle.raft_log_model_laws.specs.Renamed.{renamed_content}
 use Rattle.raft_log_record_base.specs.declared.errors.Error.{Error}
 use Rattle.raft_log_record_base.specs.declared.errors.Error.TheVariants as errors
 use Rattle.raft_log_record_items.specs.declared.entry.EntryIndex.{EntryIndex}
-use Rattle.raft_log_table_lists.specs.declared.place.Place.{Place}
+use Rattle.raft_log_table_runs.specs.declared.place.Place.{Place}
+use Rattle.raft_log_table_runs.specs.Counts.{sized}
+use Rattle.raft_log_table_runs.specs.Entries.{entry_of, queue_of}
 use Rattle.raft_log_table_lists.specs.Shown.{Shown, nothing_shown}
 use Rattle.raft_log_table_lists.specs.Bridge.{Located, located}
 use Rattle.raft_log_table_lists.proofs.Queues.{located_length}
-use Rattle.raft_log_table_lists.specs.Counts.{sized}
-use Rattle.raft_log_table_lists.specs.Entries.{entry_of, queue_of}
 use Rattle.raft_log_table_one.specs.Table.{Raw, shown}
 use Rattle.raft_log_table_one.specs.Reads.{FetchRefused, entries_from, entry_at, fetched, places_between}
 use Rattle.raft_log_table_all.specs.declared.group_table.GroupTable.{GroupTable}

@@ -6,7 +6,7 @@ use Rattle.raft_log_record_items.specs.declared.command.Command.TheVariants as c
 use Rattle.raft_log_table_lists.specs.Shown.{Shown}
 use Rattle.raft_log_record_batches.specs.Batch.{Batch}
 use Rattle.raft_log_record_batches.specs.declared.log_batch.BatchState.TheVariants.{Filling}
-use Rattle.raft_log_record_batches.specs.ItemBatch.{command_item}
+use Rattle.raft_log_record_lists.specs.ItemBatch.{command_item}
 use Rattle.raft_log_purge.specs.raft_log_engine_laws.specs.Fetching.{HadFailed}
 use Rattle.raft_log_purge.specs.raft_log_engine_laws.specs.Shows.{Shows, has_failed}
 use Rattle.raft_log_purge.specs.raft_log_engine_laws.specs.Writing.{NotWritten, Writes}

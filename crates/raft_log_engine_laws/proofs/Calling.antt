@@ -17,10 +17,10 @@ use Rattle.raft_log_directory_laws.specs.Calls.Which.{InAppend}
 use Rattle.raft_log_directory_laws.specs.Log.{IsAt, View}
 use Rattle.raft_log_directory_laws.specs.Log.{ViewEndsAt as ViewEnds}
 use Rattle.raft_log_directory_laws.proofs.CallLaws.{append_answered, append_synced}
+use Rattle.raft_log_table_runs.specs.declared.place.Place.{Place}
 use Rattle.raft_log_table_lists.specs.declared.group_files.GroupFiles.{GroupFiles}
 use Rattle.raft_log_table_lists.specs.Shown.{IsOrderly, Shown, all_stepped, stepped}
 use Rattle.raft_log_table_lists.specs.Noted.{FilesRise}
-use Rattle.raft_log_table_lists.specs.declared.place.Place.{Place}
 use Rattle.raft_log_table_lists.proofs.Rising.{rises_on}
 use Rattle.raft_log_file_blocks.specs.raft_log_table_all.specs.Batch.{MayFollowAll, all_shown}
 use Rattle.raft_log_file_blocks.specs.raft_log_file_pair.specs.Crash.{AllowsIn}

@@ -16,11 +16,11 @@ use Rattle.raft_log_record_items.specs.Placed.{written_entry}
 use Rattle.raft_log_file_layout.specs.declared.record.LogRecord.{LogRecord}
 use Rattle.raft_log_record_batches.specs.Batch.{Batch, block_place}
 use Rattle.raft_log_record_batches.specs.Places.{entry_bytes}
-use Rattle.raft_log_table_lists.specs.Entries.{place_of}
+use Rattle.raft_log_table_runs.specs.Entries.{place_of}
 use Rattle.raft_log_file_blocks.specs.Signing.{signed_for}
 use Rattle.raft_log_directory_laws.specs.Calls.Which.{InRewrite}
 use Rattle.raft_log_directory_laws.specs.Tables.{CarriesTo}
-use Rattle.raft_log_table_lists.specs.declared.place.Place.{Place}
+use Rattle.raft_log_table_runs.specs.declared.place.Place.{Place}
 use Rattle.raft_log_table_lists.specs.Shown.{Shown, IsOrderly}
 use Rattle.raft_log_table_lists.specs.Bridge.{CanAllMove, CanMove, Located, Move, all_moved, in_queue, items_of as copies_of, located, moved}
 use Rattle.raft_log_table_lists.specs.Bridge.Move.{MoveKey, MoveRun}

@@ -22,8 +22,8 @@ use Rattle.raft_log_directory_laws.proofs.GroupCalls.{end_answered, end_may_be_t
 use Rattle.raft_log_file_blocks.specs.raft_log_file_pair.specs.Crash.{AllowsIn}
 use Rattle.raft_log_file_blocks.specs.raft_log_file_pair.specs.State.{Ties}
 use Rattle.raft_log_file_blocks.specs.raft_log_file_pair.specs.Steps.{next_log}
+use Rattle.raft_log_table_runs.specs.declared.place.Place.{Place}
 use Rattle.raft_log_table_lists.specs.declared.group_files.GroupFiles.{GroupFiles}
-use Rattle.raft_log_table_lists.specs.declared.place.Place.{Place}
 use Rattle.raft_log_table_lists.specs.Shown.{IsOrderly, Shown}
 use Rattle.raft_log_table_lists.specs.Bridge.{CanAllMove, Located, all_moved, in_queue, items_of as copies_of, located, moved_key, moved_run}
 use Rattle.raft_log_table_lists.specs.Bridge.Move.{MoveKey, MoveRun}

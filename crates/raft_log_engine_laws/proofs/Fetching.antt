@@ -14,11 +14,11 @@ use Rattle.raft_log_record_base.specs.declared.errors.Error.TheVariants as error
 use Rattle.raft_log_record_base.specs.declared.pipe_log.FileBlockHandle.{FileBlockHandle}
 use Rattle.raft_log_record_items.specs.declared.entry.EntryIndex.{EntryIndex}
 use Rattle.raft_log_record_items.specs.Message.{Parses}
-use Rattle.raft_log_table_lists.specs.declared.place.Place.{Place}
+use Rattle.raft_log_table_runs.specs.declared.place.Place.{Place}
+use Rattle.raft_log_table_runs.specs.Counts.{sized}
+use Rattle.raft_log_table_runs.specs.Entries.{entry_of, queue_of}
 use Rattle.raft_log_table_lists.specs.Shown.{Shown}
 use Rattle.raft_log_table_lists.specs.Bridge.{Located, in_queue, located, table_of}
-use Rattle.raft_log_table_lists.specs.Counts.{sized}
-use Rattle.raft_log_table_lists.specs.Entries.{entry_of, queue_of}
 use Rattle.raft_log_table_one.specs.Reads.{AreIn, entries_from, entry_at, fetched, places_between}
 use Rattle.raft_log_file_blocks.specs.Stored.{Each, EntryLiesIn, IsStored, entries_at, part, queue_in}
 use Rattle.raft_log_file_blocks.specs.raft_log_file_pair.specs.Pipes.{Said, State}

@@ -9,7 +9,7 @@ use Rattle.raft_log_file_layout.specs.declared.record.LogRecord.{LogRecord}
 use Rattle.raft_log_record_batches.specs.Batch.{Batch}
 use Rattle.raft_log_file_blocks.specs.Signing.{signed_for}
 use Rattle.raft_log_file_blocks.specs.raft_log_file_pair.specs.Turning.{HasLast}
-use Rattle.raft_log_table_lists.specs.declared.place.Place.{Place}
+use Rattle.raft_log_table_runs.specs.declared.place.Place.{Place}
 use Rattle.raft_log_table_lists.specs.Bridge.{Located, in_queue}
 use Rattle.raft_log_file_blocks.specs.raft_log_table_all.specs.Rewriting.{copied_items}
 use Rattle.raft_log_file_blocks.specs.Stored.{Each, EntryLiesIn, KeepsLog, entries_at, part}

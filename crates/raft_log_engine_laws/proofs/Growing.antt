@@ -22,7 +22,7 @@ use Rattle.raft_log_record_batches.proofs.PlacedMeanings.{read_means_what_was_ad
 use Rattle.raft_log_file_blocks.specs.Signing.{record_said}
 use Rattle.raft_log_directory_laws.specs.Log.{View}
 use Rattle.raft_log_directory_laws.specs.Tables.{GrowsTo}
-use Rattle.raft_log_table_lists.specs.declared.place.Place.{Place}
+use Rattle.raft_log_table_runs.specs.declared.place.Place.{Place}
 use Rattle.raft_log_table_lists.specs.Shown.{Shown, IsOrderly}
 use Rattle.raft_log_table_lists.specs.Bridge.{Located, table_of}
 use Rattle.raft_log_file_blocks.specs.raft_log_table_all.specs.Batch.{MayFollowAll, all_shown, all_written}

@@ -17,7 +17,7 @@ use Rattle.raft_log_directory_laws.specs.Calls.Which.{InAppend, InRewrite}
 use Rattle.raft_log_directory_laws.specs.Log.{IsLog, IsSettled, View}
 use Rattle.raft_log_directory_laws.specs.Notes.{AppendStandsFrom, IsAppended, IsInRewrite, RewriteStandsFrom}
 use Rattle.raft_log_directory_laws.proofs.GroupCalls.{append_raise_failed, append_raise_settled, rewrite_raise_failed, rewrite_raise_settled}
-use Rattle.raft_log_table_lists.specs.declared.place.Place.{Place}
+use Rattle.raft_log_table_runs.specs.declared.place.Place.{Place}
 use Rattle.raft_log_table_lists.specs.declared.group_files.GroupFiles.{GroupFiles}
 use Rattle.raft_log_table_lists.specs.Shown.{KeyValue, Shown, is_in_append, whereabouts}
 use Rattle.raft_log_table_lists.specs.Bridge.{Located, in_queue, located, table_of}

@@ -8,7 +8,7 @@ use Rattle.raft_log_model_laws.specs.Meaning.Slot.{Index, Key}
 use Rattle.raft_log_model_laws.specs.Meaning.Content.{Entry, Value}
 use Rattle.raft_log_model_laws.specs.Renamed.{renamed_content}
 use Rattle.raft_log_model_laws.specs.Table.{content}
-use Rattle.raft_log_table_lists.specs.declared.place.Place.{Place}
+use Rattle.raft_log_table_runs.specs.declared.place.Place.{Place}
 use Rattle.raft_log_table_lists.specs.Shown.{KeyValue, Shown}
 use Rattle.raft_log_table_lists.specs.Bridge.{IsMeant, Located, bytes_held, located, table_of}
 use Rattle.raft_log_table_lists.proofs.Queues.{located_length}

@@ -15,8 +15,8 @@ use Rattle.raft_log_record_items.specs.declared.item.LogItem.{LogItem}
 use Rattle.raft_log_record_items.specs.declared.entry.EntryIndex.{EntryIndex}
 use Rattle.raft_log_record_items.specs.Placed.{written, written_entry}
 use Rattle.raft_log_record_marks.specs.Meaning.{tagged_items}
-use Rattle.raft_log_table_lists.specs.Entries.{place_of}
-use Rattle.raft_log_table_lists.specs.declared.place.Place.{Place}
+use Rattle.raft_log_table_runs.specs.Entries.{place_of}
+use Rattle.raft_log_table_runs.specs.declared.place.Place.{Place}
 use Rattle.raft_log_table_lists.specs.Shown.{Shown, next_span, span, MayAllFollow, MayFollow}
 use Rattle.raft_log_table_lists.specs.Bridge.{Located, in_queue}
 use Rattle.raft_log_file_blocks.specs.raft_log_table_all.specs.Batch.{MayFollowAll, all_written}

@@ -13,7 +13,7 @@ use Rattle.raft_log_model_laws.proofs.Cases.{if_true}
 use Rattle.raft_log_model_laws.proofs.TableSteps.{content_within, get_drop}
 use Rattle.raft_log_model_laws.proofs.Tests.{from_same_key}
 use Rattle.raft_log_machine_laws.specs.Whereabouts.{RunStands}
-use Rattle.raft_log_table_lists.specs.declared.place.Place.{Place}
+use Rattle.raft_log_table_runs.specs.declared.place.Place.{Place}
 use Rattle.raft_log_table_lists.specs.Shown.{IsOrderly, KeyValue, Shown}
 use Rattle.raft_log_table_lists.specs.Bridge.{IsMeant, Located, in_queue, located, moved_run, read, table_of}
 use Rattle.raft_log_table_lists.proofs.Queues.{located_length}

@@ -6,7 +6,7 @@ use Rattle.raft_log_model_laws.specs.Item.Item.{Clean, Compact, Del, Put, Run}
 use Rattle.raft_log_model_laws.specs.Meaning.Slot.{Index}
 use Rattle.raft_log_model_laws.specs.Groups.{of_group}
 use Rattle.raft_log_model_laws.proofs.TableSteps.{get_back, get_front, get_take}
-use Rattle.raft_log_table_lists.specs.declared.place.Place.{Place}
+use Rattle.raft_log_table_runs.specs.declared.place.Place.{Place}
 use Rattle.raft_log_table_lists.specs.Shown.{IsOrderly, Shown}
 use Rattle.raft_log_table_lists.specs.Bridge.{CanAllMove, CanMove, Located, all_moved, moved_key, moved_run}
 use Rattle.raft_log_table_lists.specs.Bridge.Move.{MoveKey, MoveRun}

@@ -13,7 +13,7 @@ use Rattle.raft_log_record_batches.specs.Batch.{Batch}
 use Rattle.raft_log_record_batches.specs.Places.{entry_bytes}
 use Rattle.raft_log_file_blocks.specs.Signing.{SaysItself, signed_for}
 use Rattle.raft_log_directory_laws.specs.Notes.{GoesOnFrom}
-use Rattle.raft_log_table_lists.specs.declared.place.Place.{Place}
+use Rattle.raft_log_table_runs.specs.declared.place.Place.{Place}
 use Rattle.raft_log_table_lists.specs.Bridge.{Located}
 use Rattle.raft_log_table_lists.specs.Noted.{FilesRise}
 use Rattle.raft_log_file_blocks.specs.raft_log_table_all.specs.Rewriting.{copied_items}

@@ -7,7 +7,7 @@ use Rattle.raft_log_model_laws.specs.Groups.{of_group}
 use Rattle.raft_log_model_laws.specs.Renamed.{renamed}
 use Rattle.raft_log_machine_laws.specs.Machine.{IsJoined}
 use Rattle.raft_log_record_batches.specs.Batch.{Batch}
-use Rattle.raft_log_table_lists.specs.declared.place.Place.{Place}
+use Rattle.raft_log_table_runs.specs.declared.place.Place.{Place}
 use Rattle.raft_log_table_lists.specs.Shown.{IsOrderly, Shown}
 use Rattle.raft_log_table_lists.specs.Bridge.{CanAllMove, Located, Move, all_moved, in_queue, items_of as copies_of}
 use Rattle.raft_log_table_lists.specs.Noted.{FilesRise}

@@ -10,7 +10,7 @@ use Rattle.raft_log_record_marks.specs.Meaning.{tagged_items}
 use Rattle.raft_log_record_frames.specs.Record.{record_len}
 use Rattle.raft_log_record_batches.specs.Batch.{Batch, IsButBuffer, IsReadyForEach, emptied}
 use Rattle.raft_log_file_blocks.specs.Signing.{signed_for}
-use Rattle.raft_log_table_lists.specs.declared.place.Place.{Place}
+use Rattle.raft_log_table_runs.specs.declared.place.Place.{Place}
 use Rattle.raft_log_table_lists.specs.Shown.{Shown}
 use Rattle.raft_log_file_blocks.specs.raft_log_table_all.specs.Batch.{MayFollowAll, all_shown, counts_at_end}
 use Rattle.raft_log_file_blocks.specs.Written.{placed_items}

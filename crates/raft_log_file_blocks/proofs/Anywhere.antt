@@ -19,10 +19,10 @@ use Rattle.raft_log_record_items.specs.declared.item.LogItem.{LogItem}
 use Rattle.raft_log_record_items.specs.Placed.{written, written_entry}
 use Rattle.raft_log_record_marks.specs.Meaning.{tagged_items}
 use Rattle.raft_log_record_batches.specs.Places.{entry_bytes}
-use Rattle.raft_log_table_lists.specs.declared.place.Place.{Place}
+use Rattle.raft_log_table_runs.specs.declared.place.Place.{Place}
+use Rattle.raft_log_table_runs.specs.Entries.{place_of}
 use Rattle.raft_log_table_lists.specs.Shown.{MayAllFollow, MayFollow, Shown, next_span, span}
 use Rattle.raft_log_table_lists.specs.Bridge.{Located, in_queue, located}
-use Rattle.raft_log_table_lists.specs.Entries.{place_of}
 use Rattle.raft_log_table_all.specs.Batch.{MayFollowAll, all_shown, all_written}
 use Rattle.raft_log_table_all.proofs.Applied.{items_renamed, written_items}
 use Rattle.raft_log_file_pair.specs.State.{LogOnDisk}

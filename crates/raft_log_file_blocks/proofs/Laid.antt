@@ -19,8 +19,8 @@ use Rattle.raft_log_record_items.specs.Writing.{value_of}
 use Rattle.raft_log_record_marks.specs.Marking.{content_has_mark_key, has_mark_key}
 use Rattle.raft_log_record_marks.specs.Meaning.{key_meaning, meaning, tagged, tagged_items, unless_mark}
 use Rattle.raft_log_record_batches.specs.Places.{entry_bytes}
-use Rattle.raft_log_table_lists.specs.declared.place.Place.{Place}
-use Rattle.raft_log_table_lists.specs.Entries.{place_of}
+use Rattle.raft_log_table_runs.specs.declared.place.Place.{Place}
+use Rattle.raft_log_table_runs.specs.Entries.{place_of}
 use Rattle.raft_log_file_blocks.specs.Stored.{Each}
 
 -- the item's places have the property

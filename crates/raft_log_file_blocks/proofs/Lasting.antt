@@ -15,8 +15,8 @@ use Rattle.raft_log_record_frames.specs.Record.{block_bytes, footer_bytes, heade
 use Rattle.raft_log_record_frames.proofs.Made.{block_more, header-length}
 use Rattle.raft_log_record_batches.specs.Batch.{batch_bytes, block_place}
 use Rattle.raft_log_record_batches.specs.Places.{entry_bytes}
-use Rattle.raft_log_table_lists.specs.declared.place.Place.{Place}
-use Rattle.raft_log_table_lists.specs.Entries.{place_of}
+use Rattle.raft_log_table_runs.specs.declared.place.Place.{Place}
+use Rattle.raft_log_table_runs.specs.Entries.{place_of}
 use Rattle.raft_log_table_all.specs.Batch.{all_written}
 use Rattle.raft_log_model_laws.specs.Item.{Item}
 use Rattle.raft_log_model_laws.specs.Item.Item.{Run}

@@ -6,7 +6,7 @@ use Rattle.std.proofs.lemmas.List.{length-take}
 use Rattle.raft_log_model_laws.specs.Item.{Item}
 use Rattle.raft_log_model_laws.specs.Item.Item.{Run, Clean, Compact, Put, Del}
 use Rattle.raft_log_model_laws.specs.Groups.{of_group}
-use Rattle.raft_log_table_lists.specs.declared.place.Place.{Place}
+use Rattle.raft_log_table_runs.specs.declared.place.Place.{Place}
 use Rattle.raft_log_table_lists.specs.Shown.{Shown, IsOrderly, MayAllFollow, all_stepped, span, stepped}
 use Rattle.raft_log_table_lists.specs.Bridge.{Located, in_queue, located}
 use Rattle.raft_log_table_lists.proofs.Spans.{orderly_stepped, span_stepped}

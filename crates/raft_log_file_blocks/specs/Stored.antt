@@ -14,7 +14,7 @@ use Rattle.raft_log_file_pair.specs.Queues.{QueueLayout, IsQueueLayout}
 use Rattle.raft_log_file_pair.specs.State.{LogOnDisk, RunsQueue, Spanned, spanned_at}
 use Rattle.raft_log_file_pair.specs.Steps.{next_log}
 use Rattle.raft_log_file_pair.specs.Turning.{HasTaken, IsCutBack, IsOrGoesOn}
-use Rattle.raft_log_table_lists.specs.declared.place.Place.{Place}
+use Rattle.raft_log_table_runs.specs.declared.place.Place.{Place}
 use Rattle.raft_log_table_lists.specs.Shown.{Shown}
 use Rattle.raft_log_table_lists.specs.Bridge.{Located, located}
 use Rattle.raft_log_table_all.specs.Views.{AreMeant}

@@ -12,10 +12,10 @@ use Rattle.raft_log_record_items.specs.Placed.{entries_len, laid_out, written}
 use Rattle.raft_log_record_marks.specs.Meaning.{tagged_items}
 use Rattle.raft_log_record_batches.specs.Batch.{batch_bytes, block_place}
 use Rattle.raft_log_record_batches.specs.Places.{entry_bytes}
-use Rattle.raft_log_table_lists.specs.declared.place.Place.{Place}
+use Rattle.raft_log_table_runs.specs.declared.place.Place.{Place}
+use Rattle.raft_log_table_runs.specs.Entries.{place_of}
 use Rattle.raft_log_table_lists.specs.Shown.{Shown, IsOrderly}
 use Rattle.raft_log_table_lists.specs.Bridge.{in_queue}
-use Rattle.raft_log_table_lists.specs.Entries.{place_of}
 use Rattle.raft_log_table_all.specs.Batch.{MayFollowAll, all_shown, all_written}
 use Rattle.raft_log_file_pair.specs.State.{LogOnDisk}
 use Rattle.raft_log_file_pair.specs.Turning.{HasLast}

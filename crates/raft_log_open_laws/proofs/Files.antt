@@ -22,9 +22,9 @@ use Rattle.raft_log_record_marks.specs.Meaning.{marked, tagged_items}
 use Rattle.raft_log_record_batches.specs.Places.{entry_bytes}
 use Rattle.raft_log_file_laws.specs.Chains.{Written, spelled}
 use Rattle.raft_log_engine_laws.specs.raft_log_file_layout.specs.declared.record.LogRecord.{LogRecord}
-use Rattle.raft_log_table_lists.specs.declared.place.Place.{Place}
+use Rattle.raft_log_table_runs.specs.declared.place.Place.{Place}
+use Rattle.raft_log_table_runs.specs.Entries.{place_of}
 use Rattle.raft_log_table_lists.specs.Bridge.{Located, in_queue}
-use Rattle.raft_log_table_lists.specs.Entries.{place_of}
 use Rattle.raft_log_engine_laws.specs.raft_log_table_one.specs.Replays.{in_append}
 use Rattle.raft_log_file_queue.specs.Bridge.{said as said_all}
 use Rattle.raft_log_file_reader.specs.Batches.{block_at}

@@ -20,11 +20,11 @@ use Rattle.raft_log_record_marks.specs.declared.status.AtomicGroupStatus.{Atomic
 use Rattle.raft_log_record_marks.specs.Marking.{content_has_mark_key, has_mark_key, joined_marking, mark_of, mark_of_content, marking_of, marking_of_items, part_or_broken}
 use Rattle.raft_log_record_marks.specs.declared.marking.Marking.TheVariants.{Unmarked}
 use Rattle.raft_log_record_marks.specs.Meaning.{key_meaning, meaning, tagged, tagged_items, unless_mark}
-use Rattle.raft_log_table_lists.specs.declared.place.Place.{Place}
+use Rattle.raft_log_table_runs.specs.declared.place.Place.{Place}
+use Rattle.raft_log_table_runs.specs.Entries.{place_of}
 use Rattle.raft_log_table_lists.specs.Shown.{KeyValue}
 use Rattle.raft_log_table_lists.specs.Bridge.{Located, in_queue}
 use Rattle.raft_log_table_lists.specs.Replayed.{placed as placed_in, told}
-use Rattle.raft_log_table_lists.specs.Entries.{place_of}
 use Rattle.raft_log_table_contexts.specs.Records.{placed_tagged, said_in}
 use Rattle.raft_log_table_contexts.specs.Noting.{AllLieInFile, ItemsLieIn, ItemLiesIn}
 use Rattle.raft_log_table_contexts.specs.Opened.{told_tagged}

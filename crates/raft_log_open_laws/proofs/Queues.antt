@@ -21,7 +21,7 @@ use Rattle.raft_log_file_laws.specs.LogQueue.{LogFiles, recent}
 use Rattle.raft_log_engine_laws.specs.raft_log_file_layout.specs.declared.record.LogRecord.{LogRecord}
 use Rattle.raft_log_file_queue.specs.Queue.{past_bytes, whole}
 use Rattle.raft_log_file_queue.specs.Bridge.{filed, said as said_all, IsFileQueue}
-use Rattle.raft_log_table_lists.specs.declared.place.Place.{Place}
+use Rattle.raft_log_table_runs.specs.declared.place.Place.{Place}
 use Rattle.raft_log_table_lists.specs.Bridge.{Located, in_queue}
 use Rattle.raft_log_engine_laws.specs.raft_log_table_one.specs.Replays.{in_append}
 use Rattle.raft_log_table_segments.specs.Machines.{Batch}

@@ -17,7 +17,7 @@ use Rattle.raft_log_machine_laws.specs.Files.{LogFile}
 use Rattle.raft_log_machine_laws.specs.Unbroken.{IsUnbroken, UnbrokenFrom}
 use Rattle.raft_log_machine_laws.proofs.TruthRaises.{no_entry, no_word, speaks_above}
 use Rattle.raft_log_directory_laws.specs.Model.{Files}
-use Rattle.raft_log_table_lists.specs.declared.place.Place.{Place}
+use Rattle.raft_log_table_runs.specs.declared.place.Place.{Place}
 use Rattle.raft_log_table_lists.specs.Shown.{KeyValue}
 use Rattle.raft_log_table_lists.specs.Bridge.{located, Located}
 use Rattle.raft_log_table_lists.specs.Noted.{file_at, place_file}

@@ -10,11 +10,11 @@ use Rattle.raft_log_record_items.specs.declared.item.LogItemContent.TheVariants 
 use Rattle.raft_log_record_items.specs.Items.{item_of}
 use Rattle.raft_log_record_items.specs.Placed.{written_entry}
 use Rattle.raft_log_record_batches.specs.Batch.{Batch, block_place}
-use Rattle.raft_log_table_lists.specs.declared.place.Place.{Place}
+use Rattle.raft_log_table_runs.specs.declared.place.Place.{Place}
+use Rattle.raft_log_table_runs.specs.Counts.{passing}
+use Rattle.raft_log_table_runs.specs.Entries.{place_of}
 use Rattle.raft_log_table_lists.specs.Shown.{Shown}
 use Rattle.raft_log_table_lists.specs.Bridge.{moved_run}
-use Rattle.raft_log_table_lists.specs.Counts.{passing}
-use Rattle.raft_log_table_lists.specs.Entries.{place_of}
 use Rattle.raft_log_table_all.specs.Rewriting.{all_rewritten}
 use Rattle.raft_log_table_all.proofs.Copies.{run_moves}
 use Rattle.raft_log_engine_laws.specs.Shows.{Shows}

@@ -17,7 +17,7 @@ use Rattle.raft_log_record_marks.specs.declared.marking.Marking.TheVariants.{Unm
 use Rattle.raft_log_record_marks.specs.Marking.{has_mark_key, joined_marking, mark_of, marking_of, marking_of_items, part_or_broken}
 use Rattle.raft_log_record_marks.specs.Meaning.{tagged, tagged_items, unless_mark}
 use Rattle.raft_log_record_batches.specs.declared.log_batch.BatchState.TheVariants.{Filling}
-use Rattle.raft_log_record_batches.specs.ItemBatch.{command_item}
+use Rattle.raft_log_record_lists.specs.ItemBatch.{command_item}
 use Rattle.raft_log_record_batches.specs.Batch.{AddsItem, Batch}
 use Rattle.raft_log_table_all.specs.declared.mem_tables.MemTables.{MemTables}
 use Rattle.raft_log_table_all.specs.Tables.{shown_of}

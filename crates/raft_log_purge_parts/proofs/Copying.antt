@@ -15,8 +15,8 @@ use Rattle.raft_log_record_batches.specs.declared.log_batch.BatchState.TheVarian
 use Rattle.raft_log_record_batches.specs.Batch.{Batch, IsButBuffer, block_place, written_at}
 use Rattle.raft_log_file_blocks.specs.Signing.{signed_for}
 use Rattle.raft_log_directory_laws.specs.Calls.Which.{InRewrite}
+use Rattle.raft_log_table_runs.specs.Entries.{place_of}
 use Rattle.raft_log_table_lists.specs.Shown.{Shown}
-use Rattle.raft_log_table_lists.specs.Entries.{place_of}
 use Rattle.raft_log_table_all.specs.declared.mem_tables.MemTables.{MemTables}
 use Rattle.raft_log_table_all.specs.Rewriting.{MayMove, TakesRewritten, all_rewritten}
 use Rattle.raft_log_table_all.specs.Tables.{ShowsSame, counts, shown_of}

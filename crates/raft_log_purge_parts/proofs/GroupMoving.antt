@@ -3,7 +3,7 @@ use Rattle.std.proofs.Common.{◌≡◌, ℕ, zero, suc, ◌+◌, ◌-◌, ◌<�
 use Rattle.std.proofs.lemmas.Bool.{false≢true}
 use Rattle.std.proofs.lemmas.List.{take_at}
 use Rattle.raft_log_machine_laws.proofs.TruthRaises.{no_word}
-use Rattle.raft_log_table_lists.specs.declared.place.Place.{Place}
+use Rattle.raft_log_table_runs.specs.declared.place.Place.{Place}
 use Rattle.raft_log_table_lists.specs.declared.group_files.GroupFiles.{GroupFiles}
 use Rattle.raft_log_table_lists.specs.Shown.{IsOrderly, KeyValue, Shown}
 use Rattle.raft_log_table_lists.specs.Noted.{IsLeastInRewrite, noting, place_file}

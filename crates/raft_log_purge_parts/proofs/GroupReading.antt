@@ -10,9 +10,9 @@ use Rattle.raft_log_machine_laws.specs.Whereabouts.{RunStands}
 use Rattle.raft_log_record_items.specs.declared.entry.EntryIndex.{EntryIndex}
 use Rattle.raft_log_machine_laws.specs.Whereabouts.{top}
 use Rattle.raft_log_record_batches.specs.Entries.{RisesFrom, indexes_of}
-use Rattle.raft_log_table_lists.specs.declared.place.Place.{Place}
+use Rattle.raft_log_table_runs.specs.declared.place.Place.{Place}
+use Rattle.raft_log_table_runs.specs.Entries.{entry_of, queue_of}
 use Rattle.raft_log_table_lists.specs.Shown.{IsOrderly, Shown}
-use Rattle.raft_log_table_lists.specs.Entries.{entry_of, queue_of}
 use Rattle.raft_log_engine_laws.specs.raft_log_table_one.specs.Reads.{entries_from, rewritten_entries}
 use Rattle.raft_log_file_pair.specs.Pipes.{LogPipes}
 use Rattle.raft_log_file_blocks.specs.declared.block_cache.BlockCache.{BlockCache}

@@ -6,10 +6,10 @@ use Rattle.std.proofs.lemmas.List.{length-drop, take_all, take_more}
 use Rattle.raft_log_model_laws.specs.Meaning.Slot.{Index}
 use Rattle.raft_log_model_laws.proofs.Cases.{at_bool, eq_true, from_le_false}
 use Rattle.raft_log_record_base.specs.declared.errors.Error.{Error}
-use Rattle.raft_log_table_lists.specs.declared.place.Place.{Place}
+use Rattle.raft_log_table_runs.specs.declared.place.Place.{Place}
+use Rattle.raft_log_table_runs.specs.Counts.{passing}
 use Rattle.raft_log_table_lists.specs.Shown.{Shown}
 use Rattle.raft_log_table_lists.specs.Noted.{file_at, place_file}
-use Rattle.raft_log_table_lists.specs.Counts.{passing}
 use Rattle.raft_log_engine_laws.specs.raft_log_table_one.specs.Files.{FrontIsLeast, IsLeastInAppend}
 use Rattle.raft_log_engine_laws.specs.raft_log_table_one.proofs.Leasts.{place_there}
 use Rattle.raft_log_engine_laws.specs.Shows.{Shows, has_failed}

@@ -21,10 +21,10 @@ use Rattle.raft_log_record_items.specs.Items.{put_item}
 use Rattle.raft_log_record_items.specs.Placed.{written, written_item}
 use Rattle.raft_log_record_marks.specs.Marking.{has_mark_key}
 use Rattle.raft_log_record_marks.specs.Meaning.{tagged, tagged_items, unless_mark}
-use Rattle.raft_log_table_lists.specs.declared.place.Place.{Place}
+use Rattle.raft_log_table_runs.specs.declared.place.Place.{Place}
+use Rattle.raft_log_table_runs.specs.Entries.{place_of}
 use Rattle.raft_log_table_lists.specs.Shown.{KeyValue, Shown, with_held}
 use Rattle.raft_log_table_lists.specs.Bridge.{Located}
-use Rattle.raft_log_table_lists.specs.Entries.{place_of}
 use Rattle.raft_log_table_lists.specs.Listing.{ListsAll, appended_values, asked_bytes, is_asked}
 use Rattle.raft_log_engine_laws.specs.raft_log_table_one.specs.Moves.{key_rewritten, may_move, rewritten_to}
 use Rattle.raft_log_table_all.specs.Rewriting.{AreCopies, all_rewritten}

@@ -23,9 +23,9 @@ use Rattle.raft_log_record_marks.proofs.Meanings.{no_mark_key}
 use Rattle.raft_log_record_batches.specs.declared.log_batch.BatchState.TheVariants.{Filling}
 use Rattle.raft_log_record_batches.specs.Batch.{Batch, Puts, block_place}
 use Rattle.raft_log_record_batches.specs.Key.{IsKeyRefusal}
-use Rattle.raft_log_table_lists.specs.declared.place.Place.{Place}
+use Rattle.raft_log_table_runs.specs.declared.place.Place.{Place}
+use Rattle.raft_log_table_runs.specs.Entries.{place_of}
 use Rattle.raft_log_table_lists.specs.Shown.{Shown}
-use Rattle.raft_log_table_lists.specs.Entries.{place_of}
 use Rattle.raft_log_table_lists.specs.Listing.{AddsAll, ListsAll, appended_values}
 use Rattle.raft_log_engine_laws.specs.raft_log_table_one.specs.Table.{Raw, shown}
 use Rattle.raft_log_table_all.specs.declared.group_table.GroupTable.{GroupTable}

@@ -15,7 +15,7 @@ use Rattle.raft_log_table_lists.specs.Shown.{IsOrderly, KeyValue, Shown}
 use Rattle.raft_log_table_lists.specs.Noted.{IsLeastInRewrite, start_of}
 use Rattle.raft_log_table_lists.specs.declared.key_map.HeldValue.{HeldValue}
 use Rattle.raft_log_table_lists.specs.declared.key_map.KeySlot.{KeySlot}
-use Rattle.raft_log_table_lists.specs.Counts.{file_of_value, least_over, least_value, lesser}
+use Rattle.raft_log_table_lists.specs.LeastFiles.{file_of_value, least_over, least_value, lesser}
 use Rattle.raft_log_table_lists.specs.Keys.{held_in, slot_at, value_of}
 use Rattle.raft_log_engine_laws.specs.raft_log_table_one.specs.Files.{FrontIsLeast, IsLeastInAppend, first_place, min_file}
 use Rattle.raft_log_engine_laws.specs.raft_log_table_one.specs.Table.{Raw, shown}

@@ -4,10 +4,10 @@ use Rattle.std.proofs.lemmas.List.{length-drop, length-take, length-append}
 use Rattle.std.proofs.lemmas.Bool.{false≢true}
 use Rattle.raft_log_model_laws.proofs.Cases.{at_bool, le_true}
 use Rattle.raft_log_machine_laws.proofs.TruthRaises.{no_word}
-use Rattle.raft_log_table_lists.specs.declared.place.Place.{Place}
+use Rattle.raft_log_table_runs.specs.declared.place.Place.{Place}
+use Rattle.raft_log_table_runs.specs.Counts.{passing}
 use Rattle.raft_log_table_lists.specs.Shown.{KeyValue, Shown}
 use Rattle.raft_log_table_lists.specs.Bridge.{moved_run}
-use Rattle.raft_log_table_lists.specs.Counts.{passing}
 use Rattle.raft_log_table_lists.specs.Listing.{is_asked}
 use Rattle.raft_log_purge_parts.specs.Moving.{IsPartlyRewritten, IsRewrittenTo, ValueMayMove, copied_value, with_copied_values}
 

@@ -7,10 +7,10 @@ use Rattle.raft_log_model_laws.proofs.Cases.{at_bool}
 use Rattle.raft_log_record_base.specs.declared.errors.Error.{Error}
 use Rattle.raft_log_record_base.specs.declared.errors.Error.TheVariants as errors
 use Rattle.raft_log_record_items.specs.declared.entry.EntryIndex.{EntryIndex}
-use Rattle.raft_log_table_lists.specs.declared.place.Place.{Place}
+use Rattle.raft_log_table_runs.specs.declared.place.Place.{Place}
+use Rattle.raft_log_table_runs.specs.Counts.{fitting, passing, sized}
+use Rattle.raft_log_table_runs.specs.Entries.{entry_of, place_of, queue_of}
 use Rattle.raft_log_table_lists.specs.Shown.{IsOrderly, Shown}
-use Rattle.raft_log_table_lists.specs.Counts.{fitting, passing, sized}
-use Rattle.raft_log_table_lists.specs.Entries.{entry_of, place_of, queue_of}
 use Rattle.raft_log_engine_laws.specs.raft_log_table_one.specs.Reads.{FetchRefused, entries_from, fetched, places_between}
 use Rattle.raft_log_engine_laws.specs.raft_log_table_one.specs.Table.{Raw, shown}
 use Rattle.raft_log_table_all.specs.declared.group_table.GroupTable.{GroupTable}

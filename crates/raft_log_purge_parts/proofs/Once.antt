@@ -19,7 +19,7 @@ use Rattle.raft_log_record_marks.specs.declared.marking.Marking.TheVariants.{Unm
 use Rattle.raft_log_record_batches.specs.Batch.{Batch}
 use Rattle.raft_log_record_batches.specs.Entries.{entries_items, indexes_of}
 use Rattle.raft_log_file_blocks.specs.Signing.{SaysItself, signed_for}
-use Rattle.raft_log_table_lists.specs.declared.place.Place.{Place}
+use Rattle.raft_log_table_runs.specs.declared.place.Place.{Place}
 use Rattle.raft_log_table_lists.specs.Shown.{IsOrderly, KeyValue, Shown}
 use Rattle.raft_log_table_lists.specs.Bridge.{IsMeant, Located, in_queue}
 use Rattle.raft_log_table_lists.specs.Listing.{ListsAll, asked_bytes, rewritten_values}

@@ -17,11 +17,11 @@ use Rattle.raft_log_record_marks.specs.Marking.{has_mark_key}
 use Rattle.raft_log_record_marks.specs.Meaning.{tagged, tagged_items, unless_mark}
 use Rattle.raft_log_record_batches.specs.Batch.{Batch, block_place}
 use Rattle.raft_log_record_batches.specs.Places.{entry_bytes}
-use Rattle.raft_log_table_lists.specs.declared.place.Place.{Place}
+use Rattle.raft_log_table_runs.specs.declared.place.Place.{Place}
+use Rattle.raft_log_table_runs.specs.Counts.{passing}
+use Rattle.raft_log_table_runs.specs.Entries.{place_of}
 use Rattle.raft_log_table_lists.specs.Shown.{Shown}
 use Rattle.raft_log_table_lists.specs.Bridge.{IsMeant, Located, in_queue, located, read}
-use Rattle.raft_log_table_lists.specs.Counts.{passing}
-use Rattle.raft_log_table_lists.specs.Entries.{place_of}
 use Rattle.raft_log_table_all.specs.Rewriting.{AreCopies, IsCopy}
 use Rattle.raft_log_table_all.proofs.Ready.{by_group, same_or_apart}
 use Rattle.raft_log_table_all.specs.Views.{AreMeant}

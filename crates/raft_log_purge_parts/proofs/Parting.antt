@@ -5,7 +5,7 @@ use Rattle.raft_log_model_laws.specs.Item.Item.{Run}
 use Rattle.raft_log_model_laws.specs.Groups.{of_group}
 use Rattle.raft_log_record_base.specs.declared.pipe_log.FileBlockHandle.{FileBlockHandle}
 use Rattle.raft_log_record_batches.specs.Batch.{Batch}
-use Rattle.raft_log_table_lists.specs.declared.place.Place.{Place}
+use Rattle.raft_log_table_runs.specs.declared.place.Place.{Place}
 use Rattle.raft_log_table_lists.specs.Noted.{AllIn}
 use Rattle.raft_log_engine_laws.specs.Writing.{items_at}
 use Rattle.raft_log_engine_laws.specs.Parts.{FilesGoUp, WrittenPart, said_items}

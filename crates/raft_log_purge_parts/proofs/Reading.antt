@@ -14,11 +14,11 @@ use Rattle.raft_log_record_marks.specs.Marking.{marking_of_items}
 use Rattle.raft_log_record_batches.specs.Batch.{Batch}
 use Rattle.raft_log_machine_laws.specs.Whereabouts.{top}
 use Rattle.raft_log_record_batches.specs.Entries.{IsEntriesRefusal, RisesFrom, entries_items, entries_of, indexes_of}
-use Rattle.raft_log_record_batches.specs.ItemBatch.{all_entries}
+use Rattle.raft_log_record_lists.specs.ItemBatch.{all_entries}
 use Rattle.raft_log_record_batches.specs.Places.{entry_bytes}
-use Rattle.raft_log_table_lists.specs.declared.place.Place.{Place}
+use Rattle.raft_log_table_runs.specs.declared.place.Place.{Place}
+use Rattle.raft_log_table_runs.specs.Counts.{passing}
 use Rattle.raft_log_table_lists.specs.Shown.{Shown}
-use Rattle.raft_log_table_lists.specs.Counts.{passing}
 use Rattle.raft_log_engine_laws.specs.raft_log_table_one.specs.Reads.{entries_from}
 use Rattle.raft_log_file_blocks.specs.declared.block_cache.BlockCache.{BlockCache}
 use Rattle.raft_log_file_blocks.specs.Blocks.{AreUnread, IsOfLog, ReadsEntries}

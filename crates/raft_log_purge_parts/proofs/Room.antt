@@ -12,7 +12,7 @@ use Rattle.raft_log_record_items.specs.declared.item.LogItem.{LogItem}
 use Rattle.raft_log_record_items.specs.Placed.{written, written_entry}
 use Rattle.raft_log_record_marks.specs.Meaning.{tagged_items}
 use Rattle.raft_log_record_batches.specs.Batch.{Batch, block_place}
-use Rattle.raft_log_table_lists.specs.Entries.{place_of}
+use Rattle.raft_log_table_runs.specs.Entries.{place_of}
 use Rattle.raft_log_engine_laws.specs.raft_log_table_one.specs.Room.{needs}
 use Rattle.raft_log_engine_laws.specs.raft_log_table_one.proofs.Ready.{needs-append, needs_renamed}
 use Rattle.raft_log_table_all.specs.declared.mem_tables.MemTables.{MemTables}

@@ -21,10 +21,10 @@ use Rattle.raft_log_record_marks.specs.Marking.{has_mark_key, mark_item, marking
 use Rattle.raft_log_record_marks.specs.Meaning.{BecomesPart, marked, part_of, tagged, tagged_items, unless_mark}
 use Rattle.raft_log_record_batches.specs.Batch.{Batch, block_place}
 use Rattle.raft_log_record_batches.specs.Entries.{entries_of}
-use Rattle.raft_log_record_batches.specs.ItemBatch.{all_entries}
+use Rattle.raft_log_record_lists.specs.ItemBatch.{all_entries}
 use Rattle.raft_log_record_batches.specs.Places.{entry_bytes}
+use Rattle.raft_log_table_runs.specs.Entries.{place_of}
 use Rattle.raft_log_table_lists.specs.Noted.{AllIn}
-use Rattle.raft_log_table_lists.specs.Entries.{place_of}
 use Rattle.raft_log_engine_laws.specs.Writing.{items_at}
 use Rattle.raft_log_engine_laws.specs.Parts.{said_items}
 use Rattle.raft_log_purge_parts.specs.Entries.{IsRunBatch}

@@ -20,11 +20,11 @@ use Rattle.raft_log_file_pipe.specs.Purging.{IsInSpan}
 use Rattle.raft_log_directory_laws.specs.Calls.{Which}
 use Rattle.raft_log_directory_laws.specs.Calls.Which.{InAppend, InRewrite}
 use Rattle.raft_log_directory_laws.specs.Notes.{RecordLiesIn, SpeaksIn}
-use Rattle.raft_log_table_lists.specs.declared.place.Place.{Place}
+use Rattle.raft_log_table_runs.specs.declared.place.Place.{Place}
 use Rattle.raft_log_table_lists.specs.Shown.{KeyValue, Shown, is_in_append}
 use Rattle.raft_log_table_lists.specs.Bridge.{Located, in_queue, located}
 use Rattle.raft_log_table_lists.specs.Noted.{held_file}
-use Rattle.raft_log_table_lists.specs.Counts.{IsLeastValue, lesser}
+use Rattle.raft_log_table_lists.specs.LeastFiles.{IsLeastValue, lesser}
 use Rattle.raft_log_table_all.specs.declared.mem_tables.MemTables.{MemTables}
 use Rattle.raft_log_engine_laws.specs.raft_log_table_one.specs.Files.{IsMinFile}
 use Rattle.raft_log_file_pipe.specs.declared.pipe_files.PipeFiles.{PipeFiles}

@@ -7,8 +7,8 @@ use Rattle.raft_log_record_batches.specs.declared.log_batch.BatchState.TheVarian
 use Rattle.raft_log_record_batches.specs.Batch.{Batch}
 use Rattle.raft_log_record_batches.specs.Entries.{entries_items, joined}
 use Rattle.raft_log_record_batches.specs.Places.{bytes_in}
-use Rattle.raft_log_table_lists.specs.Counts.{passing, sized}
-use Rattle.raft_log_table_lists.specs.declared.place.Place.{Place}
+use Rattle.raft_log_table_runs.specs.Counts.{passing, sized}
+use Rattle.raft_log_table_runs.specs.declared.place.Place.{Place}
 use Rattle.raft_log_table_lists.specs.Shown.{Shown}
 use Rattle.raft_log_engine_laws.specs.raft_log_table_one.specs.Reads.{entries_from}
 use Rattle.raft_log_engine_laws.specs.Shows.{LogMap}

@@ -4,8 +4,8 @@ use Rattle.std.specs.List.{list_any}
 use Rattle.raft_log_disk.specs.Causes.{IsLater}
 use Rattle.raft_log_record_base.specs.declared.errors.Error.{Error}
 use Rattle.raft_log_record_base.specs.declared.errors.Error.TheVariants as errors
+use Rattle.raft_log_table_runs.specs.Counts.{passing}
 use Rattle.raft_log_table_lists.specs.Shown.{Shown}
-use Rattle.raft_log_table_lists.specs.Counts.{passing}
 use Rattle.raft_log_engine_laws.specs.raft_log_table_one.specs.Files.{FrontIsLeast, IsLeastInAppend}
 use Rattle.raft_log_engine_laws.specs.Shows.{Shows, has_failed}
 use Rattle.raft_log_engine_laws.specs.Raising.{AppendMayBegin}

@@ -1,9 +1,9 @@
 -- What shows of a group while what it has in Append is copied to Rewrite.
 use Rattle.std.specs.Prelude.{◌≡◌, ◌+◌, ◌<◌, ◌≤◌, ◌⊎◌, ◌==◌, ℕ, true, false, List, Option, Some, None, if◌then◌else◌, length, take, drop}
-use Rattle.raft_log_table_lists.specs.declared.place.Place.{Place}
+use Rattle.raft_log_table_runs.specs.declared.place.Place.{Place}
+use Rattle.raft_log_table_runs.specs.Counts.{passing}
 use Rattle.raft_log_table_lists.specs.Shown.{KeyValue, Shown}
 use Rattle.raft_log_table_lists.specs.Bridge.{moved_run}
-use Rattle.raft_log_table_lists.specs.Counts.{passing}
 use Rattle.raft_log_table_lists.specs.Listing.{is_asked}
 
 -- a value in Append, in a file up to the gate, stands in this file of Rewrite; any other where it stood

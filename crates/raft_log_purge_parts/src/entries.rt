@@ -2,8 +2,8 @@
 
 ghost use Rattle.std.specs.Prelude.{◌≡◌, map, nat_le, IfErr, IfOk};
 ghost use Rattle.raft_log_record_base.specs.declared.errors.Error.TheVariants as errors;
-ghost use Rattle.raft_log_table_lists.specs.Counts.{passing};
-ghost use Rattle.raft_log_table_lists.specs.Entries.{place_of};
+ghost use Rattle.raft_log_table_runs.specs.Counts.{passing};
+ghost use Rattle.raft_log_table_runs.specs.Entries.{place_of};
 ghost use Rattle.raft_log_record_batches.specs.Entries.{IsEntriesRefusal, indexes_of, slices_bytes};
 ghost use Rattle.raft_log_table_all.specs.Tables.{shown_of};
 ghost use Rattle.raft_log_purge_parts.specs.Entries.{AreNext, IsRunBatch};

@@ -6,5 +6,4 @@ pub mod EntriesFrom
 pub mod AtomicGroups
 pub mod PlacedMeanings
 pub mod Moves
-pub mod ItemBatches
 pub mod Places

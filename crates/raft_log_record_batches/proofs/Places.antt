@@ -1,8 +1,6 @@
 -- The bytes that stand at the places of entries.
 use Rattle.std.proofs.Common.{◌≡◌, ℕ, suc, ◌+◌, ◌-◌, ◌≤◌, List, [], ◌∷◌, ◌++◌, length, take, drop, map, inl, inr, refl, sym, ap, subst, ◌∙◌, arith}
-use Rattle.std.specs.Prelude.{All}
 use Rattle.std.proofs.lemmas.List.{drop-drop, map-append, length-append, append-nil, take-append-le, drop-append-le, length-drop, take_at, drop_at}
-use Rattle.std.proofs.lemmas.List.Elements.{All-append, All-cons}
 use Rattle.std.proofs.lemmas.List.Sums.{sum_by-cons, sum_by-append}
 use Rattle.std.proofs.lemmas.List.Concat.{flat_map-append}
 use Rattle.raft_log_record_base.specs.declared.pipe_log.FileBlockHandle.{FileBlockHandle}
@@ -13,15 +11,16 @@ use Rattle.raft_log_record_items.specs.declared.item.LogItem.{LogItem}
 use Rattle.raft_log_record_items.specs.Run.{unplaced}
 use Rattle.raft_log_record_items.specs.Placed.{run_len, content_len, entries_len, laid_run, laid_content, laid_out, written_entry, written_content, written}
 use Rattle.raft_log_record_items.specs.Writing.{plain_content, plain_item}
-use Rattle.raft_log_record_frames.specs.Record.{AddsUp, block_bytes}
+use Rattle.raft_log_record_frames.specs.Record.{block_bytes}
 use Rattle.raft_log_record_base.specs.Number.{u32_le_bytes}
 use Rattle.raft_log_record_checksum.specs.Checksum.{crc32_of}
 use Rattle.raft_log_record_frames.proofs.Made.{block_more, four_bytes}
-use Rattle.raft_log_record_batches.specs.ItemBatch.{content_entries, all_entries}
+use Rattle.raft_log_record_lists.specs.ItemBatch.{content_entries, all_entries, AllLieIn}
 use Rattle.raft_log_record_batches.specs.declared.log_batch.BatchState.{BatchState}
 use Rattle.raft_log_record_batches.specs.Batch.{Batch, IsBatch, Becomes, with_batch, written_at, block_place}
 use Rattle.raft_log_record_batches.specs.Entries.{AddsEntries, entries_of, joined}
-use Rattle.raft_log_record_batches.specs.Places.{entry_bytes, bytes_of_each, IsEntryInBlock, AllLieIn, AddsBytes, HasBytesInBlock, ReadHasWhatWasAdded}
+use Rattle.raft_log_record_batches.specs.Places.{entry_bytes, bytes_of_each, AddsBytes, HasBytesInBlock, ReadHasWhatWasAdded}
+use Rattle.raft_log_record_lists.proofs.Placing.{run_len-cons, all_entries-written, all_lie_in}
 use Rattle.raft_log_record_batches.proofs.Moves.{entries_count}
 
 -- ---- bytes cut by the lengths of entries
@@ -29,9 +28,6 @@ use Rattle.raft_log_record_batches.proofs.Moves.{entries_count}
 abbrev pub parts : List EntryIndex → List ℕ → List (List ℕ)
 parts [] bytes = []
 parts (e ∷ es) bytes = take e.entry_len bytes ∷ parts es (drop e.entry_len bytes)
-
-run_len-cons : (e : EntryIndex) (es : List EntryIndex) → run_len (e ∷ es) ≡ e.entry_len + run_len es
-run_len-cons e es = sum_by-cons (λ (x : EntryIndex). x.entry_len) e es
 
 parts-append : (es fs : List EntryIndex) (bytes : List ℕ) → parts (es ++ fs) bytes ≡ parts es bytes ++ parts fs (drop (run_len es) bytes)
 parts-append [] fs bytes = refl
@@ -157,18 +153,6 @@ extents-written : (handle : FileBlockHandle) (es : List EntryIndex) (bytes : Lis
 extents-written handle [] bytes = refl
 extents-written handle (e ∷ es) bytes = ap (λ (l : List (List ℕ)). entry_bytes bytes e ∷ l) (extents-written handle es bytes)
 
-content-written : (handle : FileBlockHandle) (c : LogItemContent) → content_entries (written_content handle c) ≡ map (written_entry handle) (content_entries c)
-content-written handle (contents.EntryIndexes es) = refl
-content-written handle (contents.Command c) = refl
-content-written handle (contents.Kv kv) = refl
-
-all_entries-written : (handle : FileBlockHandle) (items : List LogItem) → all_entries (written handle items) ≡ map (written_entry handle) (all_entries items)
-all_entries-written handle [] = refl
-all_entries-written handle (x ∷ xs) =
-    ap (λ (l : List EntryIndex). l ++ all_entries (written handle xs)) (content-written handle x.content)
-    ∙ ap (λ (l : List EntryIndex). map (written_entry handle) (content_entries x.content) ++ l) (all_entries-written handle xs)
-    ∙ sym (map-append (written_entry handle) (content_entries x.content) (all_entries xs))
-
 bytes-written : (handle : FileBlockHandle) (items : List LogItem) (bytes : List ℕ) → bytes_of_each (written handle items) bytes ≡ bytes_of_each items bytes
 bytes-written handle items bytes = ap (λ (l : List EntryIndex). map (entry_bytes bytes) l) (all_entries-written handle items) ∙ extents-written handle (all_entries items) bytes
 
@@ -199,42 +183,6 @@ read_has_what_was_added items entries handle laid adds =
     bytes-written handle (laid_out 0 (map plain_item items)) block ∙ item_parts 0 (map plain_item items) block
     ∙ ap (λ (l : List EntryIndex). parts l block) (all_entries-plain items) ∙ parts-unplaced (all_entries items) block
     ∙ sym (laid_parts items block laid) ∙ in_block items entries laid adds
-
--- ---- entries lie in their block
-
-abbrev EndsBy : ℕ → EntryIndex → Type 0
-EndsBy most e = e.entry_offset + e.entry_len ≤ most
-
-run_ends : (offset most : ℕ) (es : List EntryIndex) → offset + run_len es ≤ most → All (EndsBy most) (laid_run offset es)
-run_ends offset most [] h = λ k d lt. absurd (omega arith)
-run_ends offset most (e ∷ es) h =
-    let whole = run_len-cons e es in
-    All-cons (EndsBy most) (record e { entry_offset = offset }) (laid_run (offset + e.entry_len) es) (omega (arith, whole)) (run_ends (offset + e.entry_len) most es (omega (arith, whole)))
-
-content_ends : (offset most : ℕ) (c : LogItemContent) → offset + content_len c ≤ most → All (EndsBy most) (content_entries (laid_content offset c))
-content_ends offset most (contents.EntryIndexes es) h = run_ends offset most es h
-content_ends offset most (contents.Command c) h = λ k d lt. absurd (omega arith)
-content_ends offset most (contents.Kv kv) h = λ k d lt. absurd (omega arith)
-
-item_ends : (offset most : ℕ) (items : List LogItem) → offset + entries_len items ≤ most → All (EndsBy most) (all_entries (laid_out offset items))
-item_ends offset most [] h = λ k d lt. absurd (omega arith)
-item_ends offset most (x ∷ xs) h =
-    let whole = sum_by-cons (λ (y : LogItem). content_len y.content) x xs in
-    let next : ℕ = offset + content_len x.content in
-    All-append (EndsBy most) (content_entries (laid_content offset x.content)) (all_entries (laid_out next xs))
-    (content_ends offset most x.content (omega (arith, whole))) (item_ends next most xs (omega (arith, whole)))
-
-all_placed : (handle : FileBlockHandle) (es : List EntryIndex) → All (EndsBy (handle.len - 4)) es → All (IsEntryInBlock handle) (map (written_entry handle) es)
-all_placed handle [] h = λ k d lt. absurd (omega arith)
-all_placed handle (e ∷ es) h =
-    All-cons (IsEntryInBlock handle) (written_entry handle e) (map (written_entry handle) es) (refl, h 0 e (omega arith)) (all_placed handle es (λ k d lt. h (suc k) d (omega arith)))
-
-pub all_lie_in : (handle : FileBlockHandle) (items : List LogItem) → entries_len items ≤ handle.len - 4 → AllLieIn handle (written handle (laid_out 0 items))
-all_lie_in handle items h =
-    subst (λ (l : List EntryIndex). All (IsEntryInBlock handle) l) (sym (all_entries-written handle (laid_out 0 items))) (all_placed handle (all_entries (laid_out 0 items)) (item_ends 0 (handle.len - 4) items (omega (arith, h))))
-
-pub footer_room : (items : List LogItem) (len : ℕ) → AddsUp items len → entries_len items ≤ len - 4
-footer_room items len h = elim h.1 [ inl p ↦ omega (arith, p.1) | inr q ↦ omega (arith, q) ]
 
 -- a batch that took another one has the bytes of both
 pub merge_bytes : (old new other : Batch) → laid_out 0 old.items ≡ old.items → entries_len old.items ≡ length old.entries → laid_out 0 other.items ≡ other.items → Becomes (with_batch old other) new

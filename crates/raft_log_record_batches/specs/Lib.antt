@@ -1,4 +1,3 @@
-pub mod ItemBatch
 pub mod Batch
 pub mod Entries
 pub mod EntriesFrom

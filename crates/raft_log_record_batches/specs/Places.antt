@@ -1,12 +1,12 @@
--- Where the entries of a batch lie in their block, and the bytes that stand there.
-use Rattle.std.specs.Prelude.{◌≡◌, ℕ, ◌+◌, ◌-◌, ◌≤◌, List, ◌++◌, length, take, drop, map, Some, All}
+-- The bytes that stand at the places of a batch's entries.
+use Rattle.std.specs.Prelude.{◌≡◌, ℕ, List, ◌++◌, length, take, drop, map}
 use Rattle.raft_log_record_base.specs.declared.pipe_log.FileBlockHandle.{FileBlockHandle}
 use Rattle.raft_log_record_items.specs.declared.entry.EntryIndex.{EntryIndex}
 use Rattle.raft_log_record_items.specs.declared.item.LogItem.{LogItem}
 use Rattle.raft_log_record_items.specs.Placed.{entries_len, laid_out, placed}
 use Rattle.raft_log_record_items.specs.Writing.{plain_item}
 use Rattle.raft_log_record_frames.specs.Record.{block_bytes}
-use Rattle.raft_log_record_batches.specs.ItemBatch.{all_entries}
+use Rattle.raft_log_record_lists.specs.ItemBatch.{all_entries}
 use Rattle.raft_log_record_batches.specs.Batch.{Batch}
 use Rattle.raft_log_record_marks.specs.Meaning.{record_of}
 
@@ -17,14 +17,6 @@ entry_bytes block e = take e.entry_len (drop e.entry_offset block)
 -- the bytes of each entry of these items, where these are the bytes of their block
 abbrev pub bytes_of_each : List LogItem → List ℕ → List (List ℕ)
 bytes_of_each items block = map (entry_bytes block) (all_entries items)
-
--- the entry lies in this block, in front of its checksum
-abbrev pub IsEntryInBlock : FileBlockHandle → EntryIndex → Type 0
-IsEntryInBlock block e = (e.entries ≡ Some block) × (e.entry_offset + e.entry_len ≤ block.len - 4)
-
--- each entry of these items lies in this block
-abbrev pub AllLieIn : FileBlockHandle → List LogItem → Type 0
-AllLieIn block items = All (IsEntryInBlock block) (all_entries items)
 
 -- the bytes of each entry of a batch
 abbrev pub bytes_in : Batch → List (List ℕ)

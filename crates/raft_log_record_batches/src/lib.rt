@@ -5,12 +5,10 @@ pub mod atomic_group;
 mod entry_writer;
 pub mod laws;
 pub mod log_batch;
-pub mod log_item_batch;
 
 pub use atomic_group::AtomicGroupBuilder;
 pub use entry_writer::{EntrySlices, EntryWriter};
 pub use log_batch::{BatchState, LogBatch};
-pub use log_item_batch::LogItemBatch;
 pub use raft_log_record_frames::{
     LOG_BATCH_HEADER_LEN, decode_entries_block, decode_footer, decode_header,
 };
@@ -19,4 +17,5 @@ pub use raft_log_record_items::{
     FileSeq, KeyValue, LogFileContext, LogItem, LogItemContent, LogQueue, Message, MessageExt,
     OpType, Result, Version,
 };
+pub use raft_log_record_lists::LogItemBatch;
 pub use raft_log_record_marks::{AtomicGroupStatus, Marking};

@@ -5,12 +5,12 @@ ghost use Rattle.raft_log_record_marks.specs.Key.{is_internal};
 ghost use Rattle.raft_log_record_batches.specs.Batch.{max_entries_len, kept_buffer, roomy};
 ghost use Rattle.raft_log_record_batches.specs.Key.{IsKeyRefusal};
 
-use crate::log_item_batch::{LogItemBatch, items_size};
 use raft_log_record_frames::LOG_BATCH_HEADER_LEN;
 use raft_log_record_frames::record::{are_bytes, fill_record, write_checksum};
 use raft_log_record_items::{
     Bytes, Command, Error, FileBlockHandle, LogFileContext, LogItem, Message, Result,
 };
+use raft_log_record_lists::{LogItemBatch, items_size};
 use raft_log_record_marks::{MARK_GROUP, MARK_KEY, Marking};
 use std::alloc::{AllocError, Global};
 use std::marker::Model;
@@ -83,13 +83,13 @@ impl LogBatch {
     ghost use Rattle.raft_log_record_marks.specs.Key.{is_internal};
     ghost use Rattle.raft_log_record_marks.specs.Marking.{mark_key, marking_of_items};
     ghost use Rattle.raft_log_record_batches.specs.declared.log_batch.BatchState.TheVariants.{Filling, Populated};
-    ghost use Rattle.raft_log_record_batches.specs.ItemBatch.{command_item};
+    ghost use Rattle.raft_log_record_lists.specs.ItemBatch.{command_item, AllLieIn};
     ghost use Rattle.raft_log_record_batches.specs.Key.{IsKeyRefusal};
     ghost use Rattle.raft_log_record_batches.specs.Batch.{batch_size, empty_batch, emptied, max_kept_len};
     ghost use Rattle.raft_log_record_batches.specs.Batch.{written_at, signed_as, signed_bytes, IsButBuffer};
     ghost use Rattle.raft_log_record_batches.specs.Batch.{AddsItem, Puts, Becomes, IsMade, IsSigned};
     ghost use Rattle.raft_log_record_batches.specs.Batch.{IsReadyForEach, IsRecordOf, block_place};
-    ghost use Rattle.raft_log_record_batches.specs.Places.{AllLieIn, HasBytesInBlock};
+    ghost use Rattle.raft_log_record_batches.specs.Places.{HasBytesInBlock};
 
     /// An empty batch, which is being filled.
     pub fn default(alloc: Global) -> Result<Self, AllocError>

@@ -17,15 +17,15 @@ use Rattle.raft_log_record_base.specs.declared.pipe_log.FileBlockHandle.{FileBlo
 use Rattle.raft_log_record_items.specs.Placed.{written, written_content, written_entry, written_item}
 use Rattle.raft_log_record_marks.specs.Marking.{content_has_mark_key, has_mark_key}
 use Rattle.raft_log_record_marks.specs.Meaning.{key_meaning, meaning, tagged, tagged_items, unless_mark}
-use Rattle.raft_log_table_lists.specs.declared.place.Place.{Place}
+use Rattle.raft_log_table_runs.specs.declared.place.Place.{Place}
 use Rattle.raft_log_table_lists.specs.Shown.{Shown, IsOrderly, stepped, all_stepped, whereabouts}
 use Rattle.raft_log_model_laws.specs.Groups.{Map}
 use Rattle.raft_log_model_laws.specs.Meaning.{after}
 use Rattle.raft_log_machine_laws.specs.Whereabouts.{GrowsBy}
+use Rattle.raft_log_table_runs.specs.Entries.{place_of}
 use Rattle.raft_log_table_lists.specs.Bridge.{in_queue, IsMeant, Located}
 use Rattle.raft_log_table_lists.proofs.Grow.{batch_grows, orderly_after}
 use Rattle.raft_log_table_lists.proofs.Meant.{batch_meant}
-use Rattle.raft_log_table_lists.specs.Entries.{place_of}
 use Rattle.raft_log_table_one.specs.Room.{Promise, kept, IsReady, CanTake}
 use Rattle.raft_log_table_one.proofs.Ready.{ready_can, ready_next, ready_renamed}
 use Rattle.raft_log_table_all.specs.declared.mem_tables.MemTables.{MemTables}

@@ -4,7 +4,7 @@ use Rattle.std.specs.BTreeMap.{get}
 use Rattle.std.specs.Option.{option_or}
 use Rattle.std.specs.Ordering.{nat_cmp}
 use Rattle.raft_log_model_laws.proofs.Cases.{if_false, if_true, lt_false}
-use Rattle.raft_log_table_lists.specs.declared.place.Place.{Place}
+use Rattle.raft_log_table_runs.specs.declared.place.Place.{Place}
 use Rattle.raft_log_table_lists.specs.Shown.{KeyValue, Shown}
 use Rattle.raft_log_table_lists.specs.Bridge.{unmarked}
 use Rattle.raft_log_table_lists.specs.Replayed.{joined, left, merged, nothing_replayed, with_entries, with_newer, Replayed}

@@ -9,7 +9,7 @@ use Rattle.raft_log_machine_laws.specs.Survival.{IsSpoken}
 use Rattle.raft_log_machine_laws.specs.Whereabouts.{GrowsBy}
 use Rattle.raft_log_directory_laws.specs.Notes.{IsAppended}
 use Rattle.raft_log_directory_laws.specs.Tables.{NotesGrow, NotesStay}
-use Rattle.raft_log_table_lists.specs.declared.place.Place.{Place}
+use Rattle.raft_log_table_runs.specs.declared.place.Place.{Place}
 use Rattle.raft_log_table_lists.specs.Shown.{Shown, whereabouts}
 use Rattle.raft_log_table_lists.specs.Noted.{file_at}
 use Rattle.raft_log_table_lists.specs.Bridge.{IsMeant, Located, in_queue, written}

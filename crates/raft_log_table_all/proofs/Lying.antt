@@ -13,8 +13,8 @@ use Rattle.raft_log_model_laws.specs.Item.{Item, Tagged}
 use Rattle.raft_log_model_laws.specs.Groups.{of_group}
 use Rattle.raft_log_record_marks.specs.Marking.{has_mark_key}
 use Rattle.raft_log_record_marks.specs.Meaning.{key_meaning, meaning, tagged, tagged_items, unless_mark}
-use Rattle.raft_log_table_lists.specs.Entries.{place_of}
-use Rattle.raft_log_table_lists.specs.declared.place.Place.{Place}
+use Rattle.raft_log_table_runs.specs.Entries.{place_of}
+use Rattle.raft_log_table_runs.specs.declared.place.Place.{Place}
 use Rattle.raft_log_table_lists.specs.Noted.{AllIn, AreInFile}
 use Rattle.raft_log_table_all.specs.Views.{LieIn}
 

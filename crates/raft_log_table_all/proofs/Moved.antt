@@ -12,7 +12,7 @@ use Rattle.raft_log_model_laws.specs.Renamed.{renamed_tagged}
 use Rattle.raft_log_model_laws.proofs.Records.{of_group_append}
 use Rattle.raft_log_model_laws.proofs.RenamedLaws.{of_group_renamed}
 use Rattle.raft_log_record_marks.specs.Meaning.{meaning, tagged_items}
-use Rattle.raft_log_table_lists.specs.declared.place.Place.{Place}
+use Rattle.raft_log_table_runs.specs.declared.place.Place.{Place}
 use Rattle.raft_log_table_lists.specs.Shown.{span}
 use Rattle.raft_log_table_one.specs.Room.{Promise, count_of, needs, no_promise, with_moves, without_moves}
 use Rattle.raft_log_table_one.proofs.Ready.{needs-append, needs_renamed}

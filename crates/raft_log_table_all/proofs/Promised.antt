@@ -6,8 +6,8 @@ use Rattle.raft_log_record_items.specs.declared.entry.EntryIndex.{EntryIndex}
 use Rattle.raft_log_record_items.specs.declared.item.LogItem.{LogItem}
 use Rattle.raft_log_record_marks.specs.Marking.{has_mark_key}
 use Rattle.raft_log_record_marks.specs.Meaning.{tagged, tagged_items, unless_mark}
-use Rattle.raft_log_table_lists.specs.declared.place.Place.{Place}
-use Rattle.raft_log_table_lists.specs.Entries.{place_of}
+use Rattle.raft_log_table_runs.specs.declared.place.Place.{Place}
+use Rattle.raft_log_table_runs.specs.Entries.{place_of}
 use Rattle.raft_log_table_one.specs.Room.{Promise, kept, promised}
 use Rattle.raft_log_table_all.specs.declared.mem_tables.MemTables.{MemTables}
 use Rattle.raft_log_table_all.specs.Tables.{has_table, promise_of}

@@ -10,11 +10,11 @@ use Rattle.raft_log_record_items.specs.declared.item.LogItem.{LogItem}
 use Rattle.raft_log_record_items.specs.declared.item.LogItemContent.TheVariants as contents
 use Rattle.raft_log_record_marks.specs.Marking.{has_mark_key}
 use Rattle.raft_log_record_marks.specs.Meaning.{meaning, tagged, tagged_items, unless_mark}
-use Rattle.raft_log_table_lists.specs.declared.place.Place.{Place}
+use Rattle.raft_log_table_runs.specs.declared.place.Place.{Place}
+use Rattle.raft_log_table_runs.specs.Entries.{place_of, run_of}
 use Rattle.raft_log_table_lists.specs.Shown.{next_span, span, MayAllFollow, MayFollow}
 use Rattle.raft_log_table_lists.specs.Replayed.{Replayed, replayed}
 use Rattle.raft_log_table_lists.proofs.Spans.{span_stepped}
-use Rattle.raft_log_table_lists.specs.Entries.{place_of, run_of}
 use Rattle.raft_log_table_one.specs.Room.{span_after}
 use Rattle.raft_log_table_one.proofs.Reread.{append_step}
 use Rattle.raft_log_record_base.specs.declared.errors.Error.{Error}

@@ -5,7 +5,7 @@ use Rattle.raft_log_model_laws.specs.Item.{Item, Tagged}
 use Rattle.raft_log_model_laws.specs.Item.Item.{Run, Clean, Compact, Put, Del}
 use Rattle.raft_log_model_laws.specs.Groups.{of_group}
 use Rattle.raft_log_model_laws.proofs.Cases.{at_bool, from_lt_false}
-use Rattle.raft_log_table_lists.specs.declared.place.Place.{Place}
+use Rattle.raft_log_table_runs.specs.declared.place.Place.{Place}
 use Rattle.raft_log_table_lists.specs.Shown.{KeyValue, Shown, nothing_shown}
 use Rattle.raft_log_table_lists.proofs.Alone.{shows}
 use Rattle.raft_log_table_one.specs.Moves.{gated, movable, rewritten_at}

@@ -9,12 +9,13 @@ use Rattle.raft_log_record_base.specs.declared.errors.Error.{Error}
 use Rattle.raft_log_table_lists.specs.Shown.{Shown, span}
 use Rattle.raft_log_table_lists.specs.Bridge.{unmarked}
 use Rattle.raft_log_table_lists.specs.Replayed.{Replayed, joined, merged, LeavesHole}
+use Rattle.raft_log_table_one.specs.Room.{with_room_of}
 use Rattle.raft_log_table_lists.proofs.Alone.{rewrite_alone}
 use Rattle.raft_log_table_one.specs.Table.{replay_of}
 use Rattle.raft_log_table_one.proofs.Behind.{joined_last}
 use Rattle.raft_log_table_all.specs.declared.group_table.GroupTable.{GroupTable}
 use Rattle.raft_log_table_all.specs.declared.mem_tables.MemTables.{MemTables}
-use Rattle.raft_log_table_all.specs.Tables.{counts, counts_in, replayed_in, replayed_of, shown_in, shown_of, IsAtRest, PromisesSame}
+use Rattle.raft_log_table_all.specs.Tables.{counts, counts_in, replayed_in, replayed_of, shown_in, shown_of, promise_of, IsAtRest}
 use Rattle.raft_log_table_all.specs.Replaying.{StaysAt}
 use Rattle.raft_log_table_all.specs.Joining.{JoinRefused, JoinsAll, JoinsAt, JoinsOne, JoinsSome, MergesAll, MergesAt, MergesOne, MergesSome, SameAt, TableRefused, UnmarkedAt}
 use Rattle.raft_log_table_all.proofs.Ready.{by_group, same_or_apart}
@@ -171,5 +172,5 @@ merge_one old append m k e es h one = (
 )
 
 -- nothing is prepared once the marks are cleared, where nothing was
-pub unmarked_rests : (old m : MemTables) → ((g : ℕ) → shown_of m g ≡ unmarked (shown_of old g)) → PromisesSame old m → IsAtRest old → IsAtRest m
+pub unmarked_rests : (old m : MemTables) → ((g : ℕ) → shown_of m g ≡ unmarked (shown_of old g)) → ((g : ℕ) → promise_of m g ≡ with_room_of (promise_of old g) (shown_of old g)) → IsAtRest old → IsAtRest m
 unmarked_rests old m shows same rest g = ap (λ q. q.ends) (same g) ∙ rest g ∙ ap span (sym (shows g))

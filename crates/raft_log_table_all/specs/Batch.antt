@@ -8,8 +8,8 @@ use Rattle.raft_log_model_laws.specs.Item.Item.{Clean}
 use Rattle.raft_log_model_laws.specs.Holes.{Window}
 use Rattle.raft_log_model_laws.specs.Groups.{of_group}
 use Rattle.raft_log_model_laws.specs.Renamed.{renamed_tagged}
+use Rattle.raft_log_table_runs.specs.declared.place.Place.{Place}
 use Rattle.raft_log_table_lists.specs.Bridge.{in_queue, Located}
-use Rattle.raft_log_table_lists.specs.declared.place.Place.{Place}
 use Rattle.raft_log_table_lists.specs.Shown.{Shown, stepped, all_stepped, span, MayFollow, MayAllFollow}
 use Rattle.raft_log_table_one.specs.Room.{Promise, kept, promised, IsForgotten, IsReady}
 use Rattle.raft_log_table_all.specs.declared.mem_tables.MemTables.{MemTables}

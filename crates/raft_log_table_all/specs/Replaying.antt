@@ -5,7 +5,7 @@ use Rattle.raft_log_record_base.specs.declared.errors.Error.TheVariants as error
 use Rattle.raft_log_model_laws.specs.Item.{Item, Tagged}
 use Rattle.raft_log_model_laws.specs.Holes.{Window}
 use Rattle.raft_log_model_laws.specs.Groups.{of_group}
-use Rattle.raft_log_table_lists.specs.declared.place.Place.{Place}
+use Rattle.raft_log_table_runs.specs.declared.place.Place.{Place}
 use Rattle.raft_log_table_lists.specs.Shown.{span, MayFollow}
 use Rattle.raft_log_table_lists.specs.Replayed.{Replayed, replayed}
 use Rattle.raft_log_table_all.specs.declared.mem_tables.MemTables.{MemTables}

@@ -6,8 +6,8 @@ use Rattle.raft_log_directory_laws.specs.Log.{View}
 use Rattle.raft_log_machine_laws.specs.Machine.{AllFit, IsJoined}
 use Rattle.raft_log_machine_laws.specs.Unbroken.{joined}
 use Rattle.raft_log_directory_laws.specs.Tables.{CarriesTo, EndsGroupTo, GrowsTo}
+use Rattle.raft_log_table_runs.specs.declared.place.Place.{Place}
 use Rattle.raft_log_table_lists.specs.declared.group_files.GroupFiles.{GroupFiles}
-use Rattle.raft_log_table_lists.specs.declared.place.Place.{Place}
 use Rattle.raft_log_table_lists.specs.Shown.{Shown, IsOrderly, whereabouts}
 use Rattle.raft_log_table_lists.specs.Noted.{AreInFile, AreUpTo, IsLeastInRewrite, file_at, noted_at, with_note}
 use Rattle.raft_log_table_lists.specs.Bridge.{AllOwed, CanAllMove, IsMeant, Located, Move, all_moved, items_of as copies_of, marks, unmarked, without}

@@ -6,7 +6,7 @@ ghost use Rattle.raft_log_table_lists.specs.Bridge.{unmarked};
 ghost use Rattle.raft_log_table_lists.specs.Shown.{nothing_shown, span, stepped, MayFollow};
 ghost use Rattle.raft_log_table_lists.specs.Replayed.{joined, merged, nothing_replayed, replayed, LeavesHole};
 ghost use Rattle.raft_log_record_marks.specs.Meaning.{key_meaning, meaning};
-ghost use Rattle.raft_log_table_lists.specs.Entries.{place_of, run_of};
+ghost use Rattle.raft_log_table_runs.specs.Entries.{place_of, run_of};
 ghost use Rattle.raft_log_table_one.specs.Files.{with_group, with_read_group, NotesGroup};
 ghost use Rattle.raft_log_table_one.specs.Replays.{in_append, MergeRefused};
 ghost use Rattle.raft_log_table_one.specs.Room.{
@@ -16,6 +16,7 @@ ghost use Rattle.raft_log_table_one.specs.Room.{
   promised,
   taken_back,
   with_moves,
+  with_room_of,
   without_moves,
   CanTake,
 };
@@ -233,7 +234,7 @@ impl GroupTable {
     pub(crate) fn clear_marks(&mut self)
         ensures shows { shown self.new.table ≡ unmarked (shown self.old.table) }
         ensures counts { self.new.counts ≡ self.old.counts }
-        ensures room { promise self.new.table ≡ promise self.old.table }
+        ensures room { promise self.new.table ≡ with_room_of (promise self.old.table) (shown self.old.table) }
     {
         self.table.clear_marks();
     }

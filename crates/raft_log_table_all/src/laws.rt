@@ -12,7 +12,7 @@ ghost use Rattle.raft_log_record_items.specs.declared.entry.EntryIndex.{EntryInd
 ghost use Rattle.raft_log_record_items.specs.declared.item.LogItem.{LogItem};
 ghost use Rattle.raft_log_record_items.specs.Placed.{written};
 ghost use Rattle.raft_log_record_marks.specs.Meaning.{tagged_items};
-ghost use Rattle.raft_log_table_lists.specs.declared.place.Place.{Place};
+ghost use Rattle.raft_log_table_runs.specs.declared.place.Place.{Place};
 ghost use Rattle.raft_log_table_lists.specs.Shown.{whereabouts, IsOrderly, Shown};
 ghost use Rattle.raft_log_table_lists.specs.Bridge.{
   all_moved,

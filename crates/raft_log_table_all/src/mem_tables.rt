@@ -5,7 +5,7 @@ ghost use Rattle.raft_log_table_lists.specs.Replayed.{nothing_replayed};
 ghost use Rattle.raft_log_table_lists.specs.Shown.{nothing_shown, span};
 ghost use Rattle.raft_log_record_marks.specs.Marking.{has_mark_key};
 ghost use Rattle.raft_log_record_marks.specs.Meaning.{meaning, tagged, tagged_items};
-ghost use Rattle.raft_log_table_lists.specs.Entries.{place_of};
+ghost use Rattle.raft_log_table_runs.specs.Entries.{place_of};
 ghost use Rattle.raft_log_table_one.specs.Room.{CanTake};
 ghost use Rattle.raft_log_table_all.specs.Batch.{
   all_kept,

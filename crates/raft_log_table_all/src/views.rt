@@ -5,7 +5,7 @@ ghost use Rattle.raft_log_record_base.specs.declared.pipe_log.FileBlockHandle.{F
 ghost use Rattle.raft_log_record_items.specs.declared.item.LogItem.{LogItem};
 ghost use Rattle.raft_log_record_items.specs.Placed.{written};
 ghost use Rattle.raft_log_record_marks.specs.Meaning.{tagged_items};
-ghost use Rattle.raft_log_table_lists.specs.Entries.{place_of};
+ghost use Rattle.raft_log_table_runs.specs.Entries.{place_of};
 ghost use Rattle.raft_log_table_all.specs.Views.{BatchGrowsTheView, CopiesCarryTheView, GroupEndsTheView, LieIn, MarksCarryTheView};
 
 /// A batch that was written to a file of Append, and that the tables take, is one by which the view goes on:

@@ -24,9 +24,9 @@ use Rattle.raft_log_model_laws.specs.Fragments.{completed, head, next_unfinished
 use Rattle.raft_log_model_laws.specs.Fragments.Head.{Ends, GoesOn}
 use Rattle.raft_log_model_laws.proofs.Heads.{head_append}
 use Rattle.raft_log_record_marks.specs.Meaning.{tagged_items}
+use Rattle.raft_log_table_runs.specs.Entries.{place_of}
 use Rattle.raft_log_table_lists.specs.Shown.{whereabouts, KeyValue}
 use Rattle.raft_log_table_lists.specs.Bridge.{Located}
-use Rattle.raft_log_table_lists.specs.Entries.{place_of}
 use Rattle.raft_log_table_one.specs.Replays.{in_append}
 use Rattle.raft_log_table_all.specs.declared.mem_tables.MemTables.{MemTables}
 use Rattle.raft_log_table_all.specs.Tables.{counts as counting_of, replayed_of, shown_of, IsAtRest}

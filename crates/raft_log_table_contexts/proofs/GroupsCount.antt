@@ -12,9 +12,9 @@ use Rattle.raft_log_model_laws.proofs.Chunks.{cut_anywhere}
 use Rattle.raft_log_model_laws.proofs.Records.{of_group_append}
 use Rattle.raft_log_model_laws.proofs.TidyLaws.{tidy_back, tidy_front}
 use Rattle.raft_log_record_marks.specs.Meaning.{tagged_items}
-use Rattle.raft_log_table_lists.specs.declared.place.Place.{Place}
+use Rattle.raft_log_table_runs.specs.declared.place.Place.{Place}
+use Rattle.raft_log_table_runs.specs.Entries.{place_of}
 use Rattle.raft_log_table_lists.specs.Replayed.{placed}
-use Rattle.raft_log_table_lists.specs.Entries.{place_of}
 use Rattle.raft_log_table_all.specs.declared.mem_tables.MemTables.{MemTables}
 use Rattle.raft_log_table_all.specs.Batch.{counts_after, counts_at_end}
 use Rattle.raft_log_table_all.specs.Joining.{JoinsAll, MergesAll}

@@ -8,11 +8,11 @@ use Rattle.raft_log_model_laws.specs.Holes.{is_past}
 use Rattle.raft_log_model_laws.specs.Summary.{lesser}
 use Rattle.raft_log_model_laws.proofs.Cases.{at_bool}
 use Rattle.raft_log_record_marks.specs.Meaning.{tagged_items}
+use Rattle.raft_log_table_runs.specs.declared.place.Place.{Place}
+use Rattle.raft_log_table_runs.specs.Entries.{place_of}
 use Rattle.raft_log_table_lists.specs.declared.group_files.GroupFiles.{GroupFiles}
-use Rattle.raft_log_table_lists.specs.declared.place.Place.{Place}
 use Rattle.raft_log_table_lists.specs.Shown.{span, with_run, Shown}
 use Rattle.raft_log_table_lists.specs.Replayed.{both_noted, joined, merged, replay_step, replayed, run_over, with_newer, Replayed}
-use Rattle.raft_log_table_lists.specs.Entries.{place_of}
 use Rattle.raft_log_table_all.specs.declared.mem_tables.MemTables.{MemTables}
 use Rattle.raft_log_table_all.specs.Replaying.{all_replayed, ReadsAll}
 use Rattle.raft_log_table_all.specs.Joining.{JoinsAll}

@@ -19,15 +19,15 @@ use Rattle.raft_log_model_laws.proofs.Records.{of_group_append}
 use Rattle.raft_log_model_laws.proofs.Words.{says_append}
 use Rattle.raft_log_machine_laws.proofs.TruthRaises.{no_word}
 use Rattle.raft_log_record_marks.specs.Meaning.{tagged_items}
+use Rattle.raft_log_table_runs.specs.declared.place.Place.{Place}
+use Rattle.raft_log_table_runs.specs.Entries.{place_of}
 use Rattle.raft_log_table_lists.specs.declared.group_files.GroupFiles.{GroupFiles}
-use Rattle.raft_log_table_lists.specs.declared.place.Place.{Place}
 use Rattle.raft_log_table_lists.specs.Shown.{span, KeyValue, Shown}
 use Rattle.raft_log_table_lists.specs.Bridge.{Located}
 use Rattle.raft_log_table_lists.specs.Noted.{start_of}
 use Rattle.raft_log_table_lists.specs.Replayed.{both_noted, joined, nothing_replayed, placed, replay_step, replayed, standing, summary_of, IsReplayed, Replayed}
 use Rattle.raft_log_table_lists.proofs.Covering.{both_cover, joined_cover}
 use Rattle.raft_log_table_lists.proofs.Replays.{read_noted}
-use Rattle.raft_log_table_lists.specs.Entries.{place_of}
 use Rattle.raft_log_table_all.specs.declared.mem_tables.MemTables.{MemTables}
 use Rattle.raft_log_table_all.specs.Batch.{mentions}
 use Rattle.raft_log_table_all.specs.Replaying.{all_replayed, ReadsAll}

@@ -27,7 +27,7 @@ use Rattle.raft_log_machine_laws.proofs.TruthRaises.{no_word}
 use Rattle.raft_log_directory_laws.specs.Calls.{IsMadeOf}
 use Rattle.raft_log_directory_laws.specs.Model.{Files}
 use Rattle.raft_log_directory_laws.specs.Notes.{AllFrom, IsAmong, IsAppended, IsInRewrite, RecordLiesIn, SpeaksFrom, SpeaksIn}
-use Rattle.raft_log_table_lists.specs.declared.place.Place.{Place}
+use Rattle.raft_log_table_runs.specs.declared.place.Place.{Place}
 use Rattle.raft_log_table_lists.specs.Shown.{is_in_append, whereabouts, KeyValue, Shown}
 use Rattle.raft_log_table_lists.specs.Bridge.{in_queue, located, Located}
 use Rattle.raft_log_table_lists.specs.Noted.{file_at, held_file, noted_at, place_file, start_of}

@@ -16,11 +16,11 @@ use Rattle.raft_log_model_laws.proofs.Records.{of_group_append}
 use Rattle.raft_log_model_laws.proofs.TidyLaws.{tidy_back, tidy_front}
 use Rattle.raft_log_model_laws.proofs.Chunks.{cut_anywhere}
 use Rattle.raft_log_record_marks.specs.Meaning.{tagged_items}
-use Rattle.raft_log_table_lists.specs.declared.place.Place.{Place}
+use Rattle.raft_log_table_runs.specs.declared.place.Place.{Place}
+use Rattle.raft_log_table_runs.specs.Entries.{place_of}
 use Rattle.raft_log_table_lists.specs.Shown.{span, MayFollow}
 use Rattle.raft_log_table_lists.specs.Replayed.{placed, IsReplayed, LeavesHole, Replayed}
 use Rattle.raft_log_table_lists.proofs.Joining.{healthy_fits, healthy_joint}
-use Rattle.raft_log_table_lists.specs.Entries.{place_of}
 use Rattle.raft_log_table_all.specs.declared.mem_tables.MemTables.{MemTables}
 use Rattle.raft_log_table_all.specs.Tables.{replayed_of, shown_of}
 use Rattle.raft_log_table_all.specs.Replaying.{ReadsAll, ReadsUpTo}

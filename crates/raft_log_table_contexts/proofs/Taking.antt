@@ -19,14 +19,14 @@ use Rattle.raft_log_model_laws.proofs.Chunks.{cut_anywhere}
 use Rattle.raft_log_machine_laws.specs.Machine.{AllFit, Fits}
 use Rattle.raft_log_machine_laws.specs.Whereabouts.{top}
 use Rattle.raft_log_record_marks.specs.Meaning.{tagged_items}
-use Rattle.raft_log_table_lists.specs.declared.place.Place.{Place}
+use Rattle.raft_log_table_runs.specs.declared.place.Place.{Place}
+use Rattle.raft_log_table_runs.specs.Entries.{place_of}
 use Rattle.raft_log_table_lists.specs.declared.group_files.GroupFiles.{GroupFiles}
 use Rattle.raft_log_table_lists.specs.Shown.{next_span, span, KeyValue, MayAllFollow}
 use Rattle.raft_log_table_lists.specs.Bridge.{in_queue, Located}
 use Rattle.raft_log_table_lists.specs.Replayed.{placed, replayed, IsReplayed, Replayed}
 use Rattle.raft_log_table_lists.proofs.Replays.{read_noted, read_one}
 use Rattle.raft_log_table_lists.proofs.Joining.{healthy_fits, joined_is}
-use Rattle.raft_log_table_lists.specs.Entries.{place_of}
 use Rattle.raft_log_table_all.specs.declared.mem_tables.MemTables.{MemTables}
 use Rattle.raft_log_table_all.specs.declared.group_table.GroupTable.{GroupTable}
 use Rattle.raft_log_table_all.specs.Tables.{raw_of, replayed_in, replayed_of, shown_of}

@@ -12,10 +12,10 @@ use Rattle.raft_log_model_laws.specs.Holes.{IsSolid}
 use Rattle.raft_log_model_laws.specs.Tidy.{Tidy}
 use Rattle.raft_log_machine_laws.specs.Machine.{RecordsFit}
 use Rattle.raft_log_record_marks.specs.Meaning.{tagged_items}
+use Rattle.raft_log_table_runs.specs.Entries.{place_of}
 use Rattle.raft_log_table_lists.specs.Shown.{KeyValue}
 use Rattle.raft_log_table_lists.specs.Bridge.{Located}
 use Rattle.raft_log_table_lists.specs.Replayed.{merged, told, IsReplayed, Replayed}
-use Rattle.raft_log_table_lists.specs.Entries.{place_of}
 use Rattle.raft_log_table_one.specs.Replays.{in_append}
 use Rattle.raft_log_table_all.specs.declared.mem_tables.MemTables.{MemTables}
 use Rattle.raft_log_table_all.specs.Tables.{counts, replayed_of, shown_of}

@@ -8,12 +8,12 @@ use Rattle.raft_log_model_laws.specs.Meaning.Content.{Entry, Value}
 use Rattle.raft_log_model_laws.specs.Tidy.{Tidy}
 use Rattle.raft_log_machine_laws.specs.Survival.{IsSpoken}
 use Rattle.raft_log_record_marks.specs.Meaning.{tagged_items}
+use Rattle.raft_log_table_runs.specs.Entries.{place_of}
 use Rattle.raft_log_table_lists.specs.declared.group_files.GroupFiles.{GroupFiles}
 use Rattle.raft_log_table_lists.specs.Shown.{KeyValue}
 use Rattle.raft_log_table_lists.specs.Bridge.{Located}
 use Rattle.raft_log_table_lists.specs.Noted.{start_of}
 use Rattle.raft_log_table_lists.specs.Replayed.{nothing_replayed, Replayed}
-use Rattle.raft_log_table_lists.specs.Entries.{place_of}
 use Rattle.raft_log_table_one.specs.Files.{with_read_group}
 use Rattle.raft_log_table_all.specs.declared.mem_tables.MemTables.{MemTables}
 use Rattle.raft_log_table_all.specs.Batch.{mentions}

@@ -13,11 +13,11 @@ use Rattle.raft_log_record_marks.specs.Marking.{marking_of_items}
 use Rattle.raft_log_record_marks.specs.Meaning.{part_of, tagged_items}
 use Rattle.raft_log_record_marks.specs.declared.marking.Marking.{Marking}
 use Rattle.raft_log_record_marks.specs.declared.marking.Marking.TheVariants as markings
-use Rattle.raft_log_table_lists.specs.declared.place.Place.{Place}
+use Rattle.raft_log_table_runs.specs.declared.place.Place.{Place}
+use Rattle.raft_log_table_runs.specs.Entries.{place_of}
 use Rattle.raft_log_table_lists.specs.Shown.{KeyValue}
 use Rattle.raft_log_table_lists.specs.Bridge.{Located}
 use Rattle.raft_log_table_lists.specs.Replayed.{placed, IsReplayed, Replayed}
-use Rattle.raft_log_table_lists.specs.Entries.{place_of}
 
 -- an item that was read, with its group: where its entries lie, in which file its value stands
 abbrev pub ReadItem : Type 0

@@ -15,7 +15,7 @@ use Rattle.raft_log_model_laws.proofs.TableSteps.{content_below, content_above}
 use Rattle.raft_log_model_laws.proofs.Joins.{stands_in, table_holds}
 use Rattle.raft_log_machine_laws.specs.Recovery.{IsRecovered}
 use Rattle.raft_log_machine_laws.specs.Whereabouts.{top}
-use Rattle.raft_log_table_lists.specs.declared.place.Place.{Place}
+use Rattle.raft_log_table_runs.specs.declared.place.Place.{Place}
 use Rattle.raft_log_table_lists.specs.declared.group_files.GroupFiles.{GroupFiles}
 use Rattle.raft_log_table_lists.specs.Shown.{KeyValue, Shown, nothing_shown, span, whereabouts}
 use Rattle.raft_log_table_lists.specs.Bridge.{IsMeant, Located, unmarked}

@@ -7,7 +7,7 @@ use Rattle.raft_log_model_laws.specs.Item.{Item}
 use Rattle.raft_log_model_laws.specs.Item.Item.{Run, Clean, Compact, Put, Del}
 use Rattle.raft_log_machine_laws.specs.Whereabouts.{Whereabouts, Alone, GoesOn, AppendTakes, GrowsBy, with_key}
 use Rattle.raft_log_machine_laws.proofs.RenamedWhereabouts.{grows_by_renamed}
-use Rattle.raft_log_table_lists.specs.declared.place.Place.{Place}
+use Rattle.raft_log_table_runs.specs.declared.place.Place.{Place}
 use Rattle.raft_log_table_lists.specs.Shown.{KeyValue, Shown, with_held, with_run, with_compact, stepped, all_stepped, is_in_append, whereabouts, span, IsOrderly, MayFollow, MayAllFollow, next_span}
 use Rattle.raft_log_table_lists.specs.Bridge.{Located, in_queue, written}
 use Rattle.raft_log_table_lists.proofs.Spans.{run_ends, span_stepped, orderly_stepped}

@@ -21,7 +21,7 @@ use Rattle.raft_log_model_laws.proofs.Joins.{join_fits, join_is_summary, stands_
 use Rattle.raft_log_machine_laws.specs.Recovery.{has_compact, has_del}
 use Rattle.raft_log_machine_laws.specs.Whereabouts.{top}
 use Rattle.raft_log_machine_laws.proofs.TruthRaises.{no_word}
-use Rattle.raft_log_table_lists.specs.declared.place.Place.{Place}
+use Rattle.raft_log_table_runs.specs.declared.place.Place.{Place}
 use Rattle.raft_log_table_lists.specs.Shown.{IsOrderly, KeyValue, Shown, span, whereabouts}
 use Rattle.raft_log_table_lists.specs.Bridge.{Located, in_queue}
 use Rattle.raft_log_table_lists.specs.Replayed.{IsReplayed, LeavesHole, Replayed, AllStandsIn, joined, left, placed, run_over, standing, summary_of, with_entries, with_newer}

@@ -10,7 +10,7 @@ use Rattle.raft_log_machine_laws.proofs.TruthRaises.{no_word}
 use Rattle.raft_log_table_lists.specs.Shown.{KeyValue}
 use Rattle.raft_log_table_lists.specs.declared.key_map.HeldValue.{HeldValue}
 use Rattle.raft_log_table_lists.specs.declared.key_map.KeySlot.{KeySlot}
-use Rattle.raft_log_table_lists.specs.Counts.{file_of_value, least_over, least_value, lesser, IsLeastValue}
+use Rattle.raft_log_table_lists.specs.LeastFiles.{file_of_value, least_over, least_value, lesser, IsLeastValue}
 use Rattle.raft_log_table_lists.specs.Keys.{held_in, slot_at, value_of}
 use Rattle.raft_log_table_lists.proofs.Listing.{none_there, AllAbove}
 

@@ -1,8 +1,7 @@
 pub mod ByteKeys
 pub mod JoinedKeys
-pub mod Replacing
-pub mod Sizing
 pub mod Listing
+pub mod Settling
 pub mod LeastValues
 pub mod Queues
 pub mod Spans
@@ -18,12 +17,3 @@ pub mod Joining
 pub mod Telling
 pub mod Merging
 pub mod Alone
-pub mod RunPlaces
-pub mod RunLists
-pub mod PieceRuns
-pub mod EntryPieces
-pub mod RunSpots
-pub mod RunTurns
-pub mod RunSteps
-pub mod RunRoom
-pub mod RunReplacing

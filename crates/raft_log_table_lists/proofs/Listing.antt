@@ -87,7 +87,7 @@ module _ {X : Type 0} (f : List ℕ → KeySlot → Option X) where
   lookup_found k j (Some x) es true h = ap (λ b. if b then Some x else lookup (bytes_eq k) es) h
   lookup_found k j (Some x) es false h = ap (λ b. if b then Some x else lookup (bytes_eq k) es) h
 
-  lookup_listed : (k : List ℕ) (es : List (List ℕ × KeySlot)) → IsStrictlySortedBy (slice_cmp nat_cmp) (keys_of es)
+  pub lookup_listed : (k : List ℕ) (es : List (List ℕ × KeySlot)) → IsStrictlySortedBy (slice_cmp nat_cmp) (keys_of es)
       → lookup (bytes_eq k) (listed f es) ≡ picked (f k) (slot_at es k)
   unfolding IsStrictlySortedBy
   lookup_listed k [] h = refl

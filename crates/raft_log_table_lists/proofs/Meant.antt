@@ -13,7 +13,7 @@ use Rattle.raft_log_model_laws.specs.Renamed.{renamed, renamed_content, renamed_
 use Rattle.raft_log_model_laws.proofs.Words.{unwrap_or_option_or}
 use Rattle.raft_log_model_laws.proofs.TableLaws.{table_takes}
 use Rattle.raft_log_model_laws.proofs.RenamedLaws.{write_renamed}
-use Rattle.raft_log_table_lists.specs.declared.place.Place.{Place}
+use Rattle.raft_log_table_runs.specs.declared.place.Place.{Place}
 use Rattle.raft_log_table_lists.specs.Shown.{KeyValue, Shown, with_held, with_run, stepped, all_stepped, span, IsOrderly, MayFollow, MayAllFollow}
 use Rattle.raft_log_table_lists.specs.Bridge.{Located, in_queue, bytes_held, table_of, written, IsMeant}
 use Rattle.raft_log_table_lists.proofs.Queues.{located_length, located_run, located_drop}

@@ -10,7 +10,7 @@ use Rattle.raft_log_model_laws.specs.Renamed.{renamed_content}
 use Rattle.raft_log_model_laws.proofs.Tests.{from_same_key}
 use Rattle.raft_log_model_laws.proofs.TableSteps.{content_within, get_take, get_drop}
 use Rattle.raft_log_machine_laws.specs.Whereabouts.{RunStands, Carries, CarriesAll, with_key}
-use Rattle.raft_log_table_lists.specs.declared.place.Place.{Place}
+use Rattle.raft_log_table_runs.specs.declared.place.Place.{Place}
 use Rattle.raft_log_table_lists.specs.Shown.{KeyValue, Shown, is_in_append, whereabouts, IsOrderly}
 use Rattle.raft_log_table_lists.specs.Bridge.{Located, in_queue, located, bytes_held, table_of, IsMeant, Move, moved_run, rewritten_value, moved_key, moved, all_moved, CanMove, CanAllMove, item_of_key, item_of, items_of}
 use Rattle.raft_log_table_lists.specs.Bridge.Move.{MoveRun, MoveKey}

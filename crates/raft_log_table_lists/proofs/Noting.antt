@@ -19,7 +19,7 @@ use Rattle.raft_log_machine_laws.proofs.TruthGrows.{spoken_after}
 use Rattle.raft_log_machine_laws.proofs.TruthCarries.{differ}
 use Rattle.raft_log_machine_laws.proofs.Starts.{spoken_newer}
 use Rattle.raft_log_directory_laws.specs.Notes.{IsAppended, IsInRewrite}
-use Rattle.raft_log_table_lists.specs.declared.place.Place.{Place}
+use Rattle.raft_log_table_runs.specs.declared.place.Place.{Place}
 use Rattle.raft_log_table_lists.specs.declared.group_files.GroupFiles.{GroupFiles}
 use Rattle.raft_log_table_lists.specs.Shown.{KeyValue, Shown, with_held, with_run, with_compact, stepped, all_stepped, whereabouts, is_in_append, span, IsOrderly, MayFollow, MayAllFollow}
 use Rattle.raft_log_table_lists.specs.Bridge.{Located, in_queue, bytes_held, table_of, written, Move, moved_run, moved_key, rewritten_value, moved, all_moved, CanMove, CanAllMove, item_of, item_of_key, items_of}

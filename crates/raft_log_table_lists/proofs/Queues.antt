@@ -1,7 +1,7 @@
 -- The places of a table with their queue, where runs cut, compactions drop and copies move.
 use Rattle.std.proofs.Common.{◌≡◌, ℕ, zero, suc, ◌+◌, ◌-◌, ◌≤◌, min, true, false, List, [], ◌∷◌, ◌++◌, map, length, take, drop, refl, sym, ap, ◌∙◌, arith}
 use Rattle.std.proofs.lemmas.List.{map-append, length-map, take-map}
-use Rattle.raft_log_table_lists.specs.declared.place.Place.{Place}
+use Rattle.raft_log_table_runs.specs.declared.place.Place.{Place}
 use Rattle.raft_log_table_lists.specs.Bridge.{in_queue, located}
 
 pub located_length : (n : ℕ) (ps : List Place) → length (located n ps) ≡ length ps

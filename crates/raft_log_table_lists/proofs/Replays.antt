@@ -16,7 +16,7 @@ use Rattle.raft_log_model_laws.proofs.Joins.{is_summary}
 use Rattle.raft_log_machine_laws.proofs.TruthRaises.{no_word}
 use Rattle.raft_log_machine_laws.specs.Recovery.{has_compact, has_del, HasMarks}
 use Rattle.raft_log_machine_laws.specs.Whereabouts.{top, Whereabouts}
-use Rattle.raft_log_table_lists.specs.declared.place.Place.{Place}
+use Rattle.raft_log_table_runs.specs.declared.place.Place.{Place}
 use Rattle.raft_log_table_lists.specs.declared.group_files.GroupFiles.{GroupFiles}
 use Rattle.raft_log_table_lists.specs.Shown.{IsOrderly, KeyValue, MayFollow, Shown, span, whereabouts, with_clean, with_compact, with_del, with_run}
 use Rattle.raft_log_table_lists.specs.Bridge.{Located, in_queue, located}

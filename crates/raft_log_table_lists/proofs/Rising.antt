@@ -5,7 +5,7 @@ use Rattle.raft_log_model_laws.specs.Item.{Item}
 use Rattle.raft_log_model_laws.specs.Item.Item.{Run, Clean, Compact, Put, Del}
 use Rattle.raft_log_model_laws.specs.Meaning.Slot.{Index}
 use Rattle.raft_log_model_laws.proofs.TableSteps.{get_take, get_front, get_back}
-use Rattle.raft_log_table_lists.specs.declared.place.Place.{Place}
+use Rattle.raft_log_table_runs.specs.declared.place.Place.{Place}
 use Rattle.raft_log_table_lists.specs.Shown.{Shown, nothing_shown, with_run, stepped, all_stepped, span, IsOrderly, MayFollow, MayAllFollow}
 use Rattle.raft_log_table_lists.specs.Bridge.{Located, Move, moved_run, moved, all_moved, CanMove, CanAllMove}
 use Rattle.raft_log_table_lists.specs.Bridge.Move.{MoveRun, MoveKey}

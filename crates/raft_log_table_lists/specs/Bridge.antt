@@ -7,7 +7,7 @@ use Rattle.raft_log_model_laws.specs.Meaning.{Slot, Content}
 use Rattle.raft_log_model_laws.specs.Table.{Table, content}
 use Rattle.raft_log_model_laws.specs.Renamed.{renamed, renamed_content}
 use Rattle.raft_log_machine_laws.specs.Whereabouts.{top}
-use Rattle.raft_log_table_lists.specs.declared.place.Place.{Place}
+use Rattle.raft_log_table_runs.specs.declared.place.Place.{Place}
 use Rattle.raft_log_table_lists.specs.Shown.{KeyValue, Shown, with_held}
 
 -- a place in a queue: Append, or else Rewrite

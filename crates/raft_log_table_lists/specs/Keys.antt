@@ -79,6 +79,10 @@ emptied ks = record ks { values = λ k. None }
 abbrev pub unmarked_keys : Keys → Keys
 unmarked_keys ks = record ks { deleted = λ k. false }
 
+-- no key is marked, and those that have a value have room
+abbrev pub settled_keys : Keys → Keys
+settled_keys ks = record ks { deleted = λ k. false; has = λ k. is_some (ks.values k) }
+
 -- a later value, or no value where there is none
 abbrev pub with_later : Keys → List ℕ → Option HeldValue → Keys
 with_later ks k None = ks

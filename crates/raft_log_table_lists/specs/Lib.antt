@@ -1,12 +1,7 @@
 pub mod Keys
-pub mod Entries
-pub mod Counts
+pub mod LeastFiles
 pub mod Listing
 pub mod Shown
 pub mod Bridge
 pub mod Noted
 pub mod Replayed
-pub mod Blocks
-pub mod Runs
-pub mod RunLists
-pub mod Spots

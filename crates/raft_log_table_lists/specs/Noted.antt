@@ -6,7 +6,7 @@ use Rattle.raft_log_model_laws.specs.Meaning.{Slot, says}
 use Rattle.raft_log_model_laws.specs.Meaning.Slot.{Index, Key}
 use Rattle.raft_log_machine_laws.specs.Survival.{IsSpoken}
 use Rattle.raft_log_directory_laws.specs.Notes.{IsAppended, IsInRewrite}
-use Rattle.raft_log_table_lists.specs.declared.place.Place.{Place}
+use Rattle.raft_log_table_runs.specs.declared.place.Place.{Place}
 use Rattle.raft_log_table_lists.specs.declared.group_files.GroupFiles.{GroupFiles}
 use Rattle.raft_log_table_lists.specs.Shown.{KeyValue, Shown, whereabouts}
 use Rattle.raft_log_table_lists.specs.Bridge.{Move}

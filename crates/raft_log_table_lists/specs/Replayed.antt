@@ -7,7 +7,7 @@ use Rattle.raft_log_model_laws.specs.Holes.{is_past, least}
 use Rattle.raft_log_model_laws.specs.Table.{Table}
 use Rattle.raft_log_model_laws.specs.Summary.{Summary, lesser, IsSummary}
 use Rattle.raft_log_machine_laws.specs.Recovery.{HasMarks}
-use Rattle.raft_log_table_lists.specs.declared.place.Place.{Place}
+use Rattle.raft_log_table_runs.specs.declared.place.Place.{Place}
 use Rattle.raft_log_table_lists.specs.declared.group_files.GroupFiles.{GroupFiles}
 use Rattle.raft_log_table_lists.specs.Shown.{IsOrderly, KeyValue, Shown, nothing_shown, span, whereabouts, with_clean, with_compact, with_del, with_held, with_run}
 use Rattle.raft_log_table_lists.specs.Bridge.{Located, in_queue, located, unmarked}

@@ -5,7 +5,7 @@ use Rattle.raft_log_model_laws.specs.Item.Item.{Run, Clean, Compact, Put, Del}
 use Rattle.raft_log_model_laws.specs.Holes.{Window, FitsOn}
 use Rattle.raft_log_machine_laws.specs.Whereabouts.{Whereabouts, top}
 use Rattle.raft_log_machine_laws.specs.Machine.{Fits}
-use Rattle.raft_log_table_lists.specs.declared.place.Place.{Place}
+use Rattle.raft_log_table_runs.specs.declared.place.Place.{Place}
 use Rattle.raft_log_table_lists.specs.declared.group_files.GroupFiles.{GroupFiles}
 
 -- the value of a key, whether it stands in Append, and the file there that has it

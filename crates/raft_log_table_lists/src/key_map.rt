@@ -1,11 +1,12 @@
 //! The keys of a group, in their order, and room for keys that are to come.
-ghost use Rattle.std.specs.Prelude.{◌≡◌, Some, None, true, false, option_copied, option_map, IsTrue, OnOk, OnErr};
+ghost use Rattle.std.specs.Prelude.{◌≡◌, Some, None, true, false, is_some, option_copied, option_map, IsTrue, OnOk, OnErr};
 ghost use Rattle.raft_log_table_lists.specs.Keys.{
   emptied,
   joined_keys,
   keys_of,
   no_keys,
   rewritten_held,
+  settled_keys,
   shown_value,
   unmarked_keys,
   value_of,
@@ -16,7 +17,7 @@ ghost use Rattle.raft_log_table_lists.specs.Keys.{
   with_value,
   HasKeyRoomFor,
 };
-ghost use Rattle.raft_log_table_lists.specs.Counts.{file_of_value, least_value, lesser, IsLeastValue};
+ghost use Rattle.raft_log_table_lists.specs.LeastFiles.{file_of_value, least_value, lesser, IsLeastValue};
 
 mod reads;
 
@@ -82,6 +83,15 @@ impl KeySlot {
         ensures { self.new ≡ record self.old { deleted = false } }
     {
         self.deleted = false;
+    }
+
+    /// The key isn't marked any more. Answers whether it has a value.
+    fn settle(&mut self) -> bool
+        ensures slot { self.new ≡ record self.old { deleted = false } }
+        ensures value { result ≡ is_some self.old.held }
+    {
+        self.deleted = false;
+        self.held.is_some()
     }
 
     /// The key has no value, and is marked.
@@ -213,8 +223,15 @@ impl KeyMap {
         });
     }
 
-    /// No key is marked any more.
+    /// No key is marked any more, and of one that has no value nothing is kept, nor its room.
     pub fn clear_marks(&mut self)
+        ensures { keys_of self.new ≡ settled_keys (keys_of self.old) }
+    {
+        self.slots.retain(|_, slot| slot.settle());
+    }
+
+    /// No key is marked any more. The room stays.
+    pub fn unmark(&mut self)
         ensures { keys_of self.new ≡ unmarked_keys (keys_of self.old) }
     {
         self.slots.retain(|_, slot| {

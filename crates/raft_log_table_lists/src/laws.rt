@@ -6,7 +6,7 @@ ghost use Rattle.raft_log_model_laws.specs.Meaning.{Slot, Content, after};
 ghost use Rattle.raft_log_model_laws.specs.Table.{content};
 ghost use Rattle.raft_log_machine_laws.specs.Whereabouts.{CarriesAll, GrowsBy};
 ghost use Rattle.raft_log_directory_laws.specs.Notes.{IsInRewrite};
-ghost use Rattle.raft_log_table_lists.specs.declared.place.Place.{Place};
+ghost use Rattle.raft_log_table_runs.specs.declared.place.Place.{Place};
 ghost use Rattle.raft_log_table_lists.specs.declared.group_files.GroupFiles.{GroupFiles};
 ghost use Rattle.raft_log_table_lists.specs.Shown.{
   Shown,

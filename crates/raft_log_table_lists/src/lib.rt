@@ -5,16 +5,7 @@
 pub mod group_files;
 pub mod key_map;
 pub mod laws;
-pub mod place;
-pub mod places;
 pub mod replay_laws;
-pub mod run;
-pub mod runs;
-pub mod spot;
 
 pub use group_files::GroupFiles;
 pub use key_map::{HeldValue, KeyMap, lesser};
-pub use place::Place;
-pub use places::{Places, entry_of, place_of};
-pub use run::Run;
-pub use runs::Runs;

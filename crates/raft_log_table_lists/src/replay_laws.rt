@@ -8,7 +8,7 @@ ghost use Rattle.raft_log_model_laws.specs.Meaning.Slot.{Index};
 ghost use Rattle.raft_log_model_laws.specs.Holes.{nothing, FitsOn, IsSolid, NoHole};
 ghost use Rattle.raft_log_model_laws.specs.Table.{content};
 ghost use Rattle.raft_log_machine_laws.specs.Recovery.{IsRecovered};
-ghost use Rattle.raft_log_table_lists.specs.declared.place.Place.{Place};
+ghost use Rattle.raft_log_table_runs.specs.declared.place.Place.{Place};
 ghost use Rattle.raft_log_table_lists.specs.declared.group_files.GroupFiles.{GroupFiles};
 ghost use Rattle.raft_log_table_lists.specs.Shown.{IsOrderly, KeyValue, MayFollow, Shown, span, whereabouts};
 ghost use Rattle.raft_log_table_lists.specs.Bridge.{IsMeant, Located, unmarked};

@@ -4,7 +4,7 @@ use Rattle.std.proofs.Math.Path.{fun_ext}
 use Rattle.raft_log_model_laws.specs.Holes.{is_past}
 use Rattle.raft_log_model_laws.specs.Summary.{lesser}
 use Rattle.raft_log_model_laws.proofs.Cases.{at_bool, from_lt_false}
-use Rattle.raft_log_table_lists.specs.declared.place.Place.{Place}
+use Rattle.raft_log_table_runs.specs.declared.place.Place.{Place}
 use Rattle.raft_log_table_lists.specs.Shown.{nothing_shown, span}
 use Rattle.raft_log_table_lists.specs.Replayed.{Replayed, joined, left, nothing_replayed, run_over, with_entries, with_newer, LeavesHole}
 use Rattle.raft_log_table_lists.proofs.Alone.{nothing_left, same_held, same_note, shows}

@@ -1,9 +1,9 @@
 -- Entries that are read one after another.
 use Rattle.std.proofs.Common.{◌≡◌, ℕ, zero, suc, ◌+◌, ◌<◌, List, [], ◌∷◌, ◌++◌, length, take, drop, Some, slice_get, nat_lt, sym, ap, ap₂, ◌∙◌, arith, append_assoc}
 use Rattle.raft_log_record_items.specs.declared.entry.EntryIndex.{EntryIndex}
-use Rattle.raft_log_table_lists.specs.declared.place.Place.{Place}
+use Rattle.raft_log_table_runs.specs.declared.place.Place.{Place}
+use Rattle.raft_log_table_runs.specs.Entries.{entry_of, queue_of}
 use Rattle.raft_log_table_lists.specs.Shown.{Shown}
-use Rattle.raft_log_table_lists.specs.Entries.{entry_of, queue_of}
 use Rattle.raft_log_table_one.specs.Reads.{entries_from}
 use Rattle.raft_log_model_laws.proofs.TableSteps.{get_drop}
 use Rattle.raft_log_machine_laws.proofs.TruthRaises.{no_word}

@@ -5,11 +5,11 @@ use Rattle.raft_log_model_laws.specs.Meaning.Slot.{Index}
 use Rattle.raft_log_model_laws.proofs.Cases.{at_bool, at_option, from_le_true, from_lt_true, if_false, if_true, le_false, lt_true}
 use Rattle.raft_log_machine_laws.proofs.TruthRaises.{no_word}
 use Rattle.std.proofs.lemmas.Bool.{cases_lt}
+use Rattle.raft_log_table_runs.specs.declared.place.Place.{Place}
 use Rattle.raft_log_table_lists.specs.declared.group_files.GroupFiles.{GroupFiles}
 use Rattle.raft_log_table_lists.specs.Shown.{KeyValue, Shown}
 use Rattle.raft_log_table_lists.specs.Noted.{file_at, noting, place_file, start_of, FilesRise, IsLeastInRewrite}
-use Rattle.raft_log_table_lists.specs.declared.place.Place.{Place}
-use Rattle.raft_log_table_lists.specs.Counts.{lesser, least_value, IsLeastValue}
+use Rattle.raft_log_table_lists.specs.LeastFiles.{lesser, least_value, IsLeastValue}
 use Rattle.raft_log_table_one.specs.Files.{first_file, first_place, least_rewritten, min_file, noted_after, ArePast, FrontIsLeast, IsLeastInAppend, IsMinFile}
 use Rattle.raft_log_table_lists.specs.Keys.{slot_at}
 use Rattle.raft_log_table_lists.proofs.LeastValues.{from_value, lesser_is_one, lesser_left, lesser_right, same_number, shown_file}

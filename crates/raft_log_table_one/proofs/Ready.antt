@@ -7,7 +7,7 @@ use Rattle.raft_log_model_laws.specs.Holes.{Window}
 use Rattle.raft_log_model_laws.specs.Renamed.{renamed}
 use Rattle.raft_log_model_laws.proofs.Tests.{same_key}
 use Rattle.raft_log_machine_laws.specs.Whereabouts.{top, with_key}
-use Rattle.raft_log_table_lists.specs.declared.place.Place.{Place}
+use Rattle.raft_log_table_runs.specs.declared.place.Place.{Place}
 use Rattle.raft_log_table_lists.specs.Shown.{Shown, span, next_span, stepped, MayFollow, MayAllFollow}
 use Rattle.raft_log_table_lists.proofs.Spans.{span_stepped}
 use Rattle.raft_log_table_one.specs.Room.{Promise, count_of, promised, kept, HasRoom, CanTake, needs, AllHave, span_after, IsForgotten, IsReady}

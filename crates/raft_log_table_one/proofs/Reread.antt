@@ -6,10 +6,10 @@ use Rattle.raft_log_model_laws.specs.Item.Item.{Run, Clean, Compact, Put, Del}
 use Rattle.raft_log_model_laws.specs.Holes.{is_past}
 use Rattle.raft_log_model_laws.proofs.Cases.{at_bool, from_lt_false}
 use Rattle.raft_log_record_items.specs.declared.entry.EntryIndex.{EntryIndex}
-use Rattle.raft_log_table_lists.specs.declared.place.Place.{Place}
+use Rattle.raft_log_table_runs.specs.declared.place.Place.{Place}
+use Rattle.raft_log_table_runs.specs.Entries.{run_of}
 use Rattle.raft_log_table_lists.specs.Shown.{Shown, span, stepped}
 use Rattle.raft_log_table_lists.specs.Replayed.{Replayed, both_noted, left, low_with, replay_step, run_over, with_newer}
-use Rattle.raft_log_table_lists.specs.Entries.{run_of}
 use Rattle.raft_log_table_one.specs.Replays.{under}
 
 -- an item of Append that is read is one that is taken

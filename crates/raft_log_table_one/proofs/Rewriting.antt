@@ -3,11 +3,11 @@ use Rattle.std.proofs.Common.{◌≡◌, ℕ, zero, suc, ◌+◌, ◌-◌, ◌<�
 use Rattle.std.proofs.lemmas.List.{length-map, take-map, drop-map}
 use Rattle.raft_log_record_items.specs.declared.entry.EntryIndex.{EntryIndex}
 use Rattle.raft_log_model_laws.proofs.Cases.{if_false, lt_false}
-use Rattle.raft_log_table_lists.specs.declared.place.Place.{Place}
+use Rattle.raft_log_table_runs.specs.declared.place.Place.{Place}
+use Rattle.raft_log_table_runs.specs.Entries.{place_of, run_of}
 use Rattle.raft_log_table_lists.specs.Shown.{Shown}
-use Rattle.raft_log_table_lists.specs.Entries.{place_of, run_of}
 use Rattle.raft_log_table_one.specs.Moves.{gated, movable, rewritten_at, rewritten_by}
-use Rattle.raft_log_table_lists.proofs.Replacing.{drop_at}
+use Rattle.raft_log_table_runs.proofs.Replacing.{drop_at}
 
 drop_min : {A : Type 0} (n : ℕ) (xs : List A) → drop (min n (length xs)) xs ≡ drop n xs
 drop_min n xs = by (min n (length xs)) n xs refl

@@ -7,7 +7,7 @@ use Rattle.raft_log_model_laws.specs.Meaning.Slot.{Index}
 use Rattle.raft_log_table_lists.specs.Shown.{KeyValue, Shown}
 use Rattle.raft_log_table_lists.specs.Replayed.{both_noted, Replayed}
 use Rattle.raft_log_table_lists.specs.Noted.{file_at, noting, place_file, start_of}
-use Rattle.raft_log_table_lists.specs.Counts.{least_value, lesser, IsLeastValue}
+use Rattle.raft_log_table_lists.specs.LeastFiles.{least_value, lesser, IsLeastValue}
 use Rattle.raft_log_table_one.specs.Table.{shown, Raw}
 
 -- the file of the first entry in a queue, where this shows

@@ -3,10 +3,10 @@ use Rattle.std.specs.Prelude.{ℕ, ◌+◌, ◌-◌, ◌≤◌, max, min, Bool, 
 use Rattle.raft_log_model_laws.specs.Item.{Item}
 use Rattle.raft_log_model_laws.specs.Item.Item.{Run}
 use Rattle.raft_log_machine_laws.specs.Whereabouts.{top}
-use Rattle.raft_log_table_lists.specs.declared.place.Place.{Place}
+use Rattle.raft_log_table_runs.specs.declared.place.Place.{Place}
+use Rattle.raft_log_table_runs.specs.Counts.{passing}
 use Rattle.raft_log_table_lists.specs.Shown.{KeyValue, Shown, with_held}
 use Rattle.raft_log_table_lists.specs.Bridge.{moved_run}
-use Rattle.raft_log_table_lists.specs.Counts.{passing}
 
 -- the run's entries are there, from a rewritten one or the first appended one on, to the last rewritten one
 -- or past it

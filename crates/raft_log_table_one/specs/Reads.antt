@@ -7,10 +7,10 @@ use Rattle.raft_log_record_base.specs.declared.pipe_log.FileId.{FileId}
 use Rattle.raft_log_record_base.specs.declared.pipe_log.LogQueue.{LogQueue}
 use Rattle.raft_log_record_base.specs.Files.{file_cmp}
 use Rattle.raft_log_record_items.specs.declared.entry.EntryIndex.{EntryIndex}
-use Rattle.raft_log_table_lists.specs.declared.place.Place.{Place}
+use Rattle.raft_log_table_runs.specs.declared.place.Place.{Place}
+use Rattle.raft_log_table_runs.specs.Counts.{passing, sized}
+use Rattle.raft_log_table_runs.specs.Entries.{entry_of, queue_of}
 use Rattle.raft_log_table_lists.specs.Shown.{Shown}
-use Rattle.raft_log_table_lists.specs.Counts.{passing, sized}
-use Rattle.raft_log_table_lists.specs.Entries.{entry_of, queue_of}
 use Rattle.raft_log_table_lists.specs.Listing.{rewritten_values, ListsAll}
 
 -- the first index, if there are entries

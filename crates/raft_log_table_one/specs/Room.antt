@@ -1,5 +1,5 @@
 -- What a table promised to a batch before it is written, and when it is ready for the batch.
-use Rattle.std.specs.Prelude.{◌≡◌, ℕ, ◌+◌, ◌-◌, ◌≤◌, Bool, true, false, List, [], ◌∷◌, length}
+use Rattle.std.specs.Prelude.{◌≡◌, ℕ, ◌+◌, ◌-◌, ◌≤◌, Bool, true, false, List, [], ◌∷◌, length, is_some}
 use Rattle.raft_log_model_laws.specs.Item.{Item}
 use Rattle.raft_log_model_laws.specs.Item.Item.{Run, Clean, Compact, Put, Del}
 use Rattle.raft_log_model_laws.specs.Holes.{Window}
@@ -25,6 +25,10 @@ with_moves q n = record q { moves = q.moves + n }
 -- so many entries fewer may
 abbrev pub without_moves : Promise → ℕ → Promise
 without_moves q n = record q { moves = q.moves - n }
+
+-- a key has room where it has a value, and else none
+abbrev pub with_room_of : Promise → Shown → Promise
+with_room_of q v = record q { has = λ k. is_some (v.held k) }
 
 -- no places are promised and no moves, and the ends are these
 abbrev pub taken_back : Promise → Window → Promise

@@ -8,9 +8,9 @@ use Rattle.raft_log_table_lists.specs.declared.group_files.GroupFiles.{GroupFile
 use Rattle.raft_log_table_lists.specs.Shown.{Shown, MayFollow}
 use Rattle.raft_log_table_lists.specs.Replayed.{Replayed}
 use Rattle.raft_log_table_one.specs.declared.ends.Ends.{Ends}
+use Rattle.raft_log_table_runs.specs.Entries.{PlaceList}
 use Rattle.raft_log_table_lists.specs.declared.key_map.KeySlot.{KeySlot}
 use Rattle.raft_log_table_lists.specs.Keys.{keys_of}
-use Rattle.raft_log_table_lists.specs.Entries.{PlaceList}
 use Rattle.raft_log_table_one.specs.Room.{Promise}
 
 -- a table with its room

@@ -3,8 +3,8 @@ ghost use Rattle.std.specs.Prelude.{◌≡◌, ℕ, List, ◌+◌, ◌-◌, ◌�
 ghost use Rattle.raft_log_record_items.specs.declared.entry.EntryIndex.{EntryIndex};
 ghost use Rattle.raft_log_record_items.specs.Run.{IsRun};
 ghost use Rattle.raft_log_model_laws.specs.Item.Item.{Compact};
+ghost use Rattle.raft_log_table_runs.specs.Entries.{run_of};
 ghost use Rattle.raft_log_table_lists.specs.Shown.{next_span, MayFollow};
-ghost use Rattle.raft_log_table_lists.specs.Entries.{run_of};
 ghost use Rattle.raft_log_table_one.specs.Table.{window_of};
 
 use raft_log_record_items::EntryIndex;

@@ -4,7 +4,7 @@ ghost use Rattle.std.specs.Prelude.{◌≡◌, ◌+◌, ◌<◌, ◌≤◌, ◌�
 ghost use Rattle.raft_log_record_base.specs.declared.pipe_log.LogQueue.TheVariants.{Append, Rewrite};
 ghost use Rattle.raft_log_model_laws.specs.Item.{Item};
 ghost use Rattle.raft_log_model_laws.specs.Renamed.{renamed};
-ghost use Rattle.raft_log_table_lists.specs.declared.place.Place.{Place};
+ghost use Rattle.raft_log_table_runs.specs.declared.place.Place.{Place};
 ghost use Rattle.raft_log_table_lists.specs.declared.group_files.GroupFiles.{GroupFiles};
 ghost use Rattle.raft_log_table_lists.specs.Noted.{noting, start_of, with_note, FilesRise, IsLeastInRewrite};
 ghost use Rattle.raft_log_table_lists.specs.Shown.{span, stepped, IsOrderly, KeyValue, MayFollow, Shown};

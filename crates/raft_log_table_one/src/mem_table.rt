@@ -3,7 +3,7 @@ ghost use Rattle.std.specs.Prelude.{◌≡◌, ◌^◌, ◌++◌, map, nat_lt, s
 ghost use Rattle.raft_log_record_base.specs.declared.errors.Error.TheVariants as errors;
 ghost use Rattle.raft_log_record_items.specs.Run.{IsRun};
 ghost use Rattle.raft_log_model_laws.specs.Item.Item.{Clean, Compact, Del, Put};
-ghost use Rattle.raft_log_table_lists.specs.declared.place.Place.{Place};
+ghost use Rattle.raft_log_table_runs.specs.declared.place.Place.{Place};
 ghost use Rattle.raft_log_table_lists.specs.Shown.{
   IsOrderly,
   MayFollow,
@@ -15,11 +15,9 @@ ghost use Rattle.raft_log_table_lists.specs.Shown.{
   with_del,
   with_put,
 };
+ghost use Rattle.raft_log_table_runs.specs.Blocks.{pieces};
+ghost use Rattle.raft_log_table_runs.specs.Entries.{entry_of, place_of, queue_of, run_of};
 ghost use Rattle.raft_log_table_lists.specs.Bridge.{moved_key, unmarked};
-ghost use Rattle.raft_log_table_lists.specs.Noted.{start_of};
-ghost use Rattle.raft_log_table_lists.specs.Blocks.{pieces};
-ghost use Rattle.raft_log_table_lists.specs.Entries.{entry_of, place_of, queue_of, run_of};
-ghost use Rattle.raft_log_table_one.specs.Files.{least_rewritten, min_file, noted_after, with_group, IsLeastRewritten, IsMinFile, NotesGroup};
 ghost use Rattle.raft_log_table_one.specs.Moves.{key_rewritten, may_move, moved_by, owed_compact, rewritten_by, RunStandsIn};
 ghost use Rattle.raft_log_table_lists.specs.Keys.{shown_value, value_of};
 ghost use Rattle.raft_log_table_one.specs.Reads.{entries_from, entry_at, first_of, last_of, AreIn, Fetches, FetchRefused};
@@ -30,12 +28,14 @@ ghost use Rattle.raft_log_table_one.specs.Room.{
   taken_back,
   with_moves,
   with_room_for,
+  with_room_of,
   without_moves,
   CanTake,
 };
 ghost use Rattle.raft_log_table_lists.specs.Replayed.{nothing_replayed};
 ghost use Rattle.raft_log_table_one.specs.Table.{promise, replay_of, runs_of, shown, window_of, IsBoundAs, RunRefused};
 
+mod files;
 mod merge;
 mod reads;
 mod replay;
@@ -43,7 +43,8 @@ mod replay;
 use crate::ends::Ends;
 use raft_log_record_base::{Error, FileSeq, LogQueue, Result};
 use raft_log_record_items::{Bytes, EntryIndex};
-use raft_log_table_lists::{GroupFiles, HeldValue, KeyMap, Places, entry_of, lesser};
+use raft_log_table_lists::{GroupFiles, HeldValue, KeyMap};
+use raft_log_table_runs::{Places, entry_of};
 use std::alloc::{AllocError, Global};
 use std::marker::Model;
 
@@ -412,50 +413,6 @@ impl MemTable {
         self.noted = None;
     }
 
-    /// The least file of a queue in use, where there is one: of Append the file of the first appended entry
-    /// or of a value, of Rewrite the same, but the first file of the groups that are noted where they may
-    /// reach to it. Along the entries of a queue files don't fall.
-    pub fn min_file_seq(&self, queue: LogQueue) -> Option<FileSeq>
-        ensures exact { IsMinFile queue (shown self.now) result }
-        ensures slots { result ≡ min_file queue self.now }
-    {
-        match queue {
-            LogQueue::Append => {
-                let place = self.places.get(self.rewritten);
-                lesser(place.map(|p| p.file), self.keys.least_file(true))
-            }
-            LogQueue::Rewrite => {
-                let least = self.least_rewritten()?;
-                Some(start_of(least, self.noted))
-            }
-        }
-    }
-
-    /// The file of the first rewritten entry or of a rewritten value, the lesser of them, where there is
-    /// one.
-    fn least_rewritten(&self) -> Option<FileSeq>
-        ensures exact { IsLeastRewritten (shown self.now) result }
-        ensures slots { result ≡ least_rewritten self.now }
-    {
-        let place = if self.rewritten > 0 {
-            self.places.get(0)
-        } else {
-            None
-        };
-        lesser(place.map(|p| p.file), self.keys.least_file(false))
-    }
-
-    /// An atomic group of Rewrite ended, whose copies moved already: its files are noted, and while
-    /// something lies at or below the last file noted before, also those.
-    pub fn apply_rewrite_atomic_group(&mut self, files: GroupFiles)
-        ensures exact { NotesGroup files (shown self.old) (shown self.new) }
-        ensures shows { shown self.new ≡ with_group self.old files }
-        ensures room { promise self.new ≡ promise self.old }
-        ensures bounds { IsBoundAs self.old self.new }
-    {
-        self.noted = Some(noted_after(self.least_rewritten(), self.noted, files));
-    }
-
     /// The value of a key, if it has one, stands in this file of Rewrite from now on: a copy was written
     /// there.
     pub fn move_key(&mut self, key: &[u8], file: FileSeq)
@@ -536,10 +493,11 @@ impl MemTable {
         self.rewritten = self.rewritten.max(position + count);
     }
 
-    /// No mark is owed any more: all of them were written to Rewrite, and synced.
+    /// No mark is owed any more: all of them were written to Rewrite, and synced. Of keys without a value
+    /// nothing is kept, nor room that was made for them.
     pub fn clear_marks(&mut self)
         ensures shows { shown self.new ≡ unmarked (shown self.old) }
-        ensures room { promise self.new ≡ promise self.old }
+        ensures room { promise self.new ≡ with_room_of (promise self.old) (shown self.old) }
         ensures bounds { IsBoundAs self.old self.new }
     {
         self.cleaned = false;
@@ -568,33 +526,6 @@ impl MemTable {
         } else {
             u64::MAX
         })
-    }
-}
-
-/// The file from which on all counts that counts with what lies in this file.
-fn start_of(file: FileSeq, noted: Option<GroupFiles>) -> FileSeq
-    ensures { result ≡ start_of file noted }
-{
-    match noted {
-        Some(files) if file <= files.to => file.min(files.from),
-        _ => file,
-    }
-}
-
-/// The files of groups to note once a new group ended, where this is the least file in which something
-/// stands.
-fn noted_after(least: Option<FileSeq>, old: Option<GroupFiles>, new: GroupFiles) -> GroupFiles
-    ensures { result ≡ noted_after least old new }
-{
-    let Some(least) = least else {
-        return new;
-    };
-    match old {
-        Some(old) if least <= old.to => GroupFiles {
-            from: old.from.min(new.from),
-            to: old.to.max(new.to),
-        },
-        _ => new,
     }
 }
 

@@ -13,4 +13,6 @@ mod reads;
 #[cfg(test)]
 mod rows;
 #[cfg(test)]
+mod runs;
+#[cfg(test)]
 mod stats;

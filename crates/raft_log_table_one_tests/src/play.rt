@@ -30,7 +30,7 @@ pub enum Step {
     RewriteKey(&'static [u8], Option<u64>, u64),
 }
 
-/// So many entries of one byte from an index on, in a block at byte 16 of a file.
+/// So many entries of one byte from an index on, one behind another in a block at byte 16 of a file.
 pub fn run(alloc: Global, id: FileId, first: u8, count: u8) -> Result<EntryIndexes> {
     let mut bytes = Vec::new(alloc);
     bytes.push(count)?;
@@ -40,6 +40,9 @@ pub fn run(alloc: Global, id: FileId, first: u8, count: u8) -> Result<EntryIndex
     }
     let mut source = bytes.as_slice();
     let mut entries = EntryIndexes::decode(alloc, &mut source)?;
+    if entries.bytes_len() < 256 {
+        entries.lay_out(0);
+    }
     let len = count as usize;
     entries.set_written(FileBlockHandle {
         id,

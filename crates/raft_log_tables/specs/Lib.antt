@@ -1,4 +1,5 @@
 -- libraries below, passed on to who stands on this one
+pub use Rattle.raft_log_table_runs
 pub use Rattle.raft_log_table_lists
 pub use Rattle.raft_log_table_one
 pub use Rattle.raft_log_table_all

@@ -6,8 +6,9 @@
 
 pub use raft_log_table_all::{MemTables, MemTables as MemTableAccessor};
 pub use raft_log_table_contexts::{MemTableRecoverContext, MemTableRecoverContextFactory};
-pub use raft_log_table_lists::{GroupFiles, HeldValue, KeyMap, Place, Places};
+pub use raft_log_table_lists::{GroupFiles, HeldValue, KeyMap};
 pub use raft_log_table_one::{GlobalStats, MemTable};
+pub use raft_log_table_runs::{Place, Places};
 pub use raft_log_table_segments::{
     Factory, ReadSegments, ReplayMachine, ReplaySource, replay_segments,
 };

@@ -5,9 +5,9 @@ use Rattle.raft_log_record_items.specs.declared.entry.EntryIndex.{EntryIndex}
 use Rattle.raft_log_record_items.specs.Placed.{written_entry}
 use Rattle.raft_log_model_laws.specs.Item.Item.{Run}
 use Rattle.raft_log_model_laws.specs.Renamed.{renamed}
-use Rattle.raft_log_table_lists.specs.declared.place.Place.{Place}
+use Rattle.raft_log_table_runs.specs.declared.place.Place.{Place}
+use Rattle.raft_log_table_runs.specs.Entries.{place_in, place_of, run_of}
 use Rattle.raft_log_table_lists.specs.Shown.{span, MayFollow, Shown}
-use Rattle.raft_log_table_lists.specs.Entries.{place_in, place_of, run_of}
 use Rattle.raft_log_table_one.specs.Room.{promised, CanTake, IsReady, Promise}
 use Rattle.raft_log_table_one.proofs.Ready.{ready_can, ready_more, ready_none, ready_renamed}
 

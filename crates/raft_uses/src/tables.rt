@@ -5,8 +5,8 @@ ghost use Rattle.std.specs.Fn.{FnOnceReturnsAt};
 ghost use Rattle.raft_log_record_base.specs.declared.pipe_log.FileBlockHandle.{FileBlockHandle};
 ghost use Rattle.std.specs.declared.result.Result.TheVariants.{Ok};
 ghost use Rattle.raft_log_record_items.specs.Placed.{written_entry};
+ghost use Rattle.raft_log_table_runs.specs.Entries.{run_of};
 ghost use Rattle.raft_log_table_lists.specs.Shown.{stepped};
-ghost use Rattle.raft_log_table_lists.specs.Entries.{run_of};
 ghost use Rattle.raft_log_table_one.specs.Table.{shown};
 
 use raft_log_record_items::{EntryIndex, EntryIndexes, FileBlockHandle, Result};

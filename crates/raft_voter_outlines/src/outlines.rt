@@ -1,5 +1,5 @@
 //! Outlines by their groups.
-ghost use Rattle.std.specs.Prelude.{◌≡◌, ◌==◌, ℕ, false, MatchOption, None, OnOk, Some};
+ghost use Rattle.std.specs.Prelude.{◌≡◌, ◌==◌, ℕ, false, MatchOption, None, OnErr, OnOk, Some};
 ghost use Rattle.raft_voter_outline.specs.Outlines.{Decides, without_bytes};
 
 use raft_voter_outline::{Change, Decision, Memory, Outline, Request};
@@ -33,6 +33,19 @@ impl Outlines {
             (λ outline. kept_of self.now group ≡ Some outline.now) }
     {
         self.kept.get(&group)
+    }
+
+    /// Keeps an outline as that of a group's voter. Where memory is refused, the voters are as they were.
+    pub fn put(&mut self, group: u64, outline: Outline) -> Result<(), Memory>
+        ensures own { OnOk result (outlines_in self.new group ≡ outline.voter) }
+        ensures others { OnOk result ((g : ℕ) → (g == group) ≡ false
+            → outlines_in self.new g ≡ outlines_in self.old g) }
+        ensures err { OnErr result ((g : ℕ) → outlines_in self.new g ≡ outlines_in self.old g) }
+    {
+        match self.kept.insert(group, outline) {
+            Ok(_) => Ok(()),
+            Err(_) => Err(Memory),
+        }
     }
 
     /// What the outline of a group's voter decides of a request.

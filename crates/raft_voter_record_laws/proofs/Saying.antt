@@ -13,7 +13,7 @@ use Rattle.raft_log_record_marks.specs.Meaning.{IsUsers, marked, record_of, tagg
 use Rattle.raft_log_record_marks.proofs.Meanings.{keeps_mark, no_mark_key}
 use Rattle.raft_log_record_batches.specs.Batch.{Batch, empty_batch}
 use Rattle.raft_log_record_batches.specs.Entries.{entries_item, entries_of, joined, with_entries}
-use Rattle.raft_log_record_batches.specs.ItemBatch.{command_item}
+use Rattle.raft_log_record_lists.specs.ItemBatch.{command_item}
 use Rattle.raft_log_record_batches.specs.Places.{entry_bytes}
 use Rattle.raft_log_record_batches.proofs.Places.{added_bytes}
 use Rattle.raft_voter_messages.specs.declared.reply.VoterState.{VoterState}

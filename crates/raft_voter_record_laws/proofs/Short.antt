@@ -14,7 +14,7 @@ use Rattle.raft_log_record_frames.specs.Record.{block_bytes, record_len}
 use Rattle.raft_log_record_frames.proofs.Made.{four_bytes}
 use Rattle.raft_log_record_batches.specs.Batch.{Batch, empty_batch}
 use Rattle.raft_log_record_batches.specs.Entries.{entries_item, entries_of, joined, with_entries}
-use Rattle.raft_log_record_batches.specs.ItemBatch.{command_item}
+use Rattle.raft_log_record_lists.specs.ItemBatch.{command_item}
 use Rattle.raft_log_record_batches.proofs.Entries.{joined-length, length-entries_of}
 use Rattle.raft_voter_messages.specs.declared.reply.VoterState.{VoterState}
 use Rattle.raft_voter_messages.specs.declared.request.Request.{Request}

@@ -7,7 +7,7 @@ use Rattle.raft_log_model_laws.proofs.Cases.{if_false, if_true, lt_true}
 use Rattle.raft_log_record_base.specs.declared.errors.Error.{Error}
 use Rattle.raft_log_record_base.specs.declared.errors.Error.TheVariants as errors
 use Rattle.raft_log_record_items.specs.Message.{Parses}
-use Rattle.raft_log_table_lists.specs.declared.place.Place.{Place}
+use Rattle.raft_log_table_runs.specs.declared.place.Place.{Place}
 use Rattle.raft_log_table_lists.specs.Shown.{Shown}
 use Rattle.raft_log_engine_laws.specs.raft_log_table_one.specs.Reads.{AreIn, FetchRefused, entries_from, fetched, first_of, last_of, places_between}
 use Rattle.raft_log_engine_laws.specs.Shows.{Home, LogMap, Shows, sense}

@@ -14,12 +14,13 @@ impl FileSystem for MemoryFileSystem {
     ghost use Rattle.raft_log_disk_memory.specs.Memory.{disk_of, unsynced};
     ghost use Rattle.raft_log_disk_storage.specs.Order.{without_file};
     ghost use Rattle.raft_log_disk.specs.Reading.{IsNotListed};
+    ghost use Rattle.raft_log_disk_memory.specs.Space.{IsFree};
     ghost use Rattle.raft_log_disk_memory.specs.Turns.{armed, armed_with, IsAnswered};
-    ghost use Rattle.raft_log_disk_memory.specs.Answers.{RefusesWhole, RefusesChange, ArmsNothing, AddsLast, ForgetsNamed, ForgetsReplaced, CreatesNext, SyncsAll, order_of, order_without, order_without_named, order_without_replaced};
+    ghost use Rattle.raft_log_disk_memory.specs.Answers.{RefusesWhole, RefusesChange, ArmsNothing, AddsLast, ForgetsNamed, ForgetsReplaced, CreatesNext, FindsSpace, SyncsAll, order_of, order_without, order_without_named, order_without_replaced};
 
     ghost disk = { disk_of };
 
-    ghost tells_space = { λ system directory space. space ≡ 18446744073709551615 };
+    ghost tells_space = { λ system directory space. IsFree (armed system).spaces directory (disk_of system) space };
 
     fn create(&mut self, path: &str) -> Result<Handle, ErrorKind>
         ensures ok { IfOk result (λ handle.
@@ -129,15 +130,19 @@ impl FileSystem for MemoryFileSystem {
             FailsToWrite handle offset bytes.now error (disk_of self.old) (disk_of self.new)) }
         ensures order { OnOk result (AddsLast handle (Wrote offset bytes.now) self.old self.new) }
         ensures turn { OnOk result (IsAnswered self.old self.new) }
+        ensures space { OnOk result (FindsSpace handle (Wrote offset bytes.now) self.old) }
         ensures cause { RefusesChange handle (Wrote offset bytes.now) result self.old self.new }
     {
         self.check_writer(handle)?;
+        let free = self.free_for(handle.file);
         let (stops, front) = self.begin_write()?;
         if let Some(count) = front {
-            let done = self.storage.write_front(handle.file, offset, bytes, count);
+            let done = self
+                .storage
+                .write_front(handle.file, offset, bytes, count, free);
             return Err(self.fail_in_part(done));
         }
-        let done = self.storage.write(handle.file, offset, bytes);
+        let done = self.storage.write(handle.file, offset, bytes, free);
         self.end_change(stops, done)
     }
 
@@ -163,11 +168,13 @@ impl FileSystem for MemoryFileSystem {
             FailsToGrow handle (offset + size) error (disk_of self.old) (disk_of self.new)) }
         ensures order { OnOk result (AddsLast handle (GrewTo (offset + size)) self.old self.new) }
         ensures turn { OnOk result (IsAnswered self.old self.new) }
+        ensures space { OnOk result (FindsSpace handle (GrewTo (offset + size)) self.old) }
         ensures cause { RefusesChange handle (GrewTo (offset + size)) result self.old self.new }
     {
         self.check_writer(handle)?;
+        let free = self.free_for(handle.file);
         let stops = self.begin_change()?;
-        let done = self.storage.grow(handle.file, offset, size);
+        let done = self.storage.grow(handle.file, offset, size, free);
         self.end_change(stops, done)
     }
 
@@ -202,14 +209,14 @@ impl FileSystem for MemoryFileSystem {
         }
     }
 
-    // No limit is set: 2^64 - 1 bytes are free.
     fn free_space(&self, directory: &str) -> Result<u64, ErrorKind>
         ensures ok { OnOk result ((disk_of self.now).directories directory.now ≡ true) }
         ensures err { IfErr result (λ error. IsNotListed directory.now (disk_of self.now) error) }
-        ensures told { IfOk result (λ free. free ≡ 18446744073709551615) }
+        ensures told { IfOk result (λ free.
+            IsFree (armed self.now).spaces directory.now (disk_of self.now) free) }
     {
         self.check_directory(directory)?;
-        Ok(u64::MAX)
+        Ok(self.free_in(directory))
     }
 
     fn read_at(&self, handle: Handle, offset: usize, room: &mut [u8]) -> Result<usize, ErrorKind> {
@@ -260,6 +267,12 @@ impl FileSystem for MemoryFileSystem {
             Fault::StopAfter(n) => {
                 self.stop_after(*n);
                 Ok(())
+            }
+            Fault::Space(directory, bytes) => {
+                match self.set_space(directory.as_str(), *bytes) {
+                    Ok(()) => Ok(()),
+                    Err(_) => Err(ErrorKind::OutOfMemory),
+                }
             }
         }
     }

@@ -78,8 +78,9 @@ impl<P: PipeLog> LogEngine<P> {
     }
 
     /// Copies of the keys of a group that aren't below the start and are below the end, where they are given,
-    /// and of their values, in the order of the keys' bytes.
-    fn pairs_within(
+    /// and of their values, in the order of the keys' bytes. `Failed` of an engine that has failed, or
+    /// `Memory`.
+    pub fn pairs_within(
         &self,
         raft_group_id: u64,
         start_key: Option<&[u8]>,

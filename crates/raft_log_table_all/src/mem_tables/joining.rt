@@ -15,7 +15,8 @@ ghost use Rattle.raft_log_table_all.specs.Joining.{
 };
 ghost use Rattle.raft_log_table_all.specs.Replaying.{StaysAt};
 ghost use Rattle.raft_log_table_one.specs.Table.{replay_of};
-ghost use Rattle.raft_log_table_all.specs.Tables.{counts, shown_of, IsAtRest, PromisesSame};
+ghost use Rattle.raft_log_table_one.specs.Room.{with_room_of};
+ghost use Rattle.raft_log_table_all.specs.Tables.{counts, promise_of, shown_of, IsAtRest};
 
 use super::MemTables;
 use crate::group_table::GroupTable;
@@ -57,11 +58,13 @@ impl MemTables {
         Ok(())
     }
 
-    /// No mark is owed any more, of any group: all of them were written to Rewrite, and synced.
+    /// No mark is owed any more, of any group: all of them were written to Rewrite, and synced. Of keys without a
+    /// value nothing is kept, nor room that was made for them.
     pub fn clear_marks(&mut self)
         ensures shows { (g : ℕ) → shown_of self.new g ≡ unmarked (shown_of self.old g) }
         ensures counts { (g : ℕ) → counts self.new g ≡ counts self.old g }
-        ensures promises { PromisesSame self.old self.new }
+        ensures promises { (g : ℕ) → promise_of self.new g
+            ≡ with_room_of (promise_of self.old g) (shown_of self.old g) }
     {
         self.groups.retain(|_, table| {
             table.clear_marks();

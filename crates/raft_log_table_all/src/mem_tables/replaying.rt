@@ -3,7 +3,7 @@ ghost use Rattle.std.specs.Prelude.{◌≡◌, ◌==◌, true, false, ℕ, OnOk,
 ghost use Rattle.raft_log_table_lists.specs.Shown.{span};
 ghost use Rattle.raft_log_record_marks.specs.Marking.{has_mark_key};
 ghost use Rattle.raft_log_record_marks.specs.Meaning.{meaning, tagged, tagged_items};
-ghost use Rattle.raft_log_table_lists.specs.Entries.{place_of};
+ghost use Rattle.raft_log_table_runs.specs.Entries.{place_of};
 ghost use Rattle.raft_log_table_one.specs.Files.{NotesGroup};
 ghost use Rattle.raft_log_table_one.specs.Replays.{in_append};
 ghost use Rattle.raft_log_table_all.specs.Joining.{noted_in, read_noted_in};

@@ -1,7 +1,7 @@
 //! What is written to Rewrite again: room for its places is made before, and they move there once it is done.
 ghost use Rattle.std.specs.Prelude.{◌≡◌, ◌≤◌, true, false, ℕ, OnOk, OnErr};
 ghost use Rattle.raft_log_record_marks.specs.Meaning.{meaning, tagged, tagged_items};
-ghost use Rattle.raft_log_table_lists.specs.Entries.{place_of};
+ghost use Rattle.raft_log_table_runs.specs.Entries.{place_of};
 ghost use Rattle.raft_log_table_one.specs.Room.{count_of};
 ghost use Rattle.raft_log_table_all.specs.Batch.{mentions, IsTakenBack};
 ghost use Rattle.raft_log_table_all.specs.Rewriting.{

@@ -1,6 +1,7 @@
 //! Tables that were read of segments, one behind the other, and of Append over Rewrite.
 ghost use Rattle.std.specs.Prelude.{◌≡◌, ◌||◌, max, OnOk, OnErr, IfErr};
 ghost use Rattle.raft_log_table_lists.specs.Shown.{span};
+ghost use Rattle.raft_log_table_lists.specs.Bridge.{unmarked};
 ghost use Rattle.raft_log_table_lists.specs.Replayed.{
   both_noted,
   joined,
@@ -88,9 +89,20 @@ impl MemTable {
             return Ok(());
         }
         self.make_room_for(&append)?;
-        self.clear_marks();
+        self.unmark();
         self.join(append);
         Ok(())
+    }
+
+    /// No mark is owed any more. The room stays.
+    fn unmark(&mut self)
+        ensures shows { shown self.new ≡ unmarked (shown self.old) }
+        ensures room { promise self.new ≡ promise self.old }
+        ensures bounds { IsBoundAs self.old self.new }
+    {
+        self.cleaned = false;
+        self.compacted = false;
+        self.keys.unmark();
     }
 
     /// Makes room for what another table has. Refused or not, nothing shows; refused, nothing is promised.

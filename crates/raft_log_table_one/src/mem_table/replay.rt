@@ -2,10 +2,10 @@
 ghost use Rattle.std.specs.Prelude.{◌≡◌, ◌+◌, ◌≤◌, ℕ, Bool, true, false, length, map, OnOk, OnErr, IfErr};
 ghost use Rattle.raft_log_record_items.specs.Run.{IsRun};
 ghost use Rattle.raft_log_model_laws.specs.Item.Item.{Clean, Compact, Del, Put};
+ghost use Rattle.raft_log_table_runs.specs.Blocks.{pieces};
+ghost use Rattle.raft_log_table_runs.specs.Entries.{place_of, run_of};
 ghost use Rattle.raft_log_table_lists.specs.Shown.{span, MayFollow};
 ghost use Rattle.raft_log_table_lists.specs.Replayed.{high_with, replay_step, replayed};
-ghost use Rattle.raft_log_table_lists.specs.Blocks.{pieces};
-ghost use Rattle.raft_log_table_lists.specs.Entries.{place_of, run_of};
 ghost use Rattle.raft_log_table_one.specs.Replays.{in_append, under};
 ghost use Rattle.raft_log_table_one.specs.Room.{IsForgotten};
 ghost use Rattle.raft_log_table_one.specs.Table.{promise, replay_of, runs_of, shown, IsBoundAs, RunRefused};

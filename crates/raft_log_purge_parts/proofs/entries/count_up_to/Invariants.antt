@@ -1,6 +1,6 @@
 use Rattle.std.proofs.Common.{◌≡◌, ◌+◌, map, drop}
-use Rattle.raft_log_table_lists.specs.Counts.{passing}
-use Rattle.raft_log_table_lists.specs.Entries.{place_of}
+use Rattle.raft_log_table_runs.specs.Counts.{passing}
+use Rattle.raft_log_table_runs.specs.Entries.{place_of}
 use Rattle.raft_log_purge_parts.proofs.entries.count_up_to.Given as goal
 
 -- all so far pass

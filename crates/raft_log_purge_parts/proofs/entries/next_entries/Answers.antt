@@ -2,8 +2,8 @@ use Rattle.std.proofs.Common.{List, map, ap, arith, ◌∙◌}
 use Rattle.std.specs.Global.{Vec}
 use Rattle.raft_log_record_items.specs.declared.entry.EntryIndex.{EntryIndex}
 use Rattle.raft_log_model_laws.specs.Holes.{Window}
-use Rattle.raft_log_table_lists.specs.Counts.{passing}
-use Rattle.raft_log_table_lists.specs.Entries.{place_of}
+use Rattle.raft_log_table_runs.specs.Counts.{passing}
+use Rattle.raft_log_table_runs.specs.Entries.{place_of}
 use Rattle.raft_log_purge_parts.proofs.Nexts.{next_found, next_none}
 use Rattle.raft_log_purge_parts.proofs.entries.next_entries.Goals as goal
 use Rattle.raft_log_purge_parts.proofs.entries.next_entries.Goals.{in-Some+in_ok-fetch_entries_to, in_default}

@@ -1,7 +1,7 @@
 use Rattle.std.proofs.Common.{◌+◌, List, None, drop, sym, subst}
 use Rattle.raft_log_record_items.specs.declared.item.LogItem.{LogItem}
 use Rattle.raft_log_record_marks.specs.Meaning.{tagged_items}
-use Rattle.raft_log_table_lists.specs.Entries.{place_of}
+use Rattle.raft_log_table_runs.specs.Entries.{place_of}
 use Rattle.raft_log_table_all.specs.Rewriting.{MayMove, TakesRewritten}
 use Rattle.raft_log_purge_parts.proofs.Room.{items_taken, part_taken, parts_left, room_first, room_rest, said, stay_twice}
 use Rattle.raft_log_purge_parts.proofs.taking.take_items.Goals as goal

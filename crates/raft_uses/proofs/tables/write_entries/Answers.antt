@@ -1,6 +1,6 @@
 use Rattle.std.proofs.Common.{◌≡◌, ap, map, subst, sym, ◌∙◌}
 use Rattle.raft_log_record_items.specs.Placed.{written_entry}
-use Rattle.raft_log_table_lists.specs.Entries.{run_of}
+use Rattle.raft_log_table_runs.specs.Entries.{run_of}
 use Rattle.raft_log_table_one.specs.Room.{CanTake}
 use Rattle.raft_log_table_one.specs.Table.{promise, shown}
 use Rattle.raft_uses.proofs.Written.{takes_written}

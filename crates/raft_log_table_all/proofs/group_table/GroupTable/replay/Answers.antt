@@ -1,6 +1,6 @@
 use Rattle.std.proofs.Common.{◌≡◌, ap, refl, rules, subst, sym, ◌∙◌}
 use Rattle.raft_log_record_items.specs.declared.command.Command.TheVariants as commands
-use Rattle.raft_log_table_lists.specs.Entries.{run_of}
+use Rattle.raft_log_table_runs.specs.Entries.{run_of}
 use Rattle.raft_log_table_lists.specs.Replayed.{replayed}
 use Rattle.raft_log_table_one.specs.Table.{replay_of}
 use Rattle.raft_log_table_one.specs.Replays.{in_append}

@@ -3,7 +3,7 @@ use Rattle.std.specs.Vec.Iter.{into_iter_items}
 use Rattle.raft_log_record_items.specs.declared.item.LogItem.{LogItem}
 use Rattle.raft_log_model_laws.specs.Groups.{of_group}
 use Rattle.raft_log_record_marks.specs.Meaning.{tagged_items}
-use Rattle.raft_log_table_lists.specs.Entries.{place_of}
+use Rattle.raft_log_table_runs.specs.Entries.{place_of}
 use Rattle.raft_log_table_all.specs.Tables.{counts, promise_of, shown_of}
 use Rattle.raft_log_table_all.specs.Batch.{all_kept, all_shown, counts_at_end, IsReadyFor}
 use Rattle.raft_log_table_all.proofs.Applied.{counts_on, first_has, first_takes, ready_for, ready_on, shown_on}

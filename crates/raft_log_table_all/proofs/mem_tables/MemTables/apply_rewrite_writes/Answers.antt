@@ -1,8 +1,8 @@
 use Rattle.std.proofs.Common.{◌≡◌, true, false, rules, take}
 use Rattle.raft_log_record_marks.specs.Marking.{has_mark_key}
 use Rattle.raft_log_record_marks.specs.Meaning.{tagged, tagged_items}
-use Rattle.raft_log_table_lists.specs.declared.place.Place.{Place}
-use Rattle.raft_log_table_lists.specs.Entries.{place_of}
+use Rattle.raft_log_table_runs.specs.declared.place.Place.{Place}
+use Rattle.raft_log_table_runs.specs.Entries.{place_of}
 use Rattle.raft_log_table_all.proofs.Items.{tagged_more, tagged_split}
 use Rattle.raft_log_table_all.proofs.Moved.{may_for, moved_more, next_may_move, still_moved}
 use Rattle.raft_log_table_all.proofs.mem_tables.MemTables.apply_rewrite_writes.Goals as goal

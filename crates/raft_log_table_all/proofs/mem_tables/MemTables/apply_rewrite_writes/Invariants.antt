@@ -1,6 +1,6 @@
 use Rattle.std.proofs.Common.{take}
 use Rattle.raft_log_record_marks.specs.Meaning.{tagged_items}
-use Rattle.raft_log_table_lists.specs.Entries.{place_of}
+use Rattle.raft_log_table_runs.specs.Entries.{place_of}
 use Rattle.raft_log_table_all.specs.Rewriting.{TakesRewritten}
 use Rattle.raft_log_table_all.proofs.mem_tables.MemTables.apply_rewrite_writes.Given as goal
 

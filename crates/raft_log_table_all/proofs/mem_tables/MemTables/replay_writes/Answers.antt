@@ -3,7 +3,7 @@ use Rattle.std.proofs.lemmas.Result.{err_from_is_err_and}
 use Rattle.std.specs.Vec.Iter.{into_iter_items}
 use Rattle.raft_log_record_marks.specs.Marking.{has_mark_key}
 use Rattle.raft_log_record_marks.specs.Meaning.{tagged_items}
-use Rattle.raft_log_table_lists.specs.Entries.{place_of}
+use Rattle.raft_log_table_runs.specs.Entries.{place_of}
 use Rattle.raft_log_table_one.specs.Replays.{in_append}
 use Rattle.raft_log_table_all.proofs.Rereading.{ReadsSome, none_left, pass_mark, read_all, read_item, reads_none, stop_at}
 use Rattle.raft_log_table_all.proofs.mem_tables.MemTables.replay_writes.Goals as goal

@@ -1,6 +1,6 @@
 use Rattle.std.specs.Vec.Iter.{into_iter_items}
 use Rattle.raft_log_record_marks.specs.Meaning.{tagged_items}
-use Rattle.raft_log_table_lists.specs.Entries.{place_of}
+use Rattle.raft_log_table_runs.specs.Entries.{place_of}
 use Rattle.raft_log_table_one.specs.Replays.{in_append}
 use Rattle.raft_log_table_all.specs.Tables.{IsAtRest}
 use Rattle.raft_log_table_all.proofs.Rereading.{ReadsSome}

@@ -1,9 +1,10 @@
 use Rattle.std.proofs.Common.{rules}
-use Rattle.std.proofs.lemmas.Map.Made.{map_same_pairs}
-use Rattle.raft_log_table_lists.proofs.ByteKeys.{unmark_keys, unmarked_slot}
+use Rattle.raft_log_table_lists.proofs.Listing.{rises}
+use Rattle.raft_log_table_lists.proofs.Settling.{settle_keys}
 use Rattle.raft_log_table_lists.proofs.key_map.KeyMap.clear_marks.Goals as goal
 
 pub returns : goal.returns
 returns c =
-    unmark_keys (λ k. k.items) c.self.inside.slots.entries c.retain.new.self.entries c.args.self.now c.self.view_is
-    (map_same_pairs _ unmarked_slot _ (λ k v b w f' t. search rules) c.self.inside.slots.entries c.retain.new.self.entries c.retain.ensures.filtered)
+    settle_keys _ (λ k. k.items) (λ f k s b w g t. search rules) _ c.self.inside.slots.entries c.retain.new.self.entries c.args.self.now c.self.view_is
+    (rises (λ k. k.items) c.self.inside.slots.entries c.args.self.now c.self.view_is c.retain.ensures.was_ordered)
+    c.retain.ensures.filtered

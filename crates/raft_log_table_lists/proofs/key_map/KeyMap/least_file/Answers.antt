@@ -1,5 +1,5 @@
 use Rattle.std.proofs.Common.{None, ap, map, subst, sym, ◌∙◌}
-use Rattle.raft_log_table_lists.specs.Counts.{least_over, IsLeastValue}
+use Rattle.raft_log_table_lists.specs.LeastFiles.{least_over, IsLeastValue}
 use Rattle.raft_log_table_lists.specs.Keys.{held_in, slot_at}
 use Rattle.raft_log_table_lists.proofs.ByteKeys.{same_slots}
 use Rattle.raft_log_table_lists.proofs.LeastValues.{least_is}

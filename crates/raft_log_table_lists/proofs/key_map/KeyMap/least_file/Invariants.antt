@@ -1,5 +1,5 @@
 use Rattle.std.proofs.Common.{◌≡◌}
-use Rattle.raft_log_table_lists.specs.Counts.{least_over}
+use Rattle.raft_log_table_lists.specs.LeastFiles.{least_over}
 use Rattle.raft_log_table_lists.proofs.key_map.KeyMap.least_file.Given as goal
 
 abbrev pub invariant-loop-slot : goal.invariant-loop-slot

@@ -6,4 +6,4 @@ use Rattle.raft_log_table_one.proofs.mem_table.MemTable.merge_append_table.Goals
 pub join-requires : goal.join-requires
 join-requires c =
     subst (λ (q : Promise). (length c.args.append.places.items ≤ q.wanted) × ((k : _) → is_some (slot_at c.args.append.keys k) ≡ true → q.has k ≡ true))
-    (sym c.clear_marks.ensures.room) c.in_ok-make_room_for.ensures.room
+    (sym c.unmark.ensures.room) c.in_ok-make_room_for.ensures.room

@@ -1,7 +1,7 @@
 use Rattle.std.proofs.Common.{ap, subst, sym, true, ◌∙◌}
+use Rattle.raft_log_table_runs.specs.Entries.{run_of}
 use Rattle.raft_log_table_lists.specs.Replayed.{high_with, replayed}
 use Rattle.raft_log_table_lists.specs.Shown.{span, stepped}
-use Rattle.raft_log_table_lists.specs.Entries.{run_of}
 use Rattle.raft_log_table_one.specs.Room.{kept, IsForgotten}
 use Rattle.raft_log_table_one.specs.Table.{promise, replay_of, shown}
 use Rattle.raft_log_table_one.proofs.Reread.{append_step, replays, same_low}

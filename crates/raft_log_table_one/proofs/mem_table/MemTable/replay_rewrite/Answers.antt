@@ -1,6 +1,6 @@
 use Rattle.std.proofs.Common.{ap, false, ◌∙◌}
+use Rattle.raft_log_table_runs.specs.Entries.{PlaceList, run_of}
 use Rattle.raft_log_table_lists.specs.Replayed.{high_with, replay_step, replayed}
-use Rattle.raft_log_table_lists.specs.Entries.{PlaceList, run_of}
 use Rattle.raft_log_table_one.specs.Table.{replay_of, shown}
 use Rattle.raft_log_table_one.specs.contracts.mem_table.MemTable.{the_view}
 use Rattle.raft_log_table_one.proofs.Reread.{replays, same_low}

@@ -1,7 +1,7 @@
 use Rattle.std.proofs.Common.{◌≡◌, ◌+◌, ◌-◌, ◌≤◌, ap, arith, drop, length, map, min, sym, take, ◌∙◌}
-use Rattle.raft_log_table_lists.specs.Blocks.{pieces}
-use Rattle.raft_log_table_lists.specs.Entries.{PlaceList, place_of, run_of}
-use Rattle.raft_log_table_lists.proofs.EntryPieces.{pieces_within}
+use Rattle.raft_log_table_runs.specs.Blocks.{pieces}
+use Rattle.raft_log_table_runs.specs.Entries.{PlaceList, place_of, run_of}
+use Rattle.raft_log_table_runs.proofs.EntryPieces.{pieces_within}
 use Rattle.raft_log_table_one.specs.Moves.{gated, rewritten_by}
 use Rattle.raft_log_table_one.specs.Table.{shown}
 use Rattle.raft_log_table_one.specs.contracts.mem_table.MemTable.{the_view}

@@ -6,8 +6,14 @@ use Rattle.raft_log_disk.specs.Arguments.{WrongWriter}
 use Rattle.raft_log_disk_storage.specs.Storage.{contents_of}
 use Rattle.raft_log_disk_memory.specs.Memory.{disk_of}
 use Rattle.raft_log_disk_memory.proofs.Turns.{over, refused, any_refusal, change_order, change_cause, call_turn}
-use Rattle.raft_log_disk_memory.proofs.Calls.{any_err, refused_piece, made_or_not, change_ok, change_err, right_writer}
+use Rattle.raft_log_disk_memory.proofs.Calls.{any_err, refused_piece, made_or_not, change_ok, change_err, right_writer, no_writer}
+use Rattle.raft_log_disk_memory.proofs.Space.{room_told, space_had, space_found}
 use Rattle.raft_log_disk_memory.proofs.memory.calls.MemoryFileSystemFileSystem.allocate.Goals as goal
+
+pub returns-in_err-check_writer-clause-cause : goal.returns-in_err-check_writer-clause-cause
+returns-in_err-check_writer-clause-cause c =
+    let same = err_from_is_err_and c.from_residual.result c.from_residual.ensures.1 in
+    rw (same.1, same.2) (no_writer c.args.handle (GrewTo (c.args.offset + c.args.size)) _ c.args.self.now c.in_err-check_writer.ensures.err)
 
 pub returns-in_err-stops-clause-err : goal.returns-in_err-stops-clause-err
 returns-in_err-stops-clause-err c =
@@ -62,4 +68,13 @@ returns-clause-cause c =
     c.in_ok-stops.ensures.stops c.in_ok-stops.ensures.spared
     (made_or_not c.args.handle.file (GrewTo (c.args.offset + c.args.size)) c.grow-done.result c.begin_change.new.self c.grow-done.new.self old c.in_ok-stops.ensures.ok c.grow-done.ensures.ok c.grow-done.ensures.err checked.0 checked.1)
     c.begin_change.ensures.storage c.grow-done.ensures.ok c.grow-done.ensures.err c.end_change.ensures.storage
-    c.grow-done.ensures.errors c.end_change.ensures.err
+    (space_had c.grow-done.result c.free_for-free.result c.args.handle.file (GrewTo (c.args.offset + c.args.size)) c.args.self.now c.begin_change.new.self c.free_for-free.ensures c.begin_change.ensures.storage c.grow-done.ensures.fits)
+    (room_told c.grow-done.result c.free_for-free.result c.args.handle.file (GrewTo (c.args.offset + c.args.size)) c.args.self.now c.begin_change.new.self c.free_for-free.ensures c.begin_change.ensures.storage c.grow-done.ensures.errors)
+    c.end_change.ensures.err
+
+pub returns-clause-space : goal.returns-clause-space
+returns-clause-space c =
+    space_found c.end_change.result c.grow-done.result c.in_ok-stops.stops c.args.handle.file (GrewTo (c.args.offset + c.args.size)) c.args.self.now
+    (over c.begin_change.new.self (contents_of c.grow-done.new.self)) (disk_of c.end_change.new.self)
+    (space_had c.grow-done.result c.free_for-free.result c.args.handle.file (GrewTo (c.args.offset + c.args.size)) c.args.self.now c.begin_change.new.self c.free_for-free.ensures c.begin_change.ensures.storage c.grow-done.ensures.fits)
+    c.end_change.ensures.ok

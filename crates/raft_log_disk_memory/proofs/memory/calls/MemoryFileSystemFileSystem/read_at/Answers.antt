@@ -1,7 +1,8 @@
-use Rattle.std.proofs.Common.{refl, ap, subst, arith, false, true, ℕ, List, ◌≡◌, length}
+use Rattle.std.proofs.Common.{refl, ap, ◌∙◌, Option, subst, arith, false, true, ℕ, List, ◌≡◌, length}
 use Rattle.std.specs.Option.{option_map}
 use Rattle.raft_log_disk.specs.Reading.{unreadable}
-use Rattle.raft_log_disk_storage.specs.Held.{held_of, file_of}
+use Rattle.raft_log_disk_storage.specs.Held.{Held, held_of, file_of}
+use Rattle.raft_log_disk_storage.specs.Steps.{size_of}
 use Rattle.raft_log_disk_memory.specs.Memory.{is_denied}
 use Rattle.raft_log_disk_memory.proofs.Calls.{held_there}
 use Rattle.raft_log_disk_memory.proofs.memory.calls.MemoryFileSystemFileSystem.read_at.Goals as goal
@@ -9,7 +10,7 @@ use Rattle.raft_log_disk_memory.proofs.memory.calls.MemoryFileSystemFileSystem.r
 pub returns-then-denies-clause-err : goal.returns-then-denies-clause-err
 returns-then-denies-clause-err c =
     let got = held_there (held_of c.args.self.now.storage.files.items c.args.handle.file) c.in_ok-check_handle.ensures.ok.1 in
-    let size : c.size-size.result ≡ length got.0.content = c.size-size.ensures got.0 got.1 in
+    let size : c.size-size.result ≡ length got.0.content = c.size-size.ensures ∙ ap (λ (o : Option Held). size_of (option_map file_of o)) got.1 in
     let within = c.if-denies.ensures.denied refl in
     unreadable (file_of got.0) within.place (ap (option_map file_of) got.1) within.from
     (omega (arith, within.below, c.min-count.ensures)) (omega (arith, within.from, within.below, c.min-count.ensures, c.saturating_sub.ensures, size))
@@ -18,7 +19,7 @@ returns-then-denies-clause-err c =
 pub returns-clause-ok : goal.returns-clause-ok
 returns-clause-ok c =
     let got = held_there (held_of c.args.self.now.storage.files.items c.args.handle.file) c.in_ok-check_handle.ensures.ok.1 in
-    let size : c.size-size.result ≡ length got.0.content = c.size-size.ensures got.0 got.1 in
+    let size : c.size-size.result ≡ length got.0.content = c.size-size.ensures ∙ ap (λ (o : Option Held). size_of (option_map file_of o)) got.1 in
     record {
       runs = c.in_ok-check_handle.ensures.ok.0;
       file = file_of got.0;

@@ -5,11 +5,17 @@ use Rattle.raft_log_disk.specs.Disk.{ShortenedTo}
 use Rattle.raft_log_disk.specs.Calls.{after_change, RefusedChange}
 use Rattle.raft_log_disk.specs.Arguments.{WrongWriter}
 use Rattle.raft_log_disk_storage.specs.Storage.{contents_of}
-use Rattle.raft_log_disk_storage.specs.Steps.{IsRoomFault}
+use Rattle.raft_log_disk_memory.specs.Turns.{NoRoomFor}
 use Rattle.raft_log_disk_memory.specs.Memory.{disk_of}
 use Rattle.raft_log_disk_memory.proofs.Turns.{over, refused, any_refusal, change_order, change_cause, call_turn}
-use Rattle.raft_log_disk_memory.proofs.Calls.{any_err, refused_piece, made_or_not, change_ok, change_err, right_writer}
+use Rattle.raft_log_disk_memory.proofs.Calls.{any_err, refused_piece, made_or_not, change_ok, change_err, right_writer, no_writer}
+use Rattle.raft_log_disk_memory.proofs.Space.{space_to_shorten}
 use Rattle.raft_log_disk_memory.proofs.memory.calls.MemoryFileSystemFileSystem.truncate.Goals as goal
+
+pub returns-in_err-check_writer-clause-cause : goal.returns-in_err-check_writer-clause-cause
+returns-in_err-check_writer-clause-cause c =
+    let same = err_from_is_err_and c.from_residual.result c.from_residual.ensures.1 in
+    rw (same.1, same.2) (no_writer c.args.handle (ShortenedTo c.args.size) _ c.args.self.now c.in_err-check_writer.ensures.err)
 
 pub returns-in_err-stops-clause-err : goal.returns-in_err-stops-clause-err
 returns-in_err-stops-clause-err c =
@@ -64,4 +70,5 @@ returns-clause-cause c =
     c.in_ok-stops.ensures.stops c.in_ok-stops.ensures.spared
     (made_or_not c.args.handle.file (ShortenedTo c.args.size) c.shorten-done.result c.begin_change.new.self c.shorten-done.new.self old c.in_ok-stops.ensures.ok c.shorten-done.ensures.ok c.shorten-done.ensures.err checked.0 checked.1)
     c.begin_change.ensures.storage c.shorten-done.ensures.ok c.shorten-done.ensures.err c.end_change.ensures.storage
-    (IfErr-weaker c.shorten-done.result (λ e. e ≡ OutOfMemory) (IsRoomFault (ShortenedTo c.args.size)) (λ e short. inl short) c.shorten-done.ensures.errors) c.end_change.ensures.err
+    (space_to_shorten c.shorten-done.result c.args.handle.file c.args.size c.args.self.now)
+    (IfErr-weaker c.shorten-done.result (λ e. e ≡ OutOfMemory) (NoRoomFor c.args.handle.file (ShortenedTo c.args.size) c.args.self.now) (λ e short. inl short) c.shorten-done.ensures.errors) c.end_change.ensures.err

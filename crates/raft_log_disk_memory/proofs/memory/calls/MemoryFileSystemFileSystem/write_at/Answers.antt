@@ -8,8 +8,14 @@ use Rattle.raft_log_disk.specs.Arguments.{WrongWriter}
 use Rattle.raft_log_disk_storage.specs.Storage.{contents_of}
 use Rattle.raft_log_disk_memory.specs.Memory.{disk_of}
 use Rattle.raft_log_disk_memory.proofs.Turns.{over, counted_or_stop, refusal, part_cause, change_order, change_cause, call_turn}
-use Rattle.raft_log_disk_memory.proofs.Calls.{any_err, refused_piece, front_or_not, part_err, made_or_not, change_ok, change_err, right_writer}
+use Rattle.raft_log_disk_memory.proofs.Calls.{any_err, refused_piece, front_or_not, part_err, made_or_not, change_ok, change_err, right_writer, no_writer}
+use Rattle.raft_log_disk_memory.proofs.Space.{room_told, space_had, space_found}
 use Rattle.raft_log_disk_memory.proofs.memory.calls.MemoryFileSystemFileSystem.write_at.Goals as goal
+
+pub returns-in_err-check_writer-clause-cause : goal.returns-in_err-check_writer-clause-cause
+returns-in_err-check_writer-clause-cause c =
+    let same = err_from_is_err_and c.from_residual.result c.from_residual.ensures.1 in
+    rw (same.1, same.2) (no_writer c.args.handle (Wrote c.args.offset c.args.bytes.now) _ c.args.self.now c.in_err-check_writer.ensures.err)
 
 pub returns-in_err-stops-clause-err : goal.returns-in_err-stops-clause-err
 returns-in_err-stops-clause-err c =
@@ -66,7 +72,9 @@ returns-clause-cause c =
     c.in_ok-stops.ensures.stops (λ runs. c.in_ok-stops.ensures.spared runs none)
     (made_or_not c.args.handle.file (Wrote c.args.offset c.args.bytes.now) c.write-done.result c.begin_write.new.self c.write-done.new.self old c.in_ok-stops.ensures.ok c.write-done.ensures.ok c.write-done.ensures.err checked.0 checked.1)
     c.begin_write.ensures.storage c.write-done.ensures.ok c.write-done.ensures.err c.end_change.ensures.storage
-    c.write-done.ensures.errors c.end_change.ensures.err
+    (space_had c.write-done.result c.free_for-free.result c.args.handle.file (Wrote c.args.offset c.args.bytes.now) c.args.self.now c.begin_write.new.self c.free_for-free.ensures c.begin_write.ensures.storage c.write-done.ensures.fits)
+    (room_told c.write-done.result c.free_for-free.result c.args.handle.file (Wrote c.args.offset c.args.bytes.now) c.args.self.now c.begin_write.new.self c.free_for-free.ensures c.begin_write.ensures.storage c.write-done.ensures.errors)
+    c.end_change.ensures.err
 
 pub returns-in-Some-clause-err : goal.returns-in-Some-clause-err
 returns-in-Some-clause-err c =
@@ -87,5 +95,14 @@ returns-in-Some-clause-cause c =
     (record { runs = checked.0; right = right_writer c.args.handle old checked.1 checked.2; next = c.fail_in_part.ensures.same ∙ c.begin_write.ensures.next })
     falls c.fail_in_part.ensures.kind
     (front_or_not c.args.handle.file c.args.offset c.args.bytes.now c.in-Some.count c.write_front-done.result c.begin_write.new.self c.write_front-done.new.self old c.in_ok-stops.ensures.ok c.write_front-done.ensures.ok c.write_front-done.ensures.err checked.1)
-    c.begin_write.ensures.storage c.write_front-done.ensures.ok c.write_front-done.ensures.err c.write_front-done.ensures.errors
+    c.begin_write.ensures.storage c.write_front-done.ensures.ok c.write_front-done.ensures.err
+    (space_had c.write_front-done.result c.free_for-free.result c.args.handle.file (Wrote c.args.offset c.args.bytes.now) c.args.self.now c.begin_write.new.self c.free_for-free.ensures c.begin_write.ensures.storage c.write_front-done.ensures.fits)
+    (room_told c.write_front-done.result c.free_for-free.result c.args.handle.file (Wrote c.args.offset c.args.bytes.now) c.args.self.now c.begin_write.new.self c.free_for-free.ensures c.begin_write.ensures.storage c.write_front-done.ensures.errors)
     c.fail_in_part.ensures.storage c.fail_in_part.ensures.failed
+
+pub returns-clause-space : goal.returns-clause-space
+returns-clause-space c =
+    space_found c.end_change.result c.write-done.result c.in_ok-stops.stops c.args.handle.file (Wrote c.args.offset c.args.bytes.now) c.args.self.now
+    (over c.begin_write.new.self (contents_of c.write-done.new.self)) (disk_of c.end_change.new.self)
+    (space_had c.write-done.result c.free_for-free.result c.args.handle.file (Wrote c.args.offset c.args.bytes.now) c.args.self.now c.begin_write.new.self c.free_for-free.ensures c.begin_write.ensures.storage c.write-done.ensures.fits)
+    c.end_change.ensures.ok

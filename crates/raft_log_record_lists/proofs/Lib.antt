@@ -1,0 +1,2 @@
+pub mod ItemBatches
+pub mod Placing

@@ -1,0 +1,11 @@
+pub mod Replacing
+pub mod Sizing
+pub mod RunPlaces
+pub mod RunLists
+pub mod PieceRuns
+pub mod EntryPieces
+pub mod RunSpots
+pub mod RunTurns
+pub mod RunSteps
+pub mod RunRoom
+pub mod RunReplacing

@@ -1,0 +1,53 @@
+-- The places of entries.
+use Rattle.std.specs.Prelude.{ℕ, List, [], ◌∷◌, Option, Some, None, map, if◌then◌else◌, Bool}
+use Rattle.raft_log_record_base.specs.declared.pipe_log.LogQueue.{LogQueue}
+use Rattle.raft_log_record_base.specs.declared.pipe_log.LogQueue.TheVariants.{Append, Rewrite}
+use Rattle.raft_log_record_base.specs.declared.pipe_log.FileBlockHandle.{FileBlockHandle}
+use Rattle.raft_log_record_items.specs.declared.entry.EntryIndex.{EntryIndex}
+use Rattle.raft_log_record_items.specs.declared.compression.CompressionType.TheVariants as kinds
+use Rattle.raft_log_model_laws.specs.Item.{Item}
+use Rattle.raft_log_model_laws.specs.Item.Item.{Run}
+use Rattle.raft_log_table_runs.specs.declared.place.Place.{Place}
+
+-- the places that a table has, and in how many runs they are kept; how many more it has promised room for; and
+-- for how many of those that it has others may come
+pub record PlaceList : Type 0 where
+  pub items : List Place
+  pub runs : ℕ
+  pub wanted : ℕ
+  pub moves : ℕ
+
+-- the place of an entry in this block; all zeros where it has none yet
+abbrev pub place_in : Option FileBlockHandle → EntryIndex → Place
+place_in None e =
+    record { file = 0; offset = 0; len = 0; entry_offset = e.entry_offset; entry_len = e.entry_len }
+place_in (Some block) e = record {
+  file = block.id.seq;
+  offset = block.offset;
+  len = block.len;
+  entry_offset = e.entry_offset;
+  entry_len = e.entry_len;
+}
+
+-- where a written entry lies
+abbrev pub place_of : EntryIndex → Place
+place_of e = place_in e.entries e
+
+-- the queue of an entry, by whether it is rewritten
+abbrev pub queue_of : Bool → LogQueue
+queue_of rewritten = if rewritten then Rewrite else Append
+
+-- the entry of this index that lies there
+abbrev pub entry_of : LogQueue → ℕ → Place → EntryIndex
+entry_of queue index p = record {
+  index = index;
+  entries = Some (record { id = record { queue = queue; seq = p.file }; offset = p.offset; len = p.len });
+  compression_type = kinds.None;
+  entry_offset = p.entry_offset;
+  entry_len = p.entry_len;
+}
+
+-- the entries as an item: a run from the first one's index on
+abbrev pub run_of : List EntryIndex → Item Place (List ℕ)
+run_of [] = Run 0 []
+run_of (e ∷ es) = Run e.index (map place_of (e ∷ es))

@@ -1,0 +1,6 @@
+pub mod Blocks
+pub mod Entries
+pub mod Counts
+pub mod Runs
+pub mod RunLists
+pub mod Spots

@@ -1,0 +1,14 @@
+//! The places of a group's entries, one after another, and room for more. They are kept as runs of entries that
+//! lie one behind another.
+#![tactic(auto)]
+
+pub mod place;
+pub mod places;
+pub mod run;
+pub mod runs;
+pub mod spot;
+
+pub use place::Place;
+pub use places::{Places, entry_of, place_of};
+pub use run::Run;
+pub use runs::Runs;

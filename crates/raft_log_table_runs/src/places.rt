@@ -1,0 +1,281 @@
+//! The places of a group's entries, and room for more.
+ghost use Rattle.std.specs.Prelude.{◌≡◌, ◌+◌, ◌-◌, ◌≤◌, ◌<◌, ◌++◌, [], length, map, take, drop, slice_get, Some, OnOk, OnErr};
+ghost use Rattle.raft_log_table_runs.specs.Entries.{place_of, entry_of};
+ghost use Rattle.raft_log_table_runs.specs.Blocks.{pieces};
+ghost use Rattle.raft_log_table_runs.specs.Counts.{passing, sized};
+
+use crate::{Place, Runs};
+use raft_log_record_base::{FileBlockHandle, FileId, FileSeq, LogQueue};
+use raft_log_record_items::{CompressionType, EntryIndex};
+use std::alloc::{AllocError, Global};
+use std::marker::Model;
+
+/// Where a written entry lies. One that isn't written lies nowhere: its file, its block's offset and length
+/// are 0.
+pub fn place_of(entry: &EntryIndex) -> Place
+    ensures { result ≡ place_of entry.now }
+{
+    let (file, offset, len) = match entry.entries {
+        Some(block) => (block.id.seq, block.offset, block.len),
+        None => (0, 0, 0),
+    };
+    Place {
+        file,
+        offset,
+        len,
+        entry_offset: entry.entry_offset,
+        entry_len: entry.entry_len,
+    }
+}
+
+/// The entry of this index that lies there, in a file of this queue.
+pub fn entry_of(queue: LogQueue, index: u64, place: Place) -> EntryIndex
+    ensures { result ≡ entry_of queue index place }
+{
+    let id = FileId::new(queue, place.file);
+    EntryIndex {
+        index,
+        entries: Some(FileBlockHandle {
+            id,
+            offset: place.offset,
+            len: place.len,
+        }),
+        compression_type: CompressionType::None,
+        entry_offset: place.entry_offset,
+        entry_len: place.entry_len,
+    }
+}
+
+/// The places of entries one after another, and room that is promised: for more of them, and for others in
+/// their stead. They are kept as runs of entries that lie one behind another.
+#[derive(Drop)]
+pub struct Places {
+    runs: Runs,
+    wanted: usize,
+    moves: usize,
+}
+
+impl Model for Places {
+    ghost use Rattle.std.specs.Prelude.{◌+◌};
+    ghost use Rattle.std.specs.VecDeque.{deque_len};
+    ghost use Rattle.raft_log_table_runs.specs.Entries.{PlaceList};
+    ghost use Rattle.raft_log_table_runs.specs.RunLists.{places, HasRoom};
+
+    ghost Value = { PlaceList };
+
+    ghost view = { λ p. record {
+      items = places p.runs;
+      runs = deque_len p.runs.runs;
+      wanted = p.wanted;
+      moves = p.moves;
+    } };
+
+    ghost invariant = { λ p. HasRoom p.runs (p.wanted + (p.moves + p.moves)) };
+}
+
+impl Places {
+    /// No places, and no room promised.
+    pub fn new(alloc: Global) -> Places
+        ensures { result ≡ record { items = []; runs = 0; wanted = 0; moves = 0 } }
+    {
+        Places {
+            runs: Runs::new(alloc),
+            wanted: 0,
+            moves: 0,
+        }
+    }
+
+    /// How many places there are.
+    pub fn len(&self) -> usize
+        ensures { result ≡ length self.now.items }
+    {
+        self.runs.len()
+    }
+
+    /// How many runs there are, which are all that is kept of the places.
+    pub fn run_count(&self) -> usize
+        ensures { result ≡ self.now.runs }
+    {
+        self.runs.run_count()
+    }
+
+    /// The place at this position.
+    pub fn get(&self, position: usize) -> Option<Place>
+        ensures { result ≡ slice_get self.now.items position }
+    {
+        self.runs.get(position)
+    }
+
+    /// The place at this position, which is there. It is looked for in the run of the hint first, and then
+    /// the hint is its run.
+    pub fn at(&self, position: usize, hint: &mut usize) -> Place
+        requires { position < length self.now.items }
+        ensures { slice_get self.now.items position ≡ Some result }
+    {
+        self.runs.at(position, hint)
+    }
+
+    /// Makes room for so many more. Where memory is refused, nothing changes.
+    pub fn make_room(&mut self, count: usize) -> Result<(), AllocError>
+        ensures ok { OnOk result (self.new ≡ record self.old { wanted = self.old.wanted + count }) }
+        ensures err { OnErr result (self.new ≡ self.old) }
+    {
+        let Some(wanted) = self.wanted.checked_add(count) else {
+            return Err(AllocError);
+        };
+        self.reserve(wanted, self.moves)
+    }
+
+    /// Makes room for others in the stead of so many more of those that are there. Where it is refused,
+    /// nothing changes.
+    ///
+    /// An entry that gets another place may cut a run in two, and so there is room for two runs for each.
+    pub fn make_room_to_move(&mut self, count: usize) -> Result<(), AllocError>
+        ensures ok { OnOk result (self.new ≡ record self.old { moves = self.old.moves + count }) }
+        ensures err { OnErr result (self.new ≡ self.old) }
+    {
+        let Some(moves) = self.moves.checked_add(count) else {
+            return Err(AllocError);
+        };
+        self.reserve(self.wanted, moves)
+    }
+
+    /// Promises room for so many more places, and for others in the stead of so many.
+    fn reserve(&mut self, wanted: usize, moves: usize) -> Result<(), AllocError>
+        ensures ok { OnOk result (self.new ≡ record self.old { wanted = wanted; moves = moves }) }
+        ensures err { OnErr result (self.new ≡ self.old) }
+    {
+        let Some(twice) = moves.checked_add(moves) else {
+            return Err(AllocError);
+        };
+        let Some(room) = wanted.checked_add(twice) else {
+            return Err(AllocError);
+        };
+        self.runs.reserve(room)?;
+        self.wanted = wanted;
+        self.moves = moves;
+        Ok(())
+    }
+
+    /// So many fewer may get others in their stead.
+    pub fn forget_moves(&mut self, count: usize)
+        ensures { self.new ≡ record self.old { moves = self.old.moves - count } }
+    {
+        self.moves = self.moves.saturating_sub(count);
+    }
+
+    /// Takes back all room that was promised.
+    pub fn forget_room(&mut self)
+        ensures { self.new ≡ record self.old { wanted = 0; moves = 0 } }
+    {
+        self.wanted = 0;
+        self.moves = 0;
+    }
+
+    /// The places of these entries come to the end, in room that was promised for them.
+    pub fn push(&mut self, entries: &[EntryIndex])
+        requires { length entries.now ≤ self.old.wanted }
+        ensures items { self.new.items ≡ self.old.items ++ map place_of entries.now }
+        ensures runs { self.new.runs ≤ self.old.runs + pieces (map place_of entries.now) }
+        ensures wanted { self.new.wanted ≡ self.old.wanted - length entries.now }
+        ensures moves { self.new.moves ≡ self.old.moves }
+    {
+        self.runs.push(entries);
+        self.wanted -= entries.len();
+    }
+
+    /// More places come to the end, in room that was promised for them.
+    pub fn append(&mut self, more: Places)
+        requires { length more.items ≤ self.old.wanted }
+        ensures items { self.new.items ≡ self.old.items ++ more.items }
+        ensures runs { self.new.runs ≡ self.old.runs + more.runs }
+        ensures wanted { self.new.wanted ≡ self.old.wanted - length more.items }
+        ensures moves { self.new.moves ≡ self.old.moves }
+    {
+        let Places { runs, .. } = more;
+        self.wanted -= runs.len();
+        self.runs.append(runs);
+    }
+
+    /// Only so many first places stay.
+    pub fn truncate(&mut self, count: usize)
+        ensures items { self.new.items ≡ take count self.old.items }
+        ensures runs { self.new.runs ≤ self.old.runs }
+        ensures wanted { self.new.wanted ≡ self.old.wanted }
+        ensures moves { self.new.moves ≡ self.old.moves }
+    {
+        self.runs.truncate(count);
+    }
+
+    /// So many first places go.
+    pub fn drop_front(&mut self, count: usize)
+        requires { count ≤ length self.old.items }
+        ensures items { self.new.items ≡ drop count self.old.items }
+        ensures runs { self.new.runs ≤ self.old.runs }
+        ensures wanted { self.new.wanted ≡ self.old.wanted }
+        ensures moves { self.new.moves ≡ self.old.moves }
+    {
+        self.runs.drop_front(count);
+    }
+
+    /// From this position on, the places of these entries come in the stead of as many, as was promised.
+    pub fn replace(&mut self, position: usize, entries: &[EntryIndex])
+        requires within { position + length entries.now ≤ length self.old.items }
+        requires room { length entries.now ≤ self.old.moves }
+        ensures items { self.new.items
+            ≡ take position self.old.items
+            ++ (map place_of entries.now ++ drop (position + length entries.now) self.old.items) }
+        ensures runs { self.new.runs ≤ self.old.runs + (pieces (map place_of entries.now) + 1) }
+        ensures wanted { self.new.wanted ≡ self.old.wanted }
+        ensures moves { self.new.moves ≡ self.old.moves - length entries.now }
+    {
+        self.runs.replace(position, entries);
+        self.moves -= entries.len();
+    }
+
+    /// How many places from this position on, at most so many, lie in files up to the gate, up to the first
+    /// that doesn't.
+    pub fn count_up_to(&self, position: usize, limit: usize, gate: FileSeq) -> usize
+        requires { position ≤ length self.now.items }
+        ensures count { result ≡ passing gate (take limit (drop position self.now.items)) }
+        ensures within { (result ≤ limit) × (position + result ≤ length self.now.items) }
+    {
+        let limit = limit.min(self.runs.len() - position);
+        let mut hint = 0;
+        for i in 0..limit {
+            if self.runs.at(position + i, &mut hint).file > gate {
+                return i;
+            }
+        }
+        limit
+    }
+
+    /// How many of so many entries from this position on come: the first always, and more as long as the
+    /// sum of their lengths doesn't pass the greatest size.
+    pub fn sized(&self, position: usize, count: usize, max_size: Option<u64>) -> usize
+        requires { position + count ≤ length self.now.items }
+        ensures count { result ≡ sized max_size (take count (drop position self.now.items)) }
+        ensures within { result ≤ count }
+    {
+        let Some(max_size) = max_size else {
+            return count;
+        };
+        if count == 0 {
+            return 0;
+        }
+        let mut hint = 0;
+        let first = self.runs.at(position, &mut hint).entry_len as u64;
+        if first > max_size {
+            return 1;
+        }
+        let mut left = max_size - first;
+        for i in 1..count {
+            let len = self.runs.at(position + i, &mut hint).entry_len as u64;
+            if len > left {
+                return i;
+            }
+            left -= len;
+        }
+        count
+    }
+}

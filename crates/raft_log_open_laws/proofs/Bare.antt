@@ -52,6 +52,13 @@ use Rattle.raft_log_open_laws.proofs.Finding.{begun_directories, some_directory}
 use Rattle.raft_log_open_laws.proofs.Outcomes.{resting_logs_open_by_calls}
 use Rattle.raft_log_open_laws.proofs.ByCalls.{two_queues}
 
+-- a counted call, and a stop, leave bare directories so
+pub bare_calm : (config : Config) → IsCalm (IsBare config)
+bare_calm config = record {
+  at_count = λ d bare. record { numbered = bare.numbered; reserved = bare.reserved; unnamed = bare.unnamed };
+  at_end = λ d bare. record { numbered = bare.numbered; reserved = bare.reserved; unnamed = bare.unnamed };
+}
+
 -- No directory has the path of a file.
 
 too_long : (directory path name : List ℕ) → directory ≡ path → path ≡ directory ++ 47 ∷ name → ⊥
@@ -96,12 +103,6 @@ module _ (config : Config) (sound : IsSoundSettings (settings_of config)) where
     unnamed = λ path listed. ap (λ (d : Disk). d.names path) leaves.rest ∙ bare.unnamed path listed;
   }
 
-  bare_calm : IsCalm (IsBare config)
-  bare_calm = record {
-    at_count = λ d bare. record { numbered = bare.numbered; reserved = bare.reserved; unnamed = bare.unnamed };
-    at_end = λ d bare. record { numbered = bare.numbered; reserved = bare.reserved; unnamed = bare.unnamed };
-  }
-
   bare_with : (directory : List ℕ) → Contains (paths_of config) directory → (d : Disk) → IsBare config d → IsBare config (with_directory directory d)
   bare_with directory listed d bare = record {
     numbered = λ queue n path at. ((bare.numbered queue n path at).0, apart queue n path at);
@@ -120,7 +121,7 @@ module _ (config : Config) (sound : IsSoundSettings (settings_of config)) where
   bare_unmade path listed errors.Memory old new (runs, same) bare = subst (IsBare config) (sym same) bare
   bare_unmade path listed (errors.Io kind) old new (why, fails) bare =
       let result : Result (Unit {0}) ErrorKind = Err kind in
-      kept_directory (IsBare config) (WrongDirectory path old) result path bare_calm bare (λ free apart. bare_with path listed old bare) tt fails
+      kept_directory (IsBare config) (WrongDirectory path old) result path (bare_calm config) bare (λ free apart. bare_with path listed old bare) tt fails
   bare_unmade path listed _ old new fails bare = absurd fails
 
   bare_unscanned : (error : Error) (old new : Disk) → FailsToScan (paths_of config) error old new → IsBare config old → IsBare config new

@@ -103,7 +103,7 @@ same_end queues.Rewrite = refl
 
 module _ (queue : LogQueue) (directories : List (List ℕ)) (d : Disk) where
   -- a file that was found lies under a path of its number
-  found_at : (f : FoundFile) → FileLiesIn (kind_of queue) directories d f → IsPathWith (suffix_of queue) directories f.seq (found_path (kind_of queue) directories f)
+  pub found_at : (f : FoundFile) → FileLiesIn (kind_of queue) directories d f → IsPathWith (suffix_of queue) directories f.seq (found_path (kind_of queue) directories f)
   found_at f lies = by_queue queue
     where
       some : 0 < length directories

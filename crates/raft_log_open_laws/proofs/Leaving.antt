@@ -28,7 +28,11 @@ use Rattle.raft_log_file_pair.proofs.LyingQueues.{lying_logs_are_logs}
 use Rattle.raft_log_file_pair.specs.Pipes.{Said}
 use Rattle.raft_log_engine_laws.specs.Shows.{log_in, LogMap}
 use Rattle.raft_log_open_builder.specs.Directories as builder
+use Rattle.raft_log_open_scan.specs.Found.{found_path}
+use Rattle.raft_log_open_laws.specs.Bare.{IsBare}
 use Rattle.raft_log_open_laws.specs.Keeping.{KeepsBothQueues, KeepsNumbered, KeptLogStays}
+use Rattle.raft_log_open_laws.specs.Scanned.{kind_of}
+use Rattle.raft_log_open_laws.proofs.Bare.{bare_calm}
 use Rattle.raft_log_open_laws.proofs.Calls.{keeps_all, keeps_calm}
 use Rattle.raft_log_open_laws.proofs.Keeping.{kept_logs_stay}
 use Rattle.raft_log_open_laws.specs.ByCalls.{home_of}
@@ -42,6 +46,7 @@ use Rattle.raft_log_closed.specs.declared.source_file.SourceFile.{SourceFile}
 use Rattle.raft_log_closed.proofs.Lasts.{first, first_or_later, in_none}
 use Rattle.raft_log_open_laws.specs.ForkLeaving.{EndsFork, ForksLeaveTheSource}
 use Rattle.raft_log_open_laws.specs.ForkLeaving.EndsFork.{answered, refused}
+use Rattle.raft_log_open_laws.proofs.Copies.{found_at}
 use Rattle.raft_log_open_laws.proofs.Sources.{copied_at, in_one, same_directories, source_is}
 
 -- Paths.
@@ -67,6 +72,14 @@ module _ (directories : List (List ℕ)) (target : List ℕ) (outside : LiesInOn
   not_the_target : path ≡ target → ⊥
   not_the_target same = outside (at.directory, at.listed, inr (at.name, sym same ∙ at.joined))
 
+-- where a directory is made, every other path stands as it did
+other_directory : (target path : List ℕ) (d : Disk) → (path ≡ target → ⊥) → (with_directory target d).directories path ≡ d.directories path
+other_directory target path d apart = by_eq (bytes_eq target path) refl
+  where
+    by_eq : (b : Bool) → bytes_eq target path ≡ b → cond b true (d.directories path) ≡ d.directories path
+    by_eq true hit = absurd (apart (sym ((bytes_eq-Decides target path).0 hit)))
+    by_eq false miss = refl
+
 -- One queue.
 module _ (queue : LogQueue) (directories : List (List ℕ)) (target : List ℕ) (outside : LiesInOne directories target → ⊥) (old : Disk) where
   added_keeps : (own : List ℕ → Type 0) (new : Disk) → IsSound old → ((path : List ℕ) → own path → IsNumbered target path) → AddsOnly target own old new
@@ -90,7 +103,7 @@ module _ (queue : LogQueue) (directories : List (List ℕ)) (target : List ℕ) 
     names = λ m path less at. refl;
     files = λ m path id less at named. refl;
     places = λ m path less at place. record {
-      apart = other (bytes_eq target path) refl (λ same. not_the_target directories target outside (suffix_of queue) m path at (sym same)) ∙ place.apart;
+      apart = other_directory target path old (λ same. not_the_target directories target outside (suffix_of queue) m path at same) ∙ place.apart;
       home = record { directory = place.home.directory; inside = place.home.inside; there = still (bytes_eq target place.home.directory) (old.directories place.home.directory) place.home.there };
     };
   }
@@ -98,10 +111,6 @@ module _ (queue : LogQueue) (directories : List (List ℕ)) (target : List ℕ) 
       still : (b c : Bool) → c ≡ true → cond b true c ≡ true
       still true c is = refl
       still false c is = is
-
-      other : {path : List ℕ} (b : Bool) → bytes_eq target path ≡ b → (target ≡ path → ⊥) → cond b true (old.directories path) ≡ old.directories path
-      other {path = path} true hit apart = absurd (apart ((bytes_eq-Decides target path).0 hit))
-      other false miss apart = refl
 
 -- each path of a copy is one
 pub copies_numbered : (directories : List (List ℕ)) (target : List ℕ) (old : Disk) (files some : List SourceFile) → AreSources directories old files → ((file : SourceFile) → Contains some file → Contains files file)
@@ -161,7 +170,45 @@ module _ (config : Config) (target : List ℕ) (outside : LiesInOne (directories
           in_last : (file : SourceFile) → Contains (fails.file ∷ []) file → fails.file ≡ file
           in_last file last = elim (first_or_later fails.file [] file last) [ inl same ↦ same | inr none ↦ absurd (in_none file none) ]
 
+-- Directories in which no log began.
+
+-- no file is copied of them
+none_copied : (config : Config) (old : Disk) → IsBare config old → (files : List SourceFile) → AreSources (directories_of (settings_of config)) old files → (file : SourceFile) → Contains files file → ⊥
+none_copied config old bare files are file there =
+    let directories = directories_of (settings_of config) in
+    let of = source_is directories old files file are there in
+    of.lies.there (bare.numbered of.queue of.found.seq (found_path (kind_of of.queue) directories of.found) (found_at of.queue directories old of.found of.lies)).0
+
+module _ (config : Config) (target : List ℕ) (outside : LiesInOne (directories_of (settings_of config)) target → ⊥) (old : Disk) (bare : IsBare config old) where
+  -- where the names are as they were, and the directories, but for the target
+  bare_still : (new : Disk) → ((path : List ℕ) → new.names path ≡ old.names path) → ((path : List ℕ) → (path ≡ target → ⊥) → new.directories path ≡ old.directories path) → IsBare config new
+  bare_still new names others = record {
+    numbered = λ queue n path at.
+        let (none, free) = bare.numbered queue n path at in
+        (names path ∙ none, others path (λ same. not_the_target (builder.paths_of config) target (outside_all config target outside) (suffix_of queue) n path at same) ∙ free);
+    reserved = λ n path at. names path ∙ bare.reserved n path at;
+    unnamed = λ path listed. names path ∙ bare.unnamed path listed;
+  }
+
+  bare_copied : (files : List SourceFile) (new : Disk) → AreSources (directories_of (settings_of config)) old files → AddsOnly target (IsCopyPath target files) old new → IsBare config new
+  bare_copied files new are adds = bare_still new (λ path. adds.names path (λ (file, there, is). none_copied config old bare files are file there)) adds.directories
+
+  bare_unmade : (error : Error) (new : Disk) → FailsToMakeTarget target error old new → IsBare config new
+  bare_unmade (errors.Io kind) new fails =
+      let result : Result (Unit {0}) ErrorKind = Err kind in
+      kept_directory (IsBare config) (WrongDirectory target old) result target (bare_calm config) bare
+      (λ free none. bare_still (with_directory target old) (λ path. refl) (λ path other. other_directory target path old other)) tt fails
+  bare_unmade errors.Memory new same = subst (IsBare config) (sym same) bare
+  bare_unmade _ new fails = absurd fails
+
+  -- a fork of them isn't cut short
+  never_cut_short : (files : List SourceFile) (error : Error) (new : Disk) → AreSources (directories_of (settings_of config)) old files → FailsToCopyAll target files error old new → ⊥
+  never_cut_short files error new are fails =
+      let behind : Contains (fails.copied ++ fails.file ∷ fails.behind) fails.file = Contains-append_right fails.copied (fails.file ∷ fails.behind) fails.file (first fails.file fails.behind) in
+      none_copied config old bare files are fails.file (subst (λ (l : List SourceFile). Contains l fails.file) (sym fails.split) behind)
+
 -- Wherever a fork ends.
+
 pub fork_keeps : (config : Config) (target : List ℕ) (old new : Disk) → IsSound old → EndsFork config target old new → KeepsBothQueues (log_in (home_of config)) old new
 fork_keeps config target old new sound (answered copied forks) =
     copies_keep config target forks.allowed.0.outside old forks.files forks.files new sound forks.sources (λ file there. there) forks.copies.adds
@@ -169,6 +216,12 @@ fork_keeps config target old new sound (refused error (not_begun why same)) =
     subst (KeepsBothQueues (log_in (home_of config)) old) (sym same) (record { append = keeps_all _ old; rewrite = keeps_all _ old })
 fork_keeps config target old new sound (refused error (homeless allowed fails)) = unmade_keeps config target allowed.0.outside old error new fails
 fork_keeps config target old new sound (refused error (cut_short allowed files are fails)) = uncopied_keeps config target allowed.0.outside old files error new sound are fails
+
+fork_bare : (config : Config) (target : List ℕ) (old new : Disk) → EndsFork config target old new → IsBare config old → IsBare config new
+fork_bare config target old new (answered copied forks) bare = bare_copied config target forks.allowed.0.outside old bare forks.files new forks.sources forks.copies.adds
+fork_bare config target old new (refused error (not_begun why same)) bare = subst (IsBare config) (sym same) bare
+fork_bare config target old new (refused error (homeless allowed fails)) bare = bare_unmade config target allowed.0.outside old bare error new fails
+fork_bare config target old new (refused error (cut_short allowed files are fails)) bare = absurd (never_cut_short config target allowed.0.outside old bare files error new are fails)
 
 abbrev pub two : (config : Config) → AreTwoQueues (log_in (home_of config))
 two config = two_queues (home_of config) (some_directory config) (some_directory config)
@@ -184,4 +237,5 @@ forks_leave_the_source config target old new sound ends =
     record {
       rests = stays.rests;
       left = λ m pending (o, h). (none_open, record { done = h.done; rest = h.rest; splits = h.splits; lies = stays.lies _ h.rest (lies_closed config o old _ h.rest h.lies) });
+      bare = fork_bare config target old new ends;
     }

@@ -9,6 +9,7 @@ use Rattle.raft_log_file_pair.specs.OnDisk.{LogRestsOn}
 use Rattle.raft_log_file_pair.specs.Pipes.{Said}
 use Rattle.raft_log_engine_laws.specs.Shows.{log_in, LogMap}
 use Rattle.raft_log_engine_laws.specs.Holding.{IsLeftAt}
+use Rattle.raft_log_open_laws.specs.Bare.{IsBare}
 use Rattle.raft_log_open_laws.specs.Keeping.{RestsStill}
 use Rattle.raft_log_open_laws.specs.ByCalls.{home_of}
 use Rattle.raft_log_closed.specs.Forks.{FailsToFork, Forks}
@@ -20,13 +21,15 @@ pub data EndsFork (config : Config) (target : List ℕ) (old new : Disk) : Type 
   refused : (error : Error) → FailsToFork (settings_of config) target error old new
       → EndsFork config target old new
 
--- What rested in the directories of these settings rests there still, with the same files and records; and
--- what an engine left there is there still, with the same map and the same batches pending.
+-- What rested in the directories of these settings rests there still, with the same files and records; what
+-- an engine left there is there still, with the same map and the same batches pending; and directories in
+-- which no log began are so still.
 pub record LeavesSource (config : Config) (old new : Disk) : Type 0 where
   pub rests : (m : LogMap) (h : LogRestsOn (log_in (home_of config)) old m)
       → RestsStill (log_in (home_of config)) old m h new
   pub left : (m : LogMap) (pending : List Said) → IsLeftAt (home_of config) old m pending
       → IsLeftAt (home_of config) new m pending
+  pub bare : IsBare config old → IsBare config new
 
 -- so it is wherever a fork ends
 abbrev pub ForksLeaveTheSource : Type 0

@@ -7,7 +7,8 @@ ghost use Rattle.raft_log_open_laws.specs.ForkResting.{ForkedLogsRest};
 
 use raft_log_disk::FileSystem;
 
-/// Wherever a fork ends, answered or refused, the log that was to be copied rests, or is left, where it did.
+/// Wherever a fork ends, answered or refused, the log that was to be copied rests, or is left, where it did; and
+/// where no log began, none has begun.
 pub fn forks_leave_the_source()
     ensures { ForksLeaveTheSource }
 {}

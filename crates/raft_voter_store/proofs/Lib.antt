@@ -5,3 +5,4 @@ pub mod Filling
 pub mod Rounds
 pub mod Places
 pub mod Serving
+pub mod Opening

@@ -6,7 +6,7 @@ use Rattle.raft_voter_messages.specs.declared.reply.Reply.{Reply}
 use Rattle.raft_voter_messages.specs.declared.request.Request.{Request}
 use Rattle.raft_voter_outline.specs.State.{State}
 use Rattle.raft_voter.specs.Rounds.{World, after, are_rising}
-use Rattle.raft_voter.specs.Service.{AnswersRound, CutRound, CutsOff, IsOpenAt, MayFollow, Service, TakesNothing, TookNone, TookSome, refused_from, uncut}
+use Rattle.raft_voter.specs.Service.{AnswersRound, CutRound, CutsOff, FailsAs, IsOpenAt, MayFollow, Service, TakesNothing, TookNone, TookSome, refused_from, uncut}
 use Rattle.raft_voter.specs.declared.service.Cause.{Cause}
 use Rattle.raft_voter.specs.declared.service.Cause.TheVariants as causes
 use Rattle.raft_voter_standing_laws.specs.Ends.{GaveUp, Unsynced}
@@ -16,7 +16,8 @@ use Rattle.raft_voter_standing_laws.proofs.Ending.{left_behind_rounds}
 use Rattle.raft_voter_standing_laws.proofs.Keeping.{engines_leave_logs, voters_are_left}
 use Rattle.raft_voter_standing_laws.proofs.Places.{rising, told_rounds_are_answered}
 use Rattle.raft_voter_store.specs.Rounds.{AreExcused, CutsRoundOff, RoundIsAnswered}
-use Rattle.raft_voter_store.specs.Service.{LeavesBehind, MayRefuse, ServesVoters, voter_service}
+use Rattle.raft_voter_store.specs.Service.{LeavesAt, LeavesBehind, MayRefuse, ServesVoters, service_in, voter_service}
+use Rattle.raft_voter_store.specs.Service.LeavesAt.{left, running}
 
 -- what two clauses say of a refusal
 pub of_refusal : {X E : Type 0} (r : Result X E) (P Q R : E → Type 0) → ((e : E) → P e → Q e → R e) → IfErr r P → IfErr r Q → IfErr r R
@@ -48,7 +49,7 @@ module _ {S : Type 0} (shows : S → Shows) (outlines : S → ℕ → State) whe
         open_at new home (after W (took qs told)) a.alive a.keeps a.outlines,
       )
 
-  left_some : (home : Home) (W : World) (qs : List (ℕ × Request)) (told : List Reply) (s t : Shows) → GaveUp home W qs told s t ⊎ Unsynced home W qs told s t
+  pub left_some : (home : Home) (W : World) (qs : List (ℕ × Request)) (told : List Reply) (s t : Shows) → GaveUp home W qs told s t ⊎ Unsynced home W qs told s t
       → IsLeftAmong home t.pipes.disk (MayFollow (record { before = W; requests = qs; refused = refused_from 0 told }))
   left_some home W qs told s t (inl gave) = left_behind_rounds.gave_up home W qs told s t gave
   left_some home W qs told s t (inr failed) = left_behind_rounds.unsynced home W qs told s t failed
@@ -80,3 +81,42 @@ module _ {S : Type 0} (shows : S → Shows) (outlines : S → ℕ → State) whe
 
   pub may_refuse : (qs : List (ℕ × Request)) (told : List Reply) (old : S) → AreExcused qs told (shows old) (outlines old) → MayRefuse (shows old) (outlines old) qs (refused_from 0 told)
   may_refuse qs told old excused = (told, refl, excused)
+
+-- where it is known in which directories the log lies
+module _ {S : Type 0} (home : S → Home) (shows : S → Shows) (outlines : S → ℕ → State) where
+  pub open_in : (store : S) (W : World) → has_failed (shows store) ≡ false → Keeps (home store) (shows store) W → AreOutlines (outlines store) W → IsOpenAt (service_in home shows outlines) store W
+  open_in store W alive keeps are = record { alive = alive; serves = (keeps, are); left = running W refl keeps }
+
+  pub answers_in : (qs : List (ℕ × Request)) (told : List Reply) (old new : S) → home new ≡ home old → RoundIsAnswered qs told (shows old) (shows new) (outlines old) (outlines new) → length told ≡ length qs
+      → AnswersRound (service_in home shows outlines) qs told old new
+  answers_in qs told old new same answered all W opened =
+      let a = answered (home old) W opened.serves.0 opened.serves.1 in
+      let places = told_rounds_are_answered W qs told a.tells all in (
+        after W (took qs told),
+        record { rising = places.rising; told = places.told_is; taken = ap (λ (l : List (ℕ × Request)). after W l) places.taken_is },
+        open_in new (after W (took qs told)) a.alive (subst (λ (h : Home). Keeps h (shows new) (after W (took qs told))) (sym same) a.keeps) a.outlines,
+      )
+
+  some_in : (qs : List (ℕ × Request)) (refused : List ℕ) (old new : S) → home new ≡ home old → has_failed (shows new) ≡ true → CutsRoundOff qs refused (shows old) (shows new) (outlines old)
+      → TookSome (service_in home shows outlines) refused qs old new
+  some_in qs refused old new same failed cut = record {
+    rising = subst (λ (l : List ℕ). IsTrue (are_rising 0 (length qs) l)) (sym cut.places) (rising 0 0 (length qs) cut.told (omega arith) (omega (arith, cut.few)));
+    left = λ W opened. left failed
+        (subst (λ (l : List ℕ). IsLeftAmong (home new) (shows new).pipes.disk (MayFollow (record { before = W; requests = qs; refused = l }))) (sym cut.places)
+        (subst (λ (h : Home). IsLeftAmong h (shows new).pipes.disk (MayFollow (record { before = W; requests = qs; refused = refused_from 0 cut.told }))) (sym same)
+        (left_some shows outlines (home old) W qs cut.told (shows old) (shows new) (cut.left (home old) W opened.serves.0 opened.serves.1))));
+  }
+
+  none_in : (refused : List ℕ) (old new : S) → new ≡ old → refused ≡ [] → TookNone (service_in home shows outlines) refused old new
+  none_in refused old new same none = record {
+    none = none;
+    served = λ W opened. subst (λ (x : S). IsOpenAt (service_in home shows outlines) x W) (sym same) opened;
+    left = λ cut left. subst (λ (x : S). LeavesAt (home x) (shows x) cut) (sym same) left;
+  }
+
+  pub cuts_in : (cause : Cause) (qs : List (ℕ × Request)) (refused : List ℕ) (old new : S) → home new ≡ home old → FailsAs cause (length qs) (has_failed (shows old)) (has_failed (shows new))
+      → (TakesNothing cause → (new ≡ old) × (refused ≡ [])) → (cause ≡ causes.FileSystem → CutsRoundOff qs refused (shows old) (shows new) (outlines old)) → CutsOff (service_in home shows outlines) cause refused qs old new
+  cuts_in causes.FileSystem qs refused old new same fails none cut = some_in qs refused old new same fails.2 (cut refl)
+  cuts_in causes.Memory qs refused old new same fails none cut = none_in refused old new (none tt).0 (none tt).1
+  cuts_in causes.Failed qs refused old new same fails none cut = none_in refused old new (none tt).0 (none tt).1
+  cuts_in causes.TooLong qs refused old new same fails none cut = none_in refused old new (none tt).0 (none tt).1

@@ -2,3 +2,4 @@ pub mod Taking
 pub mod Upkeep
 pub mod Rounds
 pub mod Service
+pub mod Opening

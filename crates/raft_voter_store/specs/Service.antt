@@ -1,11 +1,11 @@
 -- The store as a service of rounds, whichever directories its log lies in.
-use Rattle.std.specs.Prelude.{◌≡◌, ℕ, List}
+use Rattle.std.specs.Prelude.{◌≡◌, ℕ, true, List}
 use Rattle.raft_log_engine.specs.raft_log_engine_laws.specs.Shows.{Home, Shows, has_failed}
 use Rattle.raft_voter_messages.specs.declared.reply.Reply.{Reply}
 use Rattle.raft_voter_messages.specs.declared.request.Request.{Request}
 use Rattle.raft_voter_outline.specs.State.{State}
 use Rattle.raft_voter.specs.Rounds.{World}
-use Rattle.raft_voter.specs.Service.{CutRound, MayFollow, Service, refused_from}
+use Rattle.raft_voter.specs.Service.{CutRound, MayFollow, Service, refused_from, uncut}
 use Rattle.raft_voter_standing_laws.specs.Standing.{AreOutlines, IsLeftAmong, Keeps}
 use Rattle.raft_voter_store.specs.Rounds.{AreExcused}
 
@@ -17,6 +17,12 @@ ServesVoters s os W = (home : Home) × Keeps home s W × AreOutlines os W
 abbrev pub LeavesBehind : Shows → CutRound → Type 0
 LeavesBehind s cut = (home : Home) × IsLeftAmong home s.pipes.disk (MayFollow cut)
 
+-- Behind this round stand the voters that are left of a store whose log lies in these directories: none was cut
+-- off, and its engine keeps those before it; or it has failed, and its log is left on its disk.
+pub data LeavesAt (home : Home) (s : Shows) (cut : CutRound) : Type 0 where
+  running : (W : World) → cut ≡ uncut W → Keeps home s W → LeavesAt home s cut
+  left : has_failed s ≡ true → IsLeftAmong home s.pipes.disk (MayFollow cut) → LeavesAt home s cut
+
 -- places of a round that may be refused: those of some replies, each for a cause
 abbrev pub MayRefuse : Shows → (ℕ → State) → List (ℕ × Request) → List ℕ → Type 0
 MayRefuse s os qs refused = (told : List Reply) × (refused ≡ refused_from 0 told) × AreExcused qs told s os
@@ -27,5 +33,14 @@ voter_service shows outlines = record {
   serves = λ store W. ServesVoters (shows store) (outlines store) W;
   is_failed = λ store. has_failed (shows store);
   leaves = λ store cut. LeavesBehind (shows store) cut;
+  may_refuse = λ old new requests refused. MayRefuse (shows old) (outlines old) requests refused;
+}
+
+-- a store of which it is known in which directories its log lies, as a service
+abbrev pub service_in : {S : Type 0} → (S → Home) → (S → Shows) → (S → ℕ → State) → Service S
+service_in home shows outlines = record {
+  serves = λ store W. Keeps (home store) (shows store) W × AreOutlines (outlines store) W;
+  is_failed = λ store. has_failed (shows store);
+  leaves = λ store cut. LeavesAt (home store) (shows store) cut;
   may_refuse = λ old new requests refused. MayRefuse (shows old) (outlines old) requests refused;
 }

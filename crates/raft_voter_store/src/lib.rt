@@ -9,4 +9,4 @@ mod entries;
 mod saying;
 mod store;
 
-pub use store::VoterStore;
+pub use store::{StoreRefused, VoterStore};

@@ -2,6 +2,7 @@
 ghost use Rattle.std.specs.Prelude.{◌≡◌, ℕ, false, IfErr, IfOk};
 ghost use Rattle.raft_log_engine_core.specs.Reads.{shows_of};
 
+mod opening;
 mod rounds;
 mod service;
 mod upkeep;
@@ -9,6 +10,7 @@ mod upkeep;
 use crate::entries::read_entries;
 use crate::saying::say_change;
 use log::Log;
+pub use opening::StoreRefused;
 use raft_log_engine::{Error, LogEngine, PipeLog, Result};
 use raft_log_record_items::{RawEntries, RawMessage};
 use raft_voter_messages::{Reply, Request};

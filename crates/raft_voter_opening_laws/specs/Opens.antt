@@ -1,0 +1,40 @@
+-- What an open of a store finds of the voters that its log tells.
+use Rattle.std.specs.Prelude.{◌⊎◌, ℕ, List}
+use Rattle.raft_log_disk.specs.Disk.{Disk}
+use Rattle.raft_log_file_settings.specs.declared.config.Config.{Config}
+use Rattle.raft_log_engine_laws.specs.Shows.{Shows}
+use Rattle.raft_log_open_laws.specs.Bare.{IsBare}
+use Rattle.raft_log_open_laws.specs.ByCalls.{home_of}
+use Rattle.raft_voter_outline.specs.State.{State}
+use Rattle.raft_voter.specs.Rounds.{World, fresh_world}
+use Rattle.raft_voter_standing_laws.specs.Standing.{AreOutlines, IsLeftAmong, IsLeftWith, Keeps}
+use Rattle.raft_voter_reading.specs.declared.unread.Unread.{Unread}
+use Rattle.raft_voter_reading.specs.declared.unread.Unread.TheVariants as causes
+use Rattle.raft_voter_store.specs.Opening.{FailsToOpenVoters, OpensVoters}
+
+-- answered, an open's engine keeps these voters, and the store's outlines are theirs
+abbrev pub ServesFound : {F : Type 0} → (F → Disk) → (F → List ℕ → ℕ → Type 0) → Config → F → World → Type 0
+ServesFound disk tells config old W = (t : Shows) (os : ℕ → State) → OpensVoters disk tells config old t os
+    → Keeps (home_of config) t W × AreOutlines os W
+
+-- it is never refused for a group that holds what is no voter's
+abbrev pub FindsNoForeign : {F : Type 0} → (F → Disk) → (F → List ℕ → ℕ → Type 0) → Config → F → Type 0
+FindsNoForeign {F} disk tells config old = (group : ℕ) (back : F)
+    → FailsToOpenVoters disk tells config (causes.Foreign group) old back → ⊥
+
+-- An open finds these voters; refused, whyever, voters that pass the test are left.
+pub record FindsVoters {F : Type 0} (disk : F → Disk) (tells : F → List ℕ → ℕ → Type 0) (config : Config)
+    (old : F) (W : World) (P : World → Type 0) : Type 0 where
+  pub answered : ServesFound disk tells config old W
+  pub refused : (cause : Unread) (back : F) → FailsToOpenVoters disk tells config cause old back
+      → IsLeftAmong (home_of config) (disk back) P
+  pub own : FindsNoForeign disk tells config old
+
+-- An open of directories in which there was no log yet: all voters are fresh. Refused, the directories are
+-- bare as before, or a log of fresh voters is left there.
+pub record BeginsVoters {F : Type 0} (disk : F → Disk) (tells : F → List ℕ → ℕ → Type 0) (config : Config)
+    (old : F) : Type 0 where
+  pub answered : ServesFound disk tells config old fresh_world
+  pub refused : (cause : Unread) (back : F) → FailsToOpenVoters disk tells config cause old back
+      → IsBare config (disk back) ⊎ IsLeftWith (home_of config) (disk back) fresh_world
+  pub own : FindsNoForeign disk tells config old

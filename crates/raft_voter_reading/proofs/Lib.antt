@@ -1,0 +1,9 @@
+pub mod Telling
+pub mod Refusing
+pub mod Keys
+pub mod Ends
+pub mod Pieces
+pub mod Messages
+pub mod Runs
+pub mod Holding
+pub mod Filling

@@ -1,0 +1,126 @@
+-- What is told of a read that an engine refused is why it was.
+use Rattle.std.proofs.Common.{◌≡◌, ◌⊎◌, ℕ, ◌+◌, ◌<◌, ◌≤◌, true, List, [], length, Option, Some, Err, refl, sym, subst, inl, inr, arith}
+use Rattle.raft_log_model_laws.specs.Groups.{taken}
+use Rattle.raft_log_record_base.specs.declared.errors.Error.{Error}
+use Rattle.raft_log_record_base.specs.declared.errors.Error.TheVariants as errors
+use Rattle.raft_log_record_items.specs.Message.{Parses}
+use Rattle.raft_log_record_items.specs.declared.raw_message.RawMessage.{RawMessage}
+use Rattle.raft_log_table_lists.specs.Shown.{Shown}
+use Rattle.raft_log_engine_laws.specs.raft_log_table_one.specs.Reads.{AreIn, FetchRefused}
+use Rattle.raft_log_engine_laws.specs.raft_log_file_blocks.specs.Blocks.{IsBlockUnread, written_block}
+use Rattle.raft_log_engine_laws.specs.raft_log_file_pair.specs.Pipes.{RunsOn, Said, State as LogState}
+use Rattle.raft_log_engine_laws.specs.Shows.{Home, LogMap, Shows, sense}
+use Rattle.raft_log_engine_laws.specs.Holding.{Holds}
+use Rattle.raft_log_engine_laws.specs.Fetching.{FailsToFetch, HadFailed, IsOneUntold, LiesOutside, StaysButBlock}
+use Rattle.raft_log_engine_core.specs.Reads.{IsFailed, IsUncopied}
+use Rattle.raft_voter_standing_laws.specs.Requests.{WereUnread}
+use Rattle.raft_voter_reading.specs.declared.unread.Unread.{Unread}
+use Rattle.raft_voter_reading.specs.Reading.{IsRefused, IsUnreadFor, cause_of}
+use Rattle.raft_voter_reading.proofs.Telling.{stays_at_first}
+
+-- an error is told by itself, unless it is want of memory
+refused_for : (error : Error) (s : Shows) → ((error ≡ errors.Memory → ⊥) → IsRefused error s) → IsUnreadFor (cause_of error) s
+refused_for errors.Memory s why = tt
+refused_for (errors.Message text) s why = why (λ e. let no : ⊥ = cc in no)
+refused_for errors.Hole s why = why (λ e. let no : ⊥ = cc in no)
+refused_for errors.Full s why = why (λ e. let no : ⊥ = cc in no)
+refused_for (errors.InvalidArgument text) s why = why (λ e. let no : ⊥ = cc in no)
+refused_for (errors.Corruption text) s why = why (λ e. let no : ⊥ = cc in no)
+refused_for (errors.Io kind) s why = why (λ e. let no : ⊥ = cc in no)
+refused_for (errors.Codec fault) s why = why (λ e. let no : ⊥ = cc in no)
+refused_for (errors.TryAgain text) s why = why (λ e. let no : ⊥ = cc in no)
+refused_for errors.EntryCompacted s why = why (λ e. let no : ⊥ = cc in no)
+refused_for errors.EntryNotFound s why = why (λ e. let no : ⊥ = cc in no)
+refused_for (errors.Other fault) s why = why (λ e. let no : ⊥ = cc in no)
+refused_for errors.Failed s why = why (λ e. let no : ⊥ = cc in no)
+refused_for errors.NumberRange s why = why (λ e. let no : ⊥ = cc in no)
+
+told_for : (error : Error) (cause : Unread) (s : Shows) → cause ≡ cause_of error → ((error ≡ errors.Memory → ⊥) → IsRefused error s) → IsUnreadFor cause s
+told_for error cause s is why = subst (λ (c : Unread). IsUnreadFor c s) (sym is) (refused_for error s why)
+
+-- of an engine that has failed
+pub failed_for : (error : Error) (cause : Unread) (s : Shows) → cause ≡ cause_of error → IsFailed s error → IsUnreadFor cause s
+failed_for error cause s is failed = told_for error cause s is (λ other. inl failed)
+
+-- of what is copied
+pub uncopied_for : (error : Error) (cause : Unread) (s : Shows) → cause ≡ cause_of error → IsUncopied s error → IsUnreadFor cause s
+uncopied_for error cause s is (inl failed) = failed_for error cause s is failed
+uncopied_for error cause s is (inr memory) = told_for error cause s is (λ other. absurd (other memory.0))
+
+-- Entries.
+
+-- bytes are the message that they are, so one isn't told for want of memory alone
+parsed : (error : Error) (m : RawMessage) → Parses {M = RawMessage} (Err error) (Some m) → error ≡ errors.Memory
+parsed errors.Memory m h = refl
+parsed (errors.Message text) m h = cc
+parsed errors.Hole m h = absurd h
+parsed errors.Full m h = absurd h
+parsed (errors.InvalidArgument text) m h = absurd h
+parsed (errors.Corruption text) m h = absurd h
+parsed (errors.Io kind) m h = absurd h
+parsed (errors.Codec fault) m h = absurd h
+parsed (errors.TryAgain text) m h = absurd h
+parsed errors.EntryCompacted m h = absurd h
+parsed errors.EntryNotFound m h = absurd h
+parsed (errors.Other fault) m h = absurd h
+parsed errors.Failed m h = absurd h
+parsed errors.NumberRange m h = absurd h
+
+-- the message of bytes
+abbrev pub reading_of : List ℕ → Option RawMessage
+reading_of source = Some (record { bytes = source })
+
+one_unread : (home : Home) (g from to : ℕ) (error : Error) (s : Shows) (log : LogState) (m : LogMap) → (error ≡ errors.Memory → ⊥)
+    → RunsOn (sense home) s.pipes log → IsOneUntold reading_of g from to s log m error → WereUnread home g from to s error
+one_unread home g from to error s log m other runs (inl memory) = absurd (other memory)
+one_unread home g from to error s log m other runs (inr one) = record {
+  index = one.0;
+  entry = one.3.entry;
+  block = one.3.block;
+  asked = (one.1, one.2);
+  stands = one.3.stands;
+  placed = one.3.placed;
+  why = by_why one.3.why;
+}
+  where
+    by_why : IsBlockUnread s.pipes one.3.block error
+        ⊎ (LiesOutside one.3.entry (written_block log one.3.block) error ⊎ Parses {M = RawMessage} (Err error) (reading_of one.3.bytes))
+        → IsBlockUnread s.pipes one.3.block error
+        ⊎ ((log : LogState) × RunsOn (sense home) s.pipes log × LiesOutside one.3.entry (written_block log one.3.block) error)
+    by_why (inl block) = inl block
+    by_why (inr (inl outside)) = inr (log, runs, outside)
+    by_why (inr (inr none)) = absurd (other (parsed error (record { bytes = one.3.bytes }) none))
+
+-- a table that has all entries refuses them for want of memory alone
+only_memory : (v : Shown) (from to : ℕ) (error : Error) → AreIn v from to → FetchRefused v from to error → error ≡ errors.Memory
+only_memory v from to error inside refused = by_case refused.1
+  where
+    ends : (v.first ≤ from) × (to ≤ v.first + length v.places)
+    ends = inside refused.0
+
+    by_case : ((error ≡ errors.EntryNotFound) × (length v.places ≡ 0))
+        ⊎ (((error ≡ errors.EntryCompacted) × (0 < length v.places) × (from < v.first))
+        ⊎ (((error ≡ errors.EntryNotFound) × (v.first ≤ from) × (v.first + length v.places < to))
+        ⊎ ((error ≡ errors.Memory) × (v.first ≤ from) × (to ≤ v.first + length v.places))))
+        → error ≡ errors.Memory
+    by_case (inl one) = absurd (omega (arith, one.1, ends.0, ends.1, refused.0))
+    by_case (inr (inl two)) = absurd (omega (arith, two.2, ends.0))
+    by_case (inr (inr (inl three))) = absurd (omega (arith, three.2, ends.1))
+    by_case (inr (inr (inr four))) = four.0
+
+-- entries that the tables have weren't fetched
+pub unfetched_for : (g from to : ℕ) (error : Error) (cause : Unread) (s t : Shows) → cause ≡ cause_of error → AreIn (s.tables g) from to
+    → HadFailed s t error ⊎ FailsToFetch reading_of g from to s t error → IsUnreadFor cause s
+unfetched_for g from to error cause s t is inside (inl had) = failed_for error cause s is (had.0, had.1)
+unfetched_for g from to error cause s t is inside (inr f) = told_for error cause s is (λ other. by_why other f.why)
+  where
+    by_why : (error ≡ errors.Memory → ⊥) → ((s.counts g ≡ true) × FetchRefused (s.tables g) from to error)
+        ⊎ ((home : Home) (m : LogMap) (pending : List Said) → (h : Holds home s m pending) → IsOneUntold reading_of g from to s h.state (taken m pending) error)
+        → IsRefused error s
+    by_why other (inl refused) = absurd (other (only_memory (s.tables g) from to error inside refused.1))
+    by_why other (inr untold) = inr (g, from, to, λ home m h. one_unread home g from to error s h.state m other h.runs (untold home m [] h))
+
+-- whichever way it was refused, the engine stays
+pub unfetched_stays : (g from to : ℕ) (error : Error) (s t : Shows) → HadFailed s t error ⊎ FailsToFetch reading_of g from to s t error → StaysButBlock s t
+unfetched_stays g from to error s t (inl had) = subst (λ (e : Shows). StaysButBlock s e) (sym had.2) (stays_at_first s)
+unfetched_stays g from to error s t (inr f) = f.stays

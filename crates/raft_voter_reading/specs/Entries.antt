@@ -1,0 +1,62 @@
+-- Entries as they are read of a group, one behind another.
+use Rattle.std.specs.Prelude.{◌≡◌, ◌≢◌, ◌+◌, ◌≤◌, ◌<◌, ℕ, List, [], ◌∷◌, length, map, slice_get, Some}
+use Rattle.raft_log_model_laws.specs.Meaning.Slot.{Index}
+use Rattle.raft_log_model_laws.specs.Meaning.Content.{Entry}
+use Rattle.raft_log_engine_laws.specs.Shows.{Shows}
+use Rattle.raft_voter_messages.specs.declared.reply.Entry.{Entry as VoterEntry}
+use Rattle.raft_voter_messages.specs.declared.reply.VoterState.{VoterState}
+use Rattle.raft_voter_messages.specs.declared.stored.StoredFault.{StoredFault}
+use Rattle.raft_voter_messages.specs.declared.stored.StoredFault.TheVariants as faults
+use Rattle.raft_voter_messages.specs.StoredForms.{EntryFault}
+use Rattle.raft_voter_outline.specs.Restoring.{with_log}
+use Rattle.raft_voter_outline.specs.State.{State}
+use Rattle.raft_voter.specs.Laws.{AreReadAs}
+use Rattle.raft_voter_meaning_laws.specs.Voters.{Group}
+use Rattle.raft_voter_reading.specs.declared.unread.Unread.{Unread}
+use Rattle.raft_voter_reading.specs.declared.unread.Unread.TheVariants as causes
+use Rattle.raft_voter_reading.specs.Reading.{Tells}
+
+-- these are the bytes of a group's entries from an index on
+abbrev pub StandFrom : Group → ℕ → List (List ℕ) → Type 0
+StandFrom grp i [] = Unit {0}
+StandFrom grp i (bytes ∷ others) = (grp (Index i) ≡ Some (Entry bytes)) × StandFrom grp (i + 1) others
+
+-- one of these bytes, the first at this index, are those of no entry at its own
+pub record HasBroken (first : ℕ) (texts : List (List ℕ)) : Type 0 where
+  pub place : ℕ
+  pub bytes : List ℕ
+  pub fault : StoredFault
+  pub at : slice_get texts place ≡ Some bytes
+  pub broken : fault ≢ faults.Memory
+  pub why : EntryFault fault bytes (first + place)
+
+-- why bytes aren't read as entries: those of one are none, and the group is told to be foreign; or memory ran out
+abbrev pub AreNoEntries : ℕ → ℕ → List (List ℕ) → Unread → Type 0
+AreNoEntries g first texts (causes.Foreign h) = (h ≡ g) × HasBroken first texts
+AreNoEntries g first texts (causes.Engine error) = ⊥
+AreNoEntries g first texts causes.Memory = Unit {0}
+
+-- entries of a group were read from an index on
+pub record ReadsRun (e : Shows) (g first : ℕ) (es : List VoterEntry) : Type 0 where
+  pub texts : List (List ℕ)
+  pub read : AreReadAs first texts es
+  pub stand : Tells e (λ m. StandFrom (m g) first texts)
+
+-- some were, at least one and all below an end
+pub record ReadsPiece (e : Shows) (g first end : ℕ) (es : List VoterEntry) : Type 0 where
+  pub run : ReadsRun e g first es
+  pub some : 0 < length es
+  pub within : first + length es ≤ end
+
+-- all were that stand behind a base and below an index
+pub record ReadsBelow (e : Shows) (g base next : ℕ) (es : List VoterEntry) : Type 0 where
+  pub run : ReadsRun e g (base + 1) es
+  pub count : base + 1 + length es ≡ next
+
+-- the entries of a log that is known by its terms alone
+abbrev pub terms_of : List VoterEntry → List (ℕ × List ℕ)
+terms_of es = map (λ e. (e.term, [])) es
+
+-- entries below an index were read, and this is the outline of a voter with these alone
+abbrev pub KnowsTerms : Shows → ℕ → VoterState → ℕ → State → Type 0
+KnowsTerms e g s next o = (es : List VoterEntry) × ReadsBelow e g s.base_index next es × (o ≡ with_log s (terms_of es))

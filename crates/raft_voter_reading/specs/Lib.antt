@@ -1,0 +1,4 @@
+pub mod Reading
+pub mod Groups
+pub mod Entries
+pub mod Listing

@@ -1,0 +1,123 @@
+//! The outlines of all voters.
+ghost use Rattle.std.specs.Prelude.{◌≡◌, ◌+◌, ◌++◌, ◌<◌, ◌^◌, length, IfErr, IfOk, OnOk};
+ghost use Rattle.raft_log_engine_laws.specs.Fetching.{StaysButBlock};
+ghost use Rattle.raft_log_engine_core.specs.Reads.{shows_of};
+ghost use Rattle.raft_voter_outline.specs.State.{last_index};
+ghost use Rattle.raft_voter_outlines.specs.Kept.{outlines_in};
+ghost use Rattle.raft_voter_reading.specs.Entries.{KnowsTerms, terms_of};
+ghost use Rattle.raft_voter_reading.specs.Groups.{ReadsHead};
+ghost use Rattle.raft_voter_reading.specs.Listing.{AddsOutline, TellsOutline};
+ghost use Rattle.raft_voter_reading.specs.Reading.{IsUnreadFor, ReadsVoters};
+
+use crate::Unread;
+use crate::entries::read_piece;
+use crate::heads::{Head, read_head};
+use raft_log_engine_core::LogEngine;
+use raft_log_file_pair::PipeLog;
+use raft_voter_messages::{Entry, Memory};
+use raft_voter_outline::Outline;
+use raft_voter_outlines::Outlines;
+use std::alloc::Global;
+
+/// The outline of each group's voter, as an engine's log tells it that was just opened: whatever map the log
+/// is, it means voters, and these are their outlines. Entries are read in pieces and not kept, so memory is
+/// wanted for the outlines and a piece alone; each block of entries is read once.
+///
+/// `Foreign`: what stands in this group is no voter's. `Engine`: the engine has failed, or didn't read a block
+/// of entries. `Memory`. Answered or refused, the engine is as it was, but for the block that it read last.
+pub fn read_outlines<P: PipeLog>(
+    alloc: Global,
+    engine: &mut LogEngine<P>,
+) -> Result<Outlines, Unread>
+    ensures ok { IfOk result (λ outlines.
+        ReadsVoters (shows_of P.shown engine.old) (outlines_in outlines)) }
+    ensures err { IfErr result (λ cause. IsUnreadFor cause (shows_of P.shown engine.old)) }
+    ensures stays { StaysButBlock (shows_of P.shown engine.old) (shows_of P.shown engine.new) }
+{
+    let groups = match engine.raft_groups() {
+        Ok(groups) => groups,
+        Err(refusal) => return Err(Unread::from_refusal(refusal)),
+    };
+    let mut outlines = Outlines::new(alloc);
+    for group in groups.as_slice() {
+        read_into(alloc, engine, *group, &mut outlines)?;
+    }
+    Ok(outlines)
+}
+
+/// The outline of a group's voter is read and kept, if something stands in the group.
+fn read_into<P: PipeLog>(
+    alloc: Global,
+    engine: &mut LogEngine<P>,
+    group: u64,
+    outlines: &mut Outlines,
+) -> Result<(), Unread>
+    ensures ok { OnOk result (AddsOutline (shows_of P.shown engine.old) group
+        (outlines_in outlines.old) (outlines_in outlines.new)) }
+    ensures err { IfErr result (λ cause. IsUnreadFor cause (shows_of P.shown engine.old)) }
+    ensures stays { StaysButBlock (shows_of P.shown engine.old) (shows_of P.shown engine.new) }
+{
+    let Some(outline) = read_outline(alloc, engine, group)? else {
+        return Ok(());
+    };
+    let Ok(()) = outlines.put(group, outline) else {
+        return Err(Unread::Memory);
+    };
+    Ok(())
+}
+
+/// The outline of a group's voter, if something stands in the group.
+fn read_outline<P: PipeLog>(
+    alloc: Global,
+    engine: &mut LogEngine<P>,
+    group: u64,
+) -> Result<Option<Outline>, Unread>
+    ensures ok { IfOk result (TellsOutline (shows_of P.shown engine.old) group) }
+    ensures err { IfErr result (λ cause. IsUnreadFor cause (shows_of P.shown engine.old)) }
+    ensures stays { StaysButBlock (shows_of P.shown engine.old) (shows_of P.shown engine.new) }
+{
+    let Some(head) = read_head(engine, group)? else {
+        return Ok(None);
+    };
+    let outline = read_terms(alloc, engine, group, &head)?;
+    Ok(Some(outline))
+}
+
+/// The outline of a group's voter, of which this was read before its entries.
+fn read_terms<P: PipeLog>(
+    alloc: Global,
+    engine: &mut LogEngine<P>,
+    group: u64,
+    head: &Head,
+) -> Result<Outline, Unread>
+    requires { ReadsHead (shows_of P.shown engine.old) group head.now }
+    ensures ok { IfOk result (λ outline. KnowsTerms (shows_of P.shown engine.old) group
+        head.now.state head.now.end outline.voter) }
+    ensures err { IfErr result (λ cause. IsUnreadFor cause (shows_of P.shown engine.old)) }
+    ensures stays { StaysButBlock (shows_of P.shown engine.old) (shows_of P.shown engine.new) }
+{
+    let mut outline = Outline::at_base(alloc, &head.state);
+    let mut next = head.state.base_index + 1;
+    while next < head.end {
+        let entries = read_piece(alloc, engine, group, next, head.end)?;
+        let Ok(()) = push_terms(&mut outline, entries.as_slice()) else {
+            return Err(Unread::Memory);
+        };
+        next += entries.len() as u64;
+    }
+    Ok(outline)
+}
+
+/// More entries of a voter's log, right behind the last one: of each the outline keeps its term.
+fn push_terms(outline: &mut Outline, entries: &[Entry]) -> Result<(), Memory>
+    requires { last_index outline.old.voter + length entries.now < 2 ^ 63 }
+    ensures { OnOk result (outline.new.voter
+        ≡ record outline.old.voter { log = outline.old.voter.log ++ terms_of entries.now }) }
+{
+    for entry in entries {
+        let Ok(()) = outline.push(entry.term) else {
+            return Err(Memory);
+        };
+    }
+    Ok(())
+}

@@ -1,0 +1,53 @@
+-- A store is opened over its log, or isn't.
+use Rattle.std.specs.Prelude.{◌≡◌, ℕ, false, List, None}
+use Rattle.raft_log_disk.specs.Disk.{Disk}
+use Rattle.raft_log_record_base.specs.declared.errors.Error.{Error}
+use Rattle.raft_log_engine.specs.raft_log_file_settings.specs.declared.config.Config.{Config}
+use Rattle.raft_log_engine.specs.raft_log_table_all.specs.declared.mem_tables.MemTables.{MemTables}
+use Rattle.raft_log_engine.specs.raft_log_file_blocks.specs.declared.block_cache.BlockCache.{BlockCache}
+use Rattle.raft_log_engine.specs.raft_log_file_pair.specs.ClosingCalls.{ClosesLog}
+use Rattle.raft_log_engine.specs.raft_log_file_pair.specs.Pipes.{LogPipes}
+use Rattle.raft_log_engine.specs.raft_log_open_directory.specs.Opening.{FailsToOpenDirectory, OpensDirectory}
+use Rattle.raft_log_engine.specs.raft_log_engine_laws.specs.Fetching.{StaysButBlock}
+use Rattle.raft_log_engine.specs.raft_log_engine_laws.specs.Shows.{Shows, has_failed, shows}
+use Rattle.raft_voter_outline.specs.State.{State}
+use Rattle.raft_voter_reading.specs.Reading.{IsUnreadFor, ReadsVoters}
+use Rattle.raft_voter_reading.specs.declared.unread.Unread.{Unread}
+use Rattle.raft_voter_reading.specs.declared.unread.Unread.TheVariants as causes
+
+-- the log of these settings was opened as an engine that shows this, and keeps no block
+pub record OpensEngine {F : Type 0} (disk : F → Disk) (tells : F → List ℕ → ℕ → Type 0) (config : Config)
+    (old : F) (s : Shows) : Type 0 where
+  pub pipes : LogPipes
+  pub tables : MemTables
+  pub cache : BlockCache
+  pub opens : OpensDirectory disk tells config old pipes tables
+  pub none : cache.place ≡ None
+  pub is : s ≡ shows pipes tables cache
+
+-- Its voters were read of it, and these are their outlines: so it is a store.
+pub record OpensVoters {F : Type 0} (disk : F → Disk) (tells : F → List ℕ → ℕ → Type 0) (config : Config)
+    (old : F) (t : Shows) (os : ℕ → State) : Type 0 where
+  pub engine : Shows
+  pub opens : OpensEngine disk tells config old engine
+  pub reads : ReadsVoters engine os
+  pub stays : StaysButBlock engine t
+
+-- Its voters weren't read of it, for this cause, and it was closed again.
+pub record ClosesUnread {F : Type 0} (disk : F → Disk) (tells : F → List ℕ → ℕ → Type 0) (config : Config)
+    (cause : Unread) (old back : F) : Type 0 where
+  pub engine : Shows
+  pub opens : OpensEngine disk tells config old engine
+  pub unread : IsUnreadFor cause engine
+  pub after : Shows
+  pub stays : StaysButBlock engine after
+  pub closes : has_failed after ≡ false → ClosesLog after.pipes (disk back)
+
+-- A store isn't opened: its log isn't, for this error; or its voters aren't read of it.
+pub data FailsToOpenVoters {F : Type 0} (disk : F → Disk) (tells : F → List ℕ → ℕ → Type 0) (config : Config)
+    (cause : Unread) (old back : F) : Type 0 where
+  unopened : (error : Error) → cause ≡ causes.Engine error
+      → FailsToOpenDirectory disk tells config error old back
+      → FailsToOpenVoters disk tells config cause old back
+  unread : ClosesUnread disk tells config cause old back
+      → FailsToOpenVoters disk tells config cause old back

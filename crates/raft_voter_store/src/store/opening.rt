@@ -1,0 +1,81 @@
+//! A store is opened over its log, and lists its voters.
+ghost use Rattle.std.specs.Prelude.{◌≡◌, IfErr, IfOk};
+ghost use Rattle.raft_log_engine_core.specs.Reads.{shows_of};
+ghost use Rattle.raft_log_engine.specs.raft_log_engine_laws.specs.Fetching.{StaysButBlock};
+ghost use Rattle.raft_voter_outlines.specs.Kept.{outlines_in};
+ghost use Rattle.raft_voter_reading.specs.Reading.{IsUnreadFor, ListsVoters};
+ghost use Rattle.raft_voter_store.specs.Opening.{FailsToOpenVoters, OpensVoters};
+
+use super::VoterStore;
+use log::Log;
+use raft_log_engine::{Config, EnginePipes, EventListener, FileSystem, LogEngine, PipeLog};
+use raft_voter::Voter;
+use raft_voter_reading::{Unread, read_outlines, read_voters};
+use std::alloc::Global;
+use std::thread::Threads;
+
+/// A store that wasn't opened.
+#[derive(Drop)]
+pub struct StoreRefused<F> {
+    /// Why: the engine's error, a group that holds what is no voter's, or want of memory.
+    pub cause: Unread,
+    /// The file system, which is handed back.
+    pub file_system: F,
+}
+
+impl<F: FileSystem + Sync, E: EventListener> VoterStore<EnginePipes<F, E>> {
+    /// Opens the store whose log these settings name, over a file system, which is the store's from then on: each
+    /// group's voter is the one that the log tells. The log is opened as an engine opens it, with the listener told
+    /// of its files; then the outlines of its voters are read of it, a group at a time, so that of each entry no
+    /// more is kept than its term.
+    ///
+    /// Refused, the file system is handed back, and the store may be opened again: `Engine` as an engine's open is
+    /// refused, or where an entry isn't read; `Foreign` with a group that holds what is no voter's; `Memory`.
+    pub fn open<R: Threads + Log + Sync>(
+        rt: &R,
+        alloc: Global,
+        config: Config,
+        file_system: F,
+        listener: E,
+    ) -> Result<Self, StoreRefused<F>>
+        ensures ok { IfOk result (λ store. OpensVoters F.disk F.tells_space config file_system
+            (shows_of ⟦<EnginePipes<F, E> as PipeLog>⟧.shown store.engine) (outlines_in store.outlines)) }
+        ensures err { IfErr result (λ refused. FailsToOpenVoters F.disk F.tells_space config refused.cause
+            file_system refused.file_system) }
+    {
+        let mut engine = match LogEngine::open_with(rt, alloc, config, file_system, listener) {
+            Ok(engine) => engine,
+            Err(refused) => {
+                return Err(StoreRefused {
+                    cause: Unread::Engine(refused.error),
+                    file_system: refused.file_system,
+                });
+            }
+        };
+        match read_outlines(alloc, &mut engine) {
+            Ok(outlines) => Ok(VoterStore {
+                alloc,
+                engine,
+                outlines,
+            }),
+            Err(cause) => {
+                let file_system = engine.close(rt);
+                Err(StoreRefused { cause, file_system })
+            }
+        }
+    }
+}
+
+impl<P: PipeLog> VoterStore<P> {
+    /// The voters that are stored, each with its group, sorted by group. Their entries are read of the log. It is
+    /// refused as an open is behind the engine's; nothing changes but the block that the engine keeps.
+    pub fn voters(&mut self) -> Result<Vec<(u64, Voter)>, Unread>
+        ensures ok { IfOk result (λ voters. ListsVoters (shows_of P.shown self.old.engine) voters.items) }
+        ensures err { IfErr result (λ cause. IsUnreadFor cause (shows_of P.shown self.old.engine)) }
+        ensures stays { StaysButBlock
+            (shows_of P.shown self.old.engine) (shows_of P.shown self.new.engine) }
+        ensures outlines { self.new.outlines ≡ self.old.outlines }
+    {
+        read_voters(self.alloc, &mut self.engine)
+    }
+}

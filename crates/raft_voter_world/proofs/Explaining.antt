@@ -1,17 +1,16 @@
 -- Where nothing was lost, voters that never fail explain the rounds.
-use Rattle.std.proofs.Common.{◌≡◌, ℕ, ◌+◌, ◌<◌, ◌≤◌, nat_lt, Bool, true, false, not, ◌⊎◌, inl, inr, IsTrue, List, [], ◌∷◌, length, Option, Some, None, ap, refl, sym, subst, ◌∙◌, arith}
+use Rattle.std.proofs.Common.{◌≡◌, ℕ, ◌≤◌, Bool, true, false, not, IsTrue, List, [], ◌∷◌, length, Some, None, ap, refl, sym, subst, ◌∙◌, arith}
 use Rattle.std.proofs.lemmas.Bool.{false≢true}
-use Rattle.raft_voter_messages.specs.declared.reply.Reply.{Reply}
 use Rattle.raft_voter_messages.specs.declared.round.Round.{Round}
 use Rattle.raft_voter_outline.specs.State.{State}
 use Rattle.raft_voter.specs.Rounds.{World, Leads, are_rising, after, taken_below, taken_from}
-use Rattle.raft_voter.specs.Service.{Answers, CutRound, IsOpenAt, Service, refused_from, uncut}
+use Rattle.raft_voter.specs.Service.{CutRound, IsOpenAt, Service, uncut}
 use Rattle.raft_voter.specs.declared.service.Cause.{Cause}
 use Rattle.raft_voter.specs.declared.service.Cause.TheVariants.{FileSystem, Memory, Failed, TooLong}
 use Rattle.raft_voter_world.specs.declared.storage.Storage.{Storage}
 use Rattle.raft_voter_world.specs.declared.storage.Storage.TheVariants.{Closed, Open}
 use Rattle.raft_voter_world.specs.Cuts.{AreLeast, NoneLost, ServeSome, cut_after, cut_by, cuts_in, next_place}
-use Rattle.raft_voter_world.specs.History.{Change, Happen, Happens, IsAnswered, IsCutOff, Keeps, Moment, behind, rounds_in}
+use Rattle.raft_voter_world.specs.History.{Change, Happen, IsAnswered, IsCutOff, Keeps, Moment, rounds_in}
 use Rattle.raft_voter_world.specs.History.Change.{closes, purges, arms, copies}
 use Rattle.raft_voter_world.specs.History.Moment.{opened, unread, fell, unopened, crashed, kept, answered, cut_off, idle}
 use Rattle.raft_voter_world.specs.Places.{IsLeastPlace, world_at}

@@ -1,24 +1,22 @@
 -- What is known to be left goes on being so, moment by moment.
-use Rattle.std.proofs.Common.{◌≡◌, ℕ, ◌+◌, ◌<◌, ◌≤◌, Bool, true, false, not, IsTrue, List, [], ◌∷◌, length, Option, Some, None, ap, refl, sym, subst, ◌∙◌, arith}
-use Rattle.std.proofs.lemmas.Bool.{false≢true}
+use Rattle.std.proofs.Common.{◌≡◌, ℕ, false, List, [], ◌∷◌, length, Some, None, ap, refl, sym, subst, ◌∙◌, arith}
 use Rattle.raft_voter_messages.specs.declared.round.Round.{Round}
-use Rattle.raft_voter_outline.specs.State.{State}
-use Rattle.raft_voter.specs.Rounds.{World, Leads, TakesFirst, after, taken_below, taken_from}
+use Rattle.raft_voter.specs.Rounds.{World, after, taken_below}
 use Rattle.raft_voter.specs.Service.{CutRound, IsOpenAt, MayFollow, Service, uncut}
 use Rattle.raft_voter.specs.declared.service.Cause.{Cause}
 use Rattle.raft_voter.specs.declared.service.Cause.TheVariants.{FileSystem, Memory, Failed, TooLong}
 use Rattle.raft_voter.proofs.Places.{taken_none}
 use Rattle.raft_voter_world.specs.declared.storage.Storage.{Storage}
 use Rattle.raft_voter_world.specs.declared.storage.Storage.TheVariants.{Closed, Open}
-use Rattle.raft_voter_world.specs.Cuts.{AreLeast, cut_after, cut_by, cuts_in, next_place}
-use Rattle.raft_voter_world.specs.History.{Change, Happen, Happens, IsCutOff, Keeps, Moment, rounds_in}
+use Rattle.raft_voter_world.specs.Cuts.{AreLeast, cut_after, cut_by, cuts_in}
+use Rattle.raft_voter_world.specs.History.{Change, Happen, IsCutOff, Keeps, Moment, rounds_in}
 use Rattle.raft_voter_world.specs.History.Change.{closes, purges, arms, copies}
 use Rattle.raft_voter_world.specs.History.Moment.{opened, unread, fell, unopened, crashed, kept, answered, cut_off, idle}
-use Rattle.raft_voter_world.specs.Places.{IsPlaceFound, world_at}
+use Rattle.raft_voter_world.specs.Places.{world_at}
 use Rattle.raft_voter_world.specs.Run.{Goes, Knows}
 use Rattle.raft_voter_world.specs.Stores.{Disk, Upkeep, world_in}
 use Rattle.raft_voter_world.proofs.Leading.{LeadsFrom, Serving, idle_leads}
-use Rattle.raft_voter_world.proofs.Explaining.{answered_on, cut_on, cut_serves, kept_dead, kept_serves, opened_leads, opened_serves, passes}
+use Rattle.raft_voter_world.proofs.Explaining.{answered_on, cut_on, cut_serves, kept_dead, kept_serves, opened_leads, passes}
 
 -- whatever may stand behind the one may stand behind the other
 abbrev pub Within : CutRound → CutRound → Type 0

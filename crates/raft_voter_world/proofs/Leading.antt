@@ -1,17 +1,16 @@
 -- Rounds that lead from voters to voters, moment by moment.
-use Rattle.std.proofs.Common.{◌≡◌, ℕ, ◌+◌, ◌<◌, ◌≤◌, nat_lt, Bool, true, false, not, IsTrue, List, [], ◌∷◌, length, Option, Some, None, ap, refl, sym, subst, ◌∙◌, arith}
+use Rattle.std.proofs.Common.{◌≡◌, ℕ, ◌≤◌, Bool, false, not, IsTrue, List, [], ◌∷◌, length, ap, sym, subst, arith}
 use Rattle.raft_voter_messages.specs.declared.reply.Reply.{Reply}
-use Rattle.raft_voter_messages.specs.declared.request.Request.{Request}
 use Rattle.raft_voter_messages.specs.declared.round.Outcome.{Outcome}
 use Rattle.raft_voter_messages.specs.declared.round.Outcome.TheVariants.{Answered, Cut}
 use Rattle.raft_voter_messages.specs.declared.round.Round.{Round}
-use Rattle.raft_voter.specs.Rounds.{World, ExplainsFrom, Leads, OutcomeHolds, TakesFirst, after, after_rounds, are_rising, cuts_after, place_reached, replies_of, taken_below, taken_from}
-use Rattle.raft_voter.specs.Service.{CutRound, IsOpenAt, MayFollow, Service, uncut}
+use Rattle.raft_voter.specs.Rounds.{World, ExplainsFrom, Leads, OutcomeHolds, after, after_rounds, are_rising, cuts_after, place_reached, replies_of, taken_below}
+use Rattle.raft_voter.specs.Service.{CutRound, IsOpenAt, Service, uncut}
 use Rattle.raft_voter.proofs.Places.{taken_none}
 use Rattle.raft_voter_world.specs.declared.storage.Storage.{Storage}
 use Rattle.raft_voter_world.specs.declared.storage.Storage.TheVariants.{Closed, Open}
 use Rattle.raft_voter_world.specs.Cuts.{cuts_in, next_place}
-use Rattle.raft_voter_world.specs.History.{IsIdle, Moment, rounds_in}
+use Rattle.raft_voter_world.specs.History.{Moment, rounds_in}
 use Rattle.raft_voter_world.specs.Places.{world_at}
 
 -- One round.

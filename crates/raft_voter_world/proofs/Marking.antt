@@ -1,5 +1,5 @@
 -- Groups whose voters differ are marked, and a round is taken until none do.
-use Rattle.std.proofs.Common.{◌≡◌, ◌≢◌, ℕ, ◌+◌, ◌<◌, ◌≤◌, ◌==◌, ◌||◌, Bool, true, false, ◌⊎◌, inl, inr, List, [], ◌∷◌, length, drop, slice_index_or, ap, refl, sym, subst, ◌∙◌, arith}
+use Rattle.std.proofs.Common.{◌≡◌, ◌≢◌, ℕ, ◌+◌, ◌<◌, ◌≤◌, ◌==◌, ◌||◌, Bool, true, false, inl, inr, List, [], ◌∷◌, length, drop, slice_index_or, ap, refl, sym, subst, ◌∙◌, arith}
 use Rattle.std.proofs.Math.Path.{fun_ext}
 use Rattle.std.proofs.lemmas.Bool.Decides.{nat_tests}
 use Rattle.std.proofs.lemmas.Bool.{eqb-true, eq-eqb, false≢true, cases_lt}
@@ -14,7 +14,7 @@ use Rattle.raft_voter.specs.Service.{CutRound}
 use Rattle.raft_voter.specs.Voters.{is_listed}
 use Rattle.raft_voter.proofs.Places.{taken_none, taken_past}
 use Rattle.raft_voter_world.specs.Differing.{Leave, Marks}
-use Rattle.raft_voter_world.specs.Places.{FitsNowhere, IsLeastPlace, world_at}
+use Rattle.raft_voter_world.specs.Places.{IsLeastPlace, world_at}
 
 -- Marks.
 

@@ -1,5 +1,5 @@
 -- Steps of a world.
-use Rattle.std.proofs.Common.{◌≡◌, ◌==◌, ℕ, Bool, true, false, List, [], ◌∷◌, ◌++◌, None, Result, Ok, Err, IfOk, Global, if◌then◌else◌, ap, refl, sym, subst, ◌∙◌, append-nil}
+use Rattle.std.proofs.Common.{◌≡◌, ◌==◌, ℕ, Bool, true, false, List, [], ◌∷◌, None, Result, Ok, Err, IfOk, Global, if◌then◌else◌, ap, refl, sym, subst, ◌∙◌, append-nil}
 use Rattle.std.proofs.lemmas.Bool.{false≢true}
 use Rattle.std.specs.String.{string_bytes}
 use Rattle.std.specs.declared.string.String.{String}
@@ -12,10 +12,10 @@ use Rattle.raft_voter_world.specs.declared.notes.Notes.{Notes}
 use Rattle.raft_voter_world.specs.declared.storage.Storage.{Storage}
 use Rattle.raft_voter_world.specs.declared.storage.Storage.TheVariants.{Closed, Open}
 use Rattle.raft_voter_world.specs.declared.world.World.{World}
-use Rattle.raft_voter_world.specs.History.{Change, Crashes, Either, Falls, IsChange, IsClosedAs, One, Happen, Happens, Keeps, Moment, Turns, behind_all, has_stopped, left_from, rounds_in}
+use Rattle.raft_voter_world.specs.History.{Change, Crashes, Either, Falls, IsChange, IsClosedAs, One, Happen, Happens, Keeps, Moment, Turns, behind_all, has_stopped, left_from}
 use Rattle.raft_voter_world.specs.History.Change.{closes, purges, arms, copies}
 use Rattle.raft_voter_world.specs.History.Moment.{crashed, kept}
-use Rattle.raft_voter_world.specs.Steps.{Falling, Grows, IsReady, IsStep, Moves, WhereAlive, event_of}
+use Rattle.raft_voter_world.specs.Steps.{Falling, Grows, IsStep, Moves, WhereAlive, event_of}
 use Rattle.raft_voter_world.specs.Storages.{KeepsIfClosed, KeepsIfOpen}
 use Rattle.raft_voter_world.specs.declared.faults.Purge.{Purge}
 use Rattle.raft_voter_world.specs.declared.faults.Purge.TheVariants.{Expired, RewriteAppend as Append, RewriteRewrite as Rewrite}

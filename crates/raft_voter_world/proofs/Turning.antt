@@ -14,7 +14,7 @@ use Rattle.raft_voter_world.specs.declared.storage.Storage.{Storage}
 use Rattle.raft_voter_world.specs.declared.storage.Storage.TheVariants.{Closed, Open}
 use Rattle.raft_voter_world.specs.declared.world.World.{World}
 use Rattle.raft_voter_world.specs.Cuts.{AreLeast, NoneLost, ServeSome, cuts_in, lost_at, lost_from, next_place}
-use Rattle.raft_voter_world.specs.History.{Crashes, Ends, Happen, IsClosedAs, Moment, Plays, Turns, behind, behind_all, left_from, rounds_in, rounds_of}
+use Rattle.raft_voter_world.specs.History.{Crashes, Ends, Happen, IsClosedAs, Moment, Plays, Turns, behind_all, left_from, rounds_in, rounds_of}
 use Rattle.raft_voter_world.specs.History.Change.{closes}
 use Rattle.raft_voter_world.specs.History.Moment.{opened, unread, fell, unopened, crashed, kept, answered, cut_off, idle}
 use Rattle.raft_voter_world.specs.Notes.{Settles, all_cuts, all_rounds, cut_of}

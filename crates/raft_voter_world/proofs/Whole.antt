@@ -1,5 +1,4 @@
 -- The two halves of the headline.
-use Rattle.std.proofs.Common.{◌≡◌, ℕ, List}
 use Rattle.raft_voter.specs.Rounds.{Leads, fresh_world}
 use Rattle.raft_voter.specs.Service.{Service, uncut}
 use Rattle.raft_voter_world.specs.declared.storage.Storage.TheVariants.{Closed}

@@ -1,5 +1,5 @@
 -- How far the rounds of a history that were cut off were taken.
-use Rattle.std.specs.Prelude.{◌≡◌, ℕ, ◌+◌, List, [], ◌∷◌, ◌++◌, length, Option, Some, None, unwrap_or}
+use Rattle.std.specs.Prelude.{ℕ, ◌+◌, List, [], ◌∷◌, ◌++◌, length, None, unwrap_or}
 use Rattle.raft_voter_messages.specs.declared.round.Round.{Round}
 use Rattle.raft_voter.specs.Rounds.{World, after, taken_below}
 use Rattle.raft_voter.specs.Service.{CutRound, IsOpenAt, Service, uncut}
@@ -8,7 +8,7 @@ use Rattle.raft_voter.specs.declared.service.Cause.TheVariants.{FileSystem}
 use Rattle.raft_voter_world.specs.declared.notes.Lost.{Lost}
 use Rattle.raft_voter_world.specs.declared.notes.Loss.TheVariants.{NoPlace, Unread}
 use Rattle.raft_voter_world.specs.History.{Moment}
-use Rattle.raft_voter_world.specs.History.Moment.{opened, unread, fell, unopened, crashed, kept, answered, cut_off, idle}
+use Rattle.raft_voter_world.specs.History.Moment.{opened, unread, answered, cut_off, idle}
 use Rattle.raft_voter_world.specs.Places.{IsPlaceFound}
 use Rattle.raft_voter_world.specs.Stores.{world_in}
 

@@ -1,7 +1,6 @@
 -- What happened to a store of voters and its disk.
-use Rattle.std.specs.Prelude.{◌≡◌, ℕ, ◌+◌, ◌<◌, ◌≤◌, ◌==◌, Bool, true, false, if◌then◌else◌, List, [], ◌∷◌, ◌++◌, length, Option, Some, None, Result, Ok, Err, map}
+use Rattle.std.specs.Prelude.{◌≡◌, ℕ, ◌≤◌, ◌==◌, Bool, true, false, if◌then◌else◌, List, [], ◌∷◌, length, Option, map}
 use Rattle.std.specs.List.{flat_map}
-use Rattle.std.specs.Option.{option_to_list}
 use Rattle.std.specs.String.{string_bytes}
 use Rattle.raft_voter_messages.specs.declared.reply.Reply.{Reply}
 use Rattle.raft_voter_messages.specs.declared.request.Request.{Request}
@@ -10,7 +9,6 @@ use Rattle.raft_voter_messages.specs.declared.round.Round.{Round}
 use Rattle.raft_voter_outline.specs.State.{State}
 use Rattle.raft_voter.specs.Service.{AnswersRound, CutsOff, FailsAs, IsAlive, IsFromOutside, Service, refused_from}
 use Rattle.raft_voter.specs.declared.service.Cause.{Cause}
-use Rattle.raft_voter.specs.declared.service.Cause.TheVariants.{FileSystem}
 use Rattle.raft_voter_world.specs.declared.event.Event.{Event}
 use Rattle.raft_voter_world.specs.declared.event.Event.TheVariants.{Round as RoundEvent, Maintain, RewriteAppend, RewriteRewrite, Open as OpenEvent, Close, Crash, CrashAt, Refuse, Fork}
 use Rattle.raft_voter_world.specs.declared.event.Left.{Left}

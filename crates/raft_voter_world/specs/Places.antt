@@ -1,6 +1,5 @@
 -- How far a round that was cut off was taken.
-use Rattle.std.specs.Prelude.{◌≡◌, ◌≢◌, ℕ, ◌≤◌, ◌<◌, List, Option, Some, None, length}
-use Rattle.raft_voter_messages.specs.declared.request.Request.{Request}
+use Rattle.std.specs.Prelude.{◌≡◌, ◌≢◌, ℕ, ◌≤◌, ◌<◌, Option, Some, None, length}
 use Rattle.raft_voter.specs.Rounds.{World, after, taken_from}
 use Rattle.raft_voter.specs.Service.{CutRound}
 

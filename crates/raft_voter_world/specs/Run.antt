@@ -1,6 +1,5 @@
 -- A run, and what holds of it.
-use Rattle.std.specs.Prelude.{◌≡◌, ℕ, List, [], ◌∷◌, ◌++◌, Option, Some, None, IsSome}
-use Rattle.raft_voter_messages.specs.declared.round.Round.{Round}
+use Rattle.std.specs.Prelude.{◌≡◌, ℕ, List, [], ◌∷◌, ◌++◌, IsSome}
 use Rattle.raft_voter.specs.Rounds.{World, Explains, Leads, fresh_world}
 use Rattle.raft_voter.specs.Service.{CutRound, IsOpenAt, MayFollow, Service, uncut}
 use Rattle.raft_voter_world.specs.declared.event.Event.{Event}

@@ -1,6 +1,5 @@
 -- One event of a run.
-use Rattle.std.specs.Prelude.{◌≡◌, ℕ, Bool, false, List, [], ◌∷◌, ◌++◌, Option, None}
-use Rattle.raft_voter_messages.specs.declared.round.Round.{Round}
+use Rattle.std.specs.Prelude.{◌≡◌, ℕ, false, List, ◌++◌, None}
 use Rattle.raft_voter.specs.Service.{Service}
 use Rattle.raft_voter_world.specs.declared.event.Event.{Event}
 use Rattle.raft_voter_world.specs.declared.event.Event.TheVariants.{Maintain, RewriteAppend, RewriteRewrite}

@@ -1,5 +1,6 @@
 //! The disk of a store of voters, while no store is open on it.
 ghost use Rattle.std.specs.Prelude.{◌≡◌, false, IfErr, IfOk, OnOk};
+ghost use Rattle.std.specs.Thread.{IsSync};
 ghost use Rattle.raft_voter.specs.Service.{IsFromOutside};
 ghost use Rattle.raft_voter_world.specs.Stores.{FindsVoters, LeavesInFiles, LeavesStanding, LeavesUnder, StaysInFiles};
 
@@ -17,10 +18,11 @@ pub trait VoterDisk<R, S: VoterStorage<R>>: Sized {
     /// Which voters the next open finds, when that is sure, and what calls and crashes make of the files.
     ghost disk: { Disk S Self };
 
-    /// Opens the store, by at least one worker; it hasn't failed then. It is refused for want of memory, or
-    /// because the file system failed or the files can't be read; the files are handed back, and may be opened
-    /// again.
+    /// Opens the store, by at least one worker, which may be threads of their own; it hasn't failed then. It is
+    /// refused for want of memory, or because the file system failed or the files can't be read; the files are
+    /// handed back, and may be opened again.
     fn open(self, rt: &R, alloc: Global, workers: u64) -> Result<S, FilesRefused<Self>>
+        requires { IsSync R.row }
         ensures opens { IfOk result (disk.opens self workers) }
         ensures finds { IfOk result (FindsVoters S.service disk self) }
         ensures alive { IfOk result (λ store. S.service.is_failed store ≡ false) }

@@ -23,7 +23,7 @@ pub enum Opened<S, F> {
 
 /// Opens a store over its files by so many workers, unless the disk has stopped. Where it stops in the open, this
 /// is left of it.
-pub fn open_files<R, S: VoterStorage<R> + Drop, F: VoterDisk<R, S> + Drop>(
+pub fn open_files<R: Sync, S: VoterStorage<R> + Drop, F: VoterDisk<R, S> + Drop>(
     rt: &R,
     alloc: Global,
     files: F,

@@ -165,7 +165,7 @@ impl<S: Drop, F: Drop> World<S, F> {
     }
 
     /// Opens the store by so many workers; one that is open is closed first. What it shows is noted.
-    pub fn open<R>(self, rt: &R, place: usize, workers: u64) -> Result<World<S, F>, Memory>
+    pub fn open<R: Sync>(self, rt: &R, place: usize, workers: u64) -> Result<World<S, F>, Memory>
     where
         S: VoterStorage<R>,
         F: VoterDisk<R, S>,

@@ -1,4 +1,4 @@
-use Rattle.std.proofs.Common.{◌≡◌, ℕ, false, ap, rules}
+use Rattle.std.proofs.Common.{◌≡◌, ℕ, false, ap}
 use Rattle.std.specs.BTreeSet.{contains}
 use Rattle.std.specs.Ordering.{nat_cmp}
 use Rattle.raft_voter.specs.Voters.{is_listed, world_of}

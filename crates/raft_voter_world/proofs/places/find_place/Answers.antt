@@ -1,5 +1,4 @@
 use Rattle.std.proofs.Common.{◌≡◌, ◌+◌, ◌∷◌, true, false, drop, length, arith, rules, refl}
-use Rattle.std.proofs.lemmas.Grind.{common_steps}
 use Rattle.std.proofs.lemmas.List.{drop_more}
 use Rattle.raft_voter.specs.Rounds.{is_among}
 use Rattle.raft_voter_world.proofs.Marking.{begins, found_here, found_last, not_here, skipped, taken_one}

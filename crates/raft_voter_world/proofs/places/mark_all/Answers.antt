@@ -1,4 +1,4 @@
-use Rattle.std.proofs.Common.{◌≡◌, ℕ, ◌<◌, inl, inr, refl, slice_index_or, subst, sym, arith}
+use Rattle.std.proofs.Common.{◌≡◌, ℕ, inl, inr, refl, slice_index_or, subst, sym, arith}
 use Rattle.std.proofs.lemmas.Bool.{cases_lt}
 use Rattle.raft_voter.specs.Voters.{world_of}
 use Rattle.raft_voter_world.specs.Differing.{Marks}

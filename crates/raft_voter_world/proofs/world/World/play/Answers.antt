@@ -6,7 +6,7 @@ pub loop-event-init : goal.loop-event-init
 loop-event-init g c = begins _ _ _ c.args.events.items c.args.self
 
 pub step-requires : goal.step-requires
-step-requires g c = ready_on _ _ _ _ _ _ _ _ c.requires c.loop-event.invariant
+step-requires g c = (search rules, ready_on _ _ _ _ _ _ _ _ c.requires c.loop-event.invariant)
 
 pub loop-event-preserved : goal.loop-event-preserved
 loop-event-preserved g c =

@@ -1,9 +1,10 @@
+use Rattle.std.proofs.Common.{rules}
 use Rattle.raft_voter_world.proofs.Moving.{ok_weaker}
 use Rattle.raft_voter_world.proofs.Turning.{new_ready, runs}
 use Rattle.raft_voter_world.proofs.world.running.run_world.Goals as goal
 
 pub play-requires : goal.play-requires
-play-requires g c = new_ready g.S.RoundService.service c.args.files c.new-world.result c.new-world.ensures.storage
+play-requires g c = (search rules, new_ready g.S.RoundService.service c.args.files c.new-world.result c.new-world.ensures.storage)
 
 pub returns : goal.returns
 returns g c =

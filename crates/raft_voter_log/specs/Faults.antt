@@ -1,0 +1,18 @@
+-- Faults and crashes of a world, as the file system has them.
+use Rattle.raft_log_disk.specs.declared.handle.Fault.{Fault as DiskFault}
+use Rattle.raft_log_disk.specs.declared.handle.Fault.TheVariants as faults
+use Rattle.raft_log_disk_memory.specs.raft_log_disk_storage.specs.declared.remainder.Remainder.{Remainder}
+use Rattle.raft_log_disk_memory.specs.raft_log_disk_storage.specs.declared.remainder.Remainder.TheVariants as remainders
+use Rattle.raft_voter_world.specs.declared.event.Left.{Left}
+use Rattle.raft_voter_world.specs.declared.event.Left.TheVariants.{All, First, Last}
+use Rattle.raft_voter_world.specs.declared.faults.Fault.{Fault}
+use Rattle.raft_voter_world.specs.declared.faults.Fault.TheVariants.{Refuse, Stop}
+
+abbrev pub fault_of : Fault → DiskFault
+fault_of (Stop calls) = faults.StopAt calls
+fault_of (Refuse calls) = faults.Refuse calls
+
+abbrev pub remainder_of : Left → Remainder
+remainder_of Last = remainders.LastSync
+remainder_of All = remainders.AllWritten
+remainder_of (First pieces bytes) = remainders.First pieces bytes

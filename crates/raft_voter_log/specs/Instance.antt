@@ -1,0 +1,115 @@
+-- A store of voters on a log, and the log's files, as the store and the disk of a world.
+use Rattle.std.specs.Prelude.{◌≡◌, ◌⊎◌, ℕ, false, true, List, None}
+use Rattle.raft_log_disk.specs.Disk.{Disk as OnDisk}
+use Rattle.raft_log_disk.specs.Exits.{Arms}
+use Rattle.raft_log_disk_memory.specs.Answers.{IsLeftOf}
+use Rattle.raft_log_disk_memory.specs.Memory.{disk_of}
+use Rattle.raft_log_disk_memory.specs.declared.memory.MemoryFileSystem.{MemoryFileSystem}
+use Rattle.raft_log_record_base.specs.declared.errors.Error.{Error}
+use Rattle.raft_log_file_settings.specs.Settings.{settings_of}
+use Rattle.raft_log_file_settings.specs.declared.config.Config.{Config}
+use Rattle.raft_log_engine_laws.specs.raft_log_table_all.specs.declared.mem_tables.MemTables.{MemTables}
+use Rattle.raft_log_engine_laws.specs.raft_log_file_pair.specs.ClosingCalls.{ClosesLog}
+use Rattle.raft_log_engine_laws.specs.Shows.{Shows, has_failed}
+use Rattle.raft_log_purge.specs.Append.{RewritesAppend}
+use Rattle.raft_log_purge.specs.ExpiredFiles.{SyncsAndRewrites}
+use Rattle.raft_log_engine_core.specs.Purging.{StopsPurgingExpired, StopsRewritingAppend}
+use Rattle.raft_log_engine_core.specs.Whole.{ArmsEngine}
+use Rattle.raft_log_closed.specs.Forks.{FailsToFork, Forks}
+use Rattle.raft_log_open_laws.specs.ByCalls.{home_of}
+use Rattle.raft_voter_outline.specs.State.{State}
+use Rattle.raft_voter.specs.declared.service.Cause.{Cause}
+use Rattle.raft_voter.specs.declared.service.Cause.TheVariants.{Memory}
+use Rattle.raft_voter_reading.specs.declared.unread.Unread.{Unread}
+use Rattle.raft_voter_store.specs.Opening.{FailsToOpenVoters, OpensVoters}
+use Rattle.raft_voter_store.specs.Service.{LeavesAt}
+use Rattle.raft_voter_store.specs.Upkeep.{KeepsVoters}
+use Rattle.raft_voter_world.specs.declared.event.Left.{Left}
+use Rattle.raft_voter_world.specs.declared.faults.Fault.{Fault}
+use Rattle.raft_voter_world.specs.declared.faults.Purge.{Purge}
+use Rattle.raft_voter_world.specs.declared.faults.Purge.TheVariants.{Expired, RewriteAppend, RewriteRewrite}
+use Rattle.raft_voter_world.specs.Stores.{Disk, Upkeep}
+use Rattle.raft_voter_log.specs.declared.files.LogFiles.{LogFiles}
+use Rattle.raft_voter_log.specs.Causes.{unread_cause}
+use Rattle.raft_voter_log.specs.Faults.{fault_of, remainder_of}
+use Rattle.raft_voter_log.specs.Leaving.{FilesLeave, SparesFiles, SparesStore}
+
+-- The store.
+
+-- what a purge may make of an engine, answered or refused
+abbrev pub PurgesLog : Purge → Shows → Shows → Type 0
+PurgesLog Expired s t = KeepsVoters s t ⊎ ((error : Error) × StopsPurgingExpired s t error)
+PurgesLog RewriteAppend s t =
+    ((m : MemTables) × RewritesAppend None None m s t) ⊎ ((error : Error) × StopsRewritingAppend s t error)
+PurgesLog RewriteRewrite s t =
+    ((m : MemTables) × SyncsAndRewrites m s t) ⊎ ((error : Error) × StopsPurgingExpired s t error)
+
+-- a fault is armed; or the file system had stopped, and nothing is
+abbrev pub ArmsOrNot : Fault → Shows → Shows → Type 0
+ArmsOrNot fault s t = ArmsEngine (fault_of fault) s t ⊎ (t ≡ s)
+
+abbrev pub log_upkeep : {S : Type 0} → (S → Shows) → Upkeep S
+log_upkeep shows = record {
+  has_stopped = λ store. (shows store).pipes.disk.stopped;
+  purges = λ purge old new. PurgesLog purge (shows old) (shows new);
+  arms = λ fault old new. ArmsOrNot fault (shows old) (shows new);
+}
+
+-- Its files.
+
+-- these settings say the same
+abbrev pub AreSame : Config → Config → Type 0
+AreSame settings others = settings_of settings ≡ settings_of others
+
+-- these settings name the same directories, and so many workers
+abbrev pub HasWorkers : Config → ℕ → Config → Type 0
+HasWorkers config workers settings = (home_of settings ≡ home_of config) × (settings.recovery_threads ≡ workers)
+
+-- an open by so many workers made a store of these files that shows this
+abbrev pub OpensFiles : (MemoryFileSystem → List ℕ → ℕ → Type 0) → LogFiles → ℕ → Shows → (ℕ → State) → Type 0
+OpensFiles tells files workers s os =
+    (settings : Config) × HasWorkers files.config workers settings
+    × OpensVoters disk_of tells settings files.files s os
+
+-- it was refused, for this cause, and leaves these; for want of memory it may not have begun
+abbrev pub RefusesFiles : (MemoryFileSystem → List ℕ → ℕ → Type 0) → LogFiles → ℕ → Cause → MemoryFileSystem → Type 0
+RefusesFiles tells files workers cause back = ((cause ≡ Memory) × (back ≡ files.files))
+    ⊎ ((settings : Config) × HasWorkers files.config workers settings
+    × ((why : Unread) × (cause ≡ unread_cause why)
+    × FailsToOpenVoters disk_of tells settings why files.files back))
+
+-- a copy into a directory ended, with an answer or without; for want of memory it may not have begun
+abbrev pub EndsCopy : Config → List ℕ → OnDisk → OnDisk → Type 0
+EndsCopy config target old new =
+    ((copied : List (List ℕ)) × Forks (settings_of config) target copied old new)
+    ⊎ ((error : Error) × FailsToFork (settings_of config) target error old new)
+
+-- a fault is armed; or the file system had stopped, and nothing is
+abbrev pub ArmsFiles : Fault → OnDisk → OnDisk → Type 0
+ArmsFiles fault old new = Arms (fault_of fault) old new ⊎ (new ≡ old)
+
+-- what a close leaves of a log: of one whose engine ran it is closed, of one that failed nothing is touched
+pub record ClosesStore (s : Shows) (d : OnDisk) : Type 0 where
+  pub held : has_failed s ≡ false → ClosesLog s.pipes d
+  pub failed : has_failed s ≡ true → d ≡ s.pipes.disk
+
+-- a crash under a store left this
+abbrev pub CrashesUnder : OnDisk → Left → OnDisk → Type 0
+CrashesUnder d gone left = (system : MemoryFileSystem) × (after : MemoryFileSystem) × (disk_of system ≡ d)
+    × IsLeftOf (remainder_of gone) system after × (disk_of after ≡ left)
+
+abbrev pub log_disk : {S : Type 0} → (MemoryFileSystem → List ℕ → ℕ → Type 0) → (S → Config) → (S → Shows) → (S → ℕ → State) → Disk S LogFiles
+log_disk tells config shows outlines = record {
+  leaves = λ files cut. FilesLeave files.config (disk_of files.files) cut;
+  without_chance = λ files cut known read. SparesFiles files.config (disk_of files.files) cut known (disk_of read.files);
+  leaves_under = λ store cut. LeavesAt (home_of (config store)) (shows store) cut;
+  spares = λ store cut known left. SparesStore (home_of (config store)) (shows store) cut known (disk_of left.files);
+  opens = λ files workers store. OpensFiles tells files workers (shows store) (outlines store) × AreSame (config store) files.config;
+  refuses = λ files workers cause back. RefusesFiles tells files workers cause back.files × AreSame back.config files.config;
+  closes = λ store files. ClosesStore (shows store) (disk_of files.files) × AreSame files.config (config store);
+  crashes = λ files gone left. IsLeftOf (remainder_of gone) files.files left.files × AreSame left.config files.config;
+  crashes_under = λ store gone left. CrashesUnder (shows store).pipes.disk gone (disk_of left.files) × AreSame left.config (config store);
+  forks = λ target old new. EndsCopy old.config target (disk_of old.files) (disk_of new.files) × AreSame new.config old.config;
+  arms = λ fault old new. ArmsFiles fault (disk_of old.files) (disk_of new.files) × AreSame new.config old.config;
+  has_stopped = λ files. (disk_of files.files).stopped;
+}

@@ -1,0 +1,48 @@
+-- Which voters stand in a log's files while no store is open on them, and what may pass there by chance.
+use Rattle.std.specs.Prelude.{◌≡◌}
+use Rattle.raft_log_disk.specs.Disk.{Disk}
+use Rattle.raft_log_disk.specs.Image.{IsImage}
+use Rattle.raft_log_file_settings.specs.declared.config.Config.{Config}
+use Rattle.raft_log_engine_laws.specs.raft_log_file_pair.specs.OnDisk.{LogRestsOn}
+use Rattle.raft_log_engine_laws.specs.Shows.{Home, LogMap, Shows, log_in}
+use Rattle.raft_log_open_laws.specs.Bare.{IsBare}
+use Rattle.raft_log_open_laws.specs.ByCalls.{home_of}
+use Rattle.raft_log_open_laws.specs.InPlace.{StandsWithoutChance}
+use Rattle.raft_log_open_laws.specs.Left.{IsCrashOf}
+use Rattle.raft_log_open_laws.specs.Running.{LeavesNoChance}
+use Rattle.raft_voter.specs.Rounds.{World, fresh_world}
+use Rattle.raft_voter.specs.Service.{CutRound, MayFollow, uncut}
+use Rattle.raft_voter_meaning_laws.specs.Voters.{Means}
+use Rattle.raft_voter_standing_laws.specs.Standing.{IsLeftAmong}
+use Rattle.raft_voter_store.specs.Service.{LeavesAt}
+use Rattle.raft_voter_store.specs.Service.LeavesAt.{left as is_left, running}
+
+-- Behind this round stand the voters that are found in the files of these settings:
+-- no log began there, so all voters are fresh,
+-- a crash left a log at rest that means voters which may stand behind it,
+-- or a log was left there, and whatever a stop leaves of it means such voters.
+pub data FilesLeave (config : Config) (d : Disk) (cut : CutRound) : Type 0 where
+  bare : IsBare config d → cut ≡ uncut fresh_world → FilesLeave config d cut
+  rests : (before : Disk) → IsImage before d → (m : LogMap) → LogRestsOn (log_in (home_of config)) d m → (W : World)
+      → Means m W → MayFollow cut W → FilesLeave config d cut
+  left : IsLeftAmong (home_of config) d (MayFollow cut) → FilesLeave config d cut
+
+-- Of a log that was left no checksum is met by chance: in its files as they stand, where these are read, and in
+-- what a crash leaves of them, where that is.
+pub record SparesLeft (home : Home) (d : Disk) (cut : CutRound) (l : IsLeftAmong home d (MayFollow cut)) (read : Disk)
+    : Type 0 where
+  pub stands : read ≡ d → StandsWithoutChance home l.left.1.lies.state d
+  pub crashed : IsImage d read → IsCrashOf home l.left.1.lies.state d read
+
+-- What is asked of chance, where these files, or what a crash left of them, are read. Nothing is where no log
+-- began, nor of what a crash left: that is just what was synced.
+abbrev pub SparesFiles : (config : Config) (d : Disk) (cut : CutRound) → FilesLeave config d cut → Disk → Type 0
+SparesFiles config d cut (bare is none) read = Unit {0}
+SparesFiles config d cut (rests before image m is W means follows) read = Unit {0}
+SparesFiles config d cut (left l) read = SparesLeft (home_of config) d cut l read
+
+-- What is asked of what a crash leaves under a store that is open: of one that runs, that no record is met in
+-- the last files but its engine's own; of one that has failed, what is asked of a log that was left.
+abbrev pub SparesStore : (home : Home) (s : Shows) (cut : CutRound) → LeavesAt home s cut → Disk → Type 0
+SparesStore home s cut (running W none keeps) read = LeavesNoChance home s.pipes read
+SparesStore home s cut (is_left failed l) read = IsCrashOf home l.left.1.lies.state s.pipes.disk read

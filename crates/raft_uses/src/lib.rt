@@ -31,6 +31,5 @@ pub mod tables;
 pub mod told_pipes;
 pub mod voter;
 pub mod voter_messages;
-pub mod voter_plain;
 pub mod voter_service;
 pub mod voter_session;

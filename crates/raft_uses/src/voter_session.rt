@@ -9,6 +9,6 @@ use std::alloc::Global;
 pub fn event_count(alloc: Global, session: &[u8]) -> Result<usize, SessionFault>
     ensures { IfOk result (HasEvents session.now) }
 {
-    let events = read_session(alloc, session)?;
-    Ok(events.len())
+    let told = read_session(alloc, session)?;
+    Ok(told.events.len())
 }

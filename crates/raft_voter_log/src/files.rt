@@ -61,14 +61,14 @@ fn copy_settings(config: &Config) -> Result<Config, Memory>
     Ok(config.clone()?)
 }
 
-impl<R: Threads + Log + Sync> VoterDisk<R, LogVoters> for LogFiles {
+impl<R: Log> VoterDisk<R, LogVoters> for LogFiles {
     ghost disk = { log_disk ⟦<MemoryFileSystem as FileSystem>⟧.tells_space (λ voters. voters.config)
         (λ voters. shows_of ⟦<EnginePipes<MemoryFileSystem, Nobody> as PipeLog>⟧.shown voters.store.engine)
         (λ voters. outlines_in voters.store.outlines) };
 
-    fn open(
+    fn open<T: Threads + Sync>(
         self,
-        rt: &R,
+        rt: &T,
         alloc: Global,
         workers: u64,
     ) -> Result<LogVoters, FilesRefused<LogFiles>> {

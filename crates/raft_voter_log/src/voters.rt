@@ -15,7 +15,6 @@ use raft_voter_store::VoterStore;
 use raft_voter_world::{Fault, Purge, VoterStorage};
 use std::alloc::Global;
 use std::io::ErrorKind;
-use std::thread::Threads;
 
 /// A store of voters on a log in a file system in memory, and the settings that name the log.
 #[derive(Drop)]
@@ -26,7 +25,7 @@ pub struct LogVoters {
     pub(crate) store: VoterStore<EnginePipes<MemoryFileSystem, Nobody>>,
 }
 
-impl<R: Threads + Log + Sync> RoundService<R> for LogVoters {
+impl<R: Log> RoundService<R> for LogVoters {
     ghost service = { service_in (λ voters. home_of voters.config)
         (λ voters. shows_of ⟦<EnginePipes<MemoryFileSystem, Nobody> as PipeLog>⟧.shown voters.store.engine)
         (λ voters. outlines_in voters.store.outlines) };
@@ -36,7 +35,7 @@ impl<R: Threads + Log + Sync> RoundService<R> for LogVoters {
     }
 }
 
-impl<R: Threads + Log + Sync> VoterStorage<R> for LogVoters {
+impl<R: Log> VoterStorage<R> for LogVoters {
     ghost upkeep = { log_upkeep
         (λ voters. shows_of ⟦<EnginePipes<MemoryFileSystem, Nobody> as PipeLog>⟧.shown voters.store.engine) };
 

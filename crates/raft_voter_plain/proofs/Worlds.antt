@@ -12,11 +12,6 @@ use Rattle.raft_voter_plain.specs.Beginnings.{BeginsWithRecord}
 use Rattle.raft_voter_plain.specs.Content.{PlainContent, after_crash, all_synced, empty_file, whole}
 use Rattle.raft_voter_plain.specs.Records.{AreStorable, StandsFor, IsStorableRecord, LeadTo, may_change, voter_record, with_records}
 use Rattle.raft_voter.specs.Service.{Answers, AnswersRound, CutRound, FindsVoters, IsClosedAt, IsOpenAt, LeavesInFiles, LeavesStanding, MayFollow, uncut}
-use Rattle.raft_voter_run.specs.Play.{IsPlayed, IsSpared, Moment}
-use Rattle.raft_voter_run.specs.Play.Moment.{opened, closed, crashed, served}
-use Rattle.raft_voter_run.specs.Run.{WritesTranscript}
-use Rattle.raft_voter_run.proofs.Spared.{Says, spared_explained}
-use Rattle.raft_voter_plain.specs.Session.{WritesPlain}
 use Rattle.raft_voter_plain.specs.Store.{FileStandsBehind, IsAmidst, StandsBehind, StandsForVoters, Takes, TakesAll, plain_files, plain_voters, replies_in_turn, world_of}
 use Rattle.raft_voter_plain.proofs.Ranges.{fresh_in_range, put_in_range, put_there, stays, taken_in_range}
 use Rattle.raft_voter_plain.proofs.Records.{records_same}
@@ -213,15 +208,3 @@ pub none_written : (file : PlainContent) → file ≡ empty_file → IsClosedAt 
 none_written file e =
     let Q : PlainContent → Type 0 = λ given. FileStandsBehind given (uncut fresh_world) in
     subst Q (sym e) (settled_stands empty_file fresh_world (no_records fresh_world) refl)
-
--- nothing of a session over it passes by chance
-pub all_spared : (moments : List (Moment PlainVoters PlainContent)) → IsSpared plain_files moments
-all_spared [] = tt
-all_spared (opened file store ∷ moments) = (tt, all_spared moments)
-all_spared (closed file ∷ moments) = all_spared moments
-all_spared (crashed file left ∷ moments) = (tt, all_spared moments)
-all_spared (served round storage ∷ moments) = all_spared moments
-
--- so what is written of a session over it is explained
-pub plain_says : Says (WritesTranscript (IsPlayed plain_voters plain_files empty_file)) WritesPlain
-plain_says = λ events text status wrote. spared_explained plain_voters plain_files empty_file events text status wrote (all_spared wrote.played.moments)

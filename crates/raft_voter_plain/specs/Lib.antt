@@ -3,4 +3,3 @@ pub mod Records
 pub mod Beginnings
 pub mod Damage
 pub mod Store
-pub mod Session

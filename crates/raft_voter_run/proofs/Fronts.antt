@@ -1,13 +1,11 @@
 -- A session that is too long is known by its front.
-use Rattle.std.proofs.Common.{◌≡◌, ℕ, ◌+◌, ◌∙◌, nat_le, Bool, true, false, inl, inr, List, [], ◌++◌, length, length-take, take, append_assoc, Option, Some, None, IfSome, Result, Ok, Err, IfErr, IfOk, OnErr, refl, sym, ap, subst, arith}
+use Rattle.std.proofs.Common.{◌≡◌, ℕ, ◌+◌, ◌∙◌, nat_le, Bool, true, false, inl, inr, List, [], ◌++◌, length, length-take, take, append_assoc, Option, Some, None, IfSome, Result, Ok, Err, IfErr, IfOk, OnErr, refl, sym, ap, arith}
 use Rattle.std.proofs.KnownBytes.{Appends-trans}
 use Rattle.std.proofs.lemmas.Bool.Decides.{nat_tests}
 use Rattle.std.proofs.lemmas.List.{take-take}
 use Rattle.std.specs.Option.{option_map}
-use Rattle.std.specs.Prelude.{IsErrAnd}
 use Rattle.std.specs.declared.io.ErrorKind.{ErrorKind}
-use Rattle.raft_voter.specs.declared.service.Cause.{Cause}
-use Rattle.raft_voter_session.specs.declared.event.Event.{Event}
+use Rattle.raft_voter_session.specs.Told.{Said}
 use Rattle.raft_voter_session.specs.Session.{session_of}
 use Rattle.raft_voter_run.specs.Run.{Ends, EndsEarly, IsUntoldFor, MayWrite, refused_text}
 use Rattle.raft_voter_run.specs.Writing.{StopsWithin, TakesFront}
@@ -20,12 +18,12 @@ unfolding session_of
 session_front input = rw (take-take 268435456 268435457 input (omega arith), too_long 268435456 input) refl
 
 -- what may be written for the front of a session may be written for it
-shown_of_front : (Writes : List Event → List ℕ → ℕ → Type 0) (input front bytes text : List ℕ) (status : ℕ) → front ≡ take 268435457 input → bytes ≡ front
+shown_of_front : (Writes : Said → List ℕ → ℕ → Type 0) (input front bytes text : List ℕ) (status : ℕ) → front ≡ take 268435457 input → bytes ≡ front
     → MayWrite Writes bytes text status → MayWrite Writes input text status
 shown_of_front Writes input front bytes text status e f told = rw (← session_front input, ← e, ← f) told
 
 -- what is written for the front of a session is written for it
-pub ends_of_front : {E : Type 0} (r : Result ℕ E) (Writes : List Event → List ℕ → ℕ → Type 0) (known old new : Option (List ℕ)) (front bytes : List ℕ)
+pub ends_of_front : {E : Type 0} (r : Result ℕ E) (Writes : Said → List ℕ → ℕ → Type 0) (known old new : Option (List ℕ)) (front bytes : List ℕ)
     → IfSome known (λ input. front ≡ take 268435457 input) → bytes ≡ front
     → IfOk r (λ status. Ends Writes false bytes old new status) → IfOk r (λ status. IfSome known (λ input. Ends Writes false input old new status))
 ends_of_front (Err fault) Writes known old new front bytes e f ends = tt
@@ -47,17 +45,17 @@ two_fronts a b c bytes left rest one more = record {
 }
 
 -- where the front of a session isn't told, nor is it
-pub early_of_front : {E : Type 0} (r : Result ℕ E) (kind : E → ErrorKind) (Writes : List Event → List ℕ → ℕ → Type 0) (Stops : List Event → Cause → Type 0)
+pub early_of_front : {E : Type 0} (r : Result ℕ E) (kind : E → ErrorKind) (Writes : Said → List ℕ → ℕ → Type 0)
     (known old new : Option (List ℕ)) (front bytes : List ℕ) → IfSome known (λ input. front ≡ take 268435457 input) → bytes ≡ front
-    → IfErr r (λ fault. IsUntoldFor Writes Stops bytes old new (kind fault)) → OnErr r (IfSome known (λ input. EndsEarly Writes false input old new))
-early_of_front (Ok status) kind Writes Stops known old new front bytes e f untold = tt
-early_of_front (Err fault) kind Writes Stops None old new front bytes e f untold = tt
-early_of_front (Err fault) kind Writes Stops (Some input) old new front bytes e f (inl (kept, told)) = inl kept
-early_of_front (Err fault) kind Writes Stops (Some input) old new front bytes e f (inr (text, status, told, wrote)) =
+    → IfErr r (λ fault. IsUntoldFor Writes bytes old new (kind fault)) → OnErr r (IfSome known (λ input. EndsEarly Writes false input old new))
+early_of_front (Ok status) kind Writes known old new front bytes e f untold = tt
+early_of_front (Err fault) kind Writes None old new front bytes e f untold = tt
+early_of_front (Err fault) kind Writes (Some input) old new front bytes e f (inl (kept, told)) = inl kept
+early_of_front (Err fault) kind Writes (Some input) old new front bytes e f (inr (text, status, told, wrote)) =
     inr (text, status, shown_of_front Writes input front bytes text status e f told, wrote)
 
 -- of the refusal of arguments a front was written
-pub refusal_within : (Writes : List Event → List ℕ → ℕ → Type 0) (known old new : Option (List ℕ)) (given : Bool) → given ≡ true → StopsWithin old new refused_text
+pub refusal_within : (Writes : Said → List ℕ → ℕ → Type 0) (known old new : Option (List ℕ)) (given : Bool) → given ≡ true → StopsWithin old new refused_text
     → IfSome known (λ input. EndsEarly Writes given input old new)
 refusal_within Writes None old new given is wrote = tt
 refusal_within Writes (Some input) old new true is wrote = inr (refused_text, 2, (refl, refl), wrote)
@@ -66,8 +64,3 @@ refusal_within Writes (Some input) old new false is wrote = absurd (cc)
 pub on_err : {T E : Type 0} (r : Result T E) (P : Type 0) → P → OnErr r P
 on_err (Ok v) P h = tt
 on_err (Err e) P h = h
-
--- a fault that is handed on
-pub handed_on : {T E : Type 0} (r : Result T E) (P : E → Type 0) (fault : E) → IsErrAnd r (λ e. e ≡ fault) → P fault → IfErr r P
-handed_on (Ok v) P fault same h = absurd same
-handed_on (Err e) P fault same h = subst P (sym same) h

@@ -1,3 +1,2 @@
 pub mod Fronts
-pub mod Spared
-pub mod Steps
+pub mod Verdicts

@@ -1,4 +1,3 @@
-pub mod Storage
-pub mod Play
+pub mod Setup
 pub mod Writing
 pub mod Run

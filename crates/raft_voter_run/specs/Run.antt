@@ -1,16 +1,20 @@
 -- What the program writes.
-use Rattle.std.specs.Prelude.{◌≡◌, ◌↔◌, ◌⊎◌, ℕ, Bool, true, false, IsTrue, if◌then◌else◌, List, Option, Result, Ok, Err, codes}
+use Rattle.std.specs.Prelude.{◌≡◌, ◌↔◌, ◌⊎◌, ℕ, Bool, true, false, IsTrue, if◌then◌else◌, List, [], map, Option, Result, Ok, Err, codes}
 use Rattle.std.specs.Io.KnownBytes.{Appends, Keeps}
 use Rattle.std.specs.declared.io.ErrorKind.{ErrorKind}
-use Rattle.std.specs.declared.io.ErrorKind.TheVariants.{Other, OutOfMemory}
+use Rattle.std.specs.declared.io.ErrorKind.TheVariants.{OutOfMemory}
 use Rattle.raft_voter_messages.specs.declared.round.Round.{Round}
-use Rattle.raft_voter.specs.Rounds.{Explains}
-use Rattle.raft_voter.specs.Service.{IsFromOutside}
-use Rattle.raft_voter.specs.declared.service.Cause.{Cause}
-use Rattle.raft_voter.specs.declared.service.Cause.TheVariants.{Memory}
-use Rattle.raft_voter_session.specs.declared.event.Event.{Event}
+use Rattle.raft_voter.specs.Rounds.{Explains, fresh_world}
+use Rattle.raft_voter.specs.Service.{Service, uncut}
+use Rattle.raft_voter_world.specs.declared.event.Event.{Event}
+use Rattle.raft_voter_world.specs.declared.report.WorldReport.{WorldReport}
+use Rattle.raft_voter_world.specs.Stores.{Disk, Upkeep}
+use Rattle.raft_voter_world.specs.Cuts.{ServeSome}
+use Rattle.raft_voter_world.specs.Run.{IsRun, moments_of}
+use Rattle.raft_voter_session.specs.Told.{Said, told}
 use Rattle.raft_voter_session.specs.Session.{session_of}
 use Rattle.raft_voter_session.specs.Text.{transcript_text, unreadable_text}
+use Rattle.raft_voter_run.specs.Setup.{Setup}
 use Rattle.raft_voter_run.specs.Writing.{StopsWithin}
 
 -- a transcript with its cuts is written, with the verdict whether voters that never fail explain it
@@ -20,55 +24,45 @@ pub record IsJudged (rounds : List Round) (cuts text : List ℕ) (status : ℕ) 
   pub written : text ≡ transcript_text rounds cuts verdict
   pub told : status ≡ (if verdict then 0 else 1)
 
--- Of a session this is written: a transcript of it, by what is said of how it is played, and the verdict
--- whether voters that never fail explain it.
-pub record WritesTranscript (Played : List Event → List Round → List ℕ → Type 0) (events : List Event) (text : List ℕ)
-    (status : ℕ) : Type 0 where
-  pub rounds : List Round
-  pub cuts : List ℕ
-  pub played : Played events rounds cuts
-  pub judged : IsJudged rounds cuts text status
+-- this is written of the report of a run: that voters that never fail explain it
+abbrev pub SaysYes : {F : Type 0} → WorldReport F → List ℕ → ℕ → Type 0
+SaysYes report text status = (text ≡ transcript_text report.transcript.rounds report.cuts true) × (status ≡ 0)
 
--- This is written: a transcript that is explained, and the verdict that it is.
-pub record WritesExplained (Played : List Event → List Round → List ℕ → Type 0) (events : List Event) (text : List ℕ)
-    (status : ℕ) : Type 0 where
-  pub rounds : List Round
-  pub cuts : List ℕ
-  pub played : Played events rounds cuts
-  pub explained : Explains rounds cuts
-  pub written : text ≡ transcript_text rounds cuts true
-  pub told : status ≡ 0
+-- A run of just the events that a session tells, over the files that its settings make, in which no voter is
+-- stored; and what its report tells is written, with its verdict. It is yes where no open lost the voters, and
+-- each store that was opened served some.
+pub record WritesRun {S F : Type 0} (v : Service S) (u : Upkeep S) (d : Disk S F) (s : Setup F) (session : Said)
+    (text : List ℕ) (status : ℕ) : Type 0 where
+  pub files : F
+  pub made : s.makes session.settings files
+  pub empty : d.leaves files (uncut fresh_world)
+  pub events : List Event
+  pub same : map told events ≡ session.events
+  pub report : WorldReport F
+  pub ran : IsRun v u d files events report
+  pub judged : IsJudged report.transcript.rounds report.cuts text status
+  pub agreed : ServeSome v (moments_of ran.turns) → report.lost ≡ [] → SaysYes report text status
+
+-- what is written where settings are refused
+abbrev pub settings_refused : List ℕ
+settings_refused = codes "settings refused\n"
+
+-- of what a session tells this is written: that its settings are refused, or what a run of it tells
+abbrev pub WritesSession :
+    {S F : Type 0} → Service S → Upkeep S → Disk S F → Setup F → Said → List ℕ → ℕ → Type 0
+WritesSession v u d s session text status =
+    (s.refuses session.settings × (text ≡ settings_refused) × (status ≡ 1))
+    ⊎ WritesRun v u d s session text status
 
 -- of lines that are a session, or of which one is the first that is unreadable
-abbrev pub TellsLines : (List Event → List ℕ → ℕ → Type 0) → Result (List Event) ℕ → List ℕ → ℕ → Type 0
-TellsLines Writes (Ok events) text status = Writes events text status
+abbrev pub TellsLines : (Said → List ℕ → ℕ → Type 0) → Result Said ℕ → List ℕ → ℕ → Type 0
+TellsLines Writes (Ok session) text status = Writes session text status
 TellsLines Writes (Err line) text status = (text ≡ unreadable_text line) × (status ≡ 2)
 
 -- for a session of these bytes this may be written, and the program ends with this status, by what may be
--- written for its events
-abbrev pub MayWrite : (List Event → List ℕ → ℕ → Type 0) → List ℕ → List ℕ → ℕ → Type 0
+-- written for what it tells
+abbrev pub MayWrite : (Said → List ℕ → ℕ → Type 0) → List ℕ → List ℕ → ℕ → Type 0
 MayWrite Writes input text status = TellsLines Writes (session_of input) text status
-
--- events stop for this cause as they are played, or memory is refused
-abbrev pub MayStop : (List Event → Cause → Type 0) → List Event → Cause → Type 0
-MayStop Stops events cause = (cause ≡ Memory) ⊎ Stops events cause
-
--- a session of these bytes stops for this cause: memory is refused, or its events stop for it
-abbrev pub MayStopReading : (List Event → Cause → Type 0) → List ℕ → Cause → Type 0
-MayStopReading Stops input cause =
-    (cause ≡ Memory) ⊎ ((events : List Event) × (session_of input ≡ Ok events) × Stops events cause)
-
--- how the program's fault tells of a cause
-abbrev pub kind_of : Cause → ErrorKind
-kind_of Memory = OutOfMemory
-kind_of cause = Other
-
--- the kind of a fault tells a cause for which a session of these bytes stops
-pub record TellsCause (Stops : List Event → Cause → Type 0) (input : List ℕ) (kind : ErrorKind) : Type 0 where
-  pub cause : Cause
-  pub stopped : MayStopReading Stops input cause
-  pub outside : IsFromOutside cause
-  pub told : kind ≡ kind_of cause
 
 -- what is written where arguments are given
 abbrev pub refused_text : List ℕ
@@ -76,32 +70,30 @@ refused_text = codes "arguments refused\n"
 
 -- what the program may write: with arguments that they are refused, and nothing is read; else what its
 -- session says
-abbrev pub ProgramMayWrite : (List Event → List ℕ → ℕ → Type 0) → Bool → List ℕ → List ℕ → ℕ → Type 0
+abbrev pub ProgramMayWrite : (Said → List ℕ → ℕ → Type 0) → Bool → List ℕ → List ℕ → ℕ → Type 0
 ProgramMayWrite Writes true input text status = (text ≡ refused_text) × (status ≡ 2)
 ProgramMayWrite Writes false input text status = MayWrite Writes input text status
 
 -- The program stopped before its end, and claims no verdict: it wrote nothing, or the front of what it may
 -- write, and not all of it.
 abbrev pub EndsEarly :
-    (List Event → List ℕ → ℕ → Type 0)
+    (Said → List ℕ → ℕ → Type 0)
     → Bool → List ℕ → Option (List ℕ) → Option (List ℕ) → Type 0
 EndsEarly Writes given input old new =
     Keeps old new
     ⊎ ((text : List ℕ) × (status : ℕ) × ProgramMayWrite Writes given input text status × StopsWithin old new text)
 
--- The bytes of a session aren't told: it stopped, nothing was written, and the fault tells for which cause; or
--- the writer took the front of what may be written, and not all of it.
+-- The bytes of a session aren't told: memory was refused, nothing was written, and the fault tells so; or the
+-- writer took the front of what may be written, and not all of it.
 abbrev pub IsUntoldFor :
-    (List Event → List ℕ → ℕ → Type 0)
-    → (List Event → Cause → Type 0)
-    → List ℕ → Option (List ℕ) → Option (List ℕ) → ErrorKind → Type 0
-IsUntoldFor Writes Stops input old new kind =
-    (Keeps old new × TellsCause Stops input kind)
+    (Said → List ℕ → ℕ → Type 0) → List ℕ → Option (List ℕ) → Option (List ℕ) → ErrorKind → Type 0
+IsUntoldFor Writes input old new kind =
+    (Keeps old new × (kind ≡ OutOfMemory))
     ⊎ ((text : List ℕ) × (status : ℕ) × MayWrite Writes input text status × StopsWithin old new text)
 
 -- The program came to its end: it wrote what it may write, all of it.
 abbrev pub Ends :
-    (List Event → List ℕ → ℕ → Type 0)
+    (Said → List ℕ → ℕ → Type 0)
     → Bool → List ℕ → Option (List ℕ) → Option (List ℕ) → ℕ → Type 0
 Ends Writes given input old new status =
     (text : List ℕ) × ProgramMayWrite Writes given input text status × Appends old new text

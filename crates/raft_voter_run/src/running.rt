@@ -1,30 +1,32 @@
 //! From the bytes of a session to those of its transcript.
 ghost use Rattle.std.specs.Prelude.{◌≡◌, ◌≢◌, false, true, IfErr, IfOk, IfSome, OnErr, string_bytes, take};
 ghost use Rattle.std.specs.IoError.{error_kind};
-ghost use Rattle.raft_voter.specs.Rounds.{fresh_world};
-ghost use Rattle.raft_voter.specs.Service.{IsClosedAt, IsFromOutside};
-ghost use Rattle.raft_voter_run.specs.Play.{IsPlayed, Stops};
+ghost use Rattle.raft_voter_session.specs.Told.{said};
 ghost use Rattle.raft_voter_session.specs.Text.{unreadable_text};
-ghost use Rattle.raft_voter_run.specs.Run.{Ends, EndsEarly, IsJudged, IsUntoldFor, kind_of, ProgramMayWrite, MayStop, MayStopReading, MayWrite, refused_text, WritesTranscript};
+ghost use Rattle.raft_voter_run.specs.Run.{Ends, EndsEarly, IsJudged, IsUntoldFor, MayWrite, settings_refused, WritesSession};
 
-use crate::playing::play;
+use crate::setup::{NoFiles, StoreSetup};
 use crate::writing::write_whole;
-use raft_voter::{Cause, Memory, RoundService, StoreFiles, Transcript, judge};
-use raft_voter_session::{Event, SessionFault, read_session, write_transcript, write_unreadable};
+use raft_voter::{Memory, Transcript, judge};
+use raft_voter_session::{Session, SessionFault, read_session, write_transcript, write_unreadable};
+use raft_voter_world::{VoterDisk, VoterStorage, run_world};
 use std::alloc::Global;
-use std::collections::VecDeque;
 use std::env::{Env, FillError};
 use std::io;
 use std::io::{ErrorKind, Read, Write};
+use std::thread::Threads;
 
 /// The most bytes that are read: one more than a session may have, so that one which is too long is known by
 /// them.
 const MOST_READ_BYTES: u64 = 268_435_457;
 
+/// The status where the verdict is no, or settings are refused.
+const REFUSED: u8 = 1;
+
 /// The status where arguments are refused.
 const ARGUMENTS_REFUSED: u8 = 2;
 
-/// The status where memory, reading or writing was refused, or the store failed.
+/// The status where memory, reading or writing was refused.
 const FAULT: u8 = 3;
 
 /// Whether there is an argument behind the program's name, be it text or not.
@@ -33,7 +35,7 @@ pub fn has_arguments(env: &impl Env) -> bool {
 }
 
 /// The status with which the program ends: the answer's own, and 3 where memory, reading or writing was
-/// refused, or the store failed.
+/// refused.
 pub fn exit_status(ended: io::Result<u8>) -> u8
     ensures ok { IfOk ended (λ status. result ≡ status) }
     ensures err { OnErr ended (result ≡ 3) }
@@ -45,21 +47,27 @@ pub fn exit_status(ended: io::Result<u8>) -> u8
 }
 
 /// The program: with arguments it refuses them and reads nothing, without it runs a session. An `Err` tells
-/// that memory, the reader or the writer was refused or the store failed, and no verdict is claimed.
-pub fn program<R, S: RoundService<R> + Drop, F: StoreFiles<R, S> + Drop, I: Read, W: Write>(
+/// that memory, the reader or the writer was refused, and no verdict is claimed.
+pub fn program<
+    R: Threads + Sync,
+    S: VoterStorage<R> + Drop,
+    F: VoterDisk<R, S> + Drop,
+    C: StoreSetup<R, S, F>,
+    I: Read,
+    W: Write,
+>(
     rt: &R,
     has_arguments: bool,
     alloc: Global,
-    files: F,
+    setup: &C,
     reader: &mut I,
     writer: &mut W,
 ) -> io::Result<u8>
-    requires { IsClosedAt F.files files fresh_world }
     ensures ok { IfOk result (λ status. IfSome (I.remaining reader.old) (λ input.
-        Ends (WritesTranscript (IsPlayed S.service F.files files)) has_arguments input
+        Ends (WritesSession S.service S.upkeep F.disk C.setup) has_arguments input
         (W.contents writer.old) (W.contents writer.new) status)) }
     ensures err { OnErr result (IfSome (I.remaining reader.old) (λ input.
-        EndsEarly (WritesTranscript (IsPlayed S.service F.files files)) has_arguments input
+        EndsEarly (WritesSession S.service S.upkeep F.disk C.setup) has_arguments input
         (W.contents writer.old) (W.contents writer.new))) }
     ensures retried { IfErr result (λ fault. error_kind fault ≢ ErrorKind.Interrupted) }
     ensures unread { has_arguments ≡ true → reader.new ≡ reader.old }
@@ -68,68 +76,57 @@ pub fn program<R, S: RoundService<R> + Drop, F: StoreFiles<R, S> + Drop, I: Read
         write_whole(writer, b"arguments refused\n")?;
         return Ok(ARGUMENTS_REFUSED);
     }
-    run::<R, S, F, I, W>(rt, alloc, files, reader, writer)
+    run::<R, S, F, C, I, W>(rt, alloc, setup, reader, writer)
 }
 
-/// Reads a session, serves it by a store that begins with these files, in which no voter is stored, and
-/// writes its transcript with a verdict; or writes which line is the first that is unreadable. The status is 0
-/// where the verdict is yes, 1 where it is no, and 2 for an unreadable line. An `Err` tells that memory, the
-/// reader or the writer was refused, or that the store failed: then nothing was written, or the front of what
-/// may be written, and no verdict. Of a session that is too long no more is read than tells so.
-pub fn run<R, S: RoundService<R> + Drop, F: StoreFiles<R, S> + Drop, I: Read, W: Write>(
-    rt: &R,
-    alloc: Global,
-    files: F,
-    reader: &mut I,
-    writer: &mut W,
-) -> io::Result<u8>
-    requires { IsClosedAt F.files files fresh_world }
+/// Reads a session, runs its events on a store with its settings, and writes the transcript with a verdict; or
+/// writes that the settings are refused, or which line is the first that is unreadable. The status is 0 where
+/// the verdict is yes, 1 where it is no or the settings are refused, and 2 for an unreadable line. An `Err`
+/// tells that memory, the reader or the writer was refused: then nothing was written, or the front of what may
+/// be written, and no verdict. Of a session that is too long no more is read than tells so.
+pub fn run<
+    R: Threads + Sync,
+    S: VoterStorage<R> + Drop,
+    F: VoterDisk<R, S> + Drop,
+    C: StoreSetup<R, S, F>,
+    I: Read,
+    W: Write,
+>(rt: &R, alloc: Global, setup: &C, reader: &mut I, writer: &mut W) -> io::Result<u8>
     ensures ok { IfOk result (λ status. IfSome (I.remaining reader.old) (λ input.
-        Ends (WritesTranscript (IsPlayed S.service F.files files)) false input
+        Ends (WritesSession S.service S.upkeep F.disk C.setup) false input
         (W.contents writer.old) (W.contents writer.new) status)) }
     ensures err { OnErr result (IfSome (I.remaining reader.old) (λ input.
-        EndsEarly (WritesTranscript (IsPlayed S.service F.files files)) false input
+        EndsEarly (WritesSession S.service S.upkeep F.disk C.setup) false input
         (W.contents writer.old) (W.contents writer.new))) }
     ensures retried { IfErr result (λ fault. error_kind fault ≢ ErrorKind.Interrupted) }
 {
     let front = read_front(alloc, reader)?;
-    run_bytes::<R, S, F, W>(rt, alloc, files, front.as_slice(), writer)
+    run_bytes::<R, S, F, C, W>(rt, alloc, setup, front.as_slice(), writer)
 }
 
-/// Serves the session of these bytes, and writes what `run` writes for it. An `Err` tells that memory was
-/// refused or the store failed, then nothing was written and its kind tells for which cause; or that the
-/// writer failed, which took the front of what may be written.
-pub fn run_bytes<R, S: RoundService<R> + Drop, F: StoreFiles<R, S> + Drop, W: Write>(
-    rt: &R,
-    alloc: Global,
-    files: F,
-    bytes: &[u8],
-    writer: &mut W,
-) -> io::Result<u8>
-    requires { IsClosedAt F.files files fresh_world }
-    ensures ok { IfOk result (λ status. Ends (WritesTranscript (IsPlayed S.service F.files files)) false bytes.now
+/// Runs the session of these bytes, and writes what `run` writes for it. An `Err` tells that memory was
+/// refused, then nothing was written and its kind tells so; or that the writer failed, which took the front of
+/// what may be written.
+pub fn run_bytes<
+    R: Threads + Sync,
+    S: VoterStorage<R> + Drop,
+    F: VoterDisk<R, S> + Drop,
+    C: StoreSetup<R, S, F>,
+    W: Write,
+>(rt: &R, alloc: Global, setup: &C, bytes: &[u8], writer: &mut W) -> io::Result<u8>
+    ensures ok { IfOk result (λ status. Ends (WritesSession S.service S.upkeep F.disk C.setup) false bytes.now
         (W.contents writer.old) (W.contents writer.new) status) }
     ensures err { IfErr result (λ fault.
-        IsUntoldFor (WritesTranscript (IsPlayed S.service F.files files)) (Stops S.service F.files files) bytes.now
+        IsUntoldFor (WritesSession S.service S.upkeep F.disk C.setup) bytes.now
         (W.contents writer.old) (W.contents writer.new) (error_kind fault)) }
     ensures retried { IfErr result (λ fault. error_kind fault ≢ ErrorKind.Interrupted) }
 {
-    let (text, status) = match answer::<R, S, F>(rt, alloc, files, bytes) {
+    let (text, status) = match answer::<R, S, F, C>(rt, alloc, setup, bytes) {
         Ok(told) => told,
-        Err(cause) => return Err(io::Error::from(kind_of(cause))),
+        Err(Memory) => return Err(io::Error::from(ErrorKind::OutOfMemory)),
     };
     write_whole(writer, text.as_bytes())?;
     Ok(status)
-}
-
-/// How a reader or a writer tells of this cause.
-fn kind_of(cause: Cause) -> ErrorKind
-    ensures { result ≡ kind_of cause }
-{
-    match cause {
-        Cause::Memory => ErrorKind::OutOfMemory,
-        _ => ErrorKind::Other,
-    }
 }
 
 /// The bytes of a session, and of one that is too long only as many as tell so.
@@ -144,40 +141,40 @@ fn read_front<I: Read>(alloc: Global, reader: &mut I) -> io::Result<Vec<u8>>
 }
 
 /// What is written for a session, and the status that goes with it.
-fn answer<R, S: RoundService<R> + Drop, F: StoreFiles<R, S> + Drop>(
-    rt: &R,
-    alloc: Global,
-    files: F,
-    input: &[u8],
-) -> Result<(String, u8), Cause>
-    requires { IsClosedAt F.files files fresh_world }
-    ensures ok { IfOk result (λ told.
-        MayWrite (WritesTranscript (IsPlayed S.service F.files files)) input.now (string_bytes told.0) told.1) }
-    ensures err { IfErr result (MayStopReading (Stops S.service F.files files) input.now) }
-    ensures errors { IfErr result IsFromOutside }
+fn answer<
+    R: Threads + Sync,
+    S: VoterStorage<R> + Drop,
+    F: VoterDisk<R, S> + Drop,
+    C: StoreSetup<R, S, F>,
+>(rt: &R, alloc: Global, setup: &C, input: &[u8]) -> Result<(String, u8), Memory>
+    ensures { IfOk result (λ told.
+        MayWrite (WritesSession S.service S.upkeep F.disk C.setup) input.now (string_bytes told.0) told.1) }
 {
     match read_session(alloc, input) {
-        Ok(events) => shown::<R, S, F>(rt, alloc, files, events),
-        Err(SessionFault::Unreadable(line)) => Ok(unreadable(alloc, line)?),
-        Err(SessionFault::Memory) => Err(Cause::Memory),
+        Ok(session) => shown::<R, S, F, C>(rt, alloc, setup, session),
+        Err(SessionFault::Unreadable(line)) => unreadable(alloc, line),
+        Err(SessionFault::Memory) => Err(Memory),
     }
 }
 
-/// What is written for a session's events.
-fn shown<R, S: RoundService<R> + Drop, F: StoreFiles<R, S> + Drop>(
-    rt: &R,
-    alloc: Global,
-    files: F,
-    events: VecDeque<Event>,
-) -> Result<(String, u8), Cause>
-    requires { IsClosedAt F.files files fresh_world }
-    ensures ok { IfOk result (λ told.
-        WritesTranscript (IsPlayed S.service F.files files) events.items (string_bytes told.0) told.1) }
-    ensures err { IfErr result (MayStop (Stops S.service F.files files) events.items) }
-    ensures errors { IfErr result IsFromOutside }
+/// What is written for what a session tells.
+fn shown<
+    R: Threads + Sync,
+    S: VoterStorage<R> + Drop,
+    F: VoterDisk<R, S> + Drop,
+    C: StoreSetup<R, S, F>,
+>(rt: &R, alloc: Global, setup: &C, session: Session) -> Result<(String, u8), Memory>
+    ensures { IfOk result (λ told.
+        WritesSession S.service S.upkeep F.disk C.setup (said session) (string_bytes told.0) told.1) }
 {
-    let (transcript, cuts) = play::<R, S, F>(rt, alloc, files, events)?;
-    Ok(judged(alloc, &transcript, cuts.as_slice())?)
+    let Session { settings, events } = session;
+    let files = match setup.files(rt, alloc, &settings) {
+        Ok(files) => files,
+        Err(NoFiles::Settings) => return settings_refused(alloc),
+        Err(NoFiles::Memory) => return Err(Memory),
+    };
+    let report = run_world::<R, S, F>(rt, alloc, files, events)?;
+    judged(alloc, &report.transcript, report.cuts.as_slice())
 }
 
 /// What is written of a transcript and its cuts, with the judge's verdict; and the status that goes with it,
@@ -188,8 +185,17 @@ fn judged(alloc: Global, transcript: &Transcript, cuts: &[usize]) -> Result<(Str
     let verdict = judge(alloc, transcript, cuts)?;
     let mut text = String::new(alloc);
     write_transcript(&mut text, transcript, cuts, verdict)?;
-    let status = if verdict { 0 } else { 1 };
+    let status = if verdict { 0 } else { REFUSED };
     Ok((text, status))
+}
+
+/// What is written where settings are refused.
+fn settings_refused(alloc: Global) -> Result<(String, u8), Memory>
+    ensures text { IfOk result (λ told. string_bytes told.0 ≡ settings_refused) }
+    ensures status { IfOk result (λ told. told.1 ≡ 1) }
+{
+    let text = String::from_str(alloc, "settings refused\n")?;
+    Ok((text, REFUSED))
 }
 
 /// What is written where a line is unreadable.

@@ -54,7 +54,7 @@ pub bind : {A B : Type 0} (o : Option A) (x : A) (f : A → Option B) → o ≡ 
 bind o x f e = rw e refl
 
 -- a word behind a space
-word_read : (word rest : List ℕ) → has_none is_space word ≡ true → is_at is_space rest ≡ true → word_at (32 ∷ (word ++ rest)) ≡ Some (word, rest)
+pub word_read : (word rest : List ℕ) → has_none is_space word ≡ true → is_at is_space rest ≡ true → word_at (32 ∷ (word ++ rest)) ≡ Some (word, rest)
 word_read word rest h at = rw (behind_first-append is_space word rest h at, before_first-append is_space word rest h at) refl
 
 -- Numbers.

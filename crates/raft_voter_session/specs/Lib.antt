@@ -1,5 +1,7 @@
 pub mod Words
 pub mod Requests
+pub mod Told
+pub mod Events
 pub mod Session
 pub mod Fault
 pub mod Text

@@ -1,10 +1,11 @@
 -- The lines that ask something of a voter.
-use Rattle.std.specs.Prelude.{ℕ, nat_lt, Bool, false, not, List, [], ◌∷◌, length, Option, Some, None, if◌then◌else◌}
+use Rattle.std.specs.Prelude.{ℕ, nat_lt, Bool, false, not, List, [], ◌∷◌, length, drop, codes, Option, Some, None, if◌then◌else◌}
 use Rattle.std.specs.List.{before_first, after_first, list_any, position_or_len}
 use Rattle.std.specs.Option.{option_map_or}
+use Rattle.std.specs.Str.{bytes_eq}
 use Rattle.raft_voter_messages.specs.declared.request.Request.{Request}
 use Rattle.raft_voter_messages.specs.declared.request.Request.TheVariants.{Vote, Append, Compact, Install, Read, Status, Retire}
-use Rattle.raft_voter_session.specs.Words.{◌>>=◌, ends, is_colon, number_of, number_at, data_of, word_at, words_of}
+use Rattle.raft_voter_session.specs.Words.{◌>>=◌, ends, is_colon, is_space, number_of, number_at, data_of, word_at, words_of}
 
 -- `vote G T C I U`
 unfoldable pub vote_at : List ℕ → Option (ℕ × Request)
@@ -91,3 +92,19 @@ append_at text = do
   commit ← commit_at prev_term.1
   entries ← entries_at commit.1
   Some (group.0, Append term.0 prev_index.0 prev_term.0 commit.0 entries)
+
+-- a request, by the first word of its line and what follows it
+unfoldable pub request_at : List ℕ → List ℕ → Option (ℕ × Request)
+request_at word text =
+    if bytes_eq word (codes "append") then append_at text
+    else if bytes_eq word (codes "vote") then vote_at text
+    else if bytes_eq word (codes "compact") then compact_at text
+    else if bytes_eq word (codes "install") then install_at text
+    else if bytes_eq word (codes "read") then read_at text
+    else if bytes_eq word (codes "status") then status_at text
+    else if bytes_eq word (codes "retire") then retire_at text
+    else None
+
+-- the request that a line tells
+abbrev pub request_of : List ℕ → Option (ℕ × Request)
+request_of line = request_at (before_first is_space line) (drop (length (before_first is_space line)) line)

@@ -1,89 +1,102 @@
--- The lines of a session, and the events that they tell.
-use Rattle.std.specs.Prelude.{ℕ, ◌+◌, nat_lt, nat_le, Bool, true, false, List, [], ◌∷◌, ◌++◌, length, take, drop, codes, Option, Some, None, Result, Ok, Err, if◌then◌else◌}
-use Rattle.std.specs.List.{before_first, slice_split}
-use Rattle.std.specs.Option.{option_map}
+-- What the lines of a session tell, one after another.
+use Rattle.std.specs.Prelude.{ℕ, ◌+◌, nat_lt, nat_le, Bool, true, false, List, [], ◌∷◌, ◌++◌, length, take, codes, Option, Some, None, Result, Ok, Err, string_bytes, if◌then◌else◌}
+use Rattle.std.specs.List.{slice_split}
 use Rattle.std.specs.Str.{bytes_eq}
 use Rattle.raft_voter_messages.specs.declared.request.Request.{Request}
-use Rattle.raft_voter_session.specs.declared.event.Event.{Event}
-use Rattle.raft_voter_session.specs.declared.event.Event.TheVariants.{Open, Close, CrashLast, Round}
-use Rattle.raft_voter_session.specs.declared.line.Line.{Line}
-use Rattle.raft_voter_session.specs.declared.line.Line.TheVariants.{Alone, RoundBegins, RoundEnds, Ask}
-use Rattle.raft_voter_session.specs.Words.{◌>>=◌, ends, is_space, is_line_feed, number_at}
-use Rattle.raft_voter_session.specs.Requests.{vote_at, append_at, compact_at, install_at, read_at, status_at, retire_at}
+use Rattle.raft_voter_world.specs.declared.event.Event.TheVariants.{Round as RoundEvent}
+use Rattle.raft_voter_session.specs.declared.reading.Begun.{Begun}
+use Rattle.raft_voter_session.specs.declared.reading.Begun.TheVariants.{Nothing, Settings, Round}
+use Rattle.raft_voter_session.specs.Told.{Said, Told, alone}
+use Rattle.raft_voter_session.specs.Words.{◌>>=◌, is_line_feed, text_of}
+use Rattle.raft_voter_session.specs.Events.{event_of}
+use Rattle.raft_voter_session.specs.Requests.{request_of}
 
 -- Lines.
 
--- a request, by the first word of its line and what follows it
-unfoldable pub request_at : List ℕ → List ℕ → Option (ℕ × Request)
-request_at word text =
-    if bytes_eq word (codes "append") then append_at text
-    else if bytes_eq word (codes "vote") then vote_at text
-    else if bytes_eq word (codes "compact") then compact_at text
-    else if bytes_eq word (codes "install") then install_at text
-    else if bytes_eq word (codes "read") then read_at text
-    else if bytes_eq word (codes "status") then status_at text
-    else if bytes_eq word (codes "retire") then retire_at text
-    else None
+-- what lines have begun and not ended: nothing, the settings, of which so much was told, or a round with these
+-- requests
+pub data Part : Type 0 where
+  nothing : Part
+  settings : List ℕ → Part
+  round : List (ℕ × Request) → Part
 
--- `open W`, with at least one worker
-unfoldable pub open_at : List ℕ → Option Line
-open_at text = do
-  workers ← number_at text
-  if nat_lt 0 workers.0 then ends workers.1 (Alone (Open workers.0)) else None
+-- the same, as the code keeps it
+abbrev pub open_part : Begun → Part
+open_part Nothing = nothing
+open_part (Settings text) = settings (string_bytes text)
+open_part (Round requests) = round requests
 
--- a line of words, by the first of them
-unfoldable pub words_line : List ℕ → List ℕ → Option Line
-words_line word text =
-    if bytes_eq word (codes "open") then open_at text
-    else option_map (λ asked. Ask asked.0 asked.1) (request_at word text)
-
--- what a line of at most 4,194,304 bytes says
-unfoldable pub line_of : List ℕ → Option Line
-line_of line =
-    if nat_lt 4194304 (length line) then None
-    else if bytes_eq line (codes "close") then Some (Alone Close)
-    else if bytes_eq line (codes "crash last") then Some (Alone CrashLast)
-    else if bytes_eq line (codes "round") then Some RoundBegins
-    else if bytes_eq line (codes "end") then Some RoundEnds
-    else words_line (before_first is_space line) (drop (length (before_first is_space line)) line)
-
--- Sessions.
-
--- what lines have told so far: the events, and the requests of a round that hasn't ended
+-- what lines have told so far, and what they have begun
 pub record Progress : Type 0 where
-  pub events : List Event
-  pub begun : Option (List (ℕ × Request))
+  pub session : Said
+  pub begun : Part
 
 -- before the first line
 abbrev pub no_progress : Progress
-no_progress = record { events = []; begun = None }
+no_progress = record { session = record { settings = None; events = [] }; begun = nothing }
 
--- one more line: requests stand between `round` and `end`, other events outside; None where one stands wrong
-abbrev pub after_line : Line → List Event → Option (List (ℕ × Request)) → Option Progress
-after_line (Alone event) events None = Some (record { events = events ++ event ∷ []; begun = None })
-after_line RoundBegins events None = Some (record { events = events; begun = Some [] })
-after_line RoundEnds events (Some asked) = Some (record { events = events ++ Round asked ∷ []; begun = None })
-after_line (Ask group request) events (Some asked) =
-    Some (record { events = events; begun = Some (asked ++ (group, request) ∷ []) })
-after_line line events begun = None
+-- one more event
+abbrev pub adds_event : Said → Told → Option Progress
+adds_event so_far event = Some (record {
+  session = record { settings = so_far.settings; events = so_far.events ++ event ∷ [] };
+  begun = nothing;
+})
 
--- the same of a line as it stands; None where it is unreadable
-abbrev pub after_text : List ℕ → Progress → Option Progress
-after_text text so_far = line_of text >>= (λ line. after_line line so_far.events so_far.begun)
+-- the settings may begin: nothing was told
+abbrev pub may_begin : Option (List ℕ) → List Told → Bool
+may_begin None [] = true
+may_begin before events = false
 
--- the events at the end, which comes right behind a line and not within a round; else the number of the
--- missing line
-abbrev pub at_end : ℕ → List Event → Option (List (ℕ × Request)) → Result (List Event) ℕ
-at_end number events None = Ok events
-at_end number events (Some asked) = Err number
+-- the settings begin, before all else
+abbrev pub begins_settings : Said → Option Progress
+begins_settings so_far =
+    if may_begin so_far.settings so_far.events then Some (record { session = so_far; begun = settings [] }) else None
 
--- the events behind the last line: nothing may follow it, and the session must not be too long
-abbrev pub finish : ℕ → Bool → List ℕ → Progress → Result (List Event) ℕ
-finish number whole [] so_far = if whole then at_end number so_far.events so_far.begun else Err number
+-- one more line where nothing has begun; None where it is unreadable
+abbrev pub after_outside : List ℕ → Said → Option Progress
+after_outside line so_far =
+    if bytes_eq line (codes "config") then begins_settings so_far
+    else if bytes_eq line (codes "round") then Some (record { session = so_far; begun = round [] })
+    else event_of line >>= adds_event so_far
+
+-- one more line of the settings: the last one is `end`
+abbrev pub after_setting : List ℕ → Said → List ℕ → Option Progress
+after_setting line so_far told =
+    if bytes_eq line (codes "end")
+    then Some (record { session = record { settings = Some told; events = so_far.events }; begun = nothing })
+    else text_of line >>= (λ text. Some (record { session = so_far; begun = settings (told ++ text ++ codes "\n") }))
+
+-- one more line of a round: the last one is `end`
+abbrev pub after_asked : List ℕ → Said → List (ℕ × Request) → Option Progress
+after_asked line so_far asked =
+    if bytes_eq line (codes "end") then adds_event so_far (alone (RoundEvent asked))
+    else request_of line >>= (λ q. Some (record { session = so_far; begun = round (asked ++ q ∷ []) }))
+
+-- one more line, by what has begun
+abbrev pub after_part : Part → List ℕ → Said → Option Progress
+after_part nothing line so_far = after_outside line so_far
+after_part (settings told) line so_far = after_setting line so_far told
+after_part (round asked) line so_far = after_asked line so_far asked
+
+-- one more line, of at most 4,194,304 bytes
+abbrev pub after_line : List ℕ → Progress → Option Progress
+after_line line so_far =
+    if nat_lt 4194304 (length line) then None else after_part so_far.begun line so_far.session
+
+-- Sessions.
+
+-- the session at the end, where nothing is left open; else the number of the missing line
+abbrev pub at_end : ℕ → Said → Part → Result Said ℕ
+at_end number told nothing = Ok told
+at_end number told part = Err number
+
+-- the session behind the last line: nothing may follow it, and the session must not be too long
+abbrev pub finish : ℕ → Bool → List ℕ → Progress → Result Said ℕ
+finish number whole [] so_far = if whole then at_end number so_far.session so_far.begun else Err number
 finish number whole (b ∷ text) so_far = Err number
 
 -- on with the next line, or the number of this one
-abbrev pub or_unreadable : ℕ → Option Progress → (Progress → Result (List Event) ℕ) → Result (List Event) ℕ
+abbrev pub or_unreadable : ℕ → Option Progress → (Progress → Result Said ℕ) → Result Said ℕ
 or_unreadable number None next = Err number
 or_unreadable number (Some so_far) next = next so_far
 
@@ -92,17 +105,17 @@ abbrev pub is_last : List (List ℕ) → Bool
 is_last [] = true
 is_last (piece ∷ pieces) = false
 
--- The events of lines, of which the first has this number, behind others; or the number of the first line
--- that is unreadable. The last piece of the text is what stands behind its last line feed.
-abbrev pub read_from : List (List ℕ) → ℕ → Bool → Progress → Result (List Event) ℕ
+-- What lines tell, of which the first has this number, behind others; or the number of the first line that is
+-- unreadable. The last piece of the text is what stands behind its last line feed.
+abbrev pub read_from : List (List ℕ) → ℕ → Bool → Progress → Result Said ℕ
 read_from [] number whole so_far = Err number
 read_from (piece ∷ pieces) number whole so_far =
     if is_last pieces then finish number whole piece so_far
-    else or_unreadable number (after_text piece so_far) (read_from pieces (number + 1) whole)
+    else or_unreadable number (after_line piece so_far) (read_from pieces (number + 1) whole)
 
--- The events of a session, or the number of its first unreadable line, counted from 1. Of a session of more
--- than 268,435,456 bytes the line with the first byte past them is unreadable.
-unfoldable pub session_of : List ℕ → Result (List Event) ℕ
+-- What a session tells, or the number of its first unreadable line, counted from 1. Of a session of more than
+-- 268,435,456 bytes the line with the first byte past them is unreadable.
+unfoldable pub session_of : List ℕ → Result Said ℕ
 session_of input =
     read_from (slice_split is_line_feed (take 268435456 input)) 1 (nat_le (length input) 268435456)
     no_progress

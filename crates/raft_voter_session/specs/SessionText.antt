@@ -1,12 +1,17 @@
--- How a session is written: the lines of its events, each number in as few digits as it has, each commit with
--- its Append.
-use Rattle.std.specs.Prelude.{ℕ, ◌^◌, ◌≤◌, ◌&&◌, nat_lt, nat_le, Bool, true, IsTrue, List, [], ◌∷◌, ◌++◌, length, map, codes}
+-- How a session is written: the lines of its settings and of its events, each number in as few digits as it has,
+-- each commit with its Append.
+use Rattle.std.specs.Prelude.{ℕ, ◌^◌, ◌≤◌, ◌&&◌, nat_lt, nat_le, Bool, true, false, not, IsTrue, List, [], ◌∷◌, ◌++◌, length, map, codes, Option, Some, None}
 use Rattle.std.specs.List.{flat_map, list_all}
+use Rattle.std.specs.Str.{bytes_eq, is_utf8}
 use Rattle.hex.specs.Hex.{encode_lower}
 use Rattle.raft_voter_messages.specs.declared.request.Request.{Request}
 use Rattle.raft_voter_messages.specs.declared.request.Request.TheVariants.{Vote, Append, Compact, Install, Read, Status, Retire}
-use Rattle.raft_voter_session.specs.declared.event.Event.{Event}
-use Rattle.raft_voter_session.specs.declared.event.Event.TheVariants.{Open, Close, CrashLast, Round}
+use Rattle.raft_voter_world.specs.declared.event.Event.{Event}
+use Rattle.raft_voter_world.specs.declared.event.Event.TheVariants.{Close, Crash, CrashAt, Fork, Maintain, Open, Refuse, RewriteAppend, RewriteRewrite, Round}
+use Rattle.raft_voter_world.specs.declared.event.Left.{Left}
+use Rattle.raft_voter_world.specs.declared.event.Left.TheVariants.{All, First, Last}
+use Rattle.raft_voter_session.specs.Told.{Told, alone, copy}
+use Rattle.raft_voter_session.specs.Words.{is_line_feed, is_space}
 use Rattle.raft_voter_session.specs.Text.{spaced, spaced_all}
 
 -- Lines.
@@ -45,20 +50,46 @@ abbrev pub request_line : ℕ × Request → List ℕ
 request_line q =
     request_word q.1 ++ spaced_all (request_numbers q.0 q.1) ++ flat_map sent_text (request_entries q.1)
 
+-- what a crash leaves, behind a space
+abbrev pub left_text : Left → List ℕ
+left_text Last = codes " last"
+left_text All = codes " all"
+left_text (First pieces bytes) = codes " first" ++ spaced_all (pieces ∷ bytes ∷ [])
+
+-- the lines of an event that is no copy
+abbrev pub alone_lines : Event → List (List ℕ)
+alone_lines (Open workers) = (codes "open" ++ spaced_all (workers ∷ [])) ∷ []
+alone_lines Close = codes "close" ∷ []
+alone_lines Maintain = codes "purge" ∷ []
+alone_lines RewriteAppend = codes "rewrite-append" ∷ []
+alone_lines RewriteRewrite = codes "rewrite-rewrite" ∷ []
+alone_lines (Crash left) = (codes "crash" ++ left_text left) ∷ []
+alone_lines (CrashAt calls left) = (codes "crash-at" ++ (spaced_all (calls ∷ []) ++ left_text left)) ∷ []
+alone_lines (Refuse calls) = (codes "refuse" ++ spaced_all (calls ∷ [])) ∷ []
+alone_lines (Round requests) = codes "round" ∷ map request_line requests ++ codes "end" ∷ []
+alone_lines (Fork target) = []
+
 -- the lines of an event
-abbrev pub event_lines : Event → List (List ℕ)
-event_lines (Open workers) = (codes "open" ++ spaced workers) ∷ []
-event_lines Close = codes "close" ∷ []
-event_lines CrashLast = codes "crash last" ∷ []
-event_lines (Round requests) = codes "round" ∷ map request_line requests ++ codes "end" ∷ []
+abbrev pub event_lines : Told → List (List ℕ)
+event_lines (alone event) = alone_lines event
+event_lines (copy name) = (codes "fork " ++ name) ∷ []
 
--- the lines of a session
-abbrev pub session_lines : List Event → List (List ℕ)
-session_lines events = flat_map event_lines events
+-- the lines of the settings, if there are some
+abbrev pub settings_lines : Option (List (List ℕ)) → List (List ℕ)
+settings_lines None = []
+settings_lines (Some lines) = codes "config" ∷ lines ++ codes "end" ∷ []
 
--- the text of a session: each of its lines ends in a line feed
-abbrev pub session_text : List Event → List ℕ
-session_text events = flat_map (λ line. line ++ codes "\n") (session_lines events)
+-- the lines of a session, with the lines that its settings have
+abbrev pub session_lines : Option (List (List ℕ)) → List Told → List (List ℕ)
+session_lines settings events = settings_lines settings ++ flat_map event_lines events
+
+-- the text of lines: each ends in a line feed
+abbrev pub lines_text : List (List ℕ) → List ℕ
+lines_text lines = flat_map (λ line. line ++ codes "\n") lines
+
+-- the text of a session
+abbrev pub session_text : Option (List (List ℕ)) → List Told → List ℕ
+session_text settings events = lines_text (session_lines settings events)
 
 -- What can be written.
 
@@ -74,14 +105,50 @@ is_sent e = is_number e.0 && list_all (λ b. nat_lt b 256) e.1
 abbrev pub is_asked : ℕ × Request → Bool
 is_asked q = list_all is_number (request_numbers q.0 q.1) && list_all is_sent (request_entries q.1)
 
--- so is each request of an event, and a store is opened by a worker at least
-abbrev pub is_told : Event → Bool
-is_told (Open workers) = nat_lt 0 workers && is_number workers
-is_told (Round requests) = list_all is_asked requests
-is_told other = true
+-- such a number that is at least 1
+abbrev pub is_count : ℕ → Bool
+is_count n = nat_lt 0 n && is_number n
 
--- events of which a session can tell: lines of at most 4,194,304 bytes, 268,435,456 bytes in all
-pub record CanBeTold (events : List Event) : Type 0 where
+-- the numbers of what a crash leaves are such
+abbrev pub is_left : Left → Bool
+is_left (First pieces bytes) = is_number pieces && is_number bytes
+is_left left = true
+
+-- a byte that doesn't end a word
+abbrev pub is_within_word : ℕ → Bool
+is_within_word b = not (is_space b) && not (is_line_feed b)
+
+-- a directory's name that a line can tell: one word of UTF-8, and not empty
+abbrev pub is_name : List ℕ → Bool
+is_name name = nat_lt 0 (length name) && is_utf8 name && list_all is_within_word name
+
+-- each request of an event can be told, and each of its numbers
+abbrev pub is_told_alone : Event → Bool
+is_told_alone (Open workers) = is_count workers
+is_told_alone (Crash left) = is_left left
+is_told_alone (CrashAt calls left) = is_count calls && is_left left
+is_told_alone (Refuse calls) = is_count calls
+is_told_alone (Round requests) = list_all is_asked requests
+is_told_alone (Fork target) = false
+is_told_alone other = true
+
+-- a line can tell an event, or a round's lines can
+abbrev pub is_told : Told → Bool
+is_told (alone event) = is_told_alone event
+is_told (copy name) = is_name name
+
+-- a line of settings: UTF-8 in one line, and not the one that ends them
+abbrev pub is_setting : List ℕ → Bool
+is_setting line = not (bytes_eq line (codes "end")) && is_utf8 line && list_all (λ b. not (is_line_feed b)) line
+
+-- lines of settings, if there are some
+abbrev pub are_settings : Option (List (List ℕ)) → Bool
+are_settings None = true
+are_settings (Some lines) = list_all is_setting lines
+
+-- what a session can tell: lines of at most 4,194,304 bytes, 268,435,456 bytes in all
+pub record CanBeTold (settings : Option (List (List ℕ))) (events : List Told) : Type 0 where
+  pub settings_fit : IsTrue (are_settings settings)
   pub events_fit : IsTrue (list_all is_told events)
-  pub lines_fit : IsTrue (list_all (λ line. nat_le (length line) 4194304) (session_lines events))
-  pub text_fits : length (session_text events) ≤ 268435456
+  pub lines_fit : IsTrue (list_all (λ line. nat_le (length line) 4194304) (session_lines settings events))
+  pub text_fits : length (session_text settings events) ≤ 268435456

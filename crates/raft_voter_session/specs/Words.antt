@@ -2,7 +2,7 @@
 use Rattle.std.specs.Prelude.{ℕ, ◌^◌, ◌==◌, ◌&&◌, ◌||◌, Bool, nat_le, nat_lt, List, [], ◌∷◌, length, drop, Option, Some, None, if◌then◌else◌}
 use Rattle.std.specs.List.{before_first, list_all, slice_split}
 use Rattle.std.specs.Result.{result_ok}
-use Rattle.std.specs.Str.{all_ascii_digits}
+use Rattle.std.specs.Str.{all_ascii_digits, is_utf8}
 use Rattle.std.specs.Str.Parse.{digits_value_after}
 use Rattle.hex.specs.Hex.{decode_of}
 
@@ -70,3 +70,13 @@ behind_space (piece ∷ pieces) = ends piece pieces
 -- the words of a text in which each stands behind one space
 abbrev pub words_of : List ℕ → Option (List (List ℕ))
 words_of text = behind_space (slice_split is_space text)
+
+-- a number that is at least 1, with what follows it
+unfoldable pub count_at : List ℕ → Option (ℕ × List ℕ)
+count_at text = do
+  count ← number_at text
+  if nat_lt 0 count.0 then Some count else None
+
+-- bytes that are UTF-8
+abbrev pub text_of : List ℕ → Option (List ℕ)
+text_of bytes = if is_utf8 bytes then Some bytes else None

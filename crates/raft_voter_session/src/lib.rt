@@ -1,14 +1,13 @@
 //! The text of sessions and transcripts: what a session's lines say, and how a transcript is written.
 #![tactic(auto)]
 
-mod event;
+mod events;
 pub mod laws;
-mod line;
+mod reading;
 mod requests;
 mod session;
 mod text;
 mod words;
 
-pub use event::Event;
-pub use session::{SessionFault, read_session};
+pub use session::{Session, SessionFault, read_session};
 pub use text::{write_transcript, write_unreadable};

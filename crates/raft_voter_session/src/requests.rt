@@ -1,10 +1,10 @@
-//! The lines that ask something of a voter, behind their first word.
+//! The lines that ask something of a voter.
 ghost use Rattle.std.specs.Prelude.{◌≡◌, IfOk};
 ghost use Rattle.std.specs.Option.{option_map};
 ghost use Rattle.raft_voter_session.specs.Words.{ends};
-ghost use Rattle.raft_voter_session.specs.Requests.{append_at, commit_at, compact_at, entries_at, entry_of, has_plain_word, install_at, read_at, retire_at, status_at, vote_at};
+ghost use Rattle.raft_voter_session.specs.Requests.{append_at, commit_at, compact_at, entries_at, entry_of, has_plain_word, install_at, read_at, request_at, request_of, retire_at, status_at, vote_at};
 
-use crate::words::{read_data, read_number, split_at_byte, split_number, split_word};
+use crate::words::{end_of_word, read_data, read_number, split_at_byte, split_number, split_word};
 use raft_voter_messages::{Items, Memory, Request};
 use std::alloc::Global;
 
@@ -17,7 +17,7 @@ fn at_end(text: &[u8], asked: (u64, Request)) -> Option<(u64, Request)>
 
 /// `vote G T C I U`: group, term, candidate, last index and last term.
 #[tactic(auto, unfolding(crate::specs::Requests::vote_at))]
-pub fn vote(text: &[u8]) -> Option<(u64, Request)>
+fn vote(text: &[u8]) -> Option<(u64, Request)>
     ensures { result ≡ vote_at text.now }
 {
     let (group, text) = split_number(text)?;
@@ -36,7 +36,7 @@ pub fn vote(text: &[u8]) -> Option<(u64, Request)>
 
 /// `compact G I`: group and index.
 #[tactic(auto, unfolding(crate::specs::Requests::compact_at))]
-pub fn compact(text: &[u8]) -> Option<(u64, Request)>
+fn compact(text: &[u8]) -> Option<(u64, Request)>
     ensures { result ≡ compact_at text.now }
 {
     let (group, text) = split_number(text)?;
@@ -46,7 +46,7 @@ pub fn compact(text: &[u8]) -> Option<(u64, Request)>
 
 /// `install G T I U`: group, term, index and the term of the entry there.
 #[tactic(auto, unfolding(crate::specs::Requests::install_at))]
-pub fn install(text: &[u8]) -> Option<(u64, Request)>
+fn install(text: &[u8]) -> Option<(u64, Request)>
     ensures { result ≡ install_at text.now }
 {
     let (group, text) = split_number(text)?;
@@ -63,7 +63,7 @@ pub fn install(text: &[u8]) -> Option<(u64, Request)>
 
 /// `read G A B`: group, first index and one past the last.
 #[tactic(auto, unfolding(crate::specs::Requests::read_at))]
-pub fn read(text: &[u8]) -> Option<(u64, Request)>
+fn read(text: &[u8]) -> Option<(u64, Request)>
     ensures { result ≡ read_at text.now }
 {
     let (group, text) = split_number(text)?;
@@ -74,7 +74,7 @@ pub fn read(text: &[u8]) -> Option<(u64, Request)>
 
 /// `status G`.
 #[tactic(auto, unfolding(crate::specs::Requests::status_at))]
-pub fn status(text: &[u8]) -> Option<(u64, Request)>
+fn status(text: &[u8]) -> Option<(u64, Request)>
     ensures { result ≡ status_at text.now }
 {
     let (group, text) = split_number(text)?;
@@ -83,7 +83,7 @@ pub fn status(text: &[u8]) -> Option<(u64, Request)>
 
 /// `retire G`.
 #[tactic(auto, unfolding(crate::specs::Requests::retire_at))]
-pub fn retire(text: &[u8]) -> Option<(u64, Request)>
+fn retire(text: &[u8]) -> Option<(u64, Request)>
     ensures { result ≡ retire_at text.now }
 {
     let (group, text) = split_number(text)?;
@@ -151,7 +151,7 @@ fn split_commit(text: &[u8]) -> Option<(u64, &[u8])>
 /// `append G T P U C E..`: group, term, index and term right before the entries, the commit, which may lack,
 /// and the entries.
 #[tactic(auto, unfolding(crate::specs::Requests::append_at))]
-pub fn append(alloc: Global, text: &[u8]) -> Result<Option<(u64, Request)>, Memory>
+fn append(alloc: Global, text: &[u8]) -> Result<Option<(u64, Request)>, Memory>
     ensures { IfOk result (λ asked. asked ≡ append_at text.now) }
 {
     let Some((group, text)) = split_number(text) else {
@@ -180,4 +180,41 @@ pub fn append(alloc: Global, text: &[u8]) -> Result<Option<(u64, Request)>, Memo
         entries,
     };
     Ok(Some((group, request)))
+}
+
+/// A request, by the first word of its line and what follows it.
+#[tactic(auto, unfolding(crate::specs::Requests::request_at))]
+fn read_words(alloc: Global, word: &[u8], text: &[u8]) -> Result<Option<(u64, Request)>, Memory>
+    ensures { IfOk result (λ asked. asked ≡ request_at word.now text.now) }
+{
+    if word == b"append".as_slice() {
+        return append(alloc, text);
+    }
+    if word == b"vote".as_slice() {
+        return Ok(vote(text));
+    }
+    if word == b"compact".as_slice() {
+        return Ok(compact(text));
+    }
+    if word == b"install".as_slice() {
+        return Ok(install(text));
+    }
+    if word == b"read".as_slice() {
+        return Ok(read(text));
+    }
+    if word == b"status".as_slice() {
+        return Ok(status(text));
+    }
+    if word == b"retire".as_slice() {
+        return Ok(retire(text));
+    }
+    Ok(None)
+}
+
+/// The request that a line tells, without its line feed, with its group; `None` where it tells none.
+pub fn read_request(alloc: Global, line: &[u8]) -> Result<Option<(u64, Request)>, Memory>
+    ensures { IfOk result (λ asked. asked ≡ request_of line.now) }
+{
+    let (word, text) = line.split_at(end_of_word(line));
+    read_words(alloc, word, text)
 }

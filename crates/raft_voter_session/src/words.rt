@@ -2,7 +2,7 @@
 ghost use Rattle.std.specs.Prelude.{◌≡◌, ◌==◌, ◌≤◌, ◌<◌, length, IfOk, MatchOption};
 ghost use Rattle.std.specs.List.{position_or_len, before_first, after_first, list_all};
 ghost use Rattle.std.specs.Option.{option_map};
-ghost use Rattle.raft_voter_session.specs.Words.{is_space, is_lower_hex_digit, number_of, number_at, data_of, value_from, word_at};
+ghost use Rattle.raft_voter_session.specs.Words.{is_space, is_lower_hex_digit, number_of, number_at, data_of, text_of, value_from, word_at};
 
 use hex::FromHexError;
 use raft_voter_messages::{Items, Memory};
@@ -111,5 +111,15 @@ pub fn read_data(alloc: Global, word: &[u8]) -> Result<Option<Items<u8>>, Memory
         Ok(bytes) => Ok(Some(Items::from_vec(bytes))),
         Err(FromHexError::OutOfMemory) => Err(Memory),
         Err(_) => Ok(None),
+    }
+}
+
+/// Bytes as text; `None` where they aren't UTF-8.
+pub fn read_text(bytes: &[u8]) -> Option<&str>
+    ensures { option_map (λ text. text.now) result ≡ text_of bytes.now }
+{
+    match std::str::from_utf8(bytes) {
+        Ok(text) => Some(text),
+        Err(_) => None,
     }
 }

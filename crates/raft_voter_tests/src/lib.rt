@@ -1,5 +1,5 @@
-//! Tests of `raft_voter_messages`, `raft_voter` and `raft_voter_plain`: what no contract says, sessions worked by
-//! hand, faults, and each public call once with memory at hand. They stand above the libraries, so that these
+//! Tests of `raft_voter_messages`, `raft_voter` and `raft_voter_plain`: what no contract says, the texts of faults,
+//! and each public call once with memory at hand. They stand above the libraries, so that these
 //! aren't proved again for them. The crate itself has nothing.
 #![tactic(auto)]
 
@@ -15,8 +15,6 @@ mod outlines;
 mod requests;
 #[cfg(test)]
 mod restoring;
-#[cfg(test)]
-mod sessions;
 #[cfg(test)]
 mod stored;
 #[cfg(test)]

@@ -1,7 +1,8 @@
 //! Voters that take requests, as the lines of a session ask them.
 use crate::requests::vote;
 use raft_voter::{Items, Reply, Request, Voters};
-use raft_voter_session::{Event, read_session};
+use raft_voter_session::read_session;
+use raft_voter_world::Event;
 use std::alloc::Global;
 use std::process::Abort;
 use std::test::Fail;
@@ -89,7 +90,7 @@ fn answer(rt: &impl Abort, alloc: Global, rows: &[(&str, &str)]) -> Result<(), F
         write!(session, "{line}\n")?;
     }
     session.push_str("end\n")?;
-    let mut events = read_session(alloc, session.as_bytes())?;
+    let mut events = read_session(alloc, session.as_bytes())?.events;
     let Some(Event::Round { requests }) = events.pop_front() else {
         assert!(rt; false, "a session that isn't read");
         return Ok(());

@@ -9,6 +9,7 @@ use crate::faults::Fault;
 use crate::store::VoterStorage;
 use raft_voter::{Cause, FilesRefused, Memory};
 use std::alloc::Global;
+use std::thread::Threads;
 
 /// Files that keep the voters of a store while it isn't open: they can be opened and copied, a close gives them
 /// back, a crash of the machine leaves others of them, and calls that change them can be made to fail.
@@ -18,11 +19,16 @@ pub trait VoterDisk<R, S: VoterStorage<R>>: Sized {
     /// Which voters the next open finds, when that is sure, and what calls and crashes make of the files.
     ghost disk: { Disk S Self };
 
-    /// Opens the store, by at least one worker, which may be threads of their own; it hasn't failed then. It is
+    /// Opens the store, by at least one worker, which may be threads of the runtime that is handed in; it hasn't failed then. It is
     /// refused for want of memory, or because the file system failed or the files can't be read; the files are
     /// handed back, and may be opened again.
-    fn open(self, rt: &R, alloc: Global, workers: u64) -> Result<S, FilesRefused<Self>>
-        requires { IsSync R.row }
+    fn open<T: Threads + Sync>(
+        self,
+        rt: &T,
+        alloc: Global,
+        workers: u64,
+    ) -> Result<S, FilesRefused<Self>>
+        requires { IsSync T.row }
         ensures opens { IfOk result (disk.opens self workers) }
         ensures finds { IfOk result (FindsVoters S.service disk self) }
         ensures alive { IfOk result (λ store. S.service.is_failed store ≡ false) }

@@ -9,6 +9,7 @@ use crate::event::Left;
 use crate::store::VoterStorage;
 use raft_voter::{Memory, Voter, Voters};
 use std::alloc::Global;
+use std::thread::Threads;
 
 /// How an open came out.
 #[derive(Drop)]
@@ -23,7 +24,7 @@ pub enum Opened<S, F> {
 
 /// Opens a store over its files by so many workers, unless the disk has stopped. Where it stops in the open, this
 /// is left of it.
-pub fn open_files<R: Sync, S: VoterStorage<R> + Drop, F: VoterDisk<R, S> + Drop>(
+pub fn open_files<R: Threads + Sync, S: VoterStorage<R> + Drop, F: VoterDisk<R, S> + Drop>(
     rt: &R,
     alloc: Global,
     files: F,

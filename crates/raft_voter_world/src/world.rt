@@ -19,6 +19,7 @@ use raft_voter::{Items, Memory, Request};
 pub use running::run_world;
 use std::alloc::Global;
 use std::string::String;
+use std::thread::Threads;
 
 /// A store of voters and its disk: what is there, what is noted of the run so far, and what a stop leaves at
 /// the call that was armed last.
@@ -165,7 +166,12 @@ impl<S: Drop, F: Drop> World<S, F> {
     }
 
     /// Opens the store by so many workers; one that is open is closed first. What it shows is noted.
-    pub fn open<R: Sync>(self, rt: &R, place: usize, workers: u64) -> Result<World<S, F>, Memory>
+    pub fn open<R: Threads + Sync>(
+        self,
+        rt: &R,
+        place: usize,
+        workers: u64,
+    ) -> Result<World<S, F>, Memory>
     where
         S: VoterStorage<R>,
         F: VoterDisk<R, S>,

@@ -5,7 +5,7 @@
 //! where memory, reading or writing was refused.
 #![tactic(auto)]
 
-use raft_voter_plain::start;
+use raft_voter_program::start;
 use std::process::ExitCode;
 
 fn main(rt: HostRuntime) -> ExitCode {

@@ -13,12 +13,13 @@ use crate::store::VoterStorage;
 use raft_voter::Memory;
 use std::alloc::Global;
 use std::collections::VecDeque;
+use std::thread::Threads;
 
 /// Plays events one after another from these files on; a store that is still open behind the last one is closed.
 /// It is told what the rounds came to, how far those were taken that were cut off, and the files.
 ///
 /// `Memory`: there was no room for what is told, or for what a crash leaves; nothing is told then.
-pub fn run_world<R: Sync, S: VoterStorage<R> + Drop, F: VoterDisk<R, S> + Drop>(
+pub fn run_world<R: Threads + Sync, S: VoterStorage<R> + Drop, F: VoterDisk<R, S> + Drop>(
     rt: &R,
     alloc: Global,
     files: F,
@@ -47,7 +48,12 @@ fn standing<R, S: VoterStorage<R>, F: VoterDisk<R, S> + Drop>(
 impl<S: Drop, F: Drop> World<S, F> {
     /// One event happens; this is its place among all, counted from 0. Where the disk stops in it, the crash
     /// follows at once.
-    pub fn step<R: Sync>(self, rt: &R, place: usize, event: Event) -> Result<World<S, F>, Memory>
+    pub fn step<R: Threads + Sync>(
+        self,
+        rt: &R,
+        place: usize,
+        event: Event,
+    ) -> Result<World<S, F>, Memory>
     where
         S: VoterStorage<R>,
         F: VoterDisk<R, S>,
@@ -69,7 +75,11 @@ impl<S: Drop, F: Drop> World<S, F> {
     }
 
     /// Events happen one after another.
-    fn play<R: Sync>(self, rt: &R, mut events: VecDeque<Event>) -> Result<World<S, F>, Memory>
+    fn play<R: Threads + Sync>(
+        self,
+        rt: &R,
+        mut events: VecDeque<Event>,
+    ) -> Result<World<S, F>, Memory>
     where
         S: VoterStorage<R>,
         F: VoterDisk<R, S>,

@@ -9,5 +9,5 @@ returns-clause-ok g c =
 
 pub returns-clause-err : goal.returns-clause-err
 returns-clause-err g c =
-    early_of_front c.run_bytes.result error_kind _ _ (g.I.Read.remaining c.args.reader.now) _ _ c.in_ok-front.front.items c.as_slice.result.now c.in_ok-front.ensures.ok c.as_slice.ensures.value
+    early_of_front c.run_bytes.result error_kind _ (g.I.Read.remaining c.args.reader.now) _ _ c.in_ok-front.front.items c.as_slice.result.now c.in_ok-front.ensures.ok c.as_slice.ensures.value
     c.run_bytes.ensures.err

@@ -1,0 +1,88 @@
+//! The program over a store on a log.
+ghost use Rattle.std.specs.Prelude.{◌≡◌, false, true, IfOk, IfSome, OnErr};
+ghost use Rattle.raft_voter_run.specs.Run.{Ends, EndsEarly, WritesSession};
+ghost use Rattle.raft_voter_program.specs.Setup.{log_setup};
+
+use crate::setup::LogSetup;
+use log::Log;
+use raft_voter::RoundService;
+use raft_voter_log::{LogFiles, LogVoters};
+use raft_voter_run::{exit_status, has_arguments};
+use raft_voter_world::{VoterDisk, VoterStorage};
+use std::alloc::Global;
+use std::env::Env;
+use std::io;
+use std::io::{Input, Print, Read, Write};
+use std::thread::Threads;
+
+/// The whole program over its runtime: with arguments they are refused, else the session on standard input is
+/// run. The answer is the status with which it ends.
+pub fn start(rt: &(impl Env + Input + Print + Threads + Log + Sync + AllocGlobal)) -> u8 {
+    let ended = program(
+        rt,
+        has_arguments(rt),
+        rt.alloc(),
+        &mut rt.reader(),
+        &mut io::writer(rt),
+    );
+    exit_status(ended)
+}
+
+/// The program of `raft_voter_run` over a store on a log: with arguments it refuses them and reads nothing,
+/// without it runs a session. An `Err` tells that memory, the reader or the writer was refused, and no verdict is
+/// claimed.
+pub fn program<R: Threads + Log + Sync, I: Read, W: Write>(
+    rt: &R,
+    has_arguments: bool,
+    alloc: Global,
+    reader: &mut I,
+    writer: &mut W,
+) -> io::Result<u8>
+    ensures ok { IfOk result (λ status. IfSome (I.remaining reader.old) (λ input.
+        Ends (WritesSession ⟦<LogVoters as RoundService<R>>⟧.service ⟦<LogVoters as VoterStorage<R>>⟧.upkeep
+        ⟦<LogFiles as VoterDisk<R, LogVoters>>⟧.disk log_setup) has_arguments input
+        (W.contents writer.old) (W.contents writer.new) status)) }
+    ensures err { OnErr result (IfSome (I.remaining reader.old) (λ input.
+        EndsEarly (WritesSession ⟦<LogVoters as RoundService<R>>⟧.service ⟦<LogVoters as VoterStorage<R>>⟧.upkeep
+        ⟦<LogFiles as VoterDisk<R, LogVoters>>⟧.disk log_setup) has_arguments input
+        (W.contents writer.old) (W.contents writer.new))) }
+    ensures unread { has_arguments ≡ true → reader.new ≡ reader.old }
+{
+    raft_voter_run::program::<R, LogVoters, LogFiles, LogSetup, I, W>(
+        rt,
+        has_arguments,
+        alloc,
+        &LogSetup {},
+        reader,
+        writer,
+    )
+}
+
+/// The run of `raft_voter_run` over a store on a log: reads a session, runs its events, and writes the transcript
+/// with a verdict, or that its settings are refused, or which line is the first that is unreadable. The status is 0
+/// where the verdict is yes, 1 where it is no or settings are refused, and 2 for an unreadable line. An `Err` tells
+/// that memory, the reader or the writer was refused: then nothing was written, or the front of what may be
+/// written, and no verdict.
+pub fn run<R: Threads + Log + Sync, I: Read, W: Write>(
+    rt: &R,
+    alloc: Global,
+    reader: &mut I,
+    writer: &mut W,
+) -> io::Result<u8>
+    ensures ok { IfOk result (λ status. IfSome (I.remaining reader.old) (λ input.
+        Ends (WritesSession ⟦<LogVoters as RoundService<R>>⟧.service ⟦<LogVoters as VoterStorage<R>>⟧.upkeep
+        ⟦<LogFiles as VoterDisk<R, LogVoters>>⟧.disk log_setup) false input
+        (W.contents writer.old) (W.contents writer.new) status)) }
+    ensures err { OnErr result (IfSome (I.remaining reader.old) (λ input.
+        EndsEarly (WritesSession ⟦<LogVoters as RoundService<R>>⟧.service ⟦<LogVoters as VoterStorage<R>>⟧.upkeep
+        ⟦<LogFiles as VoterDisk<R, LogVoters>>⟧.disk log_setup) false input
+        (W.contents writer.old) (W.contents writer.new))) }
+{
+    raft_voter_run::run::<R, LogVoters, LogFiles, LogSetup, I, W>(
+        rt,
+        alloc,
+        &LogSetup {},
+        reader,
+        writer,
+    )
+}

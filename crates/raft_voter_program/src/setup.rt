@@ -1,0 +1,62 @@
+//! The files with which a session begins.
+ghost use Rattle.std.specs.Prelude.{◌≡◌, IfErr, IfOk};
+ghost use Rattle.std.specs.Option.{option_map};
+ghost use Rattle.std.specs.String.{string_bytes};
+ghost use Rattle.raft_log_file_settings.specs.Settings.{settings_of};
+ghost use Rattle.raft_voter_program.specs.Setup.{IsUnset, log_setup, refusal_of, TellsSettings};
+
+use log::Log;
+use raft_log_engine::{Config, Error};
+use raft_voter_log::{LogFiles, LogVoters};
+use raft_voter_run::{NoFiles, StoreSetup};
+use std::alloc::Global;
+
+/// The directory of the log where a session tells no settings.
+const USUAL_DIRECTORY: &str = "raft";
+
+/// Begins a store in a file system in memory without a file.
+#[derive(Clone, Copy, Debug, PartialEq, Eq)]
+pub struct LogSetup {}
+
+impl<R: Log> StoreSetup<R, LogVoters, LogFiles> for LogSetup {
+    ghost setup = { log_setup };
+
+    fn files(&self, rt: &R, alloc: Global, settings: &Option<String>) -> Result<LogFiles, NoFiles> {
+        let mut config = config_of(alloc, settings)?;
+        match config.sanitize(rt, alloc) {
+            Ok(()) => Ok(LogFiles::new(alloc, config)),
+            Err(Error::Memory) => Err(NoFiles::Memory),
+            Err(_) => Err(NoFiles::Settings),
+        }
+    }
+}
+
+/// The settings of this text, or the usual ones in the usual directory where there is none.
+fn config_of(alloc: Global, settings: &Option<String>) -> Result<Config, NoFiles>
+    ensures ok { IfOk result (λ config.
+        TellsSettings (option_map string_bytes settings.now) (settings_of config)) }
+    ensures err { IfErr result (IsUnset (option_map string_bytes settings.now)) }
+{
+    let Some(text) = settings else {
+        let mut config = Config::default(alloc);
+        let Ok(directory) = String::from_str(alloc, USUAL_DIRECTORY) else {
+            return Err(NoFiles::Memory);
+        };
+        config.dir = directory;
+        return Ok(config);
+    };
+    match Config::from_toml(alloc, text.as_str()) {
+        Ok(config) => Ok(config),
+        Err(error) => Err(refusal_of(error)),
+    }
+}
+
+/// Why there are no settings: want of memory, or else they are refused.
+fn refusal_of(error: Error) -> NoFiles
+    ensures { result ≡ refusal_of error }
+{
+    match error {
+        Error::Memory => NoFiles::Memory,
+        _ => NoFiles::Settings,
+    }
+}

@@ -1,6 +1,0 @@
-use Rattle.std.proofs.Common.{◌≡◌, ◌++◌, drop}
-use Rattle.raft_voter.specs.Service.{refused_from}
-use Rattle.raft_voter_run.proofs.storage.refused_places.Given as goal
-
-abbrev pub invariant-loop-place : goal.invariant-loop-place
-invariant-loop-place l = l.places ++ refused_from l.place (drop l.place l.replies) ≡ refused_from 0 l.replies

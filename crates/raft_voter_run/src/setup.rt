@@ -1,0 +1,33 @@
+//! The files with which a store begins, by its settings.
+ghost use Rattle.std.specs.Prelude.{IfErr, IfOk};
+ghost use Rattle.std.specs.Option.{option_map};
+ghost use Rattle.std.specs.String.{string_bytes};
+ghost use Rattle.raft_voter.specs.Rounds.{fresh_world};
+ghost use Rattle.raft_voter.specs.Service.{uncut};
+ghost use Rattle.raft_voter_run.specs.Setup.{IsWithoutFiles};
+
+use raft_voter_world::{VoterDisk, VoterStorage};
+use std::alloc::Global;
+
+/// Why there are no files.
+#[derive(Clone, Copy, Debug, PartialEq, Eq)]
+pub enum NoFiles {
+    /// The settings are refused.
+    Settings,
+    /// Memory was refused.
+    Memory,
+}
+
+/// What makes the files of a store in which no voter is stored, as settings say.
+pub trait StoreSetup<R, S: VoterStorage<R>, F: VoterDisk<R, S>> {
+    ghost use Rattle.raft_voter_run.specs.Setup.{Setup};
+
+    /// Which files the text of settings makes, and which text is refused.
+    ghost setup: { Setup F };
+
+    /// The files of a store with these settings, or with the usual ones where there is no text.
+    fn files(&self, rt: &R, alloc: Global, settings: &Option<String>) -> Result<F, NoFiles>
+        ensures makes { IfOk result (setup.makes (option_map string_bytes settings.now)) }
+        ensures empty { IfOk result (λ files. F.disk.leaves files (uncut fresh_world)) }
+        ensures err { IfErr result (IsWithoutFiles setup (option_map string_bytes settings.now)) };
+}

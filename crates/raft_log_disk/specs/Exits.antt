@@ -1,6 +1,6 @@
 -- Each changing call of a file system: what stands when it was answered, and when it was refused. The state
 -- before it comes first, then the one after it.
-use Rattle.std.specs.Prelude.{◌≡◌, ℕ, ◌⊎◌, false, List}
+use Rattle.std.specs.Prelude.{◌≡◌, ℕ, ◌⊎◌, true, false, List}
 use Rattle.std.specs.String.{string_bytes}
 use Rattle.std.specs.declared.io.ErrorKind.{ErrorKind}
 use Rattle.std.specs.declared.io.ErrorKind.TheVariants.{OutOfMemory}
@@ -102,3 +102,7 @@ denied_by fault d = d
 pub record Arms (fault : Fault) (old new : Disk) : Type 0 where
   pub runs : old.stopped ≡ false
   pub marks : (new ≡ old) ⊎ (new ≡ denied_by fault old)
+
+-- no fault is armed after a stop, nor without memory
+abbrev pub IsUnarmed : Disk → ErrorKind → Type 0
+IsUnarmed d error = (d.stopped ≡ true) ⊎ (error ≡ OutOfMemory)

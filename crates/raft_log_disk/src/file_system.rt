@@ -3,10 +3,11 @@
 ghost use Rattle.std.specs.Prelude.{◌≡◌, ℕ, ◌+◌, ◌<◌, Bool, true, List, length, IfOk, IfErr, OnOk, OnErr, map};
 ghost use Rattle.std.specs.String.{string_bytes};
 ghost use Rattle.raft_log_disk.specs.Disk.{Disk};
+ghost use Rattle.raft_log_disk.specs.declared.handle.Fault.{Fault};
 ghost use Rattle.raft_log_disk.specs.Image.{IsSound};
 ghost use Rattle.raft_log_disk.specs.Calls.{Creates, Deletes, Renames, MakesDirectory};
 ghost use Rattle.raft_log_disk.specs.Reading.{IsOpened, IsNotOpened, IsListing, IsNotListed, FillsRoom, IsUnread, IsSize, IsNotMeasured};
-ghost use Rattle.raft_log_disk.specs.Exits.{FailsToCreate, FailsToDelete, FailsToRename, RenamesAndOpens, FailsToRenameAndOpen, FailsToMakeDirectory, LeavesAll, FailsWithoutChange, Writes, FailsToWrite, Shortens, FailsToShorten, Grows, FailsToGrow, Syncs, FailsToSync, Arms};
+ghost use Rattle.raft_log_disk.specs.Exits.{FailsToCreate, FailsToDelete, FailsToRename, RenamesAndOpens, FailsToRenameAndOpen, FailsToMakeDirectory, LeavesAll, FailsWithoutChange, Writes, FailsToWrite, Shortens, FailsToShorten, Grows, FailsToGrow, Syncs, FailsToSync, Arms, IsUnarmed};
 
 use super::handle::{Fault, Handle, Permission};
 use std::io::ErrorKind;
@@ -41,6 +42,9 @@ pub trait FileSystem {
     /// What may be answered, asked how many bytes a directory's files may still grow by. It doesn't stand on
     /// the disk: others may take of the same space.
     ghost tells_space: { Self → List ℕ → ℕ → Type 0 };
+
+    /// What arming a fault makes of the file system, beside its disk: which later calls it refuses, and how.
+    ghost arms: { Fault → Self → Self → Type 0 };
 
     /// Makes an empty file, and answers a handle that may write it. `AlreadyExists` where a file or a
     /// directory has the path, `NotFound` where its directory isn't there.
@@ -171,17 +175,12 @@ pub trait FileSystem {
         ensures { result ≡ (disk self.now).stopped };
 
     /// Arms a fault: it alters which later calls are refused, and how, and what `free_space` answers, and
-    /// nothing else. By default nothing happens.
+    /// nothing else. It isn't armed after a stop, or for want of memory.
     fn arm(&mut self, fault: &Fault) -> Result<(), ErrorKind>
         ensures ok { OnOk result (Arms fault.now (disk self.old) (disk self.new)) }
+        ensures armed { OnOk result (arms fault.now self.old self.new) }
         ensures err { OnErr result (disk self.new ≡ disk self.old) }
-    {
-        let _fault = fault;
-        if self.has_stopped() {
-            return Err(ErrorKind::Other);
-        }
-        Ok(())
-    }
+        ensures cause { IfErr result (IsUnarmed (disk self.old)) };
 
     /// No file has two names, a name has a file, a new file's number was never used, and each file's content
     /// is one of what a crash may leave.

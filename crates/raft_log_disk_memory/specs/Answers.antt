@@ -2,7 +2,6 @@
 use Rattle.std.specs.Prelude.{◌≡◌, ◌⊎◌, ◌++◌, ℕ, true, false, None, List, [], ◌∷◌, Result}
 use Rattle.std.specs.Result.{IfErr}
 use Rattle.std.specs.declared.io.ErrorKind.{ErrorKind}
-use Rattle.std.specs.declared.io.ErrorKind.TheVariants.{OutOfMemory}
 use Rattle.raft_log_disk.specs.Disk.{Change, Disk}
 use Rattle.raft_log_disk.specs.Calls.{Changes, Creates, flushed}
 use Rattle.raft_log_disk.specs.Arguments.{WrongHandle, WrongWriter, WrongListing}
@@ -35,10 +34,6 @@ RefusesChange handle change result old new =
 -- there was space for a change of a handle's file
 abbrev pub FindsSpace : Handle → Change → MemoryFileSystem → Type 0
 FindsSpace handle change old = HasSpaceFor handle.file change old
-
--- no fault is armed after a stop, nor without memory
-abbrev pub ArmsNothing : MemoryFileSystem → ErrorKind → Type 0
-ArmsNothing system error = ((disk_of system).stopped ≡ true) ⊎ (error ≡ OutOfMemory)
 
 -- an armed refusal fell, also one in part
 abbrev pub HasRefused : ErrorKind → MemoryFileSystem → MemoryFileSystem → Type 0

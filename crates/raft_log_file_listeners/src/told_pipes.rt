@@ -72,6 +72,8 @@ impl<P: PipeLog, E: EventListener> PipeLog for ToldPipes<P, E> {
 
     ghost disk_of = { λ files. P.disk_of files };
 
+    ghost arms_files = { λ fault old new. P.arms_files fault old new };
+
     ghost holds_back = { λ told queue.
         BothHoldBack (P.holds_back told.pipes queue) (E.holds_back told.listener queue) };
 

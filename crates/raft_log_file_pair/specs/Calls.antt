@@ -1,6 +1,7 @@
 -- What each call on a log's pipes makes of the log that they run over.
 use Rattle.std.specs.Prelude.{◌≡◌, ◌⊎◌, ◌↔◌, IsTrue, ℕ, ◌+◌, ◌-◌, ◌*◌, ◌/◌, ◌^◌, min, suc, true, None, Err, Result, List, length}
 use Rattle.raft_log_disk.specs.Causes.{Fails}
+use Rattle.raft_log_disk.specs.Exits.{IsUnarmed}
 use Rattle.raft_log_file_laws.specs.LogQueue.{LogFiles}
 use Rattle.raft_log_record_base.specs.declared.errors.Error.{Error}
 use Rattle.raft_log_record_base.specs.declared.errors.Error.TheVariants as errors
@@ -159,7 +160,7 @@ StaysFailed result v w = is_failed v ≡ true → (result ≡ Err errors.Failed)
 abbrev pub TellsFailure : {A : Type 0} → Result A Error → LogPipes → Type 0
 TellsFailure result w = IsTrue (is_failed w) ↔ (result ≡ Err errors.Failed)
 
--- a call was refused by the file system
-abbrev pub IsIo : Error → Type 0
-IsIo (errors.Io kind) = Unit {0}
-IsIo _ = ⊥
+-- no fault is armed: the file system had stopped, or memory ran out
+abbrev pub ArmsNoPipes : LogPipes → Error → Type 0
+ArmsNoPipes v (errors.Io kind) = IsUnarmed v.disk kind
+ArmsNoPipes v _ = ⊥

@@ -75,6 +75,8 @@ impl<F: FileSystem> PipeLog for DualPipes<F> {
 
     ghost disk_of = { λ file_system. F.disk file_system };
 
+    ghost arms_files = { λ fault old new. F.arms fault old new };
+
     ghost holds_back = { λ pipes queue held. held ≡ None };
 
     fn is_failed(&self) -> bool {

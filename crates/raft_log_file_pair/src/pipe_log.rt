@@ -20,11 +20,12 @@ pub trait PipeLog {
     ghost use Rattle.raft_log_file_pipe.specs.Purging.{IsInSpan};
     ghost use Rattle.raft_log_file_pair.specs.Pipes.{ArmsPipes, LogPipes, files_of, is_failed, which_of};
     ghost use Rattle.raft_log_disk.specs.Disk.{Disk};
+    ghost use Rattle.raft_log_disk.specs.declared.handle.Fault.{Fault};
     ghost use Rattle.raft_log_record_base.specs.declared.pipe_log.LogQueue.{LogQueue};
     ghost use Rattle.raft_log_file_pair.specs.ClosingCalls.{ClosesInOrder, ClosesLog};
     ghost use Rattle.raft_log_file_pair.specs.Numbers.{EndsNumbers, EndsNumbersAt, EndsNumbersBelow};
     ghost use Rattle.raft_log_file_pair.specs.LastFile.{IsNextIfFull, RaisesPipe, TurnsBehind, last_of};
-    ghost use Rattle.raft_log_file_pair.specs.Calls.{AppendsTo, FailsToAppendTo, FailsToPurgeQueue, FailsToRotateQueue, FailsToSyncQueue, IsIo, IsSpanOf, PurgesQueue, RotatesQueue, StaysFailed, SyncsQueue, TellsFailure, seq_at, size_at};
+    ghost use Rattle.raft_log_file_pair.specs.Calls.{AppendsTo, ArmsNoPipes, FailsToAppendTo, FailsToPurgeQueue, FailsToRotateQueue, FailsToSyncQueue, IsSpanOf, PurgesQueue, RotatesQueue, StaysFailed, SyncsQueue, TellsFailure, seq_at, size_at};
     ghost use Rattle.raft_log_file_pair.specs.PipeCalls.{KeepRules, PipeAppends, PipeFailsToAppend, PipeFailsToPurge, PipeFailsToRotate, PipeFailsToSync, PipePurges, PipeRotates, PipeSyncs};
 
     /// The file system that the files are in, which a close gives back.
@@ -38,6 +39,9 @@ pub trait PipeLog {
 
     /// Its disk.
     ghost disk_of: { Self.Files → Disk };
+
+    /// What arming a fault makes of it, beside its disk.
+    ghost arms_files: { Fault → Self.Files → Self.Files → Type 0 };
 
     /// What whoever listens holds back of a queue: nothing, or the files from a number on.
     ghost holds_back: { Self → LogQueue → Option ℕ → Type 0 };
@@ -53,11 +57,12 @@ pub trait PipeLog {
     /// Arms a fault of the file system: it alters which later calls are refused, and nothing else; a place
     /// that it makes unreadable is marked on the disk.
     ///
-    /// `Io` where it isn't armed.
+    /// `Io` where it isn't armed: the file system had stopped, or memory ran out.
     fn arm(&mut self, fault: &Fault) -> Result<()>
         ensures ok { OnOk result (ArmsPipes fault.now (shown self.old) (shown self.new)) }
+        ensures armed { OnOk result (arms_files fault.now (files self.old) (files self.new)) }
         ensures err { OnErr result (shown self.new ≡ shown self.old) }
-        ensures errors { IfErr result IsIo };
+        ensures cause { IfErr result (ArmsNoPipes (shown self.old)) };
 
     /// The numbers of the first and the last file of a queue.
     fn file_span(&self, queue: LogQueue) -> (FileSeq, FileSeq)

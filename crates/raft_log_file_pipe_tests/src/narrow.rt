@@ -2,8 +2,9 @@
 
 ghost use Rattle.std.specs.Prelude.{◌≡◌};
 ghost use Rattle.raft_log_disk_memory.specs.Memory.{disk_of};
+ghost use Rattle.raft_log_disk_memory.specs.Turns.{armed, armed_with};
 
-use raft_log_disk::{FileSystem, Handle, Permission};
+use raft_log_disk::{Fault, FileSystem, Handle, Permission};
 use raft_log_disk_memory::MemoryFileSystem;
 use std::io::ErrorKind;
 
@@ -54,6 +55,8 @@ impl FileSystem for Narrow {
     ghost disk = { λ system. disk_of system.files };
 
     ghost tells_space = { λ system directory space. Unit {0} };
+
+    ghost arms = { λ fault old new. armed new.files ≡ armed_with fault (armed old.files) };
 
     fn create(&mut self, path: &str) -> Result<Handle, ErrorKind> {
         let handle = self.files.create(path)?;
@@ -131,6 +134,10 @@ impl FileSystem for Narrow {
 
     fn has_stopped(&self) -> bool {
         self.files.has_stopped()
+    }
+
+    fn arm(&mut self, fault: &Fault) -> Result<(), ErrorKind> {
+        self.files.arm(fault)
     }
 
     ghost sound = { λ system. let storage = system.files.whole.sound in

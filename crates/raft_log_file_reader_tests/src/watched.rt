@@ -2,7 +2,7 @@
 ghost use Rattle.std.specs.Prelude.{◌≡◌, ◌+◌, ◌≤◌, ◌<◌, ◌↔◌, IsTrue};
 ghost use Rattle.raft_log_file_reader_tests.specs.Watched.{with_mark, with_mark_is_sound};
 
-use raft_log_disk::{FileSystem, Handle, Permission};
+use raft_log_disk::{Fault, FileSystem, Handle, Permission};
 use std::cell::Cell;
 use std::io::ErrorKind;
 
@@ -69,6 +69,8 @@ impl<F: FileSystem> FileSystem for Watched<F> {
     ghost disk = { λ system. with_mark system.file system.place system.stopped (F.disk system.files) };
 
     ghost tells_space = { λ system. F.tells_space system.files };
+
+    ghost arms = { λ fault old new. new ≡ old };
 
     fn create(&mut self, _path: &str) -> Result<Handle, ErrorKind> {
         self.stopped = true;
@@ -161,6 +163,13 @@ impl<F: FileSystem> FileSystem for Watched<F> {
 
     fn has_stopped(&self) -> bool {
         self.stopped || self.files.has_stopped()
+    }
+
+    fn arm(&mut self, _fault: &Fault) -> Result<(), ErrorKind> {
+        if self.has_stopped() {
+            return Err(ErrorKind::Other);
+        }
+        Ok(())
     }
 
     ghost sound = { λ system.

@@ -1,8 +1,9 @@
 //! What a file system keeps beside files that a log has no more is deleted as the log is opened.
 
 ghost use Rattle.raft_log_disk_memory.specs.Memory.{disk_of};
+ghost use Rattle.raft_log_disk_memory.specs.Turns.{armed, armed_with};
 
-use raft_log_disk::{FileSystem, Handle, Permission};
+use raft_log_disk::{Fault, FileSystem, Handle, Permission};
 use raft_log_disk_memory::MemoryFileSystem;
 use raft_log_file_settings::Config;
 use raft_log_open_builder::DualPipesBuilder;
@@ -34,6 +35,8 @@ impl FileSystem for Keeping {
     ghost disk = { λ system. disk_of system.files };
 
     ghost tells_space = { λ system directory space. Unit {0} };
+
+    ghost arms = { λ fault old new. armed new.files ≡ armed_with fault (armed old.files) };
 
     fn create(&mut self, path: &str) -> Result<Handle, ErrorKind> {
         self.files.create(path)
@@ -103,6 +106,10 @@ impl FileSystem for Keeping {
 
     fn has_stopped(&self) -> bool {
         self.files.has_stopped()
+    }
+
+    fn arm(&mut self, fault: &Fault) -> Result<(), ErrorKind> {
+        self.files.arm(fault)
     }
 
     ghost sound = { λ system. let storage = system.files.whole.sound in

@@ -1,5 +1,5 @@
 //! A file system that counts its reads.
-use raft_log_disk::{FileSystem, Handle, Permission};
+use raft_log_disk::{Fault, FileSystem, Handle, Permission};
 use std::io::ErrorKind;
 use std::sync::Arc;
 use std::sync::atomic::AtomicU64;
@@ -21,6 +21,8 @@ impl<F: FileSystem> FileSystem for Counting<F> {
     ghost disk = { λ system. F.disk system.files };
 
     ghost tells_space = { λ system. F.tells_space system.files };
+
+    ghost arms = { λ fault old new. F.arms fault old.files new.files };
 
     fn create(&mut self, path: &str) -> Result<Handle, ErrorKind> {
         self.files.create(path)
@@ -82,6 +84,10 @@ impl<F: FileSystem> FileSystem for Counting<F> {
 
     fn has_stopped(&self) -> bool {
         self.files.has_stopped()
+    }
+
+    fn arm(&mut self, fault: &Fault) -> Result<(), ErrorKind> {
+        self.files.arm(fault)
     }
 
     ghost sound = { λ system. F.sound system.files };

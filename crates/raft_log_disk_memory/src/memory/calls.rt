@@ -9,18 +9,20 @@ impl FileSystem for MemoryFileSystem {
     ghost use Rattle.std.specs.Prelude.{◌≡◌, ◌+◌, ◌++◌, ◌∷◌, [], ◌⊎◌, true, OnOk, OnErr, IfOk, IfErr};
     ghost use Rattle.raft_log_disk.specs.Disk.{Wrote, ShortenedTo, GrewTo};
     ghost use Rattle.raft_log_disk.specs.Calls.{Creates, Deletes, Renames, MakesDirectory};
-    ghost use Rattle.raft_log_disk.specs.Exits.{FailsToCreate, FailsToDelete, FailsToRename, FailsToMakeDirectory, Writes, FailsToWrite, Shortens, FailsToShorten, Grows, FailsToGrow, Syncs, FailsToSync, Arms, denied_by};
+    ghost use Rattle.raft_log_disk.specs.Exits.{FailsToCreate, FailsToDelete, FailsToRename, FailsToMakeDirectory, Writes, FailsToWrite, Shortens, FailsToShorten, Grows, FailsToGrow, Syncs, FailsToSync, Arms, IsUnarmed, denied_by};
     ghost use Rattle.raft_log_disk.specs.Arguments.{WrongCreate, WrongName, WrongRename, WrongDirectory, WrongHandle, WrongWriter};
     ghost use Rattle.raft_log_disk_memory.specs.Memory.{disk_of, unsynced};
     ghost use Rattle.raft_log_disk_storage.specs.Order.{without_file};
     ghost use Rattle.raft_log_disk.specs.Reading.{IsNotListed};
     ghost use Rattle.raft_log_disk_memory.specs.Space.{IsFree};
     ghost use Rattle.raft_log_disk_memory.specs.Turns.{armed, armed_with, IsAnswered};
-    ghost use Rattle.raft_log_disk_memory.specs.Answers.{RefusesWhole, RefusesChange, ArmsNothing, AddsLast, ForgetsNamed, ForgetsReplaced, CreatesNext, FindsSpace, SyncsAll, order_of, order_without, order_without_named, order_without_replaced};
+    ghost use Rattle.raft_log_disk_memory.specs.Answers.{RefusesWhole, RefusesChange, AddsLast, ForgetsNamed, ForgetsReplaced, CreatesNext, FindsSpace, SyncsAll, order_of, order_without, order_without_named, order_without_replaced};
 
     ghost disk = { disk_of };
 
     ghost tells_space = { λ system directory space. IsFree (armed system).spaces directory (disk_of system) space };
+
+    ghost arms = { λ fault old new. armed new ≡ armed_with fault (armed old) };
 
     fn create(&mut self, path: &str) -> Result<Handle, ErrorKind>
         ensures ok { IfOk result (λ handle.
@@ -240,11 +242,11 @@ impl FileSystem for MemoryFileSystem {
 
     fn arm(&mut self, fault: &Fault) -> Result<(), ErrorKind>
         ensures ok { OnOk result (Arms fault.now (disk_of self.old) (disk_of self.new)) }
-        ensures err { OnErr result (disk_of self.new ≡ disk_of self.old) }
         ensures armed { OnOk result (armed self.new ≡ armed_with fault.now (armed self.old)) }
+        ensures err { OnErr result (disk_of self.new ≡ disk_of self.old) }
+        ensures cause { IfErr result (IsUnarmed (disk_of self.old)) }
         ensures denied { OnOk result (disk_of self.new ≡ denied_by fault.now (disk_of self.old)) }
         ensures order { unsynced self.new ≡ unsynced self.old }
-        ensures cause { IfErr result (ArmsNothing self.old) }
     {
         self.check_runs()?;
         match fault {

@@ -1,7 +1,7 @@
 //! What is told of the log as a whole.
 
 ghost use Rattle.std.specs.Prelude.{◌≡◌, IfErr, IfOk, OnErr, OnOk};
-ghost use Rattle.raft_log_file_pair.specs.Calls.{IsIo};
+ghost use Rattle.raft_log_file_pair.specs.Calls.{ArmsNoPipes};
 ghost use Rattle.raft_log_engine_core.specs.Reads.{shows_of, IsFailed, Lives};
 ghost use Rattle.raft_log_engine_core.specs.Touching.{StaysPurged};
 ghost use Rattle.raft_log_engine_core.specs.Whole.{used_size, ArmsEngine, TellsSpan};
@@ -22,13 +22,15 @@ impl<P: PipeLog> LogEngine<P> {
     /// Arms a fault of the file system: it alters which later calls are refused, and nothing else; a place
     /// that it makes unreadable is marked on the disk.
     ///
-    /// `Io` where it isn't armed.
+    /// `Io` where it isn't armed: the file system had stopped, or memory ran out.
     pub fn arm(&mut self, fault: &Fault) -> Result<()>
         ensures ok { OnOk result
             (ArmsEngine fault.now (shows_of P.shown self.old) (shows_of P.shown self.new)) }
+        ensures armed { OnOk result
+            (P.arms_files fault.now (P.files self.old.pipes) (P.files self.new.pipes)) }
         ensures err { OnErr result (shows_of P.shown self.new ≡ shows_of P.shown self.old) }
         ensures purges { StaysPurged self.old self.new }
-        ensures errors { IfErr result IsIo }
+        ensures cause { IfErr result (ArmsNoPipes (P.shown self.old.pipes)) }
     {
         self.pipes.arm(fault)
     }

@@ -16,7 +16,7 @@ use raft_log_engine::{Fault, FileSeq, LogQueue, PipeLog, Result};
 impl<P: PipeLog> VoterStore<P> {
     ghost use Rattle.raft_log_engine.specs.raft_log_disk.specs.Causes.{IsLater};
     ghost use Rattle.raft_log_engine.specs.raft_log_engine_laws.specs.Shows.{has_failed};
-    ghost use Rattle.raft_log_engine.specs.raft_log_file_pair.specs.Calls.{IsIo};
+    ghost use Rattle.raft_log_engine.specs.raft_log_file_pair.specs.Calls.{ArmsNoPipes};
     ghost use Rattle.raft_log_engine.specs.raft_log_file_pair.specs.ClosingCalls.{ClosesLog};
     ghost use Rattle.raft_log_engine_laws.specs.Syncing.{NotSynced, SyncsAppend};
     ghost use Rattle.raft_voter_store.specs.Upkeep.{KeepsOrLeavesVoters, KeepsVoters};
@@ -56,14 +56,17 @@ impl<P: PipeLog> VoterStore<P> {
     }
 
     /// Arms a fault of the file system: it alters which later calls are refused, and nothing else; a place
-    /// that it makes unreadable is marked on the disk. `Io` where it isn't armed.
+    /// that it makes unreadable is marked on the disk. `Io` where it isn't armed: the file system had stopped,
+    /// or memory ran out.
     pub fn arm(&mut self, fault: &Fault) -> Result<()>
         ensures ok { OnOk result (ArmsEngine fault.now
             (shows_of P.shown self.old.engine) (shows_of P.shown self.new.engine)) }
         ensures err { OnErr result
             (shows_of P.shown self.new.engine ≡ shows_of P.shown self.old.engine) }
+        ensures armed { OnOk result (P.arms_files fault.now
+            (P.files self.old.engine.pipes) (P.files self.new.engine.pipes)) }
         ensures outlines { self.new.outlines ≡ self.old.outlines }
-        ensures errors { IfErr result IsIo }
+        ensures cause { IfErr result (ArmsNoPipes (P.shown self.old.engine.pipes)) }
     {
         self.engine.arm(fault)
     }

@@ -5,6 +5,8 @@ use Rattle.raft_log_engine_laws.specs.Shows.{Home, Shows, has_failed}
 use Rattle.raft_log_disk.specs.Disk.{Disk as OnDisk}
 use Rattle.raft_log_disk.specs.Exits.{denied_by}
 use Rattle.raft_log_disk.specs.declared.handle.Fault.{Fault as DiskFault}
+use Rattle.raft_log_disk_memory.specs.Turns.{armed, armed_with}
+use Rattle.raft_log_disk_memory.specs.declared.memory.MemoryFileSystem.{MemoryFileSystem}
 use Rattle.raft_log_engine_core.specs.Whole.{ArmsEngine}
 use Rattle.raft_voter_outline.specs.State.{State}
 use Rattle.raft_voter.specs.Rounds.{World}
@@ -18,7 +20,7 @@ use Rattle.raft_voter_world.specs.declared.faults.Fault.{Fault}
 use Rattle.raft_voter_world.specs.declared.faults.Fault.TheVariants.{Refuse, Stop}
 use Rattle.raft_voter_world.specs.Stores.{StaysAsItWas, TellsVoters}
 use Rattle.raft_voter_log.specs.Faults.{fault_of}
-use Rattle.raft_voter_log.specs.Instance.{ArmsOrNot}
+use Rattle.raft_voter_log.specs.Instance.{ArmsStore}
 
 -- what three clauses say of a refusal
 pub of_refusals : {X E : Type 0} (r : Result X E) (P Q T R : E → Type 0) → ((e : E) → P e → Q e → T e → R e) → IfErr r P → IfErr r Q → IfErr r T → IfErr r R
@@ -37,13 +39,13 @@ read_leaves h s t cut stays (left failed l) =
     left (ap has_failed stays.same ∙ failed) (subst (λ (x : Shows). IsLeftAmong h x.pipes.disk (MayFollow cut)) (sym stays.same) l)
 
 -- a fault of the file system is armed as one of the world
-pub arms_as : (fault : Fault) (f : DiskFault) (s t : Shows) → f ≡ fault_of fault → ArmsEngine f s t → ArmsOrNot fault s t
-arms_as fault f s t is arms = inl (subst (λ (x : DiskFault). ArmsEngine x s t) is arms)
+pub arms_as : (fault : Fault) (f : DiskFault) (old new : MemoryFileSystem) (s t : Shows) → f ≡ fault_of fault → ArmsEngine f s t → armed new ≡ armed_with f (armed old) → ArmsStore fault old new s t
+arms_as fault f old new s t is arms has = inl (subst (λ (x : DiskFault). ArmsEngine x s t) is arms, has ∙ ap (λ (x : DiskFault). armed_with x (armed old)) is)
 
 -- an armed stop or refusal changes nothing of what an engine shows
-arms_nothing : (fault : Fault) (s t : Shows) → ArmsOrNot fault s t → t ≡ s
-arms_nothing fault s t (inr same) = same
-arms_nothing fault s t (inl arms) =
+arms_nothing : (fault : Fault) (old new : MemoryFileSystem) (s t : Shows) → ArmsStore fault old new s t → t ≡ s
+arms_nothing fault old new s t (inr (stopped, same)) = same
+arms_nothing fault old new s t (inl (arms, has)) =
     let disk : t.pipes.disk ≡ s.pipes.disk = on_disk fault arms.pipes.disk.marks in
     arms.others ∙ ap (λ p. record s { pipes = p }) (arms.pipes.others ∙ ap (λ (d : OnDisk). record s.pipes { disk = d }) disk)
   where
@@ -67,8 +69,8 @@ module _ {S : Type 0} (home : S → Home) (shows : S → Shows) (outlines : S �
     left = λ cut l. moved_leaves (home old) (home new) (shows old) (shows new) cut here same l;
   }
 
-  pub armed_stays : (fault : Fault) (old new : S) → home new ≡ home old → ArmsOrNot fault (shows old) (shows new) → outlines new ≡ outlines old → StaysAsItWas (service_in home shows outlines) old new
-  armed_stays fault old new here arms os = same_stays old new here (arms_nothing fault (shows old) (shows new) arms) os
+  pub armed_stays : (fault : Fault) (before after : MemoryFileSystem) (old new : S) → home new ≡ home old → ArmsStore fault before after (shows old) (shows new) → outlines new ≡ outlines old → StaysAsItWas (service_in home shows outlines) old new
+  armed_stays fault before after old new here arms os = same_stays old new here (arms_nothing fault before after (shows old) (shows new) arms) os
 
   pub read_stays : (old new : S) → home new ≡ home old → StaysButBlock (shows old) (shows new) → outlines new ≡ outlines old → StaysAsItWas (service_in home shows outlines) old new
   read_stays old new here stays os = record {
@@ -100,5 +102,5 @@ module _ {S : Type 0} (home : S → Home) (shows : S → Shows) (outlines : S �
 pub still_stopped : (s t : Shows) → StaysButBlock s t → t.pipes.disk.stopped ≡ s.pipes.disk.stopped
 still_stopped s t stays = ap (λ (x : Shows). x.pipes.disk.stopped) stays.same
 
-pub armed_stopped : (fault : Fault) (s t : Shows) → ArmsOrNot fault s t → t.pipes.disk.stopped ≡ s.pipes.disk.stopped
-armed_stopped fault s t arms = ap (λ (x : Shows). x.pipes.disk.stopped) (arms_nothing fault s t arms)
+pub armed_stopped : (fault : Fault) (old new : MemoryFileSystem) (s t : Shows) → ArmsStore fault old new s t → t.pipes.disk.stopped ≡ s.pipes.disk.stopped
+armed_stopped fault old new s t arms = ap (λ (x : Shows). x.pipes.disk.stopped) (arms_nothing fault old new s t arms)

@@ -4,6 +4,7 @@ use Rattle.raft_log_disk.specs.Disk.{Disk as OnDisk}
 use Rattle.raft_log_disk.specs.Exits.{Arms}
 use Rattle.raft_log_disk_memory.specs.Answers.{IsLeftOf}
 use Rattle.raft_log_disk_memory.specs.Memory.{disk_of}
+use Rattle.raft_log_disk_memory.specs.Turns.{armed, armed_with}
 use Rattle.raft_log_disk_memory.specs.declared.memory.MemoryFileSystem.{MemoryFileSystem}
 use Rattle.raft_log_record_base.specs.declared.errors.Error.{Error}
 use Rattle.raft_log_file_settings.specs.Settings.{settings_of}
@@ -44,15 +45,20 @@ PurgesLog RewriteAppend s t =
 PurgesLog RewriteRewrite s t =
     ((m : MemTables) × SyncsAndRewrites m s t) ⊎ ((error : Error) × StopsPurgingExpired s t error)
 
--- a fault is armed; or the file system had stopped, and nothing is
-abbrev pub ArmsOrNot : Fault → Shows → Shows → Type 0
-ArmsOrNot fault s t = ArmsEngine (fault_of fault) s t ⊎ (t ≡ s)
+-- a file system has armed a fault, beside what it had armed before
+abbrev pub IsArmed : Fault → MemoryFileSystem → MemoryFileSystem → Type 0
+IsArmed fault old new = armed new ≡ armed_with (fault_of fault) (armed old)
 
-abbrev pub log_upkeep : {S : Type 0} → (S → Shows) → Upkeep S
-log_upkeep shows = record {
+-- a fault is armed below a store; or its file system had stopped, and none is
+abbrev pub ArmsStore : Fault → MemoryFileSystem → MemoryFileSystem → Shows → Shows → Type 0
+ArmsStore fault old new s t = (ArmsEngine (fault_of fault) s t × IsArmed fault old new)
+    ⊎ ((s.pipes.disk.stopped ≡ true) × (t ≡ s))
+
+abbrev pub log_upkeep : {S : Type 0} → (S → MemoryFileSystem) → (S → Shows) → Upkeep S
+log_upkeep files shows = record {
   has_stopped = λ store. (shows store).pipes.disk.stopped;
   purges = λ purge old new. PurgesLog purge (shows old) (shows new);
-  arms = λ fault old new. ArmsOrNot fault (shows old) (shows new);
+  arms = λ fault old new. ArmsStore fault (files old) (files new) (shows old) (shows new);
 }
 
 -- Its files.
@@ -84,9 +90,10 @@ EndsCopy config target old new =
     ((copied : List (List ℕ)) × Forks (settings_of config) target copied old new)
     ⊎ ((error : Error) × FailsToFork (settings_of config) target error old new)
 
--- a fault is armed; or the file system had stopped, and nothing is
-abbrev pub ArmsFiles : Fault → OnDisk → OnDisk → Type 0
-ArmsFiles fault old new = Arms (fault_of fault) old new ⊎ (new ≡ old)
+-- a fault is armed; or the file system had stopped, and none is
+abbrev pub ArmsFiles : Fault → MemoryFileSystem → MemoryFileSystem → Type 0
+ArmsFiles fault old new = (Arms (fault_of fault) (disk_of old) (disk_of new) × IsArmed fault old new)
+    ⊎ (((disk_of old).stopped ≡ true) × (disk_of new ≡ disk_of old))
 
 -- what a close leaves of a log: of one whose engine ran it is closed, of one that failed nothing is touched
 pub record ClosesStore (s : Shows) (d : OnDisk) : Type 0 where
@@ -110,6 +117,6 @@ log_disk tells config shows outlines = record {
   crashes = λ files gone left. IsLeftOf (remainder_of gone) files.files left.files × AreSame left.config files.config;
   crashes_under = λ store gone left. CrashesUnder (shows store).pipes.disk gone (disk_of left.files) × AreSame left.config (config store);
   forks = λ target old new. EndsCopy old.config target (disk_of old.files) (disk_of new.files) × AreSame new.config old.config;
-  arms = λ fault old new. ArmsFiles fault (disk_of old.files) (disk_of new.files) × AreSame new.config old.config;
+  arms = λ fault old new. ArmsFiles fault old.files new.files × AreSame new.config old.config;
   has_stopped = λ files. (disk_of files.files).stopped;
 }

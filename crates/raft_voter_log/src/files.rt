@@ -19,7 +19,6 @@ use raft_voter::{Cause, FilesRefused, Memory};
 use raft_voter_store::VoterStore;
 use raft_voter_world::{Fault, Left, VoterDisk};
 use std::alloc::Global;
-use std::io::ErrorKind;
 use std::thread::Threads;
 
 /// A file system in memory, and the settings that name a log in it.
@@ -122,10 +121,12 @@ impl<R: Log> VoterDisk<R, LogVoters> for LogFiles {
     }
 
     fn arm(&mut self, fault: &Fault) -> Result<(), Memory> {
+        if self.files.has_stopped() {
+            return Ok(());
+        }
         match self.files.arm(&fault_of(fault)) {
             Ok(()) => Ok(()),
-            Err(ErrorKind::OutOfMemory) => Err(Memory),
-            Err(_) => Ok(()),
+            Err(_) => Err(Memory),
         }
     }
 

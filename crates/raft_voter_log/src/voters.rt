@@ -9,12 +9,11 @@ ghost use Rattle.raft_voter_log.specs.Instance.{log_upkeep};
 use crate::causes::{purge_cause, unread_cause};
 use crate::faults::fault_of;
 use log::Log;
-use raft_log_engine::{Config, EnginePipes, Error, FileSystem, MemoryFileSystem, Nobody, PipeLog};
+use raft_log_engine::{Config, EnginePipes, FileSystem, MemoryFileSystem, Nobody, PipeLog};
 use raft_voter::{Cause, Items, Memory, Reply, Request, RoundFault, RoundService, Voter};
 use raft_voter_store::VoterStore;
 use raft_voter_world::{Fault, Purge, VoterStorage};
 use std::alloc::Global;
-use std::io::ErrorKind;
 
 /// A store of voters on a log in a file system in memory, and the settings that name the log.
 #[derive(Drop)]
@@ -37,6 +36,7 @@ impl<R: Log> RoundService<R> for LogVoters {
 
 impl<R: Log> VoterStorage<R> for LogVoters {
     ghost upkeep = { log_upkeep
+        (λ voters. ⟦<EnginePipes<MemoryFileSystem, Nobody> as PipeLog>⟧.files voters.store.engine.pipes)
         (λ voters. shows_of ⟦<EnginePipes<MemoryFileSystem, Nobody> as PipeLog>⟧.shown voters.store.engine) };
 
     fn is_failed(&self) -> bool {
@@ -73,10 +73,12 @@ impl<R: Log> VoterStorage<R> for LogVoters {
     }
 
     fn arm(&mut self, fault: &Fault) -> Result<(), Memory> {
+        if self.store.file_system().has_stopped() {
+            return Ok(());
+        }
         match self.store.arm(&fault_of(fault)) {
             Ok(()) => Ok(()),
-            Err(Error::Io(ErrorKind::OutOfMemory)) => Err(Memory),
-            Err(_) => Ok(()),
+            Err(_) => Err(Memory),
         }
     }
 }

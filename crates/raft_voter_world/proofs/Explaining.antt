@@ -140,7 +140,9 @@ explain v u d (Closed files) cut (opened workers store voters (Some place) now �
     let rest = explain v u d (Open now) (uncut (world_in voters)) ms h.1 l.1 s.1 n (λ alive. (refl, at)) in
     (rest.0, opened_leads v (Closed files) (Open now) cut workers store now voters place ms 0 rest.0 l.0 rest.1)
 explain v u d storage cut (opened workers store voters None now ∷ ms) h l s n serving = absurd n
-explain v u d storage cut (unread workers store now ∷ ms) h l s n serving = absurd n
+explain v u d (Closed files) cut (unread workers store now left ∷ ms) h l s n serving =
+    let rest = explain v u d (Closed left) cut ms h.1 l s n tt in
+    (rest.0, passes v (Closed files) (Closed left) cut (unread workers store now left) ms 0 rest.0 refl refl refl (λ e. refl) rest.1)
 explain v u d (Closed files) cut (fell workers store gone left ∷ ms) h l s n serving =
     let rest = explain v u d (Closed left) cut ms h.1 l s n tt in
     (rest.0, passes v (Closed files) (Closed left) cut (fell workers store gone left) ms 0 rest.0 refl refl refl (λ e. refl) rest.1)
@@ -167,6 +169,7 @@ explain v u d (Closed files) cut (idle round now ∷ ms) h l s n serving =
     let rest = explain v u d (Closed now) cut ms h.1 l s n tt in
     (rest.0, record { within = rest.1.within; leads = idle_leads _ rest.0 round (rounds_in ms) (cuts_in 0 ms) h.0.0.0 h.0.0.1 rest.1.leads })
 explain v u d (Open store) cut (opened workers old voters place now ∷ ms) h l s n serving = absurd h.0
+explain v u d (Open store) cut (unread workers old now left ∷ ms) h l s n serving = absurd h.0
 explain v u d (Open store) cut (fell workers old gone left ∷ ms) h l s n serving = absurd h.0
 explain v u d (Open store) cut (unopened workers cause back ∷ ms) h l s n serving = absurd h.0
 explain v u d (Open store) cut (idle round now ∷ ms) h l s n serving = absurd h.0

@@ -10,11 +10,9 @@ use Rattle.raft_voter.specs.declared.service.Cause.{Cause}
 use Rattle.raft_voter.specs.declared.voters.Voters.{Voters}
 use Rattle.raft_voter_world.specs.declared.event.Event.TheVariants.{Open as OpenEvent}
 use Rattle.raft_voter_world.specs.declared.event.Left.{Left}
-use Rattle.raft_voter_world.specs.declared.notes.Lost.{Lost}
 use Rattle.raft_voter_world.specs.declared.notes.Notes.{Notes}
-use Rattle.raft_voter_world.specs.declared.notes.Unsettled.{Unsettled}
 use Rattle.raft_voter_world.specs.declared.opening.Opened.{Opened}
-use Rattle.raft_voter_world.specs.declared.opening.Opened.TheVariants.{Shown, Unread as IsUnread, Closed as IsClosed}
+use Rattle.raft_voter_world.specs.declared.opening.Opened.TheVariants.{Shown, Closed as IsClosed}
 use Rattle.raft_voter_world.specs.declared.storage.Storage.{Storage}
 use Rattle.raft_voter_world.specs.declared.storage.Storage.TheVariants.{Closed, Open}
 use Rattle.raft_voter_world.specs.declared.world.World.{World}
@@ -22,7 +20,7 @@ use Rattle.raft_voter_world.specs.Cuts.{AreLeast, cuts_in, lost_at, next_place}
 use Rattle.raft_voter_world.specs.History.{Falls, Happens, IsClosedAs, IsOpening, IsUnopened, Keeps, Moment, One, Opens, Turns, behind}
 use Rattle.raft_voter_world.specs.History.Change.{closes}
 use Rattle.raft_voter_world.specs.History.Moment.{fell, kept, opened, unopened, unread}
-use Rattle.raft_voter_world.specs.Notes.{Misses, Shows, all_rounds, cut_from, cut_of, lost_by}
+use Rattle.raft_voter_world.specs.Notes.{Shows, all_rounds, lost_by}
 use Rattle.raft_voter_world.specs.Openings.{ComesOut}
 use Rattle.raft_voter_world.specs.Steps.{Falling, Grows, IsStep, Moves, WhereAlive}
 use Rattle.raft_voter_world.specs.Stores.{Disk, Upkeep, world_in}
@@ -67,27 +65,15 @@ shown_noted {S} {F} event workers old new store now listed place n = record {
   rounds = none_waits new n.settled.none ∙ n.settled.rounds ∙ sym (append-nil (all_rounds old));
   cuts = λ last rest. ap (λ cs. cs ++ cuts_in last rest) (sym n.settled.cuts ∙ sym (none_cut new (next_place last rest) n.settled.none));
   least = λ rest l. (n.found, subst (λ (C : CutRound). AreLeast C rest) (none_unsettled new n.settled.none ∙ ap uncut n.world) l);
-  lost = n.lost ∙ ap (λ (ls : List Lost). old.lost.items ++ ls) (by_place place);
+  lost = n.lost ∙ ap (λ (ls : List ℕ). old.lost.items ++ ls) (by_place place);
 }
   where
     by_place : (p : Option ℕ) → lost_by p event ≡ lost_at {S = S} {F = F} event (opened workers store listed p now ∷ [])
     by_place None = refl
     by_place (Some p) = refl
 
-before_is : (n : Notes) → (cut_of n).before ≡ world_of n.voters
-before_is n = by_case n.unsettled
-  where
-    by_case : (u : Option Unsettled) → (cut_from (world_of n.voters) u).before ≡ world_of n.voters
-    by_case None = refl
-    by_case (Some u) = refl
-
-unread_noted : {S F : Type 0} (event workers : ℕ) (old new : Notes) (store now : S) → Misses old event new → Grows {S = S} {F = F} event old (unread workers store now ∷ []) new
-unread_noted {S} {F} event workers old new store now n = record {
-  rounds = none_waits new n.settled.none ∙ n.settled.rounds ∙ sym (append-nil (all_rounds old));
-  cuts = λ last rest. ap (λ cs. cs ++ cuts_in last rest) (sym n.settled.cuts ∙ sym (none_cut new (next_place last rest) n.settled.none));
-  least = λ rest l. subst (λ (C : CutRound). AreLeast C rest) (none_unsettled new n.settled.none ∙ ap uncut (n.world ∙ sym (before_is old))) l;
-  lost = n.lost;
-}
+unread_noted : {S F : Type 0} (event workers : ℕ) (notes : Notes) (store now : S) (files : F) → Grows {S = S} {F = F} event notes (unread workers store now files ∷ []) notes
+unread_noted event workers notes store now files = record { rounds = sym (append-nil (all_rounds notes)); cuts = λ last rest. refl; least = λ rest l. l; lost = sym (append-nil notes.lost.items) }
 
 fell_noted : {S F : Type 0} (event workers : ℕ) (notes : Notes) (store : S) (gone : Left) (files : F) → Grows {S = S} {F = F} event notes (fell workers store gone files ∷ []) notes
 fell_noted event workers notes store gone files = record { rounds = sym (append-nil (all_rounds notes)); cuts = λ last rest. refl; least = λ rest l. l; lost = sym (append-nil notes.lost.items) }
@@ -140,24 +126,19 @@ from_shown {S} {F} v u d place workers old mid new files now voters found (inl (
 from_shown v u d place workers old mid new files now voters found (inr (inl (cause, came))) at shows left f = absurd (let other = came.3 in let no : ⊥ = cc in no)
 from_shown v u d place workers old mid new files now voters found (inr (inr (stopped, other))) at shows left f = absurd (let no : ⊥ = cc in no)
 
-pub from_unread : {S F : Type 0} (v : Service S) (u : Upkeep S) (d : Disk S F) (place workers : ℕ) (old mid new : World S F) (files : F) (now : S) → ComesOut v u d files workers old.left (IsUnread now) → mid.storage ≡ Open now
-    → Misses old.notes place mid.notes → mid.left ≡ old.left → Falling v u d place mid new → FromFiles v u d place workers old files new
-from_unread v u d place workers old mid new files now (inl (store, runs, is, came)) at n left f =
-    one_opened v u d place workers old mid new files (unread workers store now) runs (is, came.0) (refl, came.1) at left (unread_noted place workers old.notes mid.notes store now n) (λ alive. n.settled.none) f
-from_unread v u d place workers old mid new files now (inr (inl (cause, came))) at n left f = absurd (let other = came.3 in let no : ⊥ = cc in no)
-from_unread v u d place workers old mid new files now (inr (inr (stopped, other))) at n left f = absurd (let no : ⊥ = cc in no)
-
 -- the files that came of an open, or else these
 abbrev files_of : {S F : Type 0} → F → Opened S F → F
 files_of other (Shown now voters) = other
-files_of other (IsUnread now) = other
 files_of other (IsClosed files) = files
 
 pub from_closed : {S F : Type 0} (v : Service S) (u : Upkeep S) (d : Disk S F) (place workers : ℕ) (old mid new : World S F) (files back : F) → ComesOut v u d files workers old.left (IsClosed back) → mid.storage ≡ Closed back → mid.notes ≡ old.notes
     → mid.left ≡ old.left → Falling v u d place mid new → FromFiles v u d place workers old files new
-from_closed {S} {F} v u d place workers old mid new files back (inl (store, runs, is, came)) at notes left f =
+from_closed {S} {F} v u d place workers old mid new files back (inl (store, runs, is, inl came)) at notes left f =
     one_opened v u d place workers old mid new files (fell workers store old.left back) runs (is, came.0, came.1) (refl, refl) at left
     (subst (λ (n : Notes). Grows {S = S} {F = F} place old.notes (fell workers store old.left back ∷ []) n) (sym notes) (fell_noted place workers old.notes store old.left back)) tt f
+from_closed {S} {F} v u d place workers old mid new files back (inl (store, runs, is, inr (now, stays, going, closed, leaves))) at notes left f =
+    one_opened v u d place workers old mid new files (unread workers store now back) runs (is, stays, closed, leaves) (refl, going) at left
+    (subst (λ (n : Notes). Grows {S = S} {F = F} place old.notes (unread workers store now back ∷ []) n) (sym notes) (unread_noted place workers old.notes store now back)) tt f
 from_closed {S} {F} v u d place workers old mid new files back (inr (inl (cause, came))) at notes left f =
     let here : came.0 ≡ back = sym (ap (λ (o : Opened S F). files_of files o) came.3) in
     one_opened v u d place workers old mid new files (unopened workers cause back) came.1 (subst (λ (x : F). IsUnopened v d files workers cause x) here came.2) refl at left

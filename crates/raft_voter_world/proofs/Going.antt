@@ -100,7 +100,18 @@ goes v u d End Whole ends (Closed files) cut known noted (opened workers store v
     let found = h.0.0.finds cut known spared in
     let t = w found.0 found.1 in
     absurd (l.0 t.place t.within (sym (h.0.1 found.0 found.2) ∙ t.reached))
-goes v u d End Whole ends (Closed files) cut known noted (unread workers store now ∷ ms) h l w s whole = tt
+goes v u d End Whole ends (Closed files) cut known noted (unread workers store now left ∷ ms) h l w s whole = λ spared.
+    let found = h.0.0.finds cut known spared in
+    let k = h.0.3 (uncut found.0) (h.0.1.left (uncut found.0) found.2.left) in
+    let near : Within (uncut found.0) noted = λ X f. subst (λ (W : World). MayFollow noted W) (sym (only found.0 X f)) (w found.0 found.1) in (
+      found.0,
+      found.1,
+      (
+        k,
+        goes v u d End Whole ends (Closed left) (uncut found.0) k noted ms h.1 l near tt
+            (λ p X leads. whole p X (passes v (Closed files) (Closed left) noted (unread workers store now left) ms p X refl refl refl (λ e. refl) leads)),
+      ),
+    )
 goes v u d End Whole ends (Closed files) cut known noted (fell workers store gone left ∷ ms) h l w s whole = λ spared.
     let found = h.0.0.finds cut known spared in
     let under = h.0.2.1 (uncut found.0) found.2.left in
@@ -175,7 +186,7 @@ goes {S} {F} v u d End Whole ends (Closed files) cut known noted (idle round now
           (λ p X leads. whole p X (record { within = leads.within; leads = idle_leads _ X round (rounds_in ms) (cuts_in p ms) h.0.0.0 h.0.0.1 leads.leads })),
     )
 goes v u d End Whole ends (Open store) cut known noted (opened workers old voters place now ∷ ms) h l w s whole = absurd h.0
-goes v u d End Whole ends (Open store) cut known noted (unread workers old now ∷ ms) h l w s whole = absurd h.0
+goes v u d End Whole ends (Open store) cut known noted (unread workers old now left ∷ ms) h l w s whole = absurd h.0
 goes v u d End Whole ends (Open store) cut known noted (fell workers old gone left ∷ ms) h l w s whole = absurd h.0
 goes v u d End Whole ends (Open store) cut known noted (unopened workers cause back ∷ ms) h l w s whole = absurd h.0
 goes v u d End Whole ends (Open store) cut known noted (idle round now ∷ ms) h l w s whole = absurd h.0

@@ -2,9 +2,7 @@
 use Rattle.std.proofs.Common.{◌≡◌, ℕ, List, [], ◌∷◌, ◌++◌, Some, None, append_assoc, ap, refl, sym, subst, ◌∙◌}
 use Rattle.std.proofs.lemmas.Grind.{flat_map-append}
 use Rattle.raft_voter.specs.Service.{Service}
-use Rattle.raft_voter_world.specs.declared.notes.Loss.TheVariants.{NoPlace, Unread}
 use Rattle.raft_voter_messages.specs.declared.round.Round.{Round}
-use Rattle.raft_voter_world.specs.declared.notes.Lost.{Lost}
 use Rattle.raft_voter_world.specs.declared.notes.Notes.{Notes}
 use Rattle.raft_voter_world.specs.declared.storage.Storage.{Storage}
 use Rattle.raft_voter_world.specs.declared.world.World.{World}
@@ -18,8 +16,8 @@ use Rattle.raft_voter_world.specs.Stores.{Disk, Upkeep}
 pub lost_more : {S F : Type 0} (event : ℕ) (ms ns : List (Moment S F)) → lost_at event (ms ++ ns) ≡ lost_at event ms ++ lost_at event ns
 lost_more event [] ns = refl
 lost_more event (opened workers store voters (Some place) now ∷ ms) ns = lost_more event ms ns
-lost_more event (opened workers store voters None now ∷ ms) ns = ap (λ ls. record { event = event; loss = NoPlace } ∷ ls) (lost_more event ms ns)
-lost_more event (unread workers store now ∷ ms) ns = ap (λ ls. record { event = event; loss = Unread } ∷ ls) (lost_more event ms ns)
+lost_more event (opened workers store voters None now ∷ ms) ns = ap (λ ls. event ∷ ls) (lost_more event ms ns)
+lost_more event (unread workers store now files ∷ ms) ns = lost_more event ms ns
 lost_more event (fell workers store gone files ∷ ms) ns = lost_more event ms ns
 lost_more event (unopened workers cause files ∷ ms) ns = lost_more event ms ns
 lost_more event (crashed gone files ∷ ms) ns = lost_more event ms ns
@@ -43,7 +41,7 @@ grows_more {S} {F} event old mid new ms ns a b = record {
       subst (λ (xs : List (Moment S F)). all_cuts old (next_place last xs) ++ cuts_in last xs ≡ all_cuts new (next_place last rest) ++ cuts_in last rest)
       (sym (append_assoc ms ns rest)) (a.cuts last (ns ++ rest) ∙ b.cuts last rest);
   least = λ rest l. subst (λ (xs : List (Moment S F)). AreLeast (cut_of old) xs) (sym (append_assoc ms ns rest)) (a.least (ns ++ rest) (b.least rest l));
-  lost = b.lost ∙ ap (λ ls. ls ++ lost_at event ns) a.lost ∙ append_assoc old.lost.items (lost_at event ms) (lost_at event ns) ∙ ap (λ (ls : List Lost). old.lost.items ++ ls) (sym (lost_more event ms ns));
+  lost = b.lost ∙ ap (λ ls. ls ++ lost_at event ns) a.lost ∙ append_assoc old.lost.items (lost_at event ms) (lost_at event ns) ∙ ap (λ (ls : List ℕ). old.lost.items ++ ls) (sym (lost_more event ms ns));
 }
 
 pub moves_more : {S F : Type 0} (v : Service S) (u : Upkeep S) (d : Disk S F) (event : ℕ) (old mid new : World S F) (ms ns : List (Moment S F)) → Moves v u d event old ms mid → Moves v u d event mid ns new → Moves v u d event old (ms ++ ns) new

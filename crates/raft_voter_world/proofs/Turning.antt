@@ -7,7 +7,6 @@ use Rattle.raft_voter.specs.Service.{CutRound, Service, uncut}
 use Rattle.raft_voter_world.specs.declared.event.Event.{Event}
 use Rattle.raft_voter_world.specs.declared.event.Left.{Left}
 use Rattle.raft_voter_world.specs.declared.event.Left.TheVariants.{Last}
-use Rattle.raft_voter_world.specs.declared.notes.Lost.{Lost}
 use Rattle.raft_voter_world.specs.declared.notes.Notes.{Notes}
 use Rattle.raft_voter_world.specs.declared.report.WorldReport.{WorldReport}
 use Rattle.raft_voter_world.specs.declared.storage.Storage.{Storage}
@@ -75,8 +74,8 @@ turns_more {S} {F} event old mid new mss ms a at g = record {
   least = λ rest l.
       subst (λ (xs : List (Moment S F)). AreLeast (cut_of old) xs)
       (sym (ap (λ (xs : List (Moment S F)). xs ++ rest) (moments_more mss ms) ∙ append_assoc (moments_of mss) ms rest)) (a.least (ms ++ rest) (g.least rest l));
-  lost = g.lost ∙ ap (λ (ls : List Lost). ls ++ lost_at event ms) a.lost ∙ append_assoc old.lost.items (lost_from 0 mss) (lost_at event ms)
-      ∙ ap (λ (ls : List Lost). old.lost.items ++ ls) (ap (λ (n : ℕ). lost_from 0 mss ++ lost_at n ms) (counted at) ∙ sym (lost_behind 0 mss ms));
+  lost = g.lost ∙ ap (λ (ls : List ℕ). ls ++ lost_at event ms) a.lost ∙ append_assoc old.lost.items (lost_from 0 mss) (lost_at event ms)
+      ∙ ap (λ (ls : List ℕ). old.lost.items ++ ls) (ap (λ (n : ℕ). lost_from 0 mss ++ lost_at n ms) (counted at) ∙ sym (lost_behind 0 mss ms));
 }
   where
     counted : event ≡ length mss → event ≡ 0 + length mss
@@ -188,7 +187,7 @@ plays_happen v u d gone storage (x ∷ es) [] p = absurd p
 serve_more : {S F : Type 0} (v : Service S) (ms ns : List (Moment S F)) → ServeSome v ms → ServeSome v ns → ServeSome v (ms ++ ns)
 serve_more v [] ns a b = b
 serve_more v (opened workers store voters place now ∷ ms) ns a b = (a.0, serve_more v ms ns a.1 b)
-serve_more v (unread workers store now ∷ ms) ns a b = serve_more v ms ns a b
+serve_more v (unread workers store now files ∷ ms) ns a b = serve_more v ms ns a b
 serve_more v (fell workers store gone files ∷ ms) ns a b = serve_more v ms ns a b
 serve_more v (unopened workers cause files ∷ ms) ns a b = serve_more v ms ns a b
 serve_more v (crashed gone files ∷ ms) ns a b = serve_more v ms ns a b
@@ -202,7 +201,7 @@ none_more : {S F : Type 0} (event : ℕ) (ms ns : List (Moment S F)) → lost_at
 none_more event [] ns a b = b
 none_more event (opened workers store voters (Some place) now ∷ ms) ns a b = none_more event ms ns a b
 none_more event (opened workers store voters None now ∷ ms) ns a b = absurd (let no : ⊥ = cc in no)
-none_more event (unread workers store now ∷ ms) ns a b = absurd (let no : ⊥ = cc in no)
+none_more event (unread workers store now files ∷ ms) ns a b = none_more event ms ns a b
 none_more event (fell workers store gone files ∷ ms) ns a b = none_more event ms ns a b
 none_more event (unopened workers cause files ∷ ms) ns a b = none_more event ms ns a b
 none_more event (crashed gone files ∷ ms) ns a b = none_more event ms ns a b
@@ -211,7 +210,7 @@ none_more event (answered round now ∷ ms) ns a b = none_more event ms ns a b
 none_more event (cut_off round cause now ∷ ms) ns a b = none_more event ms ns a b
 none_more event (idle round files ∷ ms) ns a b = none_more event ms ns a b
 
-nothing_in : (xs ys : List Lost) → xs ++ ys ≡ [] → (xs ≡ []) × (ys ≡ [])
+nothing_in : (xs ys : List ℕ) → xs ++ ys ≡ [] → (xs ≡ []) × (ys ≡ [])
 nothing_in [] ys e = (refl, e)
 nothing_in (x ∷ xs) ys e = absurd (let no : ⊥ = cc in no)
 
@@ -278,4 +277,4 @@ runs {S} {F} v u d files events first last report new p e =
     least = subst (λ (C : CutRound). AreLeast C (moments_of p.turns ++ e.closing)) new.cut (p.noted.least e.closing e.least)
 
     lost_are : report.lost ≡ lost_from 0 p.turns
-    lost_are = e.lost ∙ p.noted.lost ∙ ap (λ (ls : List Lost). ls ++ lost_from 0 p.turns) new.lost
+    lost_are = e.lost ∙ p.noted.lost ∙ ap (λ (ls : List ℕ). ls ++ lost_from 0 p.turns) new.lost

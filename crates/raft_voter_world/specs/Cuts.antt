@@ -5,10 +5,8 @@ use Rattle.raft_voter.specs.Rounds.{World, after, taken_below}
 use Rattle.raft_voter.specs.Service.{CutRound, IsOpenAt, Service, uncut}
 use Rattle.raft_voter.specs.declared.service.Cause.{Cause}
 use Rattle.raft_voter.specs.declared.service.Cause.TheVariants.{FileSystem}
-use Rattle.raft_voter_world.specs.declared.notes.Lost.{Lost}
-use Rattle.raft_voter_world.specs.declared.notes.Loss.TheVariants.{NoPlace, Unread}
 use Rattle.raft_voter_world.specs.History.{Moment}
-use Rattle.raft_voter_world.specs.History.Moment.{opened, unread, answered, cut_off, idle}
+use Rattle.raft_voter_world.specs.History.Moment.{opened, answered, cut_off, idle}
 use Rattle.raft_voter_world.specs.Places.{IsPlaceFound}
 use Rattle.raft_voter_world.specs.Stores.{world_in}
 
@@ -17,7 +15,6 @@ use Rattle.raft_voter_world.specs.Stores.{world_in}
 abbrev pub next_place : {S F : Type 0} → ℕ → List (Moment S F) → ℕ
 next_place last [] = last
 next_place last (opened workers store voters place now ∷ ms) = unwrap_or place 0
-next_place last (unread workers store now ∷ ms) = 0
 next_place last (m ∷ ms) = next_place last ms
 
 -- the place up to which a round was taken that was cut off for this cause: that of the next open where some of it
@@ -50,21 +47,18 @@ abbrev pub AreLeast : {S F : Type 0} → CutRound → List (Moment S F) → Type
 AreLeast cut [] = Unit {0}
 AreLeast cut (opened workers store voters place now ∷ ms) =
     IsPlaceFound cut (world_in voters) place × AreLeast (uncut (world_in voters)) ms
-AreLeast cut (unread workers store now ∷ ms) = AreLeast (uncut cut.before) ms
 AreLeast cut (answered round now ∷ ms) = AreLeast (cut_after cut round) ms
 AreLeast cut (cut_off round cause now ∷ ms) = AreLeast (cut_by cause cut round) ms
 AreLeast cut (m ∷ ms) = AreLeast cut ms
 
--- what an event lost: at an open that shows voters which no place fits, or whose voters aren't read
-abbrev pub lost_at : {S F : Type 0} → ℕ → List (Moment S F) → List Lost
+-- this event, once for each open of it that shows voters which no place fits
+abbrev pub lost_at : {S F : Type 0} → ℕ → List (Moment S F) → List ℕ
 lost_at event [] = []
-lost_at event (opened workers store voters None now ∷ ms) =
-    record { event = event; loss = NoPlace } ∷ lost_at event ms
-lost_at event (unread workers store now ∷ ms) = record { event = event; loss = Unread } ∷ lost_at event ms
+lost_at event (opened workers store voters None now ∷ ms) = event ∷ lost_at event ms
 lost_at event (m ∷ ms) = lost_at event ms
 
--- what events lost, of which the first has this number
-abbrev pub lost_from : {S F : Type 0} → ℕ → List (List (Moment S F)) → List Lost
+-- those of these events, of which the first has this number
+abbrev pub lost_from : {S F : Type 0} → ℕ → List (List (Moment S F)) → List ℕ
 lost_from event [] = []
 lost_from event (ms ∷ mss) = lost_at event ms ++ lost_from (event + 1) mss
 
@@ -78,5 +72,4 @@ ServeSome v (m ∷ ms) = ServeSome v ms
 abbrev pub NoneLost : {S F : Type 0} → List (Moment S F) → Type 0
 NoneLost [] = Unit {0}
 NoneLost (opened workers store voters None now ∷ ms) = ⊥
-NoneLost (unread workers store now ∷ ms) = ⊥
 NoneLost (m ∷ ms) = NoneLost ms

@@ -10,7 +10,8 @@ use Rattle.raft_voter_outline.specs.State.{State}
 use Rattle.raft_voter.specs.Service.{AnswersRound, CutsOff, FailsAs, IsAlive, IsFromOutside, Service, refused_from}
 use Rattle.raft_voter.specs.declared.service.Cause.{Cause}
 use Rattle.raft_voter_world.specs.declared.event.Event.{Event}
-use Rattle.raft_voter_world.specs.declared.event.Event.TheVariants.{Round as RoundEvent, Maintain, RewriteAppend, RewriteRewrite, Open as OpenEvent, Close, Crash, CrashAt, Refuse, Fork}
+use Rattle.raft_voter_world.specs.declared.event.Event.TheVariants.{Round as RoundEvent, Maintain, RewriteAppend, RewriteRewrite}
+use Rattle.raft_voter_world.specs.declared.event.Event.TheVariants.{Open as OpenEvent, Close, Crash, CrashAt, Refuse, Fork}
 use Rattle.raft_voter_world.specs.declared.event.Left.{Left}
 use Rattle.raft_voter_world.specs.declared.faults.Fault.{Fault}
 use Rattle.raft_voter_world.specs.declared.faults.Fault.TheVariants.{Stop, Refuse as RefuseCall}
@@ -18,7 +19,8 @@ use Rattle.raft_voter_world.specs.declared.faults.Purge.{Purge}
 use Rattle.raft_voter_world.specs.declared.faults.Purge.TheVariants.{Expired, RewriteAppend as Append, RewriteRewrite as Rewrite}
 use Rattle.raft_voter_world.specs.declared.storage.Storage.{Storage}
 use Rattle.raft_voter_world.specs.declared.storage.Storage.TheVariants.{Closed, Open}
-use Rattle.raft_voter_world.specs.Stores.{Disk, FindsVoters, KeepsVoters, LeavesInFiles, LeavesStanding, LeavesUnder, StaysAsItWas, StaysInFiles, TellsVoters, Upkeep}
+use Rattle.raft_voter_world.specs.Stores.{Disk, FindsVoters, LeavesInFiles, LeavesStanding, LeavesUnder, StaysInFiles}
+use Rattle.raft_voter_world.specs.Stores.{KeepsVoters, StaysAsItWas, TellsVoters, Upkeep}
 
 -- Moments.
 
@@ -32,7 +34,7 @@ pub data Change : Type 0 where
 -- What happens, and the store or the files that are there behind it:
 -- so many workers opened a store; these voters were read from it, to be looked for among those that a round
 -- that was cut off may have left, and found behind this place, or behind none,
--- the same, but its voters weren't read,
+-- the same, but its voters weren't read, and it was closed again, which left these files,
 -- the same, but the disk stopped in it, and a crash left these files,
 -- an open was refused, and handed back these files,
 -- a crash left these files,
@@ -41,7 +43,7 @@ pub data Change : Type 0 where
 -- and a round was cut off as no store was open.
 pub data Moment (S F : Type 0) : Type 0 where
   opened : ℕ → S → List (ℕ × State) → Option ℕ → S → Moment S F
-  unread : ℕ → S → S → Moment S F
+  unread : ℕ → S → S → F → Moment S F
   fell : ℕ → S → Left → F → Moment S F
   unopened : ℕ → Cause → F → Moment S F
   crashed : Left → F → Moment S F
@@ -53,7 +55,7 @@ pub data Moment (S F : Type 0) : Type 0 where
 -- the storage behind a moment
 abbrev pub behind : {S F : Type 0} → Moment S F → Storage S F
 behind (opened workers store voters place now) = Open now
-behind (unread workers store now) = Open now
+behind (unread workers store now files) = Closed files
 behind (fell workers store gone files) = Closed files
 behind (unopened workers cause files) = Closed files
 behind (crashed gone files) = Closed files
@@ -142,8 +144,8 @@ abbrev pub Happens :
     → Service S → Upkeep S → Disk S F → Storage S F → Moment S F → Type 0
 Happens v u d (Closed files) (opened workers store voters place now) =
     IsOpened v d files workers store × TellsVoters v store voters × StaysAsItWas v store now
-Happens v u d (Closed files) (unread workers store now) =
-    IsOpened v d files workers store × StaysAsItWas v store now
+Happens v u d (Closed files) (unread workers store now left) =
+    IsOpened v d files workers store × StaysAsItWas v store now × d.closes now left × LeavesInFiles v d now left
 Happens v u d (Closed files) (fell workers store gone left) =
     IsOpened v d files workers store × (u.has_stopped store ≡ true) × Crashes v d (Open store) gone left
 Happens v u d (Closed files) (unopened workers cause back) = IsUnopened v d files workers cause back
@@ -199,7 +201,7 @@ IsCrash gone moment = ⊥
 -- an open by so many workers; where the disk stops in it, a crash leaves this
 abbrev pub IsOpening : {S F : Type 0} → Upkeep S → ℕ → Left → Moment S F → Type 0
 IsOpening u workers gone (opened n store voters place now) = (n ≡ workers) × (u.has_stopped now ≡ false)
-IsOpening u workers gone (unread n store now) = (n ≡ workers) × (u.has_stopped now ≡ false)
+IsOpening u workers gone (unread n store now files) = (n ≡ workers) × (u.has_stopped now ≡ false)
 IsOpening u workers gone (fell n store gone' files) = (n ≡ workers) × (gone' ≡ gone)
 IsOpening u workers gone (unopened n cause files) = n ≡ workers
 IsOpening u workers gone moment = ⊥

@@ -4,8 +4,6 @@ use Rattle.raft_voter_messages.specs.declared.round.Round.{Round}
 use Rattle.raft_voter.specs.Rounds.{World, after, taken_below}
 use Rattle.raft_voter.specs.Service.{CutRound, uncut}
 use Rattle.raft_voter.specs.Voters.{world_of}
-use Rattle.raft_voter_world.specs.declared.notes.Lost.{Lost}
-use Rattle.raft_voter_world.specs.declared.notes.Loss.TheVariants.{NoPlace, Unread}
 use Rattle.raft_voter_world.specs.declared.notes.Notes.{Notes}
 use Rattle.raft_voter_world.specs.declared.notes.Unsettled.{Unsettled}
 use Rattle.raft_voter_world.specs.Places.{IsPlaceFound}
@@ -43,8 +41,8 @@ pub record Settles (old : Notes) (place : ℕ) (new : Notes) : Type 0 where
   pub cuts : new.cuts.items ≡ all_cuts old place
 
 -- what is lost at an open that shows voters which this place, or none, fits
-abbrev pub lost_by : Option ℕ → ℕ → List Lost
-lost_by None event = record { event = event; loss = NoPlace } ∷ []
+abbrev pub lost_by : Option ℕ → ℕ → List ℕ
+lost_by None event = event ∷ []
 lost_by (Some place) event = []
 
 -- voters were shown, and looked for
@@ -53,12 +51,6 @@ pub record Shows (old : Notes) (event : ℕ) (X : World) (place : Option ℕ) (n
   pub settled : Settles old (unwrap_or place 0) new
   pub world : world_of new.voters ≡ X
   pub lost : new.lost.items ≡ old.lost.items ++ lost_by place event
-
--- voters weren't read
-pub record Misses (old : Notes) (event : ℕ) (new : Notes) : Type 0 where
-  pub settled : Settles old 0 new
-  pub world : world_of new.voters ≡ world_of old.voters
-  pub lost : new.lost.items ≡ old.lost.items ++ record { event = event; loss = Unread } ∷ []
 
 -- a round was answered
 pub record NotesAnswered (old : Notes) (round : Round) (new : Notes) : Type 0 where

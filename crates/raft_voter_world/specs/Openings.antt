@@ -6,19 +6,21 @@ use Rattle.raft_voter.specs.Voters.{world_of}
 use Rattle.raft_voter.specs.declared.service.Cause.{Cause}
 use Rattle.raft_voter_world.specs.declared.event.Left.{Left}
 use Rattle.raft_voter_world.specs.declared.opening.Opened.{Opened}
-use Rattle.raft_voter_world.specs.declared.opening.Opened.TheVariants.{Shown, Unread, Closed as IsClosed}
+use Rattle.raft_voter_world.specs.declared.opening.Opened.TheVariants.{Shown, Closed as IsClosed}
 use Rattle.raft_voter_world.specs.declared.storage.Storage.TheVariants.{Open as IsOpenStore}
 use Rattle.raft_voter_world.specs.History.{Crashes, IsOpened, IsUnopened}
-use Rattle.raft_voter_world.specs.Stores.{Disk, StaysAsItWas, TellsVoters, Upkeep, world_in}
+use Rattle.raft_voter_world.specs.Stores.{Disk, LeavesInFiles, StaysAsItWas, TellsVoters, Upkeep, world_in}
 
--- Of a store that was just opened: its voters were read, or weren't; or the disk had stopped, and a crash left
--- files.
+-- Of a store that was just opened: its voters were read; or the disk had stopped, and a crash left files; or it
+-- hadn't, they weren't read, and the store was closed again.
 abbrev pub ComesOf : {S F : Type 0} → Service S → Upkeep S → Disk S F → S → Left → Opened S F → Type 0
 ComesOf v u d store gone (Shown now voters) =
     (listed : List (ℕ × State)) × TellsVoters v store listed × StaysAsItWas v store now
     × (u.has_stopped now ≡ false) × (world_of voters ≡ world_in listed)
-ComesOf v u d store gone (Unread now) = StaysAsItWas v store now × (u.has_stopped now ≡ false)
-ComesOf v u d store gone (IsClosed files) = (u.has_stopped store ≡ true) × Crashes v d (IsOpenStore store) gone files
+ComesOf {S} {F} v u d store gone (IsClosed files) =
+    ((u.has_stopped store ≡ true) × Crashes v d (IsOpenStore store) gone files)
+    ⊎ ((now : S) × StaysAsItWas v store now × (u.has_stopped now ≡ false)
+    × d.closes now files × LeavesInFiles v d now files)
 
 -- Of files: a store was opened; or the open was refused; or the disk had stopped, and they are as they were.
 abbrev pub ComesOut : {S F : Type 0} → Service S → Upkeep S → Disk S F → F → ℕ → Left → Opened S F → Type 0

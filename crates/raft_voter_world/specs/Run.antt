@@ -20,8 +20,8 @@ Knows v d (Open store) cut = v.leaves store cut
 
 -- What is known to be left in a storage goes on being so from moment to moment, and this holds in the end, unless
 -- something passes by chance of what is known: in the files that an open reads, or in those that a crash leaves.
--- An open then shows voters that may have been left, and the place is found. Nothing is said behind an open whose
--- voters weren't read.
+-- An open then shows voters that may have been left, and the place is found; one whose voters weren't read leaves
+-- in its files what it served.
 abbrev pub Goes :
     {S F : Type 0}
     → (v : Service S) (d : Disk S F) → (Storage S F → CutRound → Type 0)
@@ -30,7 +30,9 @@ Goes v d End storage cut known [] = End storage cut
 Goes v d End (Closed files) cut known (opened workers store voters place now ∷ ms) =
     d.without_chance files cut known files
     → IsSome place × ((W : World) × MayFollow cut W × ((at : IsOpenAt v now W) × Goes v d End (Open now) (uncut W) at.left ms))
-Goes v d End (Closed files) cut known (unread workers store now ∷ ms) = Unit {0}
+Goes v d End (Closed files) cut known (unread workers store now left ∷ ms) =
+    d.without_chance files cut known files
+    → (W : World) × MayFollow cut W × ((still : d.leaves left (uncut W)) × Goes v d End (Closed left) (uncut W) still ms)
 Goes v d End (Closed files) cut known (fell workers store gone left ∷ ms) =
     d.without_chance files cut known files
     → (W : World) × MayFollow cut W × ((under : d.leaves_under store (uncut W))
@@ -92,8 +94,7 @@ AllTransparent {S} {F} v u d =
 -- of it.
 -- Where nothing was lost, and each store that was opened served voters, whichever they were, voters that never
 -- fail explain the transcript.
--- And unless something passed by chance nothing is lost but where voters weren't read, they explain it, and what
--- is left means them.
+-- And unless something passed by chance nothing is lost, they explain it, and what is left means them.
 pub record IsRun {S F : Type 0} (v : Service S) (u : Upkeep S) (d : Disk S F) (files : F) (events : List Event)
     (report : WorldReport F) : Type 0 where
   pub turns : List (List (Moment S F))

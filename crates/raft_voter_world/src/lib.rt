@@ -17,7 +17,6 @@ mod world;
 pub use disk::VoterDisk;
 pub use event::{Event, Left};
 pub use faults::{Fault, Purge};
-pub use notes::{Loss, Lost};
 pub use opening::Opened;
 pub use report::WorldReport;
 pub use serving::Served;

@@ -3,30 +3,12 @@ ghost use Rattle.std.specs.Prelude.{◌≡◌, ℕ, ◌++◌, ◌∷◌, [], IsT
 ghost use Rattle.raft_voter.specs.Rounds.{are_rising, fresh_world};
 ghost use Rattle.raft_voter.specs.Voters.{world_of};
 ghost use Rattle.raft_voter_world.specs.Places.{IsPlaceFound};
-ghost use Rattle.raft_voter_world.specs.Notes.{cut_of, Misses, NotesAnswered, NotesCut, NotesIdle, Settles, Shows};
+ghost use Rattle.raft_voter_world.specs.Notes.{cut_of, NotesAnswered, NotesCut, NotesIdle, Settles, Shows};
 
 use crate::places::find_place;
 use crate::report::WorldReport;
 use raft_voter::{Items, Memory, Round, Transcript, Voters};
 use std::alloc::Global;
-
-/// Why an open told nothing of the voters.
-#[derive(Clone, Copy, Debug, PartialEq, Eq)]
-pub enum Loss {
-    /// The voters that it shows can't stand behind the rounds so far.
-    NoPlace,
-    /// Its voters weren't read.
-    Unread,
-}
-
-/// An open that told nothing of the voters.
-#[derive(Clone, Copy, Debug, PartialEq, Eq)]
-pub struct Lost {
-    /// The event, counted from 0.
-    pub event: usize,
-    /// Why.
-    pub loss: Loss,
-}
 
 /// A round that was cut off and may have been taken up to some place, which the next open will show; and the
 /// rounds behind it, of which nothing was taken, with their cuts.
@@ -38,7 +20,7 @@ struct Unsettled {
 }
 
 /// What is noted of a run: the rounds that are settled, with the cuts of those that were cut off; the voters
-/// behind them; the round that isn't settled, if there is one; and what was lost.
+/// behind them; the round that isn't settled, if there is one; and the events that were lost.
 #[derive(Drop)]
 pub struct Notes {
     alloc: Global,
@@ -46,7 +28,7 @@ pub struct Notes {
     rounds: Vec<Round>,
     cuts: Vec<usize>,
     unsettled: Option<Unsettled>,
-    lost: Vec<Lost>,
+    lost: Vec<usize>,
 }
 
 impl Notes {
@@ -120,7 +102,7 @@ impl Notes {
         match found {
             Some(place) => self.settle(place),
             None => {
-                self.lose(event, Loss::NoPlace)?;
+                self.lost.push(event)?;
                 self.settle(0)
             }
         }
@@ -144,27 +126,6 @@ impl Notes {
             }
             None => find_place(self.alloc, voters, shown, &[], &[]),
         }
-    }
-
-    /// This event is lost.
-    fn lose(&mut self, event: usize, loss: Loss) -> Result<(), Memory>
-        ensures lost { OnOk result
-            (self.new.lost.items ≡ self.old.lost.items ++ record { event = event; loss = loss } ∷ []) }
-        ensures rounds { self.new.rounds ≡ self.old.rounds }
-        ensures cuts { self.new.cuts ≡ self.old.cuts }
-        ensures unsettled { self.new.unsettled ≡ self.old.unsettled }
-        ensures voters { self.new.voters ≡ self.old.voters }
-    {
-        self.lost.push(Lost { event, loss })?;
-        Ok(())
-    }
-
-    /// The voters that an open shows weren't read.
-    pub fn unread(&mut self, event: usize) -> Result<(), Memory>
-        ensures { OnOk result (Misses self.old event self.new) }
-    {
-        self.lose(event, Loss::Unread)?;
-        self.settle(0)
     }
 
     /// What is told of a run, behind which these files are left.

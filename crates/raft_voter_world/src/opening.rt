@@ -16,14 +16,12 @@ use std::thread::Threads;
 pub enum Opened<S, F> {
     /// The store is open, and shows these voters.
     Shown(S, Voters),
-    /// The store is open, and its voters weren't read.
-    Unread(S),
     /// No store is open, and these files are there.
     Closed(F),
 }
 
 /// Opens a store over its files by so many workers, unless the disk has stopped. Where it stops in the open, this
-/// is left of it.
+/// is left of it; where the voters can't be read, the store is closed again.
 pub fn open_files<R: Threads + Sync, S: VoterStorage<R> + Drop, F: VoterDisk<R, S> + Drop>(
     rt: &R,
     alloc: Global,
@@ -42,7 +40,8 @@ pub fn open_files<R: Threads + Sync, S: VoterStorage<R> + Drop, F: VoterDisk<R, 
     }
 }
 
-/// Reads the voters of a store that was just opened, unless the disk stopped in the open.
+/// Reads the voters of a store that was just opened, unless the disk stopped in the open. Where they can't be
+/// read, no round may follow of which it isn't known which voters served it: the store is closed.
 fn read_store<R, S: VoterStorage<R> + Drop, F: VoterDisk<R, S> + Drop>(
     rt: &R,
     alloc: Global,
@@ -56,7 +55,7 @@ fn read_store<R, S: VoterStorage<R> + Drop, F: VoterDisk<R, S> + Drop>(
     }
     match store.voters(rt, alloc) {
         Ok(listed) => Ok(Opened::Shown(store, gather(alloc, listed)?)),
-        Err(_) => Ok(Opened::Unread(store)),
+        Err(_) => Ok(Opened::Closed(F::close(store, rt))),
     }
 }
 

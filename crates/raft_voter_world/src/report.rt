@@ -1,5 +1,4 @@
 //! What is told of a run.
-use crate::notes::Lost;
 use raft_voter::{Items, Transcript};
 
 /// What came of a run.
@@ -12,6 +11,7 @@ pub struct WorldReport<F> {
     pub cuts: Items<usize>,
     /// The files, on which no store is open.
     pub files: F,
-    /// The opens that told nothing of the voters, so that a cut may be wrong.
-    pub lost: Items<Lost>,
+    /// The events, counted from 0, whose opens showed voters that can't stand behind the rounds before, up to
+    /// whichever place the last one was taken; so the cut before may be wrong.
+    pub lost: Items<usize>,
 }

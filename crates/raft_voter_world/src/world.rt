@@ -165,7 +165,8 @@ impl<S: Drop, F: Drop> World<S, F> {
         closed.fallen()
     }
 
-    /// Opens the store by so many workers; one that is open is closed first. What it shows is noted.
+    /// Opens the store by so many workers; one that is open is closed first. What it shows is noted; where its
+    /// voters can't be read it is closed again.
     pub fn open<R: Threads + Sync>(
         self,
         rt: &R,
@@ -187,10 +188,6 @@ impl<S: Drop, F: Drop> World<S, F> {
         let storage = match open_files::<R, S, F>(rt, alloc, files, workers, &left)? {
             Opened::Shown(store, shown) => {
                 notes.show(place, shown)?;
-                Storage::Open(store)
-            }
-            Opened::Unread(store) => {
-                notes.unread(place)?;
                 Storage::Open(store)
             }
             Opened::Closed(files) => Storage::Closed(files),

@@ -1,5 +1,4 @@
-use Rattle.std.proofs.Common.{sym, ◌∙◌, refl, true}
-use Rattle.raft_voter_world.specs.History.{has_stopped}
+use Rattle.std.proofs.Common.{sym, ◌∙◌, refl}
 use Rattle.raft_voter_world.proofs.Moving.{falls_down, stays}
 use Rattle.raft_voter_world.proofs.world.World.fallen.Goals as goal
 

@@ -1,3 +1,4 @@
+pub mod Alike
 mod Marking
 pub mod Leading
 pub mod Explaining

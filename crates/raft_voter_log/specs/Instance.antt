@@ -105,7 +105,9 @@ abbrev pub CrashesUnder : OnDisk → Left → OnDisk → Type 0
 CrashesUnder d gone left = (system : MemoryFileSystem) × (after : MemoryFileSystem) × (disk_of system ≡ d)
     × IsLeftOf (remainder_of gone) system after × (disk_of after ≡ left)
 
-abbrev pub log_disk : {S : Type 0} → (MemoryFileSystem → List ℕ → ℕ → Type 0) → (S → Config) → (S → Shows) → (S → ℕ → State) → Disk S LogFiles
+abbrev pub log_disk :
+    {S : Type 0}
+    → (MemoryFileSystem → List ℕ → ℕ → Type 0) → (S → Config) → (S → Shows) → (S → ℕ → State) → Disk S LogFiles
 log_disk tells config shows outlines = record {
   leaves = λ files cut. FilesLeave files.config (disk_of files.files) cut;
   without_chance = λ files cut known read. SparesFiles files.config (disk_of files.files) cut known (disk_of read.files);

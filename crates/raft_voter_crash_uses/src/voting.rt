@@ -1,0 +1,37 @@
+//! A node votes, loses power, and is asked for the same term's vote by another candidate.
+
+ghost use Rattle.std.specs.Prelude.{◌≡◌, IfOk};
+ghost use Rattle.raft_voter_crash_uses.specs.Voting.{VotesAcrossACrash};
+
+use crate::serving::{NotServed, serve_across_a_crash};
+use raft_voter::{Items, Reply, Request};
+use raft_voter_world::{Left, VoterDisk, VoterStorage};
+use std::alloc::Global;
+use std::thread::Threads;
+
+/// Group 1 is asked for its vote in term 5 by candidate 2, the power goes, of which this is left, and then candidate
+/// 3 asks for it. The answer is the replies to both.
+pub fn vote_across_a_crash<R: Threads + Sync, S: VoterStorage<R> + Drop, F: VoterDisk<R, S> + Drop>(
+    rt: &R,
+    alloc: Global,
+    files: F,
+    left: &Left,
+) -> Result<(Items<Reply>, Items<Reply>), NotServed>
+    ensures { IfOk result (λ told. VotesAcrossACrash S.service F.disk files told.0 told.1) }
+{
+    let first = [(1, vote_for(2))];
+    let second = [(1, vote_for(3))];
+    serve_across_a_crash::<R, S, F>(rt, alloc, files, left, &first, &second)
+}
+
+/// A candidate asks for the vote in term 5.
+fn vote_for(candidate: u64) -> Request
+    ensures { result ≡ Request.Vote 5 candidate 0 0 }
+{
+    Request::Vote {
+        term: 5,
+        candidate,
+        last_index: 0,
+        last_term: 0,
+    }
+}

@@ -1,0 +1,24 @@
+-- How a model in memory follows a device, and what a file system over both shows.
+use Rattle.std.specs.Prelude.{◌≡◌, ℕ, Bool, false}
+use Rattle.std.proofs.Props.{props}
+use Rattle.raft_log_disk.proofs.Props.{Change-set, File-set}
+use Rattle.raft_log_disk.specs.Disk.{Disk}
+use Rattle.raft_log_disk_storage.specs.declared.storage.Storage.{Storage}
+use Rattle.raft_log_disk_storage.specs.Storage.{contents_of}
+use Rattle.raft_log_disk_device.specs.Device.{Trace, held_by, settled}
+
+-- Until a stop, the model holds what the device does, and no directory owes a sync.
+abbrev pub Follows : Bool → Storage → Trace → Type 0
+Follows stopped storage trace = stopped ≡ false → held_by trace ≡ settled (contents_of storage)
+
+-- What is on the disk is what a crash finds on the device; each place of it can be read.
+abbrev pub shown : Trace → Bool → ℕ → Disk
+shown trace stopped failures = record (held_by trace).kept {
+  unreadable = λ id place. false;
+  stopped = stopped;
+  failures = failures;
+}
+
+-- a device holds what it does in one way only, so that a type may keep the fact beside its fields
+pub Follows-prop : (stopped : Bool) (storage : Storage) (trace : Trace) → IsProp (Follows stopped storage trace)
+Follows-prop stopped storage trace = hlevel (Change-set, File-set, props)

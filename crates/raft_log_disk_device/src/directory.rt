@@ -1,0 +1,47 @@
+//! A file system over a device.
+mod calls;
+mod checks;
+
+ghost use Rattle.raft_log_disk.proofs.Props.{IsSound-prop};
+ghost use Rattle.raft_log_disk.specs.Image.{IsSound};
+ghost use Rattle.raft_log_disk_storage.specs.Storage.{IsStorageSound, IsWhole-prop};
+ghost use Rattle.raft_log_disk_device.specs.Device.{held_by};
+ghost use Rattle.raft_log_disk_device.specs.Following.{Follows, Follows-prop};
+
+use crate::device::Device;
+use raft_log_disk_storage::Storage;
+
+/// A file system over a device, whose files also lie in memory: content and synced bytes of each, so twice
+/// its size. A change goes to the model in memory first, and then to the device, which is synced where names
+/// changed. What is read comes from memory. Where the device refuses a call, the file system stops.
+#[derive(Drop)]
+pub struct DirectoryFileSystem<D: Device> {
+    storage: Storage,
+    device: D,
+    failures: u64,
+    stopped: bool,
+    ghost whole: { IsStorageSound storage } by { IsWhole-prop storage },
+    ghost follows: { Follows stopped storage (D.Device.trace device) } by { Follows-prop stopped storage (D.Device.trace device) },
+    ghost sound: { IsSound (held_by (D.Device.trace device)).kept } by { IsSound-prop (held_by (D.Device.trace device)).kept },
+}
+
+impl<D: Device> DirectoryFileSystem<D> {
+    ghost use Rattle.std.specs.Prelude.{◌≡◌};
+    ghost use Rattle.raft_log_disk_storage.specs.Storage.{contents_of};
+    ghost use Rattle.raft_log_disk_device.specs.Device.{settled};
+    ghost use Rattle.raft_log_disk_device.specs.Directory.{disk_of};
+
+    /// The file system over a device that holds what a model does, with no directory that owes a sync.
+    pub fn new(storage: Storage, device: D) -> DirectoryFileSystem<D>
+        requires whole { IsStorageSound storage }
+        requires follows { held_by (D.Device.trace device) ≡ settled (contents_of storage) }
+        ensures { disk_of D.Device result ≡ contents_of storage }
+    {
+        DirectoryFileSystem {
+            storage,
+            device,
+            failures: 0,
+            stopped: false,
+        }
+    }
+}

@@ -1,0 +1,87 @@
+//! What is asked before a call, how a failure is counted, and how a call of the device ends.
+ghost use Rattle.std.specs.Prelude.{◌≡◌, true, OnOk, OnErr};
+
+use super::DirectoryFileSystem;
+use crate::device::Device;
+use raft_log_disk::{Handle, Permission};
+use raft_log_disk_storage::Node;
+use std::io::ErrorKind;
+
+impl<D: Device> DirectoryFileSystem<D> {
+    ghost use Rattle.std.specs.Prelude.{◌≡◌, true, OnOk, OnErr, IfErr};
+    ghost use Rattle.raft_log_disk_device.specs.Directory.{disk_of, FailsOnce, Runs, RunsWithDirectory, RunsWithFile, RunsWithWriter, LacksDirectory, LacksFile, LacksWriter};
+
+    // Counts a failure; the one that would make 2^64 stops the file system.
+    pub(super) fn fail(&mut self, kind: ErrorKind) -> ErrorKind
+        ensures failed { FailsOnce (disk_of D.Device self.old) (disk_of D.Device self.new) }
+        ensures kind { result ≡ kind }
+    {
+        match self.failures.checked_add(1) {
+            Some(failures) => self.failures = failures,
+            None => self.stopped = true,
+        }
+        kind
+    }
+
+    // Whether the file system runs.
+    pub(super) fn check_runs(&self) -> Result<(), ErrorKind>
+        ensures ok { OnOk result (Runs D.Device self.now) }
+        ensures err { OnErr result ((disk_of D.Device self.now).stopped ≡ true) }
+    {
+        if self.stopped {
+            Err(ErrorKind::Other)
+        } else {
+            Ok(())
+        }
+    }
+
+    // Whether it runs, and a path is a directory's.
+    pub(super) fn check_directory(&self, path: &str) -> Result<(), ErrorKind>
+        ensures ok { OnOk result (RunsWithDirectory D.Device path.now self.now) }
+        ensures err { IfErr result (LacksDirectory path.now (disk_of D.Device self.now)) }
+    {
+        self.check_runs()?;
+        match self.storage.node(path) {
+            Some(Node::Directory) => Ok(()),
+            Some(Node::File(_)) => Err(ErrorKind::InvalidInput),
+            None => Err(ErrorKind::NotFound),
+        }
+    }
+
+    // Whether it runs, and a handle's file is there.
+    pub(super) fn check_handle(&self, handle: Handle) -> Result<(), ErrorKind>
+        ensures ok { OnOk result (RunsWithFile D.Device handle self.now) }
+        ensures err { IfErr result (LacksFile handle (disk_of D.Device self.now)) }
+    {
+        self.check_runs()?;
+        if self.storage.has(handle.file) {
+            Ok(())
+        } else {
+            Err(ErrorKind::NotFound)
+        }
+    }
+
+    // Whether a handle may write, too.
+    pub(super) fn check_writer(&self, handle: Handle) -> Result<(), ErrorKind>
+        ensures ok { OnOk result (RunsWithWriter D.Device handle self.now) }
+        ensures err { IfErr result (LacksWriter handle (disk_of D.Device self.now)) }
+    {
+        self.check_handle(handle)?;
+        match handle.permission {
+            Permission::ReadWrite => Ok(()),
+            Permission::ReadOnly => Err(ErrorKind::PermissionDenied),
+        }
+    }
+}
+
+// Ends a call of the device: a refused one is a stop.
+pub(super) fn stopping(stopped: &mut bool, made: Result<(), ErrorKind>) -> Result<(), ErrorKind>
+    ensures same { result ≡ made }
+    ensures ok { OnOk made (stopped.new ≡ stopped.old) }
+    ensures err { OnErr made (stopped.new ≡ true) }
+{
+    if made.is_err() {
+        *stopped = true;
+    }
+    made
+}

@@ -1,0 +1,4 @@
+pub mod Journals
+pub mod Steps
+pub mod Requests
+pub mod Right

@@ -1,0 +1,6 @@
+use Rattle.std.specs.Cmp.Lexicographic.{pointwise_decides}
+use Rattle.raft_voter_messages.proofs.Equality.{decides_reply}
+use Rattle.raft_voter_shared.proofs.receipts.are_told.Goals as goal
+
+pub returns : goal.returns
+returns c = rw c.eq.ensures (pointwise_decides decides_reply c.args.replies.now c.args.others.now)

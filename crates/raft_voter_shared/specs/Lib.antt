@@ -1,0 +1,5 @@
+pub mod Journal
+pub mod Standing
+pub mod Noting
+pub mod Receipts
+pub mod Settling

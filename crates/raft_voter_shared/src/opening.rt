@@ -1,0 +1,28 @@
+//! What a shared store was as it was made.
+use std::marker::Brand;
+use std::sync::ledger::Ledger;
+
+/// Names the ledger of a shared store, and what its store was as it was made.
+pub trait Opening: Ledger {
+    ghost use Rattle.std.specs.Prelude.{ℕ, Bool};
+    ghost use Rattle.raft_voter.specs.Rounds.{World};
+
+    /// All parts of the ledger.
+    ghost all: { ℕ };
+
+    /// The voters that the store served, whichever they are.
+    ghost served: { World → Type 0 };
+
+    /// Whether the store had failed.
+    ghost had_failed: { Bool };
+}
+
+impl Opening for Brand {
+    ghost use Rattle.std.specs.Prelude.{false};
+
+    ghost all = { 0 };
+
+    ghost served = { λ W. ⊥ };
+
+    ghost had_failed = { false };
+}

@@ -1,0 +1,38 @@
+//! What a seat is told of its rounds.
+use raft_voter::{Cause, Items, Reply, Request};
+use thiserror::Error;
+
+/// A round that was answered: whose it was, where it stands in the journal, and its replies.
+#[derive(Debug, PartialEq, Drop)]
+pub struct Receipt {
+    /// The number of the seat that asked for it.
+    pub seat: u64,
+    /// How many rounds of that seat stand in the journal before it.
+    pub turn: u64,
+    /// The place of its record in the journal, counted from 0.
+    pub place: usize,
+    /// Each request with its group, in order.
+    pub requests: Items<(u64, Request)>,
+    /// The reply to each.
+    pub replies: Items<Reply>,
+}
+
+/// Why there is no receipt of a round.
+#[derive(Clone, Copy, Debug, PartialEq, Eq, Error)]
+pub enum SharedFault {
+    /// The round was cut off, for this cause, and stands so in the journal at this place.
+    #[error("round {place} cut off: {cause}")]
+    Cut {
+        /// The place of its record.
+        place: usize,
+        /// Why.
+        cause: Cause,
+    },
+    /// The round was answered, and stands so in the journal at this place, but there was no memory for a copy of
+    /// its replies.
+    #[error("round {0} answered, but out of memory for its receipt")]
+    Untold(usize),
+    /// There was no memory for its record: nothing was taken, and nothing stands in the journal.
+    #[error("out of memory")]
+    Memory,
+}

@@ -1,0 +1,99 @@
+//! Receipts beside a journal.
+ghost use Rattle.std.specs.Prelude.{◌≡◌, ◌+◌, ◌<◌, length, None, IfSome};
+ghost use Rattle.std.specs.Bool.{Decides};
+ghost use Rattle.raft_voter_shared.specs.Receipts.{clash, clashes, AllRight, IsLeastBelow, IsLeastWrong, IsRecordOf, IsRight, StandsIn};
+
+use crate::receipt::Receipt;
+use raft_voter::{Items, Outcome, Reply, Request, Round};
+
+/// The least place at which a receipt isn't right; none where all are.
+pub fn least_wrong(journal: &[Round], receipts: &[Receipt]) -> Option<usize>
+    ensures none { result ≡ None → AllRight journal.now receipts.now }
+    ensures some { IfSome result (λ place. IsLeastWrong journal.now receipts.now place) }
+{
+    let mut least: Option<usize> = None;
+    for index in 0..receipts.len() {
+        least = lesser(journal, receipts, index, least);
+    }
+    least
+}
+
+/// The least place so far at which a receipt isn't right, once that at an index was looked at.
+fn lesser(
+    journal: &[Round],
+    receipts: &[Receipt],
+    index: usize,
+    least: Option<usize>,
+) -> Option<usize>
+    requires { index < length receipts.now }
+    ensures { IsLeastBelow journal.now receipts.now index least
+        → IsLeastBelow journal.now receipts.now (index + 1) result }
+{
+    let receipt = &receipts[index];
+    if is_right(journal, receipts, index, receipt) {
+        return least;
+    }
+    match least {
+        Some(place) => Some(place.min(receipt.place)),
+        None => Some(receipt.place),
+    }
+}
+
+/// Whether the receipt at an index is right.
+fn is_right(journal: &[Round], receipts: &[Receipt], index: usize, receipt: &Receipt) -> bool
+    ensures { Decides result (IsRight journal.now receipts.now index receipt.now) }
+{
+    stands_in(journal, receipt) && !clashes(receipts, index, receipt)
+}
+
+/// Whether a receipt's record stands at its place.
+fn stands_in(journal: &[Round], receipt: &Receipt) -> bool
+    ensures { Decides result (StandsIn journal.now receipt.now) }
+{
+    match journal.get(receipt.place) {
+        Some(round) => is_record_of(receipt, round),
+        None => false,
+    }
+}
+
+/// Whether a record is a receipt's.
+fn is_record_of(receipt: &Receipt, round: &Round) -> bool
+    ensures { Decides result (IsRecordOf receipt.now round.now) }
+{
+    match &round.outcome {
+        Outcome::Answered(replies) => {
+            are_asked(&round.requests, &receipt.requests) && are_told(replies, &receipt.replies)
+        }
+        Outcome::Cut => false,
+    }
+}
+
+/// Whether these are the same requests.
+fn are_asked(requests: &Items<(u64, Request)>, others: &Items<(u64, Request)>) -> bool
+    ensures { Decides result (requests.now ≡ others.now) }
+{
+    requests == others
+}
+
+/// Whether these are the same replies.
+fn are_told(replies: &Items<Reply>, others: &Items<Reply>) -> bool
+    ensures { Decides result (replies.now ≡ others.now) }
+{
+    replies == others
+}
+
+/// Whether another of these receipts clashes with the one at an index.
+fn clashes(receipts: &[Receipt], index: usize, receipt: &Receipt) -> bool
+    ensures { result ≡ clashes receipts.now index receipt.now }
+{
+    receipts.iter().enumerate().any(|(other_index, other)| other_index != index
+        && clash(receipt, other))
+}
+
+/// Whether two receipts can't both be right, for what the second says.
+fn clash(receipt: &Receipt, other: &Receipt) -> bool
+    ensures { result ≡ clash receipt.now other.now }
+{
+    other.place == receipt.place
+        || (other.seat == receipt.seat && other.turn < receipt.turn && receipt.place <= other.place)
+}

@@ -7,7 +7,7 @@ use crate::device::Device;
 use std::io::ErrorKind;
 use std::path::Path;
 
-// The directory in which a path lies.
+/// The directory in which a path lies.
 fn home(path: &str) -> &str
     ensures { result.now ≡ home path.now }
 {
@@ -72,7 +72,7 @@ pub fn rename<D: Device>(
     device.sync_directory(home(from))
 }
 
-// Lets go of a file that another one was renamed over, if it wasn't that file itself.
+/// Lets go of a file that another one was renamed over, if it wasn't that file itself.
 fn close_replaced<D: Device>(device: &mut D, is_same: bool, replaced: Option<usize>)
     ensures { D.trace device.new ≡ D.trace device.old }
 {

@@ -11,7 +11,7 @@ impl<D: Device> DirectoryFileSystem<D> {
     ghost use Rattle.std.specs.Prelude.{◌≡◌, true, OnOk, OnErr, IfErr};
     ghost use Rattle.raft_log_disk_device.specs.Directory.{disk_of, FailsOnce, Runs, RunsWithDirectory, RunsWithFile, RunsWithWriter, LacksDirectory, LacksFile, LacksWriter};
 
-    // Counts a failure; the one that would make 2^64 stops the file system.
+    /// Counts a failure; the one that would make 2^64 stops the file system.
     pub(super) fn fail(&mut self, kind: ErrorKind) -> ErrorKind
         ensures failed { FailsOnce (disk_of D.Device self.old) (disk_of D.Device self.new) }
         ensures kind { result ≡ kind }
@@ -23,7 +23,7 @@ impl<D: Device> DirectoryFileSystem<D> {
         kind
     }
 
-    // Whether the file system runs.
+    /// Whether the file system runs.
     pub(super) fn check_runs(&self) -> Result<(), ErrorKind>
         ensures ok { OnOk result (Runs D.Device self.now) }
         ensures err { OnErr result ((disk_of D.Device self.now).stopped ≡ true) }
@@ -35,7 +35,7 @@ impl<D: Device> DirectoryFileSystem<D> {
         }
     }
 
-    // Whether it runs, and a path is a directory's.
+    /// Whether it runs, and a path is a directory's.
     pub(super) fn check_directory(&self, path: &str) -> Result<(), ErrorKind>
         ensures ok { OnOk result (RunsWithDirectory D.Device path.now self.now) }
         ensures err { IfErr result (LacksDirectory path.now (disk_of D.Device self.now)) }
@@ -48,7 +48,7 @@ impl<D: Device> DirectoryFileSystem<D> {
         }
     }
 
-    // Whether it runs, and a handle's file is there.
+    /// Whether it runs, and a handle's file is there.
     pub(super) fn check_handle(&self, handle: Handle) -> Result<(), ErrorKind>
         ensures ok { OnOk result (RunsWithFile D.Device handle self.now) }
         ensures err { IfErr result (LacksFile handle (disk_of D.Device self.now)) }
@@ -61,7 +61,7 @@ impl<D: Device> DirectoryFileSystem<D> {
         }
     }
 
-    // Whether a handle may write, too.
+    /// Whether a handle may write, too.
     pub(super) fn check_writer(&self, handle: Handle) -> Result<(), ErrorKind>
         ensures ok { OnOk result (RunsWithWriter D.Device handle self.now) }
         ensures err { IfErr result (LacksWriter handle (disk_of D.Device self.now)) }
@@ -74,7 +74,7 @@ impl<D: Device> DirectoryFileSystem<D> {
     }
 }
 
-// Ends a call of the device: a refused one is a stop.
+/// Ends a call of the device: a refused one is a stop.
 pub(super) fn stopping(stopped: &mut bool, made: Result<(), ErrorKind>) -> Result<(), ErrorKind>
     ensures same { result ≡ made }
     ensures ok { OnOk made (stopped.new ≡ stopped.old) }

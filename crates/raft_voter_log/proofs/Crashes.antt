@@ -4,7 +4,7 @@ use Rattle.std.proofs.Math.Path.{fun_ext}
 use Rattle.std.proofs.Math.Seq.{take-nil}
 use Rattle.raft_log_model_laws.specs.Groups.{taken}
 use Rattle.raft_log_disk.specs.Disk.{Disk as OnDisk, File, at_rest, empty_disk}
-use Rattle.raft_log_disk.specs.Exits.{denied_by}
+use Rattle.raft_log_disk.specs.Exits.{Arms, denied_by}
 use Rattle.raft_log_disk.specs.Image.{IsFileImage, IsImage, IsLeft, IsSound}
 use Rattle.raft_log_disk.proofs.ImageLaws.{disk_ext, only_at_rest}
 use Rattle.raft_log_disk_memory.specs.Memory.{disk_of}
@@ -33,7 +33,7 @@ use Rattle.raft_voter_store.specs.Service.LeavesAt.{left as is_left, running}
 use Rattle.raft_voter_world.specs.declared.faults.Fault.{Fault}
 use Rattle.raft_voter_world.specs.declared.faults.Fault.TheVariants.{Refuse, Stop}
 use Rattle.raft_voter_log.specs.Faults.{fault_of}
-use Rattle.raft_voter_log.specs.Instance.{AreSame, ArmsFiles, ClosesStore}
+use Rattle.raft_voter_log.specs.Instance.{AreSame, ClosesStore}
 use Rattle.raft_voter_log.specs.Leaving.{FilesLeave, SparesFiles, SparesStore}
 use Rattle.raft_voter_log.specs.Leaving.FilesLeave.{bare, left, rests}
 use Rattle.raft_voter_log.proofs.Homes.{leave_for, one_home, some_append, some_rewrite}
@@ -120,9 +120,8 @@ copy_leaves config target old new cut sound ends known = by_known known
     by_known (left l) = left (record { map = l.map; pending = l.pending; left = keeps.left l.map l.pending l.left; among = l.among })
 
 -- an armed stop or refusal changes nothing on the disk
-on_disk : (fault : Fault) (old new : OnDisk) → ArmsFiles fault old new → new ≡ old
-on_disk fault old new (inr same) = same
-on_disk fault old new (inl arms) = by_mark fault arms.marks
+on_disk : (fault : Fault) (old new : OnDisk) → Arms (fault_of fault) old new → new ≡ old
+on_disk fault old new arms = by_mark fault arms.marks
   where
     by_mark : (f : Fault) → (new ≡ old) ⊎ (new ≡ denied_by (fault_of f) old) → new ≡ old
     by_mark f (inl same) = same
@@ -163,5 +162,5 @@ close_leaves config s d cut closes (running W none keeps) =
 close_leaves config s d cut closes (is_left failed l) = left (subst (λ (x : OnDisk). IsLeftAmong (home_of config) x (MayFollow cut)) (sym (closes.failed failed)) l)
 
 -- a fault is armed
-pub armed_leaves : (config : Config) (fault : Fault) (old new : OnDisk) (cut : CutRound) → ArmsFiles fault old new → FilesLeave config old cut → FilesLeave config new cut
+pub armed_leaves : (config : Config) (fault : Fault) (old new : OnDisk) (cut : CutRound) → Arms (fault_of fault) old new → FilesLeave config old cut → FilesLeave config new cut
 armed_leaves config fault old new cut arms known = still_leaves config old new cut (on_disk fault old new arms) known

@@ -43,9 +43,8 @@ pub arms_as : (fault : Fault) (f : DiskFault) (old new : MemoryFileSystem) (s t 
 arms_as fault f old new s t is arms has = inl (subst (λ (x : DiskFault). ArmsEngine x s t) is arms, has ∙ ap (λ (x : DiskFault). armed_with x (armed old)) is)
 
 -- an armed stop or refusal changes nothing of what an engine shows
-arms_nothing : (fault : Fault) (old new : MemoryFileSystem) (s t : Shows) → ArmsStore fault old new s t → t ≡ s
-arms_nothing fault old new s t (inr (stopped, same)) = same
-arms_nothing fault old new s t (inl (arms, has)) =
+arms_nothing : (fault : Fault) (s t : Shows) → ArmsEngine (fault_of fault) s t → t ≡ s
+arms_nothing fault s t arms =
     let disk : t.pipes.disk ≡ s.pipes.disk = on_disk fault arms.pipes.disk.marks in
     arms.others ∙ ap (λ p. record s { pipes = p }) (arms.pipes.others ∙ ap (λ (d : OnDisk). record s.pipes { disk = d }) disk)
   where
@@ -69,8 +68,8 @@ module _ {S : Type 0} (home : S → Home) (shows : S → Shows) (outlines : S �
     left = λ cut l. moved_leaves (home old) (home new) (shows old) (shows new) cut here same l;
   }
 
-  pub armed_stays : (fault : Fault) (before after : MemoryFileSystem) (old new : S) → home new ≡ home old → ArmsStore fault before after (shows old) (shows new) → outlines new ≡ outlines old → StaysAsItWas (service_in home shows outlines) old new
-  armed_stays fault before after old new here arms os = same_stays old new here (arms_nothing fault before after (shows old) (shows new) arms) os
+  pub armed_stays : (fault : Fault) (f : DiskFault) (old new : S) → home new ≡ home old → f ≡ fault_of fault → ArmsEngine f (shows old) (shows new) → outlines new ≡ outlines old → StaysAsItWas (service_in home shows outlines) old new
+  armed_stays fault f old new here is arms os = same_stays old new here (arms_nothing fault (shows old) (shows new) (subst (λ (x : DiskFault). ArmsEngine x (shows old) (shows new)) is arms)) os
 
   pub read_stays : (old new : S) → home new ≡ home old → StaysButBlock (shows old) (shows new) → outlines new ≡ outlines old → StaysAsItWas (service_in home shows outlines) old new
   read_stays old new here stays os = record {
@@ -102,5 +101,5 @@ module _ {S : Type 0} (home : S → Home) (shows : S → Shows) (outlines : S �
 pub still_stopped : (s t : Shows) → StaysButBlock s t → t.pipes.disk.stopped ≡ s.pipes.disk.stopped
 still_stopped s t stays = ap (λ (x : Shows). x.pipes.disk.stopped) stays.same
 
-pub armed_stopped : (fault : Fault) (old new : MemoryFileSystem) (s t : Shows) → ArmsStore fault old new s t → t.pipes.disk.stopped ≡ s.pipes.disk.stopped
-armed_stopped fault old new s t arms = ap (λ (x : Shows). x.pipes.disk.stopped) (arms_nothing fault old new s t arms)
+pub armed_stopped : (fault : Fault) (f : DiskFault) (s t : Shows) → f ≡ fault_of fault → ArmsEngine f s t → t.pipes.disk.stopped ≡ s.pipes.disk.stopped
+armed_stopped fault f s t is arms = ap (λ (x : Shows). x.pipes.disk.stopped) (arms_nothing fault s t (subst (λ (x : DiskFault). ArmsEngine x s t) is arms))

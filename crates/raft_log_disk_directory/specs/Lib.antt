@@ -1,0 +1,3 @@
+pub mod Noting
+pub mod Tracing
+pub mod Loading

@@ -1,0 +1,161 @@
+//! The operating system's files, as a device.
+ghost use Rattle.raft_log_disk_storage.specs.declared.storage.Storage.{Storage};
+
+use super::record::Record;
+use raft_log_disk_device::Device;
+use raft_log_disk_storage::Storage;
+use std::alloc::Global;
+use std::collections::BTreeMap;
+use std::fs;
+use std::fs::{File, OpenOptions};
+use std::io::ErrorKind;
+use std::os::unix::fs::FileExt;
+use std::rt::Files;
+use std::snapshot::Snapshot;
+
+const CREATED: u64 = 0;
+
+const DELETED: u64 = 1;
+
+const MADE_DIRECTORY: u64 = 2;
+
+const SYNCED_DIRECTORY: u64 = 3;
+
+const WRITTEN: u64 = 4;
+
+const SHORTENED: u64 = 5;
+
+const GROWN: u64 = 6;
+
+const SYNCED: u64 = 7;
+
+/// The operating system's files, as a device. Each file that has a name is open; the directories stay locked
+/// until it is dropped. A method makes one call and then notes it; only clauses read what is noted.
+#[derive(Drop)]
+pub struct FileDevice<R> {
+    rt: R,
+    files: BTreeMap<usize, File>,
+    locks: Vec<File>,
+    found: Snapshot<Storage>,
+    record: Record,
+}
+
+impl<R: Files<File = File> + Drop> FileDevice<R> {
+    ghost use Rattle.raft_log_disk_directory.specs.Tracing.{IsFresh};
+
+    /// The device whose files, by their numbers, are those of a model that was loaded with them; the handles
+    /// that lock the directories are kept.
+    pub(crate) fn new(
+        rt: R,
+        files: BTreeMap<usize, File>,
+        locks: Vec<File>,
+        storage: &Storage,
+    ) -> FileDevice<R>
+        ensures { IsFresh storage.now result }
+    {
+        FileDevice {
+            rt,
+            files,
+            locks,
+            found: Snapshot::of(storage),
+            record: Record::new(),
+        }
+    }
+}
+
+impl<R: Files<File = File> + Drop> Device for FileDevice<R> {
+    ghost use Rattle.raft_log_disk_directory.specs.Tracing.{trace_of};
+
+    ghost trace = { trace_of };
+
+    fn create(&mut self, path: &str, file: usize) -> Result<(), ErrorKind> {
+        let made = OpenOptions::new()
+            .read(true)
+            .write(true)
+            .create_new(true)
+            .open(&self.rt, path);
+        let opened = made.map_err(|error| error.kind())?;
+        let Ok(_) = self.files.insert(file, opened) else {
+            return Err(ErrorKind::OutOfMemory);
+        };
+        self.record
+            .note(&[CREATED, file as u64, 0], path.as_bytes());
+        Ok(())
+    }
+
+    fn delete(&mut self, path: &str) -> Result<(), ErrorKind> {
+        fs::remove_file(&self.rt, path).map_err(|error| error.kind())?;
+        self.record.note(&[DELETED, 0, 0], path.as_bytes());
+        Ok(())
+    }
+
+    fn rename(&mut self, from: &str, to: &str) -> Result<(), ErrorKind> {
+        fs::rename(&self.rt, from, to).map_err(|error| error.kind())?;
+        self.record.note_rename(from.as_bytes(), to.as_bytes());
+        Ok(())
+    }
+
+    fn create_dir(&mut self, path: &str) -> Result<(), ErrorKind> {
+        fs::create_dir(&self.rt, path).map_err(|error| error.kind())?;
+        self.record.note(&[MADE_DIRECTORY, 0, 0], path.as_bytes());
+        Ok(())
+    }
+
+    fn sync_directory(&mut self, path: &str) -> Result<(), ErrorKind> {
+        let named = if path.is_empty() { "." } else { path };
+        let opened = File::open(&self.rt, named).map_err(|error| error.kind())?;
+        opened.sync_all().map_err(|error| error.kind())?;
+        self.record.note(&[SYNCED_DIRECTORY, 0, 0], path.as_bytes());
+        Ok(())
+    }
+
+    fn write_at(&mut self, file: usize, offset: usize, bytes: &[u8]) -> Result<(), ErrorKind> {
+        let Some(opened) = self.files.get(&file) else {
+            return Err(ErrorKind::NotFound);
+        };
+        opened
+            .write_all_at(bytes, offset as u64)
+            .map_err(|error| error.kind())?;
+        self.record
+            .note(&[WRITTEN, file as u64, offset as u64], bytes);
+        Ok(())
+    }
+
+    fn truncate(&mut self, file: usize, size: usize) -> Result<(), ErrorKind> {
+        let Some(opened) = self.files.get(&file) else {
+            return Err(ErrorKind::NotFound);
+        };
+        let length = opened.metadata().map_err(|error| error.kind())?.len();
+        if (size as u64) < length {
+            opened.set_len(size as u64).map_err(|error| error.kind())?;
+        }
+        self.record
+            .note(&[SHORTENED, file as u64, size as u64], &[]);
+        Ok(())
+    }
+
+    fn grow(&mut self, file: usize, size: usize) -> Result<(), ErrorKind> {
+        let Some(opened) = self.files.get(&file) else {
+            return Err(ErrorKind::NotFound);
+        };
+        let length = opened.metadata().map_err(|error| error.kind())?.len();
+        if length < size as u64 {
+            opened.set_len(size as u64).map_err(|error| error.kind())?;
+        }
+        self.record.note(&[GROWN, file as u64, size as u64], &[]);
+        Ok(())
+    }
+
+    fn sync(&mut self, file: usize) -> Result<(), ErrorKind> {
+        let Some(opened) = self.files.get(&file) else {
+            return Err(ErrorKind::NotFound);
+        };
+        opened.sync_data().map_err(|error| error.kind())?;
+        self.record.note(&[SYNCED, file as u64, 0], &[]);
+        Ok(())
+    }
+
+    fn close(&mut self, file: usize) {
+        let _closed = self.files.remove(&file);
+    }
+}

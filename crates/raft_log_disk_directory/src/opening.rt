@@ -1,0 +1,112 @@
+//! Directories are opened: locked, synced and loaded.
+ghost use Rattle.std.specs.Prelude.{IfOk};
+ghost use Rattle.raft_log_disk_directory.specs.Loading.{StartsFresh};
+
+use super::fault::DirectoryFault;
+use super::file_device::FileDevice;
+use super::load::{Found, PIECE};
+use raft_log_disk::FileSystem;
+use raft_log_disk_device::DirectoryFileSystem;
+use std::fs::File;
+use std::io::ErrorKind;
+use std::path::Path;
+use std::rt::Files;
+use std::{fs, io};
+
+/// Opens a log's main directory, and its second one where it has one, and answers the file system over them.
+/// Each is locked, until the file system is dropped; each regular file in them is synced and read. Both have
+/// to be there. Paths are those of the operating system; the log's settings have to spell them the same. A
+/// refusal has changed nothing.
+pub fn open_directories<R: Files<File = File> + AllocGlobal + Clone + Drop>(
+    rt: &R,
+    directory: &str,
+    spill_directory: Option<&str>,
+) -> Result<DirectoryFileSystem<FileDevice<R>>, DirectoryFault>
+    ensures { IfOk result (λ system. StartsFresh
+        (⟦<DirectoryFileSystem<FileDevice<R>> as FileSystem>⟧.disk system)) }
+{
+    let mut found = Found::new(rt.alloc());
+    lock(rt, &mut found, directory)?;
+    if let Some(other) = spill_directory {
+        lock(rt, &mut found, other)?;
+    }
+    load(rt, &mut found, directory)?;
+    if let Some(other) = spill_directory {
+        load(rt, &mut found, other)?;
+    }
+    let Found {
+        storage,
+        files,
+        locks,
+    } = found;
+    let device = FileDevice::new(rt.clone()?, files, locks, &storage);
+    Ok(DirectoryFileSystem::new(storage, device))
+}
+
+/// Makes a directory, so that no crash takes it away, where nothing has the path.
+pub fn make_directory<R: Files<File = File> + AllocGlobal>(
+    rt: &R,
+    directory: &str,
+) -> Result<(), DirectoryFault> {
+    match make_durable(rt, directory) {
+        Err(error) if error.kind() != ErrorKind::AlreadyExists => Err(DirectoryFault::of_directory(
+            rt.alloc(),
+            directory,
+            error,
+        )),
+        _ => Ok(()),
+    }
+}
+
+// Makes a directory, and syncs the one in which it lies.
+fn make_durable<R: Files<File = File>>(rt: &R, directory: &str) -> io::Result<()> {
+    fs::create_dir(rt, directory)?;
+    let home = match Path::new(directory).parent() {
+        Some(home) if !home.as_str().is_empty() => home.as_str(),
+        _ => ".",
+    };
+    File::open(rt, home)?.sync_all()
+}
+
+// Locks a directory.
+fn lock<R: Files<File = File> + AllocGlobal>(
+    rt: &R,
+    found: &mut Found,
+    directory: &str,
+) -> Result<(), DirectoryFault> {
+    found.add_directory(rt, directory).map_err(|error| DirectoryFault::of_directory(
+        rt.alloc(),
+        directory,
+        error,
+    ))
+}
+
+// Reads the files of a directory, and syncs their names.
+fn load<R: Files<File = File> + AllocGlobal + Clone + Drop>(
+    rt: &R,
+    found: &mut Found,
+    directory: &str,
+) -> Result<(), DirectoryFault> {
+    load_files(rt, found, directory).map_err(|error| DirectoryFault::of_files(
+        rt.alloc(),
+        directory,
+        error,
+    ))
+}
+
+// Reads the regular files of a directory, and syncs it.
+fn load_files<R: Files<File = File> + AllocGlobal + Clone + Drop>(
+    rt: &R,
+    found: &mut Found,
+    directory: &str,
+) -> io::Result<()> {
+    let mut room = vec![in rt.alloc(); 0u8; PIECE]?;
+    for entry in fs::read_dir(rt, directory)? {
+        let entry = entry?;
+        if entry.file_type()?.is_file() {
+            let path = format!(in rt.alloc(); "{directory}/{}", entry.file_name())?;
+            found.load_file(rt, &mut room, path.as_str())?;
+        }
+    }
+    File::open(rt, directory)?.sync_all()
+}

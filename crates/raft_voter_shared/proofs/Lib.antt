@@ -2,3 +2,4 @@ pub mod Journals
 pub mod Steps
 pub mod Requests
 pub mod Right
+pub mod Leading

@@ -3,3 +3,4 @@ pub mod Standing
 pub mod Noting
 pub mod Receipts
 pub mod Settling
+pub mod Openings

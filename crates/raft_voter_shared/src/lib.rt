@@ -6,6 +6,7 @@ mod copies;
 mod desk;
 mod draft;
 mod failure;
+pub mod laws;
 mod opening;
 mod receipt;
 mod receipts;

@@ -3,3 +3,4 @@ pub mod Steps
 pub mod Requests
 pub mod Right
 pub mod Leading
+pub mod PurgeSteps

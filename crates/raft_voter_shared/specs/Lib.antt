@@ -4,3 +4,4 @@ pub mod Noting
 pub mod Receipts
 pub mod Settling
 pub mod Openings
+pub mod Purging

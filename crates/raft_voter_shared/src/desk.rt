@@ -7,7 +7,8 @@ ghost use Rattle.raft_voter_shared.specs.Standing.{is_last, standing};
 
 use crate::copies::copy_replies;
 use crate::draft::Draft;
-use crate::failure::{Failure, failure_behind};
+use crate::failure::{Failure, failure_behind, failure_in_purge};
+use crate::maintenance::Maintenance;
 use crate::opening::Opening;
 use crate::receipt::{Receipt, SharedFault};
 use crate::receipts::least_wrong;
@@ -176,6 +177,30 @@ impl<R, S: RoundService<R>, L: Opening> Desk<R, S, L> {
             journal,
             failure,
         }
+    }
+}
+
+impl<R, S: Maintenance<R>, L: Opening> Desk<R, S, L> {
+    ghost use Rattle.raft_voter_shared.specs.Purging.{KeepsServed};
+
+    /// Purges the store's files; the answer is the groups that are to be compacted. Nothing is noted, and no voter
+    /// changed, answered or refused.
+    pub fn maintain(&mut self, rt: &R) -> Result<Vec<u64>, S::Refusal>
+        ensures journal { self.new.journal ≡ self.old.journal }
+        ensures keeps { KeepsServed S.service self.old.store self.new.store }
+    {
+        let Desk {
+            alloc: _,
+            store,
+            journal: _,
+            failure,
+            book: _,
+            runtime: _,
+        } = self;
+        let before = store.is_failed();
+        let purged = store.maintain(rt);
+        *failure = failure_in_purge(before, store.is_failed(), *failure);
+        purged
     }
 }
 

@@ -1,5 +1,6 @@
 //! How a store came to fail.
 ghost use Rattle.std.specs.Prelude.{◌≡◌};
+ghost use Rattle.raft_voter_shared.specs.Purging.{failure_in_purge};
 ghost use Rattle.raft_voter_shared.specs.Standing.{failure_behind};
 
 use raft_voter::Cause;
@@ -25,4 +26,14 @@ pub fn failure_behind(cause: Cause, place: usize, failure: Option<Failure>) -> O
         Cause::FileSystem => Some(Failure::InRound { place }),
         _ => failure,
     }
+}
+
+/// How a store came to fail, behind a purge before which it had failed or not, and now has or not.
+pub fn failure_in_purge(before: bool, now: bool, failure: Option<Failure>) -> Option<Failure>
+    ensures { result ≡ failure_in_purge before now failure }
+{
+    if !before && now {
+        return Some(Failure::InPurge);
+    }
+    failure
 }

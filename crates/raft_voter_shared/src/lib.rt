@@ -7,6 +7,7 @@ mod desk;
 mod draft;
 mod failure;
 pub mod laws;
+mod maintenance;
 mod opening;
 mod receipt;
 mod receipts;
@@ -15,6 +16,7 @@ mod settled;
 mod shared;
 
 pub use failure::Failure;
+pub use maintenance::Maintenance;
 pub use opening::Opening;
 pub use receipt::{Receipt, SharedFault};
 pub use seat::Seat;

@@ -4,6 +4,7 @@ ghost use Rattle.raft_voter.specs.Rounds.{World};
 ghost use Rattle.raft_voter.specs.Service.{IsOpenAt};
 
 use crate::desk::Desk;
+use crate::maintenance::Maintenance;
 use crate::opening::Opening;
 use crate::receipt::{Receipt, SharedFault};
 use crate::seat::Seat;
@@ -121,5 +122,16 @@ impl<R, S: RoundService<R>, L: Opening> SharedStore<R, S, L> {
             }),
             None => Ok(desk.close(seats)),
         }
+    }
+}
+
+impl<R, S: Maintenance<R>, L: Opening> SharedStore<R, S, L> {
+    /// Purges the store's files while no other thread uses it; the answer is the groups that are to be compacted.
+    /// Nothing is noted in the journal, and no voter changed, answered or refused.
+    pub fn maintain(&self, rt: &R) -> Result<Vec<u64>, S::Refusal>
+    where
+        R: Wait,
+    {
+        self.desk.lock(rt).maintain(rt)
     }
 }

@@ -1,0 +1,18 @@
+-- A store's files are purged.
+use Rattle.std.specs.Prelude.{◌≡◌, Bool, true, false, Option, Some}
+use Rattle.raft_voter.specs.Rounds.{World}
+use Rattle.raft_voter.specs.Service.{CutRound, IsOpenAt, Service}
+use Rattle.raft_voter_shared.specs.declared.failure.Failure.{Failure}
+use Rattle.raft_voter_shared.specs.declared.failure.Failure.TheVariants.{InPurge}
+
+-- A purge keeps the voters that are served, unless the store failed in it, and what is left of them. A store that had
+-- failed has failed still.
+pub record KeepsServed {S : Type 0} (v : Service S) (old new : S) : Type 0 where
+  pub failed : v.is_failed old ≡ true → v.is_failed new ≡ true
+  pub served : (W : World) → IsOpenAt v old W → v.is_failed new ≡ false → IsOpenAt v new W
+  pub left : (cut : CutRound) → v.leaves old cut → v.leaves new cut
+
+-- how a store came to fail, behind a purge before which it had failed or not, and now has or not
+abbrev pub failure_in_purge : Bool → Bool → Option Failure → Option Failure
+failure_in_purge false true failure = Some InPurge
+failure_in_purge before now failure = failure

@@ -1,0 +1,72 @@
+//! Directories that are opened, changed and opened again.
+use raft_log_disk::{FileSystem, Handle, Permission};
+use raft_log_disk_directory::{
+    DirectoryFault, DirectoryFileSystem, FileDevice, make_directory, open_directories,
+};
+use std::test::Fail;
+use std::{fs, io};
+
+type Files = DirectoryFileSystem<FileDevice<HostRuntime>>;
+
+// Makes a file with these bytes.
+fn save(files: &mut Files, path: &str, bytes: &[u8]) -> io::Result<Handle> {
+    let handle = files.create(path)?;
+    files.write_at(handle, 0, bytes)?;
+    files.sync(handle)?;
+    Ok(handle)
+}
+
+// Whether a file has these bytes, of which there are four.
+fn has(files: &Files, path: &str, bytes: &[u8]) -> io::Result<bool> {
+    let handle = files.open(path, Permission::ReadOnly)?;
+    let mut room = [0u8; 8];
+    let count = files.read_at(handle, 0, &mut room)?;
+    Ok(&room[..count] == bytes)
+}
+
+#[test]
+fn what_was_written_stands_at_the_next_opening(rt: HostRuntime) -> Result<(), Fail> {
+    let _ = fs::remove_dir_all(&rt, "kept");
+    make_directory(&rt, "kept")?;
+    let mut files = open_directories(&rt, "kept", None)?;
+    let handle = save(&mut files, "kept/a", b"abcdef")?;
+    files.truncate(handle, 4)?;
+    files.rename("kept/a", "kept/b")?;
+    save(&mut files, "kept/c", b"gone")?;
+    files.delete("kept/c")?;
+    drop(files);
+    let files = open_directories(&rt, "kept", None)?;
+    assert!(rt; has(&files, "kept/b", b"abcd")? & (files.list("kept")?.len() == 1));
+    assert!(rt; fs::metadata(&rt, "kept/b")?.len() == 4);
+    Ok(())
+}
+
+#[test]
+fn a_second_opening_is_refused(rt: HostRuntime) -> Result<(), Fail> {
+    let _ = fs::remove_dir_all(&rt, "locked");
+    make_directory(&rt, "locked")?;
+    let files = open_directories(&rt, "locked", None)?;
+    let refused = matches!(
+        open_directories(&rt, "locked", None),
+        Err(DirectoryFault::InUse(_))
+    );
+    drop(files);
+    assert!(rt; refused & open_directories(&rt, "locked", None).is_ok());
+    Ok(())
+}
+
+#[test]
+fn a_missing_directory_and_a_file_are_refused(rt: HostRuntime) -> Result<(), Fail> {
+    let _ = fs::remove_file(&rt, "plain");
+    fs::write(&rt, "plain", b"x".as_slice())?;
+    let missing = matches!(
+        open_directories(&rt, "absent", None),
+        Err(DirectoryFault::Missing(_))
+    );
+    let plain = matches!(
+        open_directories(&rt, "plain", None),
+        Err(DirectoryFault::NoDirectory(_))
+    );
+    assert!(rt; missing & plain & !fs::exists(&rt, "absent")?);
+    Ok(())
+}

@@ -1,5 +1,6 @@
 //! What a file system keeps beside files that a log has no more is deleted as the log is opened.
 
+ghost use Rattle.std.specs.Prelude.{◌≡◌};
 ghost use Rattle.raft_log_disk_memory.specs.Memory.{disk_of};
 ghost use Rattle.raft_log_disk_memory.specs.Turns.{armed, armed_with};
 

@@ -21,7 +21,7 @@ pub struct LogVoters {
     /// The settings.
     pub(crate) config: Config,
     /// The store.
-    pub(crate) store: VoterStore<EnginePipes<MemoryFileSystem, Nobody>>,
+    pub(crate) store: VoterStore<MemoryFileSystem>,
 }
 
 impl<R: Log> RoundService<R> for LogVoters {

@@ -85,7 +85,7 @@ module _ {F : Type 0} (disk : F → Disk) (tells : F → List ℕ → ℕ → Ty
     own = own;
   }
 
-found_as : {F : Type 0} (disk : F → Disk) (tells : F → List ℕ → ℕ → Type 0) (config : Config) (old : F) (m : LogMap) (W : World) → Means m W → OpensAs disk tells config old m
+pub found_as : {F : Type 0} (disk : F → Disk) (tells : F → List ℕ → ℕ → Type 0) (config : Config) (old : F) (m : LogMap) (W : World) → Means m W → OpensAs disk tells config old m
     → FindsVoters disk tells config old W (λ X. X ≡ W)
 found_as disk tells config old m W means opens = finds disk tells config old m W means opens.answered opens
 
@@ -122,7 +122,7 @@ module _ {F : Type 0} (disk : F → Disk) (tells : F → List ℕ → ℕ → Ty
       let either : IsLeftEither home (disk back) left.map left.pending now = subst (λ (h : Home). IsLeftEither h (disk back) left.map left.pending now) named (opens.refused error back fails) in
       subst (λ (h : Home). IsLeftAmong h (disk back) (MayFollow cut)) (sym named) (either_left home (disk old) (disk back) (MayFollow cut) left now X passes means either)
 
-  standing_found : FindsVoters disk tells config old X (MayFollow cut)
+  pub standing_found : FindsVoters disk tells config old X (MayFollow cut)
   standing_found = record {
     answered = served disk tells config old now X means opens.answered;
     refused = refused disk tells config old now X means opens.answered (MayFollow cut) passes standing_left;

@@ -5,4 +5,5 @@
 //! what is proved.
 #![tactic(auto)]
 
+pub mod forks;
 pub mod opens;

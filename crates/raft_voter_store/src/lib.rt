@@ -9,4 +9,4 @@ mod entries;
 mod saying;
 mod store;
 
-pub use store::{StoreRefused, VoterStore};
+pub use store::{LogVoterStore, StoreRefused, VoterStore};

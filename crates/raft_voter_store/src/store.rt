@@ -2,6 +2,7 @@
 ghost use Rattle.std.specs.Prelude.{◌≡◌, ℕ, false, IfErr, IfOk};
 ghost use Rattle.raft_log_engine_core.specs.Reads.{shows_of};
 
+mod forking;
 mod opening;
 mod rounds;
 mod service;
@@ -10,7 +11,7 @@ mod upkeep;
 use crate::entries::read_entries;
 use crate::saying::say_change;
 use log::Log;
-pub use opening::StoreRefused;
+pub use opening::{StoreRefused, VoterStore};
 use raft_log_engine::{Error, LogEngine, PipeLog, Result};
 use raft_log_record_items::{RawEntries, RawMessage};
 use raft_voter_messages::{Reply, Request};
@@ -18,9 +19,9 @@ use raft_voter_outline::{Answer, Change, Decision};
 use raft_voter_outlines::Outlines;
 use std::alloc::Global;
 
-/// The voters of many groups: the engine that keeps their log, and the outline of each.
+/// The voters of many groups: the engine that keeps their log, over any pipes, and the outline of each.
 #[derive(Drop)]
-pub struct VoterStore<P> {
+pub struct LogVoterStore<P> {
     alloc: Global,
     engine: LogEngine<P>,
     outlines: Outlines,
@@ -35,7 +36,7 @@ struct Taken {
     wrote: bool,
 }
 
-impl<P: PipeLog> VoterStore<P> {
+impl<P: PipeLog> LogVoterStore<P> {
     ghost use Rattle.raft_log_engine.specs.raft_log_engine_laws.specs.Shows.{has_failed};
     ghost use Rattle.raft_voter_outline.specs.declared.outline.decision.Answer.TheVariants as answers;
     ghost use Rattle.raft_voter_outline.specs.Outlines.{ChangesEach, IsReplyOfEach};
@@ -46,12 +47,12 @@ impl<P: PipeLog> VoterStore<P> {
     ghost use Rattle.raft_voter_store.specs.Taking.{FailsToTake};
 
     /// A store over an engine in whose log nothing stands: each group's voter is a fresh one.
-    pub fn over_fresh(alloc: Global, engine: LogEngine<P>) -> VoterStore<P>
+    pub fn over_fresh(alloc: Global, engine: LogEngine<P>) -> LogVoterStore<P>
         ensures engine { result.engine ≡ engine }
         ensures outlines { (g : ℕ) → outlines_in result.outlines g ≡ fresh }
     {
         let outlines = Outlines::new(alloc);
-        VoterStore {
+        LogVoterStore {
             alloc,
             engine,
             outlines,

@@ -1,23 +1,21 @@
 //! A store over a log that begins.
 use log::Log;
-use raft_log_engine::{
-    Config, Engine, EnginePipes, Error, FileSystem, MemoryFileSystem, Permission, Result,
-};
+use raft_log_engine::{Config, Engine, Error, FileSystem, MemoryFileSystem, Permission, Result};
 use raft_voter_messages::{Items, Request};
-use raft_voter_store::VoterStore;
+use raft_voter_store::{LogVoterStore, VoterStore};
 use std::alloc::{AllocError, Global};
 use std::string::String;
 use std::thread::Threads;
 
 /// A store whose files are in memory.
-pub type MemoryStore = VoterStore<EnginePipes<MemoryFileSystem>>;
+pub type MemoryStore = VoterStore<MemoryFileSystem>;
 
 /// A store over a log that begins in the directory `raft`.
 pub fn fresh(rt: &(impl Threads + Log + Sync), alloc: Global) -> Result<MemoryStore> {
     let mut config = Config::default(alloc);
     config.dir = String::from_str(alloc, "raft")?;
     match Engine::open_with_file_system(rt, alloc, config, MemoryFileSystem::new(alloc)) {
-        Ok(engine) => Ok(VoterStore::over_fresh(alloc, engine)),
+        Ok(engine) => Ok(LogVoterStore::over_fresh(alloc, engine)),
         Err(refused) => Err(refused.error),
     }
 }

@@ -6,13 +6,17 @@ ghost use Rattle.raft_voter_outlines.specs.Kept.{outlines_in};
 ghost use Rattle.raft_voter_reading.specs.Reading.{IsUnreadFor, ListsVoters};
 ghost use Rattle.raft_voter_store.specs.Opening.{FailsToOpenVoters, OpensVoters};
 
-use super::VoterStore;
+use super::LogVoterStore;
 use log::Log;
-use raft_log_engine::{Config, EnginePipes, EventListener, FileSystem, LogEngine, PipeLog};
+use raft_log_engine::{Config, EnginePipes, EventListener, FileSystem, LogEngine, Nobody, PipeLog};
 use raft_voter::Voter;
 use raft_voter_reading::{Unread, read_outlines, read_voters};
 use std::alloc::Global;
 use std::thread::Threads;
+
+/// A store as it is opened over a file system: a [`LogVoterStore`] whose pipes tell who listens, and the engine's own
+/// hook.
+pub type VoterStore<F, E = Nobody> = LogVoterStore<EnginePipes<F, E>>;
 
 /// A store that wasn't opened.
 #[derive(Drop)]
@@ -23,7 +27,7 @@ pub struct StoreRefused<F> {
     pub file_system: F,
 }
 
-impl<F: FileSystem + Sync, E: EventListener> VoterStore<EnginePipes<F, E>> {
+impl<F: FileSystem + Sync, E: EventListener> LogVoterStore<EnginePipes<F, E>> {
     /// Opens the store whose log these settings name, over a file system, which is the store's from then on: each
     /// group's voter is the one that the log tells. The log is opened as an engine opens it, with the listener told
     /// of its files; then the outlines of its voters are read of it, a group at a time, so that of each entry no
@@ -53,7 +57,7 @@ impl<F: FileSystem + Sync, E: EventListener> VoterStore<EnginePipes<F, E>> {
             }
         };
         match read_outlines(alloc, &mut engine) {
-            Ok(outlines) => Ok(VoterStore {
+            Ok(outlines) => Ok(LogVoterStore {
                 alloc,
                 engine,
                 outlines,
@@ -66,7 +70,7 @@ impl<F: FileSystem + Sync, E: EventListener> VoterStore<EnginePipes<F, E>> {
     }
 }
 
-impl<P: PipeLog> VoterStore<P> {
+impl<P: PipeLog> LogVoterStore<P> {
     /// The voters that are stored, each with its group, sorted by group. Their entries are read of the log. It is
     /// refused as an open is behind the engine's; nothing changes but the block that the engine keeps.
     pub fn voters(&mut self) -> Result<Vec<(u64, Voter)>, Unread>

@@ -3,13 +3,13 @@ ghost use Rattle.std.specs.Prelude.{◌≡◌, ◌+◌, ◌<◌, ◌≤◌, ◌+
 ghost use Rattle.raft_log_engine_core.specs.Reads.{shows_of};
 ghost use Rattle.raft_voter.specs.Service.{refused_from};
 
-use super::VoterStore;
+use super::LogVoterStore;
 use log::Log;
 use raft_log_engine::PipeLog;
 use raft_voter::{Cause, MAX_ROUND_REQUESTS, RoundFault};
 use raft_voter_messages::{Items, Reply, Request};
 
-impl<P: PipeLog> VoterStore<P> {
+impl<P: PipeLog> LogVoterStore<P> {
     ghost use Rattle.std.specs.Prelude.{IfSome, OnSome};
     ghost use Rattle.raft_log_engine.specs.raft_log_engine_laws.specs.Shows.{has_failed};
     ghost use Rattle.raft_voter.specs.Service.{FailsAs, IsAlive, TakesNothing};

@@ -5,16 +5,16 @@ ghost use Rattle.raft_voter.specs.Service.{AnswersRound, CutsOff, FailsAs, IsAli
 ghost use Rattle.raft_voter_outlines.specs.Kept.{outlines_in};
 ghost use Rattle.raft_voter_store.specs.Service.{voter_service};
 
-use super::VoterStore;
+use super::LogVoterStore;
 use log::Log;
 use raft_log_engine::PipeLog;
 use raft_voter::{RoundFault, RoundService};
 use raft_voter_messages::{Items, Reply, Request};
 
-impl<R: Log, P: PipeLog> RoundService<R> for VoterStore<P> {
+impl<R: Log, P: PipeLog> RoundService<R> for LogVoterStore<P> {
     ghost service = { voter_service (λ store. shows_of P.shown store.engine) (λ store. outlines_in store.outlines) };
 
     fn serve(&mut self, rt: &R, requests: &[(u64, Request)]) -> Result<Items<Reply>, RoundFault> {
-        VoterStore::serve(self, rt, requests)
+        LogVoterStore::serve(self, rt, requests)
     }
 }

@@ -9,11 +9,11 @@ ghost use Rattle.raft_log_engine_core.specs.Purging.{StopsPurgingExpired, StopsR
 ghost use Rattle.raft_log_engine_core.specs.Reads.{shows_of, IsFailed, Lives};
 ghost use Rattle.raft_log_engine_core.specs.Whole.{ArmsEngine, TellsSpan};
 
-use super::VoterStore;
+use super::LogVoterStore;
 use log::Log;
 use raft_log_engine::{Fault, FileSeq, LogQueue, PipeLog, Result};
 
-impl<P: PipeLog> VoterStore<P> {
+impl<P: PipeLog> LogVoterStore<P> {
     ghost use Rattle.raft_log_engine.specs.raft_log_disk.specs.Causes.{IsLater};
     ghost use Rattle.raft_log_engine.specs.raft_log_engine_laws.specs.Shows.{has_failed};
     ghost use Rattle.raft_log_engine.specs.raft_log_file_pair.specs.Calls.{ArmsNoPipes};
@@ -138,7 +138,7 @@ impl<P: PipeLog> VoterStore<P> {
             → result ≡ P.files self.engine.pipes }
         ensures later { IsLater (P.shown self.engine.pipes).disk (P.disk_of result) }
     {
-        let VoterStore {
+        let LogVoterStore {
             alloc: _alloc,
             engine,
             outlines: _outlines,

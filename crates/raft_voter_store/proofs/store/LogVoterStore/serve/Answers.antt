@@ -1,0 +1,38 @@
+use Rattle.std.proofs.Common.{refl, ap, length, ◌∙◌}
+use Rattle.raft_log_engine_core.specs.Reads.{shows_of}
+use Rattle.raft_voter.specs.Service.{refused_from}
+use Rattle.raft_voter_outlines.specs.Kept.{outlines_in}
+use Rattle.raft_voter_store.proofs.Rounds.{answered_synced, answered_unwritten, cut_at, cut_unsynced}
+use Rattle.raft_voter_store.proofs.store.LogVoterStore.serve.Goals.{then-wrote+in-Ok-sync, else-wrote}
+use Rattle.raft_voter_store.proofs.store.LogVoterStore.serve.Goals as goal
+
+pub returns-in_default-take_all-clause-cut : goal.returns-in_default-take_all-clause-cut
+returns-in_default-take_all-clause-cut g c = λ cause.
+    let shown = g.P.PipeLog.shown in
+    cut_at c.args.requests.now c.take_all.new.replies.items c.cut_off.result.refused (shows_of shown c.args.self.now.engine) (shows_of shown c.take_all.new.self.engine) (outlines_in c.args.self.now.outlines) (c.in_default-take_all.ensures.broke refl) c.take_all.ensures.few
+    (ap (λ fault. fault.refused) c.cut_off.ensures ∙ ap (λ l. refused_from 0 l) c.as_slice.ensures.value)
+
+pub returns-in_default-sync-clause-cut : goal.returns-in_default-sync-clause-cut
+returns-in_default-sync-clause-cut g c = λ cause.
+    let shown = g.P.PipeLog.shown in
+    cut_unsynced c.args.requests.now c.take_all.new.replies.items c.cut_off-in_default-sync.result.refused c.in-Some.wrote c.in_default-sync.field-0 (shows_of shown c.args.self.now.engine) (shows_of shown c.take_all.new.self.engine) (shows_of shown c.sync.new.self)
+    (outlines_in c.args.self.now.outlines) (outlines_in c.take_all.new.self.outlines) c.in-Some.ensures.went c.in_default-sync.ensures.err c.take_all.ensures.few
+    (ap (λ fault. fault.refused) c.cut_off-in_default-sync.ensures ∙ ap (λ l. refused_from 0 l) c.as_slice-in_default-sync.ensures.value)
+
+pub returns-clause-ok : goal.returns-clause-ok
+returns-clause-ok g c =
+    let shown = g.P.PipeLog.shown in
+    let s = shows_of shown c.args.self.now.engine in
+    let t = shows_of shown c.take_all.new.self.engine in
+    let os = outlines_in c.args.self.now.outlines in
+    let us = outlines_in c.take_all.new.self.outlines in
+    elim c.if-wrote.branch [
+      | then-wrote+in-Ok-sync w ↦ rw (c.from_vec.ensures, w.self-is) (answered_synced c.args.requests.now c.take_all.new.replies.items c.in-Some.wrote s t (shows_of shown w.sync.new.self) os us c.in-Some.ensures.went w.in-Ok-sync.ensures.ok)
+      | else-wrote w ↦ rw (c.from_vec.ensures, w.self-is) (answered_unwritten c.args.requests.now c.take_all.new.replies.items c.in-Some.wrote s t os us c.in-Some.ensures.went w.if-wrote.false)
+    ]
+
+pub returns-clause-excused : goal.returns-clause-excused
+returns-clause-excused g c = rw c.from_vec.ensures c.in-Some.ensures.went.excused
+
+pub returns-clause-all : goal.returns-clause-all
+returns-clause-all g c = ap (λ told. length told) c.from_vec.ensures ∙ c.in-Some.ensures.all

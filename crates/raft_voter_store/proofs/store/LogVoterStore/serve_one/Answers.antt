@@ -1,0 +1,23 @@
+use Rattle.std.proofs.Common.{sym, ◌∙◌}
+use Rattle.raft_log_engine_core.specs.Reads.{shows_of}
+use Rattle.raft_voter_outlines.specs.Kept.{outlines_in}
+use Rattle.raft_voter_store.proofs.Rounds.{past_goes_on, served_goes_on, wrote_before, wrote_now}
+use Rattle.raft_voter_store.proofs.store.LogVoterStore.serve_one.Goals as goal
+
+pub returns-then-wrote-clause-went : goal.returns-then-wrote-clause-went
+returns-then-wrote-clause-went g c =
+    let shown = g.P.PipeLog.shown in
+    served_goes_on (c.args.group, c.args.request.now) c.in-Ok.taken.reply c.args.wrote c.in-Ok.taken.wrote c.args.wrote c.args.replies.now.items c.push_reserved.new.self.items (shows_of shown c.args.self.now.engine) (shows_of shown c.take.new.self.engine)
+    (outlines_in c.args.self.now.outlines) (outlines_in c.take.new.self.outlines) c.in-Ok.ensures.ok c.push_reserved.ensures.items (wrote_before c.args.wrote c.in-Ok.taken.wrote c.if-wrote.true)
+
+pub returns-else-wrote-clause-went : goal.returns-else-wrote-clause-went
+returns-else-wrote-clause-went g c =
+    let shown = g.P.PipeLog.shown in
+    served_goes_on (c.args.group, c.args.request.now) c.in-Ok.taken.reply c.args.wrote c.in-Ok.taken.wrote c.in-Ok.taken.wrote c.args.replies.now.items c.push_reserved.new.self.items (shows_of shown c.args.self.now.engine) (shows_of shown c.take.new.self.engine)
+    (outlines_in c.args.self.now.outlines) (outlines_in c.take.new.self.outlines) c.in-Ok.ensures.ok c.push_reserved.ensures.items (wrote_now c.args.wrote c.in-Ok.taken.wrote c.if-wrote.false)
+
+pub returns-clause-went : goal.returns-clause-went
+returns-clause-went g c =
+    let shown = g.P.PipeLog.shown in
+    past_goes_on (c.args.group, c.args.request.now) c.in-Err.field-0 c.args.wrote c.args.replies.now.items c.push_reserved-in-Err.new.self.items (shows_of shown c.args.self.now.engine) (shows_of shown c.take.new.self.engine) (outlines_in c.args.self.now.outlines)
+    (outlines_in c.take.new.self.outlines) c.in-Err.ensures.err (sym c.is_failed.ensures ∙ c.if-is_failed.false) c.push_reserved-in-Err.ensures.items

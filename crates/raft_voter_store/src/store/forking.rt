@@ -1,0 +1,36 @@
+//! A store's log is copied.
+ghost use Rattle.std.specs.Prelude.{◌≡◌, [], map, IfErr, IfOk};
+ghost use Rattle.std.specs.String.{string_bytes};
+ghost use Rattle.raft_log_engine.specs.raft_log_file_settings.specs.Settings.{settings_of};
+ghost use Rattle.raft_log_engine.specs.raft_log_closed.specs.Forks.{FailsToFork, Forks};
+
+use super::LogVoterStore;
+use log::Log;
+use raft_log_engine::{Config, CopyDetails, EnginePipes, FileSystem, Nobody, Result, fork};
+use std::alloc::Global;
+
+impl<F: FileSystem + Sync> LogVoterStore<EnginePipes<F, Nobody>> {
+    /// Copies the log of a store that nobody has open, by the settings that name it, into a directory, which is made
+    /// where it isn't there; the answer is the paths of the copies, each of which is synced. A store that is opened
+    /// over the copy has the voters of its source, as `raft_voter_opening_laws` says it.
+    ///
+    /// Refused, whyever, the source is as it was. `InvalidArgument`: the settings let files be used again or be cut
+    /// before the last, or the target is one of the source's directories, lies in one, or holds log files. `Other`:
+    /// the settings have a fault. `Io`: a directory of the source isn't there. `Corruption`: a file in it is misnamed.
+    /// Then nothing was changed; behind a later `Io` or `Memory` what was copied stays.
+    pub fn fork<L: Log>(
+        rt: &L,
+        alloc: Global,
+        source: &Config,
+        file_system: &mut F,
+        target: &str,
+    ) -> Result<CopyDetails>
+        ensures ok { IfOk result (λ details. Forks (settings_of source.now) target.now
+            (map string_bytes details.copied.items) (F.disk file_system.old) (F.disk file_system.new)) }
+        ensures linked { IfOk result (λ details. details.symlinked.items ≡ []) }
+        ensures err { IfErr result (λ error. FailsToFork (settings_of source.now) target.now error
+            (F.disk file_system.old) (F.disk file_system.new)) }
+    {
+        fork(rt, alloc, source, file_system, target)
+    }
+}

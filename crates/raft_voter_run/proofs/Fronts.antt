@@ -7,7 +7,9 @@ use Rattle.std.specs.Option.{option_map}
 use Rattle.std.specs.declared.io.ErrorKind.{ErrorKind}
 use Rattle.raft_voter_session.specs.Told.{Said}
 use Rattle.raft_voter_session.specs.Session.{session_of}
-use Rattle.raft_voter_run.specs.Run.{Ends, EndsEarly, IsUntoldFor, MayWrite, refused_text}
+use Rattle.raft_voter_run.specs.Run.{EndsEarly, IsUntoldFor, MayWrite, refused_text}
+use Rattle.raft_voter_run.specs.Leaving.{EndsLeaving, MayWriteLeaving}
+use Rattle.raft_voter_run.specs.declared.running.Ended.{Ended}
 use Rattle.raft_voter_run.specs.Writing.{StopsWithin, TakesFront}
 
 too_long : (n : ℕ) (bytes : List ℕ) → nat_le (length (take (n + 1) bytes)) n ≡ nat_le (length bytes) n
@@ -22,13 +24,20 @@ shown_of_front : (Writes : Said → List ℕ → ℕ → Type 0) (input front by
     → MayWrite Writes bytes text status → MayWrite Writes input text status
 shown_of_front Writes input front bytes text status e f told = rw (← session_front input, ← e, ← f) told
 
+-- and with the files that are left
+left_of_front : {F : Type 0} (Writes : Option F → Said → List ℕ → ℕ → Type 0) (left : Option F) (input front bytes text : List ℕ) (status : ℕ) → front ≡ take 268435457 input → bytes ≡ front
+    → MayWriteLeaving Writes left bytes text status → MayWriteLeaving Writes left input text status
+left_of_front Writes left input front bytes text status e f told = rw (← session_front input, ← e, ← f) told
+
 -- what is written for the front of a session is written for it
-pub ends_of_front : {E : Type 0} (r : Result ℕ E) (Writes : Said → List ℕ → ℕ → Type 0) (known old new : Option (List ℕ)) (front bytes : List ℕ)
+pub ends_of_front : {F E : Type 0} (r : Result (Ended F) E) (Writes : Option F → Said → List ℕ → ℕ → Type 0) (known old new : Option (List ℕ)) (front bytes : List ℕ)
     → IfSome known (λ input. front ≡ take 268435457 input) → bytes ≡ front
-    → IfOk r (λ status. Ends Writes false bytes old new status) → IfOk r (λ status. IfSome known (λ input. Ends Writes false input old new status))
+    → IfOk r (λ ended. EndsLeaving Writes ended.files bytes old new ended.status)
+    → IfOk r (λ ended. IfSome known (λ input. EndsLeaving Writes ended.files input old new ended.status))
 ends_of_front (Err fault) Writes known old new front bytes e f ends = tt
-ends_of_front (Ok status) Writes None old new front bytes e f ends = tt
-ends_of_front (Ok status) Writes (Some input) old new front bytes e f (text, told, wrote) = (text, shown_of_front Writes input front bytes text status e f told, wrote)
+ends_of_front (Ok ended) Writes None old new front bytes e f ends = tt
+ends_of_front (Ok ended) Writes (Some input) old new front bytes e f (text, told, wrote) =
+    (text, left_of_front Writes ended.files input front bytes text ended.status e f told, wrote)
 
 -- all that a reader with a limit gave is the front of what there was
 pub read_in_front : (known : Option (List ℕ)) (n limit : ℕ) (old new : List ℕ) → limit ≡ n → old ≡ []
@@ -45,10 +54,10 @@ two_fronts a b c bytes left rest one more = record {
 }
 
 -- where the front of a session isn't told, nor is it
-pub early_of_front : {E : Type 0} (r : Result ℕ E) (kind : E → ErrorKind) (Writes : Said → List ℕ → ℕ → Type 0)
+pub early_of_front : {T E : Type 0} (r : Result T E) (kind : E → ErrorKind) (Writes : Said → List ℕ → ℕ → Type 0)
     (known old new : Option (List ℕ)) (front bytes : List ℕ) → IfSome known (λ input. front ≡ take 268435457 input) → bytes ≡ front
     → IfErr r (λ fault. IsUntoldFor Writes bytes old new (kind fault)) → OnErr r (IfSome known (λ input. EndsEarly Writes false input old new))
-early_of_front (Ok status) kind Writes known old new front bytes e f untold = tt
+early_of_front (Ok ended) kind Writes known old new front bytes e f untold = tt
 early_of_front (Err fault) kind Writes None old new front bytes e f untold = tt
 early_of_front (Err fault) kind Writes (Some input) old new front bytes e f (inl (kept, told)) = inl kept
 early_of_front (Err fault) kind Writes (Some input) old new front bytes e f (inr (text, status, told, wrote)) =

@@ -1,3 +1,4 @@
 pub mod Setup
 pub mod Writing
 pub mod Run
+pub mod Leaving

@@ -9,6 +9,8 @@ mod running;
 mod setup;
 mod writing;
 
-pub use running::{exit_status, has_arguments, program, run, run_bytes};
+pub use running::{
+    Ended, exit_status, has_arguments, program, run, run_bytes, run_bytes_leaving, run_leaving,
+};
 pub use setup::{NoFiles, StoreSetup};
 pub use writing::write_whole;

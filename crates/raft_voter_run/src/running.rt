@@ -1,9 +1,10 @@
 //! From the bytes of a session to those of its transcript.
-ghost use Rattle.std.specs.Prelude.{◌≡◌, ◌≢◌, false, true, IfErr, IfOk, IfSome, OnErr, string_bytes, take};
+ghost use Rattle.std.specs.Prelude.{◌≡◌, ◌≢◌, false, true, None, IfErr, IfOk, IfSome, OnErr, string_bytes, take};
 ghost use Rattle.std.specs.IoError.{error_kind};
 ghost use Rattle.raft_voter_session.specs.Told.{said};
 ghost use Rattle.raft_voter_session.specs.Text.{unreadable_text};
-ghost use Rattle.raft_voter_run.specs.Run.{Ends, EndsEarly, IsJudged, IsUntoldFor, MayWrite, settings_refused, WritesSession};
+ghost use Rattle.raft_voter_run.specs.Leaving.{EndsLeaving, MayWriteLeaving, WritesLeaving};
+ghost use Rattle.raft_voter_run.specs.Run.{Ends, EndsEarly, IsJudged, IsUntoldFor, settings_refused, WritesSession};
 
 use crate::setup::{NoFiles, StoreSetup};
 use crate::writing::write_whole;
@@ -28,6 +29,27 @@ const ARGUMENTS_REFUSED: u8 = 2;
 
 /// The status where memory, reading or writing was refused.
 const FAULT: u8 = 3;
+
+/// How a session ended.
+#[derive(Drop)]
+pub struct Ended<F> {
+    /// The status that goes with what was written.
+    pub status: u8,
+    /// The files that its run left, on which no store is open, where a verdict was written; and none where settings
+    /// are refused or a line is unreadable.
+    pub files: Option<F>,
+}
+
+/// What is written for a session.
+#[derive(Drop)]
+struct Told<F> {
+    /// The text.
+    text: String,
+    /// The status that goes with it.
+    status: u8,
+    /// The files that its run left, where the text has a verdict.
+    files: Option<F>,
+}
 
 /// Whether there is an argument behind the program's name, be it text or not.
 pub fn has_arguments(env: &impl Env) -> bool {
@@ -100,8 +122,32 @@ pub fn run<
         (W.contents writer.old) (W.contents writer.new))) }
     ensures retried { IfErr result (λ fault. error_kind fault ≢ ErrorKind.Interrupted) }
 {
+    match run_leaving::<R, S, F, C, I, W>(rt, alloc, setup, reader, writer) {
+        Ok(ended) => Ok(ended.status),
+        Err(fault) => Err(fault),
+    }
+}
+
+/// Runs a session as `run` does, and answers beside the status the files that its run left, where a verdict was
+/// written.
+pub fn run_leaving<
+    R: Threads + Sync,
+    S: VoterStorage<R> + Drop,
+    F: VoterDisk<R, S> + Drop,
+    C: StoreSetup<R, S, F>,
+    I: Read,
+    W: Write,
+>(rt: &R, alloc: Global, setup: &C, reader: &mut I, writer: &mut W) -> io::Result<Ended<F>>
+    ensures ok { IfOk result (λ ended. IfSome (I.remaining reader.old) (λ input.
+        EndsLeaving (WritesLeaving S.service S.upkeep F.disk C.setup) ended.files input
+        (W.contents writer.old) (W.contents writer.new) ended.status)) }
+    ensures err { OnErr result (IfSome (I.remaining reader.old) (λ input.
+        EndsEarly (WritesSession S.service S.upkeep F.disk C.setup) false input
+        (W.contents writer.old) (W.contents writer.new))) }
+    ensures retried { IfErr result (λ fault. error_kind fault ≢ ErrorKind.Interrupted) }
+{
     let front = read_front(alloc, reader)?;
-    run_bytes::<R, S, F, C, W>(rt, alloc, setup, front.as_slice(), writer)
+    run_bytes_leaving::<R, S, F, C, W>(rt, alloc, setup, front.as_slice(), writer)
 }
 
 /// Runs the session of these bytes, and writes what `run` writes for it. An `Err` tells that memory was
@@ -121,12 +167,40 @@ pub fn run_bytes<
         (W.contents writer.old) (W.contents writer.new) (error_kind fault)) }
     ensures retried { IfErr result (λ fault. error_kind fault ≢ ErrorKind.Interrupted) }
 {
-    let (text, status) = match answer::<R, S, F, C>(rt, alloc, setup, bytes) {
+    match run_bytes_leaving::<R, S, F, C, W>(rt, alloc, setup, bytes, writer) {
+        Ok(ended) => Ok(ended.status),
+        Err(fault) => Err(fault),
+    }
+}
+
+/// Runs the session of these bytes as `run_bytes` does, and answers beside the status the files that its run left,
+/// where a verdict was written.
+pub fn run_bytes_leaving<
+    R: Threads + Sync,
+    S: VoterStorage<R> + Drop,
+    F: VoterDisk<R, S> + Drop,
+    C: StoreSetup<R, S, F>,
+    W: Write,
+>(rt: &R, alloc: Global, setup: &C, bytes: &[u8], writer: &mut W) -> io::Result<Ended<F>>
+    ensures ok { IfOk result (λ ended.
+        EndsLeaving (WritesLeaving S.service S.upkeep F.disk C.setup) ended.files bytes.now
+        (W.contents writer.old) (W.contents writer.new) ended.status) }
+    ensures err { IfErr result (λ fault.
+        IsUntoldFor (WritesSession S.service S.upkeep F.disk C.setup) bytes.now
+        (W.contents writer.old) (W.contents writer.new) (error_kind fault)) }
+    ensures retried { IfErr result (λ fault. error_kind fault ≢ ErrorKind.Interrupted) }
+{
+    let told = match answer::<R, S, F, C>(rt, alloc, setup, bytes) {
         Ok(told) => told,
         Err(Memory) => return Err(io::Error::from(ErrorKind::OutOfMemory)),
     };
+    let Told {
+        text,
+        status,
+        files,
+    } = told;
     write_whole(writer, text.as_bytes())?;
-    Ok(status)
+    Ok(Ended { status, files })
 }
 
 /// The bytes of a session, and of one that is too long only as many as tell so.
@@ -140,15 +214,15 @@ fn read_front<I: Read>(alloc: Global, reader: &mut I) -> io::Result<Vec<u8>>
     Ok(front)
 }
 
-/// What is written for a session, and the status that goes with it.
+/// What is written for a session.
 fn answer<
     R: Threads + Sync,
     S: VoterStorage<R> + Drop,
     F: VoterDisk<R, S> + Drop,
     C: StoreSetup<R, S, F>,
->(rt: &R, alloc: Global, setup: &C, input: &[u8]) -> Result<(String, u8), Memory>
-    ensures { IfOk result (λ told.
-        MayWrite (WritesSession S.service S.upkeep F.disk C.setup) input.now (string_bytes told.0) told.1) }
+>(rt: &R, alloc: Global, setup: &C, input: &[u8]) -> Result<Told<F>, Memory>
+    ensures { IfOk result (λ told. MayWriteLeaving (WritesLeaving S.service S.upkeep F.disk C.setup) told.files
+        input.now (string_bytes told.text) told.status) }
 {
     match read_session(alloc, input) {
         Ok(session) => shown::<R, S, F, C>(rt, alloc, setup, session),
@@ -163,9 +237,9 @@ fn shown<
     S: VoterStorage<R> + Drop,
     F: VoterDisk<R, S> + Drop,
     C: StoreSetup<R, S, F>,
->(rt: &R, alloc: Global, setup: &C, session: Session) -> Result<(String, u8), Memory>
-    ensures { IfOk result (λ told.
-        WritesSession S.service S.upkeep F.disk C.setup (said session) (string_bytes told.0) told.1) }
+>(rt: &R, alloc: Global, setup: &C, session: Session) -> Result<Told<F>, Memory>
+    ensures { IfOk result (λ told. WritesLeaving S.service S.upkeep F.disk C.setup told.files
+        (said session) (string_bytes told.text) told.status) }
 {
     let Session { settings, events } = session;
     let files = match setup.files(rt, alloc, &settings) {
@@ -174,7 +248,12 @@ fn shown<
         Err(NoFiles::Memory) => return Err(Memory),
     };
     let report = run_world::<R, S, F>(rt, alloc, files, events)?;
-    judged(alloc, &report.transcript, report.cuts.as_slice())
+    let (text, status) = judged(alloc, &report.transcript, report.cuts.as_slice())?;
+    Ok(Told {
+        text,
+        status,
+        files: Some(report.files),
+    })
 }
 
 /// What is written of a transcript and its cuts, with the judge's verdict; and the status that goes with it,
@@ -190,20 +269,30 @@ fn judged(alloc: Global, transcript: &Transcript, cuts: &[usize]) -> Result<(Str
 }
 
 /// What is written where settings are refused.
-fn settings_refused(alloc: Global) -> Result<(String, u8), Memory>
-    ensures text { IfOk result (λ told. string_bytes told.0 ≡ settings_refused) }
-    ensures status { IfOk result (λ told. told.1 ≡ 1) }
+fn settings_refused<F>(alloc: Global) -> Result<Told<F>, Memory>
+    ensures text { IfOk result (λ told. string_bytes told.text ≡ settings_refused) }
+    ensures status { IfOk result (λ told. told.status ≡ 1) }
+    ensures files { IfOk result (λ told. told.files ≡ None) }
 {
     let text = String::from_str(alloc, "settings refused\n")?;
-    Ok((text, REFUSED))
+    Ok(Told {
+        text,
+        status: REFUSED,
+        files: None,
+    })
 }
 
 /// What is written where a line is unreadable.
-fn unreadable(alloc: Global, line: usize) -> Result<(String, u8), Memory>
-    ensures text { IfOk result (λ told. string_bytes told.0 ≡ unreadable_text line) }
-    ensures status { IfOk result (λ told. told.1 ≡ 2) }
+fn unreadable<F>(alloc: Global, line: usize) -> Result<Told<F>, Memory>
+    ensures text { IfOk result (λ told. string_bytes told.text ≡ unreadable_text line) }
+    ensures status { IfOk result (λ told. told.status ≡ 2) }
+    ensures files { IfOk result (λ told. told.files ≡ None) }
 {
     let mut text = String::new(alloc);
     write_unreadable(&mut text, line)?;
-    Ok((text, 2))
+    Ok(Told {
+        text,
+        status: 2,
+        files: None,
+    })
 }

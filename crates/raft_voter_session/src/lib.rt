@@ -10,4 +10,4 @@ mod text;
 mod words;
 
 pub use session::{Session, SessionFault, read_session};
-pub use text::{write_transcript, write_unreadable};
+pub use text::{round_lines, write_transcript, write_unreadable};

@@ -1,8 +1,9 @@
 //! The text of transcripts.
-ghost use Rattle.std.specs.Prelude.{◌≡◌, OnOk, OnErr, string_bytes};
+ghost use Rattle.std.specs.Prelude.{◌≡◌, IfOk, OnOk, OnErr, string_bytes};
 ghost use Rattle.raft_voter_session.specs.Text.{Gains, GainsTranscript, spaced, spaced_all, place_text, places_text, refused_text, outcome_text, round_text, rounds_text, verdict_text, unreadable_text};
 
 use raft_voter_messages::{Memory, Outcome, Reply, Request, Round, Transcript};
+use std::alloc::Global;
 
 /// Writes a transcript, the places up to which its rounds without an answer were taken, and the verdict on
 /// them. Where memory is refused the text stays as it was.
@@ -28,6 +29,15 @@ pub fn write_unreadable(text: &mut String, line: usize) -> Result<(), Memory>
     let mut told = String::new(*text.allocator());
     write_line(&mut told, line)?;
     add(text, told)
+}
+
+/// The lines of a round of this number: what came of it, and one for each request that has a reply.
+pub fn round_lines(alloc: Global, number: usize, round: &Round) -> Result<String, Memory>
+    ensures { IfOk result (λ lines. string_bytes lines ≡ round_text number round.now) }
+{
+    let mut lines = String::new(alloc);
+    write_round(&mut lines, number, round)?;
+    Ok(lines)
 }
 
 /// Adds lines to a text; one that is empty takes them as they are, without a copy. Where memory is refused

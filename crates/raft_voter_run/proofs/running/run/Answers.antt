@@ -1,13 +1,7 @@
-use Rattle.std.specs.IoError.{error_kind}
-use Rattle.raft_voter_run.proofs.Fronts.{early_of_front, ends_of_front}
+use Rattle.raft_voter_run.proofs.Left.{ends_known}
 use Rattle.raft_voter_run.proofs.running.run.Goals as goal
 
-pub returns-clause-ok : goal.returns-clause-ok
-returns-clause-ok g c =
-    ends_of_front c.run_bytes.result _ (g.I.Read.remaining c.args.reader.now) _ _ c.in_ok-front.front.items c.as_slice.result.now c.in_ok-front.ensures.ok c.as_slice.ensures.value
-    c.run_bytes.ensures.ok
-
-pub returns-clause-err : goal.returns-clause-err
-returns-clause-err g c =
-    early_of_front c.run_bytes.result error_kind _ (g.I.Read.remaining c.args.reader.now) _ _ c.in_ok-front.front.items c.as_slice.result.now c.in_ok-front.ensures.ok c.as_slice.ensures.value
-    c.run_bytes.ensures.err
+pub returns-in-Ok-clause-ok : goal.returns-in-Ok-clause-ok
+returns-in-Ok-clause-ok g c =
+    ends_known g.S.RoundService.service g.S.VoterStorage.upkeep g.F.VoterDisk.disk g.C.StoreSetup.setup c.in-Ok.ended.files (g.I.Read.remaining c.args.reader.now) _ _ c.in-Ok.ended.status
+    c.in-Ok.ensures.ok

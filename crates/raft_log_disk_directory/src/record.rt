@@ -17,6 +17,11 @@ impl Model for Record {
     ghost also_owns = { λ _. ftrue };
 }
 
+// It has no bytes, so that whoever holds one may be lent to another thread.
+unsafe impl Send for Record {}
+
+unsafe impl Sync for Record {}
+
 impl Record {
     /// No calls.
     pub(crate) fn new() -> Record

@@ -1,0 +1,20 @@
+-- What appending a line does to a log.
+use Rattle.std.specs.Prelude.{◌≡◌, ◌+◌, ℕ, List, [], ◌∷◌, Option, unwrap_or, true}
+use Rattle.raft_log_engine.specs.raft_log_record_batches.specs.Batch.{Batch, empty_batch}
+use Rattle.raft_log_engine.specs.raft_log_record_batches.specs.Entries.{AddsEntries}
+use Rattle.raft_log_engine.specs.raft_log_record_batches.specs.Places.{AddsBytes}
+use Rattle.raft_log_engine.specs.raft_log_engine_laws.specs.Shows.{Shows}
+use Rattle.raft_log_engine.specs.raft_log_engine_laws.specs.Reading.{ReadsLast}
+use Rattle.raft_log_engine.specs.raft_log_engine_laws.specs.Writing.{WritesBytes}
+
+-- The last index of group 1 was read; a batch whose one entry is the line, at the index behind it, was written and
+-- synced.
+pub record AppendsLine (line : List ℕ) (index : ℕ) (s t : Shows) : Type 0 where
+  pub last : Option ℕ
+  pub told : ReadsLast s 1 last
+  pub next : index ≡ unwrap_or last 0 + 1
+  pub batch : Batch
+  pub entry : AddsEntries (empty_batch 0 0) batch 1 (index ∷ []) (line ∷ [])
+  pub bytes : AddsBytes (empty_batch 0 0) batch (line ∷ [])
+  pub len : ℕ
+  pub writes : WritesBytes batch true len s t

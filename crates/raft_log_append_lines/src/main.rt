@@ -1,0 +1,100 @@
+//! Lines of standard input are kept in a log in a directory: each is answered once no crash takes it back.
+//!
+//! The one argument is the directory, which is made where it isn't there. What stands in it is told first. The status
+//! is 1 where something was refused.
+#![tactic(auto)]
+
+mod appending;
+
+use anyhow::bail;
+use appending::{GROUP, append};
+use log::Log;
+use raft_log_disk_directory::{DirectoryFileSystem, FileDevice, make_directory, open_directories};
+use raft_log_engine::{Config, Engine, FileSystem};
+use raft_log_record_items::RawEntries;
+use std::env;
+use std::env::Env;
+use std::fs::File;
+use std::io::{Eprint, Input, Print};
+use std::process::ExitCode;
+use std::rt::Files;
+use std::thread::Threads;
+
+/// The directory that the program is told to keep the log in.
+fn directory<R: Env + AllocGlobal>(rt: &R) -> anyhow::Result<String> {
+    match env::args(rt)?.nth(1) {
+        Some(directory) => Ok(directory),
+        None => bail!("one argument is asked for: the directory of the log"),
+    }
+}
+
+/// Tells each entry that stands in a log.
+fn tell<R: Print + AllocGlobal, F: FileSystem>(
+    rt: &R,
+    engine: &mut Engine<F>,
+) -> anyhow::Result<()> {
+    let first = engine.first_index(GROUP)?.unwrap_or(1);
+    let last = engine.last_index(GROUP)?.unwrap_or(0);
+    for index in first..last.saturating_add(1) {
+        if let Some(entry) = engine.get_entry::<RawEntries>(GROUP, index)? {
+            let text = String::from_utf8_lossy(rt.alloc(), entry.bytes.as_slice())?;
+            println!(rt; "{index} stands: {text}")?;
+        }
+    }
+    Ok(())
+}
+
+/// Opens the log in a directory over these files, tells what stands there, and appends each line that is read.
+fn serve<R: Threads + Log + Sync + Input + Print + AllocGlobal, F: FileSystem + Sync + Drop>(
+    rt: &R,
+    directory: &str,
+    files: F,
+) -> anyhow::Result<()> {
+    let mut config = Config::default(rt.alloc());
+    config.dir = String::from_str(rt.alloc(), directory)?;
+    let mut engine = match Engine::open_with_file_system(rt, rt.alloc(), config, files) {
+        Ok(engine) => engine,
+        Err(refused) => return Err(refused.error.into()),
+    };
+    tell(rt, &mut engine)?;
+    for line in rt.lines(rt.alloc()) {
+        let line = line?;
+        let index = append(rt, rt.alloc(), &mut engine, line.as_bytes())?;
+        println!(rt; "{index} is kept")?;
+    }
+    engine.close(rt);
+    Ok(())
+}
+
+/// Makes the directory where it isn't there, and answers the file system over it.
+fn files<R: Files<File = File> + AllocGlobal + Clone + Drop>(
+    rt: &R,
+    directory: &str,
+) -> anyhow::Result<DirectoryFileSystem<FileDevice<R>>> {
+    make_directory(rt, directory)?;
+    Ok(open_directories(rt, directory, None)?)
+}
+
+/// The exit of what was done; a refusal is told.
+fn exit<R: Eprint>(rt: &R, done: anyhow::Result<()>) -> ExitCode {
+    match done {
+        Ok(()) => ExitCode::SUCCESS,
+        Err(error) => {
+            let _told = eprintln!(rt; "{error}").is_ok();
+            ExitCode::from(1)
+        }
+    }
+}
+
+// An open lends its file system to threads, so that one over real directories is handed on here, where the runtime is
+// no parameter.
+fn main(rt: HostRuntime) -> ExitCode {
+    let directory = match directory(&rt) {
+        Ok(directory) => directory,
+        Err(error) => return exit(&rt, Err(error)),
+    };
+    match files(&rt, directory.as_str()) {
+        Ok(files) => exit(&rt, serve(&rt, directory.as_str(), files)),
+        Err(error) => exit(&rt, Err(error)),
+    }
+}

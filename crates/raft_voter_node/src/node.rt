@@ -1,0 +1,89 @@
+//! A store of voters that a node has open.
+use crate::rounds::serve_round;
+use log::Log;
+use raft_log_engine::{Config, FileSystem, Nobody, Result};
+use raft_voter::{Request, RoundService};
+use raft_voter_store::VoterStore;
+use raft_voter_world::Event;
+use std::alloc::Global;
+use std::thread::Threads;
+
+/// A store of voters that is open, and how many rounds it was handed.
+#[derive(Drop)]
+pub struct Node<F> {
+    alloc: Global,
+    store: VoterStore<F>,
+    rounds: usize,
+}
+
+impl<F: FileSystem + Sync + Drop> Node<F> {
+    /// Opens the store whose log these settings name.
+    pub fn open<R: Threads + Log + Sync>(
+        rt: &R,
+        alloc: Global,
+        config: Config,
+        files: F,
+    ) -> anyhow::Result<Node<F>> {
+        match VoterStore::open(rt, alloc, config, files, Nobody) {
+            Ok(store) => Ok(Node {
+                alloc,
+                store,
+                rounds: 0,
+            }),
+            Err(refused) => Err(refused.cause.into()),
+        }
+    }
+
+    /// A line for each voter that is stored, its group and its status, sorted by group.
+    pub fn voter_lines(&mut self) -> anyhow::Result<String> {
+        let mut lines = String::new(self.alloc);
+        let mut voters = self.store.voters()?;
+        for (group, voter) in voters.iter_mut() {
+            let status = voter.step(&Request::Status)?;
+            write!(lines, "voter {group} {status}\n")?;
+        }
+        Ok(lines)
+    }
+
+    /// Does what an event of a session asks, and answers the lines that tell it.
+    pub fn answer<R: Log>(&mut self, rt: &R, event: Event) -> anyhow::Result<String> {
+        match event {
+            Event::Round { requests } => {
+                let number = self.rounds;
+                self.rounds = number.saturating_add(1);
+                Ok(serve_round(rt, self.alloc, &mut self.store, number, requests)?)
+            }
+            Event::Maintain => {
+                let purged = self.store.maintain(rt);
+                self.purged(purged.map(|_groups| ()))
+            }
+            Event::RewriteAppend => {
+                let purged = self.store.must_rewrite_append_queue(rt, None, None);
+                self.purged(purged)
+            }
+            Event::RewriteRewrite => {
+                let purged = self.store.must_rewrite_rewrite_queue(rt);
+                self.purged(purged)
+            }
+            _ => Ok(String::from_str(self.alloc, "not here\n")?),
+        }
+    }
+
+    /// The line for a purge.
+    fn purged(&self, purged: Result<()>) -> anyhow::Result<String> {
+        match purged {
+            Ok(()) => Ok(String::from_str(self.alloc, "purged\n")?),
+            Err(error) => Ok(format!(in self.alloc; "purge refused: {error}\n")?),
+        }
+    }
+
+    /// Whether the log has failed.
+    pub fn has_failed(&self) -> bool {
+        self.store.is_failed()
+    }
+
+    /// Closes the store.
+    pub fn close<R: Log>(self, rt: &R) -> F {
+        self.store.close(rt)
+    }
+}

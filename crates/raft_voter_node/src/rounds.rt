@@ -1,0 +1,34 @@
+//! A round is served, and its lines are told.
+ghost use Rattle.std.specs.Prelude.{IfOk, string_bytes};
+ghost use Rattle.raft_voter_node.specs.Telling.{TellsRound};
+
+use raft_voter::{Items, Memory, Outcome, Request, Round, RoundService};
+use raft_voter_session::round_lines;
+use std::alloc::Global;
+
+/// Serves a round of this number, and answers its lines: `answered`, and a line for each reply, once all that it
+/// changed is durable; or `cut`. Where memory is refused the round was served or wasn't, and isn't told.
+pub fn serve_round<R, S: RoundService<R>>(
+    rt: &R,
+    alloc: Global,
+    store: &mut S,
+    number: usize,
+    requests: Items<(u64, Request)>,
+) -> Result<String, Memory>
+    ensures { IfOk result (λ lines. TellsRound S.service number requests (string_bytes lines) store.old store.new) }
+{
+    let served = store.serve(rt, requests.as_slice());
+    let round = match served {
+        Ok(replies) => Round {
+            requests,
+            refused: Items::new(alloc),
+            outcome: Outcome::Answered(replies),
+        },
+        Err(fault) => Round {
+            requests,
+            refused: fault.refused,
+            outcome: Outcome::Cut,
+        },
+    };
+    round_lines(alloc, number, &round)
+}

@@ -1,0 +1,42 @@
+-- A store that threads shared is closed, and its log is opened again, behind a crash or without one.
+use Rattle.std.specs.Prelude.{◌≡◌, ℕ, List}
+use Rattle.raft_log_disk.specs.Disk.{Disk}
+use Rattle.raft_log_disk.specs.Image.{IsSound}
+use Rattle.raft_log_engine_laws.specs.Shows.{Home, Shows}
+use Rattle.raft_log_open_laws.specs.ByCalls.{ForAllNaming, home_of}
+use Rattle.raft_log_open_laws.specs.InPlace.{StandsWithoutChance}
+use Rattle.raft_log_open_laws.specs.Left.{IsCrashOf}
+use Rattle.raft_log_file_settings.specs.declared.config.Config.{Config}
+use Rattle.raft_voter.specs.Rounds.{World}
+use Rattle.raft_voter.specs.Service.{CutRound, MayFollow}
+use Rattle.raft_voter_standing_laws.specs.Standing.{IsLeftAmong}
+use Rattle.raft_voter_opening_laws.specs.Opens.{FindsVoters}
+use Rattle.raft_voter_store.specs.Service.{LeavesAt}
+use Rattle.raft_voter_log.specs.Instance.{ClosesStore}
+
+-- Whatever a crash leaves of a log that is left so is opened as voters that may stand behind the round, the same by
+-- any settings that name its directories, unless something passes by chance;
+abbrev pub GoesOnBehindACrash :
+    {F : Type 0} → (F → Disk) → (F → List ℕ → ℕ → Type 0) → (home : Home) (d : Disk) (cut : CutRound)
+    → IsLeftAmong home d (MayFollow cut) → Type 0
+GoesOnBehindACrash {F} disk tells home d cut left = (old : F) → IsSound (disk old)
+    → IsCrashOf home left.left.1.lies.state d (disk old)
+    → (W : World) × MayFollow cut W × ForAllNaming home (λ config. FindsVoters disk tells config old W (λ X. X ≡ W))
+
+-- and so it is in place.
+abbrev pub GoesOnInPlace :
+    {F : Type 0} (disk : F → Disk) → (F → List ℕ → ℕ → Type 0) → (home : Home) (closed : F) (cut : CutRound)
+    → IsLeftAmong home (disk closed) (MayFollow cut) → Type 0
+GoesOnInPlace disk tells home closed cut left =
+    IsSound (disk closed) → StandsWithoutChance home left.left.1.lies.state (disk closed)
+    → (W : World) × MayFollow cut W
+    × ForAllNaming home (λ config. FindsVoters disk tells config closed W (MayFollow cut))
+
+-- A store in whose log's directories these voters stand behind a round, cut off or not, is closed: its log is left so,
+-- and goes on.
+abbrev pub ClosedStoresGoOn : {F : Type 0} → (F → Disk) → (F → List ℕ → ℕ → Type 0) → Type 0
+ClosedStoresGoOn {F} disk tells = (config : Config) (s : Shows) (closed : F) (cut : CutRound)
+    → LeavesAt (home_of config) s cut → ClosesStore s (disk closed)
+    → (left : IsLeftAmong (home_of config) (disk closed) (MayFollow cut))
+    × GoesOnBehindACrash disk tells (home_of config) (disk closed) cut left
+    × GoesOnInPlace disk tells (home_of config) closed cut left

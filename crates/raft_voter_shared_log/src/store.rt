@@ -1,0 +1,71 @@
+//! A store of voters on a log, and the settings that name the log.
+ghost use Rattle.std.specs.Prelude.{◌≡◌, IfErr, IfOk};
+ghost use Rattle.raft_log_file_settings.specs.Settings.{settings_of};
+ghost use Rattle.raft_log_engine_core.specs.Reads.{shows_of};
+ghost use Rattle.raft_voter_outlines.specs.Kept.{outlines_in};
+ghost use Rattle.raft_voter_log.specs.Instance.{ClosesStore};
+ghost use Rattle.raft_voter_shared_log.specs.Opening.{FailsToOpenStore, OpensStore};
+
+use log::Log;
+use raft_log_engine::{Config, EnginePipes, FileSystem, Nobody, PipeLog};
+use raft_voter_reading::Unread;
+use raft_voter_store::{StoreRefused, VoterStore};
+use std::alloc::{AllocError, Global};
+use std::thread::Threads;
+
+/// A store of voters on a log in a file system, and the settings that name the log.
+#[derive(Drop)]
+pub struct LogStore<F> {
+    /// The settings.
+    pub config: Config,
+    /// The store.
+    pub store: VoterStore<F>,
+}
+
+impl<F: FileSystem + Sync> LogStore<F> {
+    /// Opens the store whose log these settings name, as `VoterStore::open` does. Refused, the file system is handed
+    /// back, as it was where there was no memory for the settings.
+    pub fn open<R: Threads + Log + Sync>(
+        rt: &R,
+        alloc: Global,
+        config: Config,
+        file_system: F,
+    ) -> Result<LogStore<F>, StoreRefused<F>>
+        ensures config { IfOk result (λ opened. opened.config ≡ config) }
+        ensures ok { IfOk result (λ opened. OpensStore F.disk F.tells_space config file_system
+            (shows_of ⟦<EnginePipes<F, Nobody> as PipeLog>⟧.shown opened.store.engine)
+            (outlines_in opened.store.outlines)) }
+        ensures err { IfErr result (λ refused. FailsToOpenStore F.disk F.tells_space config refused.cause
+            file_system refused.file_system) }
+    {
+        let Ok(settings) = copy_settings(&config) else {
+            return Err(StoreRefused {
+                cause: Unread::Memory,
+                file_system,
+            });
+        };
+        match VoterStore::open(rt, alloc, settings, file_system, Nobody) {
+            Ok(store) => Ok(LogStore { config, store }),
+            Err(refused) => Err(refused),
+        }
+    }
+
+    /// Closes the log, and gives the file system back. Of an engine that has failed nothing is touched.
+    pub fn close<R: Log>(self, rt: &R) -> F
+        ensures { ClosesStore (shows_of ⟦<EnginePipes<F, Nobody> as PipeLog>⟧.shown self.store.engine)
+            (F.disk result) }
+    {
+        let LogStore {
+            config: _config,
+            store,
+        } = self;
+        store.close(rt)
+    }
+}
+
+/// The same settings once more.
+fn copy_settings(config: &Config) -> Result<Config, AllocError>
+    ensures { IfOk result (λ copy. settings_of copy ≡ settings_of config.now) }
+{
+    config.clone()
+}

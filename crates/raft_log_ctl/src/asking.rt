@@ -1,0 +1,58 @@
+//! What the program is asked for.
+use raft_log_operator::{Command, Place, Task, USAGE, Unread};
+use std::env::Env;
+use std::{env, io};
+
+/// The status where it is done.
+pub const DONE: u8 = 0;
+
+/// The status where it is done, and a hole or a damaged file was found.
+pub const FAULTY: u8 = 1;
+
+/// The status for wrong arguments.
+pub const WRONG_ARGUMENTS: u8 = 2;
+
+/// The status where something was refused.
+pub const REFUSED: u8 = 3;
+
+/// What is left to do.
+pub enum Asked {
+    /// Nothing: the program ends with this status.
+    Done(u8),
+    /// A task on the log in these directories.
+    Task(Place, Task),
+}
+
+/// Reads the arguments. How the program is called is told where that is asked for, and to standard error where the
+/// arguments are wrong.
+pub fn read_arguments<R: Env + Print + Eprint + AllocGlobal>(rt: &R) -> Asked {
+    match parsed(rt) {
+        Ok(Command::On(place, task)) => Asked::Task(place, task),
+        Ok(Command::Help) => Asked::Done(told(rt.print(USAGE), DONE)),
+        Err(Unread::Usage) => Asked::Done(told(rt.eprint(USAGE), WRONG_ARGUMENTS)),
+        Err(Unread::Memory) => {
+            let _told = eprintln!(rt; "raft_log_ctl: out of memory").is_ok();
+            Asked::Done(REFUSED)
+        }
+    }
+}
+
+/// The command that the arguments spell. One that is no UTF-8 spells none.
+fn parsed<R: Env + AllocGlobal>(rt: &R) -> Result<Command, Unread> {
+    match env::args(rt) {
+        Ok(arguments) => {
+            let words = arguments.skip(1).collect::<Vec<String>>(rt.alloc())?;
+            Command::parse(rt.alloc(), words.as_slice())
+        }
+        Err(error) if error.kind() == io::ErrorKind::OutOfMemory => Err(Unread::Memory),
+        Err(_) => Err(Unread::Usage),
+    }
+}
+
+/// The status behind a text, which may have been refused.
+fn told(text: io::Result<()>, status: u8) -> u8 {
+    match text {
+        Ok(()) => status,
+        Err(_) => REFUSED,
+    }
+}

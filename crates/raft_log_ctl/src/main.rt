@@ -1,0 +1,25 @@
+//! What an operator does with a log in a real directory: `raft_log_ctl --help` tells how.
+//!
+//! The status is 0 where it is done, 1 where it is done and a hole or a damaged file was found, 2 for wrong arguments,
+//! and 3 where something was refused, which standard error tells.
+#![tactic(auto)]
+
+mod asking;
+mod serving;
+
+use asking::{Asked, read_arguments};
+use log::{LevelFilter, Logged};
+use serving::serve;
+use std::process::ExitCode;
+
+fn main(rt: HostRuntime) -> ExitCode {
+    let status = match read_arguments(&rt) {
+        Asked::Done(status) => status,
+        Asked::Task(place, task) => {
+            // What is warned of, as that a file is cut, happens to a copy in memory.
+            let quiet = Logged::new(&rt, LevelFilter::Error, &rt);
+            serve(&rt, &quiet, &place, &task)
+        }
+    };
+    ExitCode::from(status)
+}

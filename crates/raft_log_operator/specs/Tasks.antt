@@ -1,0 +1,40 @@
+-- What a task leaves of a disk.
+use Rattle.std.specs.Prelude.{◌≡◌, ℕ, false, List, String, string_bytes}
+use Rattle.std.specs.Option.{option_map}
+use Rattle.std.specs.declared.alloc.Global.{Global}
+use Rattle.raft_log_disk.specs.Disk.{Disk}
+use Rattle.raft_log_file_settings.specs.Settings.{Settings, default_settings}
+use Rattle.raft_log_closed.specs.Forks.{FailsToFork, Forks}
+use Rattle.raft_log_operator.specs.declared.command.Task.{Task}
+use Rattle.raft_log_operator.specs.declared.command.Task.TheVariants.{Check, Dump, Fork, Stat}
+use Rattle.raft_log_operator.specs.declared.fault.CommandFault.{CommandFault}
+use Rattle.raft_log_operator.specs.declared.fault.CommandFault.TheVariants.{Log, Output}
+use Rattle.raft_log_operator.specs.declared.place.Place.{Place}
+
+-- the usual settings of a log in these directories, but that no file is used again
+abbrev pub kept_settings : Place → Settings
+kept_settings place = record default_settings {
+  dir = string_bytes place.directory;
+  spill_dir = option_map string_bytes place.spill_directory;
+  enable_log_recycle = false;
+}
+
+-- the log in these directories was copied into the directory with this path
+abbrev pub Copies : Place → String Global → Disk → Disk → Type 0
+Copies place target old new =
+    (copied : List (List ℕ)) × Forks (kept_settings place) (string_bytes target) copied old new
+
+-- It wasn't copied; or it was, and the output was refused.
+abbrev pub FailsToCopy : Place → String Global → CommandFault → Disk → Disk → Type 0
+FailsToCopy place target (Log error) old new = FailsToFork (kept_settings place) (string_bytes target) error old new
+FailsToCopy place target (Output _) old new = Copies place target old new
+
+-- what a task leaves that is done: only a copy changes anything
+abbrev pub Does : Place → Task → Disk → Disk → Type 0
+Does place (Fork target) old new = Copies place target old new
+Does place _ old new = new ≡ old
+
+-- what a task leaves that is refused
+abbrev pub FailsToDo : Place → Task → CommandFault → Disk → Disk → Type 0
+FailsToDo place (Fork target) fault old new = FailsToCopy place target fault old new
+FailsToDo place _ fault old new = new ≡ old

@@ -1,0 +1,58 @@
+//! The items of a log are listed.
+use crate::fault::{CommandFault, Outcome};
+use crate::found_file::{FoundFile, find_files};
+use crate::place::Place;
+use crate::text::{FileText, ItemLine};
+use raft_log_engine::{Error, FileSystem, LogItemReader};
+use std::alloc::Global;
+use std::io::Write;
+
+/// Writes a line for each item of a log, or of the one file whose path is the main one: the files in the order of
+/// `find_files`, and of each its items in order, up to its end or up to what is broken in it, which is told in the
+/// place of the rest and is `Faulty`. Nothing is changed.
+///
+/// Refused where the files aren't found or a file isn't read, for want of memory, and where the output is refused;
+/// what was written stays.
+pub fn dump<F: FileSystem, W: Write>(
+    alloc: Global,
+    files: &F,
+    place: &Place,
+    out: &mut W,
+) -> Result<Outcome, CommandFault> {
+    let mut outcome = Outcome::Sound;
+    for file in find_files(alloc, files, place)? {
+        if dump_file(alloc, files, &file, out)? == Outcome::Faulty {
+            outcome = Outcome::Faulty;
+        }
+    }
+    Ok(outcome)
+}
+
+/// Writes a line for each item of a file.
+fn dump_file<F: FileSystem, W: Write>(
+    alloc: Global,
+    files: &F,
+    file: &FoundFile,
+    out: &mut W,
+) -> Result<Outcome, CommandFault> {
+    let mut outcome = Outcome::Sound;
+    for answer in LogItemReader::new_file_reader(alloc, files, file.path.as_str())? {
+        match answer {
+            Ok(item) => {
+                let line = ItemLine {
+                    id: file.id,
+                    item: &item,
+                };
+                writeln!(out, "{line}")?;
+            }
+            Err(Error::Memory) => return Err(CommandFault::Log(Error::Memory)),
+            Err(Error::Io(kind)) => return Err(CommandFault::Log(Error::Io(kind))),
+            Err(error) => {
+                let text = FileText(file.id);
+                writeln!(out, "{text}: broken: {error}")?;
+                outcome = Outcome::Faulty;
+            }
+        }
+    }
+    Ok(outcome)
+}

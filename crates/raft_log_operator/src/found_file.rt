@@ -1,0 +1,70 @@
+//! The log files that lie in a log's directories.
+use crate::fault::CommandFault;
+use crate::place::{Place, parted};
+use raft_log_engine::{Error, FileId, FileSystem};
+use raft_log_file_format::FileNameExt;
+use std::alloc::Global;
+use std::io::ErrorKind;
+
+/// A log file that lies in one of a log's directories.
+#[derive(Debug, Drop)]
+pub struct FoundFile {
+    /// Its queue and its number.
+    pub id: FileId,
+    /// Its path.
+    pub path: String,
+}
+
+/// The log files of a log: Rewrite's first, each queue's by their numbers, and of two with one number first that of
+/// the main directory. Where the main path is a file's, it is that one. Refused where a directory isn't there, or the
+/// one file has no log file's name.
+pub fn find_files<F: FileSystem>(
+    alloc: Global,
+    files: &F,
+    place: &Place,
+) -> Result<Vec<FoundFile>, CommandFault> {
+    let mut found = Vec::new(alloc);
+    let path = place.directory.as_str();
+    match add_files(alloc, files, path, &mut found) {
+        Err(CommandFault::Log(Error::Io(ErrorKind::InvalidInput))) => {
+            found.push(one_file(alloc, path)?)?
+        }
+        Err(fault) => return Err(fault),
+        Ok(()) => {}
+    }
+    if let Some(spill) = &place.spill_directory {
+        add_files(alloc, files, spill.as_str(), &mut found)?;
+    }
+    found.sort_by_key(|file| file.id)?;
+    Ok(found)
+}
+
+/// Adds the log files of a directory.
+fn add_files<F: FileSystem>(
+    alloc: Global,
+    files: &F,
+    directory: &str,
+    found: &mut Vec<FoundFile>,
+) -> Result<(), CommandFault> {
+    for name in files.list(directory)? {
+        if let Some(id) = FileId::parse_file_name(name.as_str()) {
+            let path = format!(in alloc; "{directory}/{name}")?;
+            found.push(FoundFile { id, path })?;
+        }
+    }
+    Ok(())
+}
+
+/// The log file with this path.
+fn one_file(alloc: Global, path: &str) -> Result<FoundFile, CommandFault> {
+    let (_home, name) = parted(path);
+    match FileId::parse_file_name(name) {
+        Some(id) => Ok(FoundFile {
+            id,
+            path: String::from_str(alloc, path)?,
+        }),
+        None => Err(CommandFault::Log(Error::InvalidArgument(format!(in alloc;
+            "Invalid log file name: {path}"
+        )?))),
+    }
+}

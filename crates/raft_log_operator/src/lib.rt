@@ -1,0 +1,23 @@
+//! What an operator does with a log that nobody has open: its items are listed, it is checked for holes, copied, and
+//! told in numbers.
+//!
+//! [`Command::parse`] reads what is asked for, and [`run`] does it over a file system that is lent.
+#![tactic(auto)]
+
+mod checking;
+pub mod command;
+mod copying;
+mod dumping;
+mod fault;
+mod forking;
+mod found_file;
+pub mod place;
+mod running;
+mod settings;
+mod statistics;
+pub mod text;
+
+pub use command::{Command, Task, USAGE, Unread};
+pub use fault::{CommandFault, Outcome};
+pub use place::Place;
+pub use running::run;

@@ -1,0 +1,50 @@
+//! Where a log lies.
+use std::alloc::{AllocError, Global};
+
+/// Where a log lies.
+#[derive(Debug, Drop, PartialEq, Eq)]
+pub struct Place {
+    /// Its main directory; for a dump the path of one file, maybe.
+    pub directory: String,
+    /// Its second directory, where it has one.
+    pub spill_directory: Option<String>,
+}
+
+impl Place {
+    /// The same place without the slashes at the end of its paths.
+    pub fn trimmed(&self, alloc: Global) -> Result<Place, AllocError> {
+        let directory = String::from_str(alloc, trimmed(self.directory.as_str()))?;
+        let spill_directory = match &self.spill_directory {
+            Some(spill) => Some(String::from_str(alloc, trimmed(spill.as_str()))?),
+            None => None,
+        };
+        Ok(Place {
+            directory,
+            spill_directory,
+        })
+    }
+
+    /// The directory in which the file lies whose path is the main one, and that file's path as it is spelled by
+    /// this directory.
+    pub fn file_in(&self, alloc: Global) -> Result<(String, String), AllocError> {
+        let (home, name) = parted(self.directory.as_str());
+        let home = String::from_str(alloc, home)?;
+        let path = format!(in alloc; "{home}/{name}")?;
+        Ok((home, path))
+    }
+}
+
+/// A path without the slashes at its end; the root's stays.
+pub fn trimmed(path: &str) -> &str {
+    let rest = path.trim_end_matches('/');
+    if rest.is_empty() { path } else { rest }
+}
+
+/// The directory of a file, and the file's name in it.
+pub fn parted(path: &str) -> (&str, &str) {
+    match path.rsplit_once('/') {
+        Some((home, name)) if home.is_empty() => ("/", name),
+        Some((home, name)) => (home, name),
+        None => (".", path),
+    }
+}

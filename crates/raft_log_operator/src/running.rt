@@ -1,0 +1,38 @@
+//! A task is done.
+ghost use Rattle.std.specs.Prelude.{IfErr, OnOk};
+ghost use Rattle.raft_log_operator.specs.Tasks.{Does, FailsToDo};
+
+use crate::checking::check;
+use crate::command::Task;
+use crate::dumping::dump;
+use crate::fault::{CommandFault, Outcome};
+use crate::forking::fork_into;
+use crate::place::Place;
+use crate::statistics::stat;
+use log::Log;
+use raft_log_engine::FileSystem;
+use std::alloc::Global;
+use std::io::Write;
+use std::thread::Threads;
+
+/// Does a task on the log in these directories of a file system, and writes what it tells. Only a copy changes
+/// anything. Refused as the task is.
+pub fn run<R: Threads + Log + Sync, F: FileSystem, W: Write>(
+    rt: &R,
+    alloc: Global,
+    files: &mut F,
+    place: &Place,
+    task: &Task,
+    out: &mut W,
+) -> Result<Outcome, CommandFault>
+    ensures ok { OnOk result (Does place.now task.now (F.disk files.old) (F.disk files.new)) }
+    ensures err { IfErr result (λ fault.
+        FailsToDo place.now task.now fault (F.disk files.old) (F.disk files.new)) }
+{
+    match task {
+        Task::Dump => dump(alloc, files, place, out),
+        Task::Check => check(rt, alloc, files, place, out),
+        Task::Stat => stat(rt, alloc, files, place, out),
+        Task::Fork(target) => fork_into(rt, alloc, files, place, target, out),
+    }
+}

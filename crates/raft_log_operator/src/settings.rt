@@ -1,0 +1,22 @@
+//! The settings by which a log is read that somebody else keeps.
+ghost use Rattle.std.specs.Prelude.{◌≡◌, IfOk};
+ghost use Rattle.raft_log_file_settings.specs.Settings.{settings_of};
+ghost use Rattle.raft_log_operator.specs.Tasks.{kept_settings};
+
+use crate::place::Place;
+use raft_log_engine::Config;
+use std::alloc::{AllocError, Global};
+
+/// The usual settings of a log in these directories, but that no file is used again.
+pub fn kept_settings(alloc: Global, place: &Place) -> Result<Config, AllocError>
+    ensures { IfOk result (λ config. settings_of config ≡ kept_settings place.now) }
+{
+    let mut config = Config::default(alloc);
+    config.dir = String::from_str(alloc, place.directory.as_str())?;
+    config.spill_dir = match &place.spill_directory {
+        Some(spill) => Some(String::from_str(alloc, spill.as_str())?),
+        None => None,
+    };
+    config.enable_log_recycle = false;
+    Ok(config)
+}

@@ -1,0 +1,196 @@
+//! What a log holds, in numbers.
+use crate::copying::copy_of;
+use crate::fault::{CommandFault, Outcome};
+use crate::found_file::{FoundFile, find_files};
+use crate::place::Place;
+use crate::settings::kept_settings;
+use crate::text::queue_word;
+use log::Log;
+use raft_log_engine::{
+    Engine, Error, FileSystem, LogItem, LogItemContent, LogItemReader, LogQueue, MemoryFileSystem,
+    Permission,
+};
+use raft_log_record_items::RawEntries;
+use std::alloc::Global;
+use std::io::Write;
+use std::thread::Threads;
+
+/// How much there is of something.
+#[derive(Clone, Copy, Debug, PartialEq, Eq)]
+struct Amount {
+    count: u64,
+    bytes: u64,
+}
+
+impl Amount {
+    /// Nothing.
+    fn none() -> Amount {
+        Amount { count: 0, bytes: 0 }
+    }
+
+    /// One more, with so many bytes.
+    fn add(&mut self, bytes: usize) {
+        self.count = self.count.saturating_add(1);
+        self.bytes = self.bytes.saturating_add(bytes as u64);
+    }
+}
+
+/// Writes what a log holds: of each queue its files, of each group its entries and keys; and of the bytes of all
+/// files how many are of entries, keys and values that stand, and how many of ones that are gone or stand twice. The
+/// groups are those of an engine that is opened, by the usual settings, over a copy in memory; the log isn't touched.
+///
+/// Refused as `copy_of` is, where that engine isn't opened or an entry isn't read, and where the output is refused.
+pub fn stat<R: Threads + Log + Sync, F: FileSystem, W: Write>(
+    rt: &R,
+    alloc: Global,
+    files: &F,
+    place: &Place,
+    out: &mut W,
+) -> Result<Outcome, CommandFault> {
+    let found = find_files(alloc, files, place)?;
+    let copy = copy_of(alloc, files, place)?;
+    let held = bytes_held(alloc, &copy, found.as_slice())?;
+    let append = tell_queue(&copy, found.as_slice(), LogQueue::Append, out)?;
+    let rewrite = tell_queue(&copy, found.as_slice(), LogQueue::Rewrite, out)?;
+    let config = kept_settings(alloc, place)?;
+    let mut engine = match Engine::open_with_file_system(rt, alloc, config, copy) {
+        Ok(engine) => engine,
+        Err(refused) => return Err(CommandFault::Log(refused.error)),
+    };
+    let live = tell_groups(&mut engine, out)?;
+    let all = append.saturating_add(rewrite);
+    let garbage = held.saturating_sub(live);
+    writeln!(out, "{all} bytes of files: {live} live, {garbage} garbage")?;
+    Ok(Outcome::Sound)
+}
+
+/// Writes the files of a queue, and answers how many bytes they have.
+fn tell_queue<W: Write>(
+    files: &MemoryFileSystem,
+    found: &[FoundFile],
+    queue: LogQueue,
+    out: &mut W,
+) -> Result<u64, CommandFault> {
+    let mut size = Amount::none();
+    let mut span = None;
+    for file in found {
+        if file.id.queue == queue {
+            let handle = files.open(file.path.as_str(), Permission::ReadOnly)?;
+            size.add(files.file_size(handle)?);
+            let first = span.map_or(file.id.seq, |span: (u64, u64)| span.0);
+            span = Some((first, file.id.seq));
+        }
+    }
+    let word = queue_word(queue);
+    let Amount { count, bytes } = size;
+    match span {
+        Some((first, last)) => writeln!(
+            out,
+            "{word}: files {first} to {last}: {count} files, {bytes} bytes"
+        )?,
+        None => writeln!(out, "{word}: no files")?,
+    }
+    Ok(bytes)
+}
+
+/// How many bytes of entries, keys and values stand in files, whether they are still meant or not.
+fn bytes_held(
+    alloc: Global,
+    files: &MemoryFileSystem,
+    found: &[FoundFile],
+) -> Result<u64, CommandFault> {
+    let mut held = 0u64;
+    for file in found {
+        held = held.saturating_add(bytes_in(alloc, files, file.path.as_str())?);
+    }
+    Ok(held)
+}
+
+/// How many bytes of entries, keys and values stand in a file, up to what is broken in it.
+fn bytes_in(alloc: Global, files: &MemoryFileSystem, path: &str) -> Result<u64, CommandFault> {
+    let mut held = 0u64;
+    for answer in LogItemReader::new_file_reader(alloc, files, path)? {
+        match answer {
+            Ok(item) => held = held.saturating_add(bytes_of(&item)),
+            Err(Error::Memory) => return Err(CommandFault::Log(Error::Memory)),
+            Err(_other) => {}
+        }
+    }
+    Ok(held)
+}
+
+/// How many bytes of entries, keys and values an item has.
+fn bytes_of(item: &LogItem) -> u64 {
+    match &item.content {
+        LogItemContent::EntryIndexes(entries) => entries.bytes_len(),
+        LogItemContent::Command(_) => 0,
+        LogItemContent::Kv(pair) => {
+            let value = pair.value.as_ref().map_or(0, |value| value.len());
+            (pair.key.len() as u64).saturating_add(value as u64)
+        }
+    }
+}
+
+/// Writes what each group of an engine has, and answers how many bytes all of them have.
+fn tell_groups<W: Write>(
+    engine: &mut Engine<MemoryFileSystem>,
+    out: &mut W,
+) -> Result<u64, CommandFault> {
+    let mut live = 0u64;
+    for group in engine.raft_groups()? {
+        let bytes = tell_group(engine, group, out)?;
+        live = live.saturating_add(bytes);
+    }
+    Ok(live)
+}
+
+/// Writes what a group has, and answers how many bytes that is.
+fn tell_group<W: Write>(
+    engine: &mut Engine<MemoryFileSystem>,
+    group: u64,
+    out: &mut W,
+) -> Result<u64, CommandFault> {
+    write!(out, "group {group}: ")?;
+    let entries = match (engine.first_index(group)?, engine.last_index(group)?) {
+        (Some(first), Some(last)) => {
+            let Amount { count, bytes } = entries_of(engine, group, first, last)?;
+            write!(
+                out,
+                "entries {first} to {last}: {count} entries, {bytes} bytes"
+            )?;
+            bytes
+        }
+        _ => {
+            write!(out, "no entries")?;
+            0
+        }
+    };
+    let Amount { count, bytes } = keys_of(engine, group)?;
+    writeln!(out, "; {count} keys, {bytes} bytes")?;
+    Ok(entries.saturating_add(bytes))
+}
+
+/// The entries of a group from one index to another.
+fn entries_of(
+    engine: &mut Engine<MemoryFileSystem>,
+    group: u64,
+    first: u64,
+    last: u64,
+) -> Result<Amount, CommandFault> {
+    let mut entries = Amount::none();
+    for index in first..last.saturating_add(1) {
+        if let Some(entry) = engine.get_entry::<RawEntries>(group, index)? {
+            entries.add(entry.bytes.len());
+        }
+    }
+    Ok(entries)
+}
+
+/// The keys of a group, with their values.
+fn keys_of(engine: &Engine<MemoryFileSystem>, group: u64) -> Result<Amount, CommandFault> {
+    let mut keys = Amount::none();
+    for (key, value) in engine.pairs_within(group, None, None)? {
+        keys.add(key.len().saturating_add(value.len()));
+    }
+    Ok(keys)
+}

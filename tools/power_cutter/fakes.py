@@ -1,0 +1,59 @@
+"""The harness is tried with the store of `fake_node`: the right one has to pass, and each wrong one has to be found out."""
+import sys
+import time
+from random import Random
+
+from cutting import Cutter
+from killing import Killer
+from node import Node, settings
+from refusing import Refuser
+from running import HERE
+from trial import Room
+
+FAKE = [sys.executable, "-S", f"{HERE}/fake_node"]
+CUT = ["no-sync", "no-names", "answers-first", "renames-first", "stale", "no-front", "no-load-sync"]
+
+
+def cuts(room, seconds, until_wrong, drops=()):
+    """Cuts for so long, or until something is wrong."""
+    cutter, end, number = Cutter(room, Random(1), settings, 20, drops), time.time() + seconds, 0
+    while time.time() < end and not (until_wrong and cutter.wrong):
+        cutter.history(f"history {number}", count=20)
+        number += 1
+    return cutter, "cuts"
+
+
+def refusals(room, seconds, until_wrong):
+    """Refuses for so long, or until something is wrong."""
+    end, number = time.time() + seconds, 1
+    refuser = Refuser(room, Random(1), settings, 5, end)
+    while time.time() < end and not (until_wrong and refuser.wrong):
+        refuser.run(f"run {number}", number)
+        number += 1
+    return refuser, "faults"
+
+
+def kills(room, seconds, _until_wrong):
+    """Kills for so long."""
+    killer, end = Killer(room, Random(1), settings, 0.3), time.time() + seconds
+    while time.time() < end:
+        killer.directory(f"directory {killer.counts['directories']}", 20)
+    return killer, "kills"
+
+
+def try_fakes(path, library, seconds):
+    """Tries each store; how many were judged wrongly."""
+    failed = 0
+    trials = [("right", each, False, {}) for each in (kills, cuts, refusals)]
+    trials += [(wrong, cuts, True, {}) for wrong in CUT] + [("passes-over", refusals, True, {})]
+    trials += [("right", cuts, True, {"drops": [kind]}) for kind in ("bytes", "names")]
+    for wrong, play, is_wrong, more in trials:
+        room = Room(path, Node(FAKE + ([] if wrong == "right" else ["--wrong", wrong])), library)
+        tried, word = play(room, seconds, is_wrong, **more)
+        dropped = f", syncs of {more['drops'][0]} dropped" if more else ""
+        is_well = bool(tried.wrong) == is_wrong
+        failed += not is_well
+        print(f"{wrong}{dropped}: {tried.counts[word]} {word}, {len(tried.wrong)} wrong{'' if is_well else ': NOT AS IT SHOULD BE'}", flush=True)
+        if not is_well:
+            print("\n".join(tried.wrong[:3]), flush=True)
+    return failed

@@ -1,4 +1,4 @@
-"""Voters by the table of docs/MODEL.md, written for this folder alone: it shares nothing with the crates.
+"""Voters by the table of docs/model/VOTER.md, written for this folder alone: it shares nothing with the crates.
 
 A request is a line of a session, as a list of words. A voter takes it and answers with the text of its reply.
 """

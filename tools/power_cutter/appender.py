@@ -74,6 +74,8 @@ class Heard:
     def __init__(self, lines, sent, told):
         self.lines, self.events, self.ends = lines, sent, []
         self.is_cut, self.refused_purges, self.refused_places = False, 0, 0
+        # Lines that stand are told once they are durable; where none stands, the opening tells nothing.
+        self.ready_end = 1 if lines else 0
         at = stood = 0
         for line in told.split(b"\n")[:-1]:
             at += len(line) + 1
@@ -83,8 +85,6 @@ class Heard:
             if line.decode() != f"{len(lines) + len(self.ends) + 1} is kept" or len(self.ends) == len(sent) or stood != len(lines):
                 raise Fault(f"behind {len(self.ends)} answers it tells {line[:100]!r}")
             self.ends.append(at)
-        # (that the opening has ended shows first where a line is kept)
-        self.ready_end = 0
 
     def answered(self):
         """How many lines were answered."""

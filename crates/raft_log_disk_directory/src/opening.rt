@@ -43,24 +43,26 @@ pub fn open_directories<R: Files<File = File> + AllocGlobal + Clone + Drop>(
     Ok(DirectoryFileSystem::new(storage, device))
 }
 
-/// Makes a directory, so that no crash takes it away, where nothing has the path.
+/// Makes a directory where nothing has the path, and syncs the one in which it lies, so that no crash takes it away. It
+/// is synced also where the path is there: who made it may have been killed before that.
 pub fn make_directory<R: Files<File = File> + AllocGlobal>(
     rt: &R,
     directory: &str,
 ) -> Result<(), DirectoryFault> {
-    match make_durable(rt, directory) {
-        Err(error) if error.kind() != ErrorKind::AlreadyExists => Err(DirectoryFault::of_directory(
-            rt.alloc(),
-            directory,
-            error,
-        )),
-        _ => Ok(()),
-    }
+    make_durable(rt, directory).map_err(|error| DirectoryFault::of_directory(
+        rt.alloc(),
+        directory,
+        error,
+    ))
 }
 
-// Makes a directory, and syncs the one in which it lies.
+// Makes a directory where nothing has the path, and syncs the one in which it lies.
 fn make_durable<R: Files<File = File>>(rt: &R, directory: &str) -> io::Result<()> {
-    fs::create_dir(rt, directory)?;
+    if let Err(error) = fs::create_dir(rt, directory) {
+        if error.kind() != ErrorKind::AlreadyExists {
+            return Err(error);
+        }
+    }
     let home = match Path::new(directory).parent() {
         Some(home) if !home.as_str().is_empty() => home.as_str(),
         _ => ".",

@@ -38,11 +38,15 @@ class Appender:
 
     def opens(self, running):
         """Sends one line, waits until it is kept, and finds what stood before it: the state, and the line."""
-        probe = f"probe {running.process.pid}"
+        probe = self.probe = f"probe {running.process.pid}"
         running.feed(self.text([probe]))
         if not running.hear_until(lambda told: b" is kept\n" in told):
             raise Ended(running)
         return standing(running.told.decode()), [probe]
+
+    def unheard(self, states):
+        """What may stand behind an opening of which nothing was heard: the line that it was sent, too."""
+        return states + [state + [self.probe] for state in states]
 
     def hear(self, lines, sent, told, may_refuse=False):
         """What a run answered of lines that were sent to it."""

@@ -86,6 +86,10 @@ class Node:
             raise Ended(running)
         return world_read(voters, running.told.decode(), event[1]), [event]
 
+    def unheard(self, states):
+        """What may stand behind an opening of which nothing was heard."""
+        return states
+
     def hear(self, world, events, told, may_refuse=False):
         """What a run answered of events that begin behind `ready`; where a place may be refused its request isn't taken then."""
         return Heard(world, events, told, may_refuse)

@@ -88,7 +88,7 @@ class Room:
             running.process.wait()
         if not is_refusing(fault):
             self.demand_all(heard, status, fault)
-        return Ran(read_trace(trace), heard, status, before)
+        return Ran(read_trace(trace), heard, status, before if heard else self.subject.unheard(before))
 
     def demand_all(self, heard, status, fault):
         """A run in which no call was refused answers all, unless it was killed."""

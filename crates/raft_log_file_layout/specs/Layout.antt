@@ -7,7 +7,7 @@ use Rattle.raft_log_file_format.specs.Header.{IsFileHeader}
 use Rattle.raft_log_file_format.specs.Name.{suffix_of}
 use Rattle.raft_log_file_format.specs.declared.header.LogFileFormat.{LogFileFormat}
 use Rattle.raft_log_record_frames.specs.Record.{IsRecord}
-use Rattle.raft_log_file_queue.specs.Layout.{FilePaths}
+use Rattle.raft_log_file_queue.specs.Layout.{FilePaths, IsUnaligned}
 use Rattle.raft_log_file_layout.specs.Paths.{IsPathWith, numbered_path, reserved_path}
 use Rattle.raft_log_file_layout.specs.declared.record.LogRecord.{LogRecord}
 
@@ -18,9 +18,10 @@ pub record IsRecordIn (n : ℕ) (header bytes : List ℕ) (said : LogRecord) : T
   pub says : IsFileHeader header format
   pub is : IsRecord (signature format.version n) bytes said.items said.entries
 
--- the header of some format
+-- The header of some format without an alignment: no pipe writes another one, so that what a torn write left of
+-- a header isn't one for its last eight bytes' sake.
 abbrev pub IsAHeader : List ℕ → Type 0
-IsAHeader bytes = (format : LogFileFormat) × IsFileHeader bytes format
+IsAHeader bytes = (format : LogFileFormat) × IsFileHeader bytes format × IsUnaligned format
 
 -- how the files of a queue are written, and lie in these directories
 abbrev pub log_format : LogQueue → List (List ℕ) → Format LogRecord

@@ -1,6 +1,5 @@
 -- The log's own files are a layout of files: their records, headers and paths.
 use Rattle.std.specs.Prelude.{codes, min, Result, Ok, Err, Option, replicate}
-use Rattle.std.specs.Int.{w64, from_be_bytes}
 use Rattle.std.proofs.Common.{◌≡◌, ◌⊎◌, ℕ, zero, suc, ◌+◌, ◌-◌, ◌^◌, ◌<◌, ◌≤◌, List, [], ◌∷◌, ◌++◌, length, get_or, take, drop, refl, sym, ◌∙◌, ap, subst, inl, inr, arith, length-append}
 use Rattle.std.proofs.lemmas.List.{append-nil, take_at, drop_at, take-append-drop, take-append-le, drop-replicate, length-replicate}
 use Rattle.raft_log_record_base.specs.Fault.{Fault}
@@ -12,15 +11,15 @@ use Rattle.raft_log_record_base.specs.declared.pipe_log.Version.TheVariants.{V1,
 use Rattle.raft_log_record_base.proofs.Grammar.{prefix_free}
 use Rattle.raft_log_disk.specs.Disk.{zeros}
 use Rattle.raft_log_file_laws.specs.Chains.{IsSelfDelimiting, CanTell}
-use Rattle.raft_log_file_laws.specs.LogFormat.{IsFormat}
-use Rattle.raft_log_file_format.specs.Header.{magic, header_at, header_bytes, IsFileHeader, HasWrittenHeader as IsWritable}
+use Rattle.raft_log_file_laws.specs.LogFormat.{HasHeader, IsFormat}
+use Rattle.raft_log_file_format.specs.Header.{magic, header_at, header_bytes, IsFileHeader}
 use Rattle.raft_log_file_format.specs.Name.{EndsWith, suffix_of}
 use Rattle.raft_log_file_format.specs.declared.header.LogFileFormat.{LogFileFormat}
 use Rattle.raft_log_file_format.proofs.Headers.{is_header}
 use Rattle.raft_log_record_frames.specs.Record.{IsRecord}
 use Rattle.raft_log_record_frames.proofs.Frames.{one_record, frames_take_bytes}
 use Rattle.raft_log_record_frames.proofs.Fronts.{record_is_told, no_frame_in_zeros}
-use Rattle.raft_log_file_queue.specs.Layout.{IsLayout}
+use Rattle.raft_log_file_queue.specs.Layout.{IsLayout, IsUnaligned}
 use Rattle.raft_log_file_layout.specs.Paths.{IsPathWith, IsOwnPath, reserved_path, reserved_suffix_of}
 use Rattle.raft_log_file_layout.specs.Layout.{IsRecordIn, IsAHeader, log_format, log_paths}
 use Rattle.raft_log_file_layout.specs.Laws.{LogFilesAreTold, QueuesAreApart, ZerosHoldNoRecord, ReservedNamesAreTheLogs, PlacesAreFresh}
@@ -48,21 +47,21 @@ one_header : (a b x y : List ℕ) (f g : LogFileFormat) → IsFileHeader a f →
     → (a ≡ b) × (f ≡ g)
 one_header = prefix_free is_header
 
--- a header of the second version, whatever number of 64 bits its alignment stands for
-second_header : (alignment : ℕ) → IsFileHeader (header_bytes (record { version = V2; alignment = alignment }))
-    (record { version = V2; alignment = from_be_bytes w64 (u64_bytes alignment) })
+-- the header of the second version
+second_header : IsFileHeader (header_bytes (record { version = V2; alignment = 0 }))
+    (record { version = V2; alignment = 0 })
 unfolding header_bytes u64_bytes
-second_header alignment = (
+second_header = (
   tt,
   magic,
-  u64_bytes 2 ++ u64_bytes alignment,
+  u64_bytes 2 ++ u64_bytes 0,
   refl,
   (
     V2,
     u64_bytes 2,
-    u64_bytes alignment,
+    u64_bytes 0,
     record { spelled = record { size = refl; value = refl } },
-    (from_be_bytes w64 (u64_bytes alignment), record { size = refl; value = refl }, refl),
+    (0, record { size = refl; value = refl }, refl),
     refl,
   ),
   refl,
@@ -81,17 +80,22 @@ first_header = (
   refl,
 )
 
--- what is written as a header is one
-headed : (format : LogFileFormat) → IsWritable format → IsAHeader (header_bytes format)
-headed format has = of_version format.version format.alignment has
+-- what is written as a header without an alignment is one
+headed : (format : LogFileFormat) → IsUnaligned format → IsAHeader (header_bytes format)
+headed format none = of_version format.version format.alignment none
   where
-    of_version : (v : _) (alignment : ℕ) → (v ≡ V1 → alignment ≡ 0)
+    of_version : (v : _) (alignment : ℕ) → alignment ≡ 0
         → IsAHeader (header_bytes (record { version = v; alignment = alignment }))
     of_version V1 alignment none =
-        subst (λ (n : ℕ). IsAHeader (header_bytes (record { version = V1; alignment = n }))) (sym (none refl))
-        (record { version = V1; alignment = 0 }, first_header)
+        subst (λ (n : ℕ). IsAHeader (header_bytes (record { version = V1; alignment = n }))) (sym none)
+        (record { version = V1; alignment = 0 }, first_header, refl)
     of_version V2 alignment none =
-        (record { version = V2; alignment = from_be_bytes w64 (u64_bytes alignment) }, second_header alignment)
+        subst (λ (n : ℕ). IsAHeader (header_bytes (record { version = V2; alignment = n }))) (sym none)
+        (record { version = V2; alignment = 0 }, second_header, refl)
+
+-- the header of some format, of whatever alignment
+abbrev IsOfSomeFormat : List ℕ → Type 0
+IsOfSomeFormat bytes = (format : LogFileFormat) × IsFileHeader bytes format
 
 -- some bytes begin with a header, or not
 front_told : (bytes : List ℕ)
@@ -113,14 +117,14 @@ front_told bytes = told (header_at bytes) refl
         cc (back, here)))
 
 -- these bytes are a header, or not
-whole_told : (bytes : List ℕ) → IsAHeader bytes ⊎ (IsAHeader bytes → ⊥)
+whole_told : (bytes : List ℕ) → IsOfSomeFormat bytes ⊎ (IsOfSomeFormat bytes → ⊥)
 whole_told bytes = elim (front_told bytes) [
   | inr none ↦ inr (λ (format, says). none bytes [] format says (sym (append-nil bytes)))
   | inl (header, rest, format, says, splits) ↦ told header rest format says splits
 ]
   where
     told : (header rest : List ℕ) (format : LogFileFormat) → IsFileHeader header format → bytes ≡ header ++ rest
-        → IsAHeader bytes ⊎ (IsAHeader bytes → ⊥)
+        → IsOfSomeFormat bytes ⊎ (IsOfSomeFormat bytes → ⊥)
     told header [] format says splits = inl (
       format,
       subst (λ (b : List ℕ). IsFileHeader b format)
@@ -184,14 +188,26 @@ records_told n header bytes = elim (whole_told header) [
 pub files_are_told : LogFilesAreTold
 files_are_told queue directories = record {
   headers = λ bytes. elim (front_told bytes) [
-    | inl (header, rest, format, says, splits) ↦ inl (
-      header,
-      record { is = (format, says); rest = rest; splits = splits },
-    )
+    | inl (header, rest, format, says, splits) ↦
+        by_alignment bytes header rest format says splits format.alignment refl
     | inr none ↦ inr (λ header has. none header has.rest has.is.0 has.is.1 has.splits)
   ];
   frames = records_told;
 }
+  where
+    by_alignment : (bytes header rest : List ℕ) (format : LogFileFormat) → IsFileHeader header format
+        → bytes ≡ header ++ rest → (n : ℕ) → format.alignment ≡ n
+        → ((header : List ℕ) × HasHeader (log_format queue directories) header bytes)
+        ⊎ ((header : List ℕ) → HasHeader (log_format queue directories) header bytes → ⊥)
+    by_alignment bytes header rest format says splits zero none = inl (
+      header,
+      record { is = (format, says, none); rest = rest; splits = splits },
+    )
+    by_alignment bytes header rest format says splits (suc n) some = inr (λ other has.
+        (let same = (one_header header other rest has.rest format has.is.0 says has.is.1
+        (sym splits ∙ has.splits)).1 in
+        let both = sym some ∙ ap (λ (f : LogFileFormat). f.alignment) same ∙ has.is.2 in
+        omega (arith, both)))
 
 -- Zeros.
 
@@ -221,7 +237,7 @@ zeros_hold_none n size header ahead inside behind said splits is =
 log_is_format : (queue : LogQueue) (directories : List (List ℕ)) → IsFormat (log_format queue directories)
 log_is_format queue directories = record {
   free = self_delimiting;
-  headers = λ x y a b (f, says) (g, also) same. (one_header x y a b f g says also same).0;
+  headers = λ x y a b (f, says, none) (g, also, neither) same. (one_header x y a b f g says also same).0;
   paths = λ m n path less bound at there. one_number (suffix_of queue) directories m n path at there;
 }
 

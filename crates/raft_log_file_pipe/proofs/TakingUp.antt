@@ -14,12 +14,12 @@ use Rattle.raft_log_disk.specs.declared.handle.Handle.{Handle}
 use Rattle.raft_log_disk.proofs.Updates.{name_here, name_apart}
 use Rattle.raft_log_disk.proofs.TouchingLaws.{same_file}
 use Rattle.raft_log_file_format.specs.declared.header.LogFileFormat.{LogFileFormat}
-use Rattle.raft_log_file_format.specs.Header.{header_bytes, HasWrittenHeader}
+use Rattle.raft_log_file_format.specs.Header.{header_bytes}
 use Rattle.raft_log_file_queue.specs.Queue.{with_room}
 use Rattle.raft_log_file_queue.specs.Beginning.{fresh_queue}
 use Rattle.raft_log_file_queue.specs.Reopening.{reread}
 use Rattle.raft_log_file_queue.specs.Standing.{Names}
-use Rattle.raft_log_file_queue.specs.Layout.{FilePaths, IsLayout, path_of}
+use Rattle.raft_log_file_queue.specs.Layout.{FilePaths, IsLayout, IsUnaligned, path_of}
 use Rattle.raft_log_file_queue.specs.Exits.{IsOpen}
 use Rattle.raft_log_file_queue.specs.Opening.{AllFilesStay, CanBegin, BeginsQueue, BeginsQueueBy, FailsToBeginQueue, BeginQueueMakes}
 use Rattle.raft_log_file_queue.specs.TakingUp.{GoesOnBehind, HandleBeginsWith, Reopens, ReopensBy, FailsToReopen, ReopenMakes}
@@ -79,7 +79,7 @@ module _ {R : Type 0} (F : Format R) (own : List ℕ → Type 0) (paths : FilePa
         usable = record { file = was.usable.file; is = only.others g.handle.file mine ∙ was.usable.is; has = was.usable.has };
       })) are
 
-  pub takes_up : (earlier : List Listed) (last : Listed) (end : Option ℕ) (kept : List Listed) (header : List ℕ) (files : PipeFiles) (old new : Disk) → IsSound old → HasWrittenHeader (taken_up end last).format → header ≡ header_bytes (taken_up end last).format
+  pub takes_up : (earlier : List Listed) (last : Listed) (end : Option ℕ) (kept : List Listed) (header : List ℕ) (files : PipeFiles) (old new : Disk) → IsSound old → IsUnaligned (taken_up end last).format → header ≡ header_bytes (taken_up end last).format
       → IsListedAs earlier (taken_up end last) kept files → Reopens F own last.handle end header files.writer old new → TouchesOnly last.handle.file old new → ReopensBy last.handle end header files.writer old new → TakesUpFound F own paths earlier last end kept files old new
   takes_up earlier last end kept header files old new sound has spelled listed reopens only calls base q found =
       let format = (taken_up end last).format in
@@ -113,7 +113,7 @@ module _ {R : Type 0} (F : Format R) (own : List ℕ → Type 0) (paths : FilePa
         subst (λ (h : List ℕ). ReopensBy last.handle end h files.writer old new) spelled calls,
       )
 
-  pub fails_to_take_up : (earlier : List Listed) (last : Listed) (end : Option ℕ) (kept : List Listed) (header : List ℕ) (old new : Disk) → HasWrittenHeader (taken_up end last).format → header ≡ header_bytes (taken_up end last).format
+  pub fails_to_take_up : (earlier : List Listed) (last : Listed) (end : Option ℕ) (kept : List Listed) (header : List ℕ) (old new : Disk) → IsUnaligned (taken_up end last).format → header ≡ header_bytes (taken_up end last).format
       → FailsToReopen F own last.handle end header old new → TouchesOnly last.handle.file old new → FailsToTakeUpFound F own paths earlier last end kept old new
   fails_to_take_up earlier last end kept header old new has spelled fails only base q found =
       let format = (taken_up end last).format in
@@ -122,14 +122,14 @@ module _ {R : Type 0} (F : Format R) (own : List ℕ → Type 0) (paths : FilePa
 
   -- A queue that begins.
 
-  pub can_begin : (base : Disk) (kept : List Listed) (format : LogFileFormat) (directory : ℕ) (old : Disk) → HasWrittenHeader format → CanBeginWith F own paths base kept old → CanBegin F own base (header_bytes format) (paths.numbered directory 1) old
+  pub can_begin : (base : Disk) (kept : List Listed) (format : LogFileFormat) (directory : ℕ) (old : Disk) → IsUnaligned format → CanBeginWith F own paths base kept old → CanBegin F own base (header_bytes format) (paths.numbered directory 1) old
   can_begin base kept format directory old has can = record {
     fresh = can.fresh;
     header_is = lawful.headed format has;
     path_is = lawful.numbered directory 1 (let limit = lawful.limit in omega (arith, limit));
   }
 
-  pub begins : (kept : List Listed) (format : LogFileFormat) (directory : ℕ) (header path : List ℕ) (handle : Handle) (files : PipeFiles) (old new : Disk) → HasWrittenHeader format → header ≡ header_bytes format → path ≡ paths.numbered directory 1
+  pub begins : (kept : List Listed) (format : LogFileFormat) (directory : ℕ) (header path : List ℕ) (handle : Handle) (files : PipeFiles) (old new : Disk) → IsUnaligned format → header ≡ header_bytes format → path ≡ paths.numbered directory 1
       → files.first_seq ≡ 1 → files.earlier.items ≡ [] → files.active ≡ record { seq = 1; handle = handle; format = format; path_id = directory; reserved = false } → files.recycled.items ≡ kept
       → BeginsQueue F own header path handle files.writer old new → AllFilesStay old new → BeginsQueueBy path header handle files.writer old new → BeginsPipe F own paths format kept files old new
   begins kept format directory header path handle files old new has header_is path_is first earlier active recycled begun stay calls base older can =
@@ -167,7 +167,7 @@ module _ {R : Type 0} (F : Format R) (own : List ℕ → Type 0) (paths : FilePa
             (subst (λ (p : List ℕ). BeginsQueueBy p head handle files.writer old new) path_is (subst (λ (h : List ℕ). BeginsQueueBy path h handle files.writer old new) header_is calls)),
       )
 
-  pub fails_to_begin : (kept : List Listed) (format : LogFileFormat) (directory : ℕ) (header path : List ℕ) (old new : Disk) → HasWrittenHeader format → header ≡ header_bytes format → path ≡ paths.numbered directory 1
+  pub fails_to_begin : (kept : List Listed) (format : LogFileFormat) (directory : ℕ) (header path : List ℕ) (old new : Disk) → IsUnaligned format → header ≡ header_bytes format → path ≡ paths.numbered directory 1
       → FailsToBeginQueue F own header path old new → FailsToBeginPipe F own paths format kept old new
   fails_to_begin kept format directory header path old new has header_is path_is fails base older can =
       subst (λ (p : List ℕ). FailsToBeginQueue F own (header_bytes format) p old new) path_is (subst (λ (h : List ℕ). FailsToBeginQueue F own h path old new) header_is fails) base older (can_begin base kept format directory old has can)
@@ -184,21 +184,21 @@ module _ {R : Type 0} (F : Format R) (own : List ℕ → Type 0) (paths : FilePa
   format_of end last active is = ap (λ (f : Listed). f.format) is
 
   -- the same by the file as it is taken up
-  pub takes_up_as : (earlier : List Listed) (last active : Listed) (end : Option ℕ) (kept : List Listed) (header : List ℕ) (files : PipeFiles) (old new : Disk) → IsSound old → active ≡ taken_up end last → HasWrittenHeader active.format → header ≡ header_bytes active.format
+  pub takes_up_as : (earlier : List Listed) (last active : Listed) (end : Option ℕ) (kept : List Listed) (header : List ℕ) (files : PipeFiles) (old new : Disk) → IsSound old → active ≡ taken_up end last → IsUnaligned active.format → header ≡ header_bytes active.format
       → IsListedAs earlier (taken_up end last) kept files → Reopens F own active.handle end header files.writer old new → TouchesOnly active.handle.file old new → ReopensBy active.handle end header files.writer old new
       → TakesUpFound F own paths earlier last end kept files old new
   takes_up_as earlier last active end kept header files old new sound is has spelled listed reopens only calls =
-      takes_up F own paths lawful earlier last end kept header files old new sound (subst HasWrittenHeader (format_of end last active is) has) (spelled ∙ ap header_bytes (format_of end last active is)) listed
+      takes_up F own paths lawful earlier last end kept header files old new sound (subst IsUnaligned (format_of end last active is) has) (spelled ∙ ap header_bytes (format_of end last active is)) listed
       (subst (λ (h : Handle). Reopens F own h end header files.writer old new) (handle_of end last active is) reopens) (subst (λ (h : Handle). TouchesOnly h.file old new) (handle_of end last active is) only)
       (subst (λ (h : Handle). ReopensBy h end header files.writer old new) (handle_of end last active is) calls)
 
-  pub fails_to_take_up_as : (earlier : List Listed) (last active : Listed) (end : Option ℕ) (kept : List Listed) (header : List ℕ) (kind : ErrorKind) (old new : Disk) → active ≡ taken_up end last → HasWrittenHeader active.format → header ≡ header_bytes active.format
+  pub fails_to_take_up_as : (earlier : List Listed) (last active : Listed) (end : Option ℕ) (kept : List Listed) (header : List ℕ) (kind : ErrorKind) (old new : Disk) → active ≡ taken_up end last → IsUnaligned active.format → header ≡ header_bytes active.format
       → FailsToReopen F own active.handle end header old new → TouchesOnly active.handle.file old new → ReopenMakes active.handle end header kind old new
       → ReopenMakes last.handle end (header_bytes (taken_up end last).format) kind old new × FailsToTakeUpFound F own paths earlier last end kept old new
   fails_to_take_up_as earlier last active end kept header kind old new is has spelled fails only makes =
       let spelled_is = spelled ∙ ap header_bytes (format_of end last active is) in (
         subst (λ (h : Handle). ReopenMakes h end (header_bytes (taken_up end last).format) kind old new) (handle_of end last active is) (subst (λ (h : List ℕ). ReopenMakes active.handle end h kind old new) spelled_is makes),
-        fails_to_take_up F own paths lawful earlier last end kept header old new (subst HasWrittenHeader (format_of end last active is) has) spelled_is
+        fails_to_take_up F own paths lawful earlier last end kept header old new (subst IsUnaligned (format_of end last active is) has) spelled_is
             (subst (λ (h : Handle). FailsToReopen F own h end header old new) (handle_of end last active is) fails) (subst (λ (h : Handle). TouchesOnly h.file old new) (handle_of end last active is) only),
       )
 

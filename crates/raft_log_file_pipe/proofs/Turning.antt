@@ -20,11 +20,11 @@ use Rattle.raft_log_disk.proofs.Updates.{name_here, name_apart}
 use Rattle.raft_log_record_base.specs.declared.errors.Error.{Error}
 use Rattle.raft_log_record_base.specs.declared.errors.Error.TheVariants as errors
 use Rattle.raft_log_file_format.specs.declared.header.LogFileFormat.{LogFileFormat}
-use Rattle.raft_log_file_format.specs.Header.{header_bytes, HasWrittenHeader}
+use Rattle.raft_log_file_format.specs.Header.{header_bytes}
 use Rattle.raft_log_file_writer.specs.declared.writer.LogFileWriter.{LogFileWriter}
 use Rattle.raft_log_file_queue.specs.Queue.{with_room}
 use Rattle.raft_log_file_queue.specs.Standing.{Names}
-use Rattle.raft_log_file_queue.specs.Layout.{FilePaths, IsLayout, path_of}
+use Rattle.raft_log_file_queue.specs.Layout.{FilePaths, IsLayout, IsUnaligned, path_of}
 use Rattle.raft_log_file_queue.specs.Exits.{IsOpen}
 use Rattle.raft_log_file_queue.specs.Rotation.{CanRotate, IsSpare, RotatesBy, RotatesToNew, FailsToRotateToNew, RotatesOver, FailsToRotateOver, RotationMakes, FilesStay}
 use Rattle.raft_log_file_queue.proofs.Rotating.{open_left}
@@ -48,7 +48,7 @@ pub record IsNext (next : Listed) (header : List ℕ) (before : PipeFiles) : Typ
   pub listed : next.reserved ≡ false
   pub small : next.seq < 10 ^ 16
   pub header_is : header ≡ header_bytes next.format
-  pub has : HasWrittenHeader next.format
+  pub unaligned : IsUnaligned next.format
 
 module _ {R : Type 0} (F : Format R) (own : List ℕ → Type 0) (paths : FilePaths) (lawful : IsLayout F own paths) where
   -- the pipe's files after a rotation, by what stands of the last one, of names and of other files
@@ -97,7 +97,7 @@ module _ {R : Type 0} (F : Format R) (own : List ℕ → Type 0) (paths : FilePa
       }
 
   header_of : (next : Listed) (header : List ℕ) (before : PipeFiles) → IsNext next header before → F.IsHeader header
-  header_of next header before is = subst F.IsHeader (sym is.header_is) (lawful.headed next.format is.has)
+  header_of next header before is = subst F.IsHeader (sym is.header_is) (lawful.headed next.format is.unaligned)
 
   can_rotate : (base old : Disk) (before : PipeFiles) (q : LogFiles R) (next : Listed) (header : List ℕ) → IsPipe F own paths base before q old → IsNext next header before → CanRotate F q header (path_of paths next)
   can_rotate base old before q next header is is_next =

@@ -1,4 +1,5 @@
 pub mod Files
+pub mod Headers
 pub mod Calls
 pub mod Exits
 pub mod Appending

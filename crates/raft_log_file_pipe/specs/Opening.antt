@@ -7,7 +7,7 @@ use Rattle.raft_log_file_laws.specs.LogQueue.{Past, LogFiles, IsAbsent}
 use Rattle.raft_log_record_base.specs.declared.errors.Error.{Error}
 use Rattle.raft_log_record_base.specs.declared.errors.Error.TheVariants as errors
 use Rattle.raft_log_record_base.specs.declared.pipe_log.Version.TheVariants.{V1}
-use Rattle.raft_log_file_format.specs.Header.{header_bytes, IsHeaderRefusal, first_format}
+use Rattle.raft_log_file_format.specs.Header.{header_bytes, first_format}
 use Rattle.raft_log_file_format.specs.declared.header.LogFileFormat.{LogFileFormat}
 use Rattle.raft_log_file_queue.specs.Queue.{with_room}
 use Rattle.raft_log_file_queue.specs.Beginning.{IsFresh, fresh_queue}
@@ -16,6 +16,7 @@ use Rattle.raft_log_file_queue.specs.Reopening.{reread}
 use Rattle.raft_log_file_queue.specs.Layout.{FilePaths, path_of}
 use Rattle.raft_log_file_queue.specs.Opening.{BeginQueueMakes, BeginsQueueBy, IsHalfBegun}
 use Rattle.raft_log_file_queue.specs.TakingUp.{IsLeftBehind, HandleBeginsWith, IsHalfOpen, ReopenMakes, ReopensBy}
+use Rattle.raft_log_file_pipe.specs.Headers.{IsAlignmentRefusal}
 use Rattle.raft_log_file_pipe.specs.Files.{Listed, IsSpan, AllKept, IsPipe}
 use Rattle.raft_log_file_pipe.specs.declared.found_files.FoundFiles.{FoundFiles}
 use Rattle.raft_log_file_pipe.specs.declared.new_files.NewFiles.{NewFiles}
@@ -129,13 +130,13 @@ BeginLeaves F own paths format kept (errors.Io kind) old new =
     × FailsToBeginPipe F own paths format kept old new
 BeginLeaves F own paths format kept _ old new = ⊥
 
--- Why a last file wasn't taken up: for want of memory, or as its format has no header, and nothing was done;
+-- Why a last file wasn't taken up: for want of memory, or as it has an alignment, and nothing was done;
 -- or a file call was refused, the one that is told.
 abbrev pub TakeUpLeaves : {R : Type 0} → Format R → (List ℕ → Type 0) → FilePaths → List Listed → Listed
     → Option ℕ → List Listed → Error → Disk → Disk → Type 0
 TakeUpLeaves F own paths earlier last end kept errors.Memory old new = new ≡ old
 TakeUpLeaves F own paths earlier last end kept (errors.InvalidArgument text) old new =
-    IsHeaderRefusal (taken_up end last).format (errors.InvalidArgument text) × (new ≡ old)
+    IsAlignmentRefusal (taken_up end last).format (errors.InvalidArgument text) × (new ≡ old)
 TakeUpLeaves F own paths earlier last end kept (errors.Io kind) old new =
     ReopenMakes last.handle end (header_bytes (taken_up end last).format) kind old new
     × FailsToTakeUpFound F own paths earlier last end kept old new

@@ -8,6 +8,7 @@
 mod appending;
 mod closing;
 pub mod found_files;
+mod headers;
 pub mod laws;
 pub mod new_files;
 mod opening;

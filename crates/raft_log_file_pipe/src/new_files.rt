@@ -3,8 +3,11 @@
 ghost use Rattle.std.specs.Prelude.{◌≡◌, IfOk, IfErr};
 ghost use Rattle.raft_log_file_pipe.specs.Placing.{IsChosen, TellsRoom};
 ghost use Rattle.raft_log_record_base.specs.declared.errors.Error.TheVariants.{Memory};
-ghost use Rattle.raft_log_file_format.specs.Header.{header_bytes, HasWrittenHeader, IsHeaderRefusal};
+ghost use Rattle.raft_log_file_format.specs.Header.{header_bytes};
+ghost use Rattle.raft_log_file_pipe.specs.Headers.{IsAlignmentRefusal};
+ghost use Rattle.raft_log_file_queue.specs.Layout.{IsUnaligned};
 
+use crate::headers::encode_header;
 use raft_log_disk::FileSystem;
 use raft_log_file_format::LogFileFormat;
 use raft_log_file_queue::{DEFAULT_PATH_ID, PathId, PipeFormat};
@@ -20,20 +23,19 @@ pub struct NewFiles {
     header: Vec<u8>,
     /// A file that is as long as this, in bytes, or longer gets no more records.
     pub target_size: usize,
-    ghost has_header: { HasWrittenHeader format },
+    ghost unaligned: { IsUnaligned format },
     ghost spelled: { header.items ≡ header_bytes format },
 }
 
 impl NewFiles {
-    /// Files of this format, up to this size in bytes. Refused where the format has no header, or for want
-    /// of memory.
+    /// Files of this format, up to this size in bytes. `InvalidArgument` where the format has an alignment;
+    /// `Memory`.
     pub fn new(alloc: Global, format: LogFileFormat, target_size: usize) -> Result<NewFiles>
         ensures format { IfOk result (λ files. files.format ≡ format) }
         ensures size { IfOk result (λ files. files.target_size ≡ target_size) }
-        ensures err { IfErr result (λ error. IsHeaderRefusal format error) }
+        ensures err { IfErr result (λ error. IsAlignmentRefusal format error) }
     {
-        let mut header = Vec::new(alloc);
-        format.encode(alloc, &mut header)?;
+        let header = encode_header(alloc, format)?;
         Ok(NewFiles {
             format,
             header,
@@ -44,7 +46,7 @@ impl NewFiles {
     /// The header.
     pub fn header(&self) -> &[u8]
         ensures bytes { result.now ≡ header_bytes self.now.format }
-        ensures has { HasWrittenHeader self.now.format }
+        ensures unaligned { IsUnaligned self.now.format }
     {
         &self.header
     }

@@ -6,6 +6,7 @@ ghost use Rattle.raft_log_file_pipe.specs.Opening.{BeginLeaves, BeginsPipe, IsLi
 ghost use Rattle.raft_log_file_pipe.specs.Placing.{IsChosen};
 
 use crate::found_files::FoundFiles;
+use crate::headers::encode_header;
 use crate::new_files::{NewFiles, choose_directory};
 use crate::pipe_files::PipeFiles;
 use log::{Log, error};
@@ -109,8 +110,7 @@ fn take_up<G: PipeFormat, F: FileSystem, L: Log>(
     ensures later { IsLater (F.disk file_system.old) (F.disk file_system.new) }
 {
     let active = take_last(last, end);
-    let mut header = Vec::new(alloc);
-    active.format.encode(alloc, &mut header)?;
+    let header = encode_header(alloc, active.format)?;
     match reopen_file(layout, rt, file_system, active.handle, end, &header) {
         Ok(writer) => Ok(PipeFiles {
             first_seq: first_seq(&earlier, &active),
@@ -129,7 +129,7 @@ fn take_up<G: PipeFormat, F: FileSystem, L: Log>(
 /// OpensPipe a pipe over what was found of its queue: where there is no file, the queue begins in a file 1; else
 /// it goes on behind what was read of its last file, and that is cut, synced and writable.
 ///
-/// `Memory`: nothing was done. `InvalidArgument`: no header has the last file's format. `Io`: a file call was
+/// `Memory`: nothing was done. `InvalidArgument`: the last file has an alignment. `Io`: a file call was
 /// refused; all that was read is there still.
 pub fn open<G: PipeFormat, F: FileSystem, L: Log>(
     alloc: Global,

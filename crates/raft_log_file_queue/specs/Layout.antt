@@ -2,7 +2,7 @@
 use Rattle.std.specs.Prelude.{◌≡◌, ℕ, ◌<◌, ◌^◌, cond, List, [], length, slice_index_or}
 use Rattle.raft_log_disk.specs.Disk.{IsPathIn}
 use Rattle.raft_log_file_laws.specs.LogFormat.{Format, IsFormat}
-use Rattle.raft_log_file_format.specs.Header.{header_bytes, HasWrittenHeader}
+use Rattle.raft_log_file_format.specs.Header.{header_bytes}
 use Rattle.raft_log_file_format.specs.declared.header.LogFileFormat.{LogFileFormat}
 use Rattle.raft_log_file_queue.specs.Standing.{OwnsPaths}
 use Rattle.raft_log_file_queue.specs.declared.format.File.{File}
@@ -19,8 +19,12 @@ abbrev pub path_of : FilePaths → File → List ℕ
 path_of paths file = cond file.reserved (paths.reserved file.path_id file.seq)
     (paths.numbered file.path_id file.seq)
 
+-- the places of records in a file of this format are no multiples of anything: they follow one another
+abbrev pub IsUnaligned : LogFileFormat → Type 0
+IsUnaligned format = format.alignment ≡ 0
+
 -- Each number that is in range has its path in each directory, and lies there; a reserved name is the queue's
--- own, and no number's; and each format that has a header has one here.
+-- own, and no number's; and the header of each format without an alignment is one here.
 pub record IsLayout {R : Type 0} (F : Format R) (own : List ℕ → Type 0) (paths : FilePaths) : Type 0 where
   pub format : IsFormat F
   pub owns : OwnsPaths F own
@@ -30,4 +34,4 @@ pub record IsLayout {R : Type 0} (F : Format R) (own : List ℕ → Type 0) (pat
       → IsPathIn (slice_index_or paths.directories directory []) (paths.numbered directory n)
   pub kept : (directory n : ℕ) → own (paths.reserved directory n)
   pub apart : (directory n m : ℕ) → m < F.limit → F.IsPath m (paths.reserved directory n) → ⊥
-  pub headed : (format : LogFileFormat) → HasWrittenHeader format → F.IsHeader (header_bytes format)
+  pub headed : (format : LogFileFormat) → IsUnaligned format → F.IsHeader (header_bytes format)

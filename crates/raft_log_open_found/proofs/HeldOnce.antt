@@ -4,6 +4,7 @@ use Rattle.std.proofs.lemmas.List.{length-append}
 use Rattle.std.proofs.Math.Seq.{take-append-add}
 use Rattle.std.specs.Global.{Vec}
 use Rattle.raft_log_record_base.specs.Fault.{Fault}
+use Rattle.raft_log_record_base.specs.Fault.Fault.{corrupt}
 use Rattle.raft_log_record_base.specs.declared.errors.Error.{Error}
 use Rattle.raft_log_record_base.specs.declared.pipe_log.FileId.{FileId}
 use Rattle.raft_log_record_base.specs.declared.pipe_log.LogQueue.{LogQueue}
@@ -23,9 +24,9 @@ use Rattle.raft_log_table_segments.specs.Machines.{Batch, batch_in}
 use Rattle.raft_log_table_segments.specs.Segments.{HoldsOne}
 use Rattle.raft_log_open_found.specs.Behind.{items_of}
 use Rattle.raft_log_open_found.specs.Faults.{TellsIfAny}
-use Rattle.raft_log_open_found.specs.Reading.{ReadsBytes, ReadsFileAs}
+use Rattle.raft_log_open_found.specs.Reading.{IsTornHeader, ReadsBytes, ReadsFileAs, torn_header}
 use Rattle.raft_log_open_found.specs.Records.{ReadsBehind}
-use Rattle.raft_log_open_found.specs.Reading.ReadsBytes.{headless, headed}
+use Rattle.raft_log_open_found.specs.Reading.ReadsBytes.{headless, headed, torn}
 use Rattle.raft_log_open_found.specs.declared.file_records.FileRecords.{FileRecords}
 use Rattle.raft_log_open_found.specs.Batches.{said}
 use Rattle.raft_log_open_found.specs.Segments.{id_of, is_at_end, HoldsFile}
@@ -81,6 +82,32 @@ told_some : (told : Option Error) (fault : Option Fault) → TellsIfAny told fau
 told_some None fault h = sym (ap is_some h)
 told_some (Some e) fault h = sym (ap is_some h.1)
 
+-- two readings behind the header of a file are alike
+read_alike : (last : Bool) (content : List ℕ) (a b : FileRecords) (file other : OpenFile) (start from m n : ℕ) (e f : Option Fault) → file.id ≡ other.id → SaysFormat content file.format start → SaysFormat content other.format from
+    → ReadsBehind last file content start (items_of a.batches.items) m e → ReadsBehind last other content from (items_of b.batches.items) n f
+    → (file.format ≡ other.format) × (items_of a.batches.items ≡ items_of b.batches.items) × (m ≡ n) × (is_some e ≡ is_some f)
+read_alike last content a b file other start from m n e f same header front behind after =
+    let one = one_header content file.format other.format start from header front in
+    let there = subst (λ (k : ℕ). ReadsBehind last other content k (items_of b.batches.items) n f) (sym one.1) after in
+    let here = same_behind last file other content start n (items_of b.batches.items) f same one.0 there in
+    let both = one_behind last file content start m n (items_of a.batches.items) (items_of b.batches.items) e f behind here in
+    (one.0, both.0, both.1, both.2)
+
+no_items : (bs : List (Vec LogItem)) → [] ≡ items_of bs → bs ≡ []
+no_items [] none = refl
+no_items (b ∷ bs) none = (let never : ⊥ = cc in absurd never)
+
+-- where one reading finds the header torn, so it is for the other
+also_torn : (last : Bool) (id : FileId) (content : List ℕ) (a b : FileRecords) (file other : OpenFile) (start from m n : ℕ) (e f : Option Fault) → file.id ≡ other.id → SaysFormat content file.format start → SaysFormat content other.format from
+    → ReadsBehind last file content start (items_of a.batches.items) m e → ReadsBehind last other content from (items_of b.batches.items) n f
+    → IsTornHeader last file.format a.batches.items → IsTornHeader last other.format b.batches.items
+also_torn last id content a b file other start from m n e f same header front behind after (at_end, aligned, none) =
+    let read = read_alike last content a b file other start from m n e f same header front behind after in (
+      at_end,
+      λ free. aligned (ap (λ (k : LogFileFormat). k.alignment) read.0 ∙ free),
+      no_items b.batches.items (sym (ap items_of none) ∙ read.1),
+    )
+
 same_bytes : (last : Bool) (id : FileId) (content : List ℕ) (a b : FileRecords) → ReadsBytes last id content a → ReadsBytes last id content b → AreSame a b
 same_bytes last id content a b (headless e wrong tells none end first) (headless f bad told nothing at format) = record {
   batches = ap items_of none ∙ sym (ap items_of nothing);
@@ -88,20 +115,31 @@ same_bytes last id content a b (headless e wrong tells none end first) (headless
   end = end ∙ sym at;
   damaged = told_some a.fault (Some e) tells ∙ sym (told_some b.fault (Some f) told);
 }
-same_bytes last id content a b (headless e wrong tells none end first) (headed file start n f is header behind told at format) =
+same_bytes last id content a b (headless e wrong tells none end first) (headed file start n f is header behind whole told at format) =
     absurd (header_found content file.format start e header wrong)
-same_bytes last id content a b (headed file start n f is header behind told at format) (headless e wrong tells none end first) =
+same_bytes last id content a b (headless e wrong tells none end first) (torn file start n f is header behind bad told at format) =
     absurd (header_found content file.format start e header wrong)
-same_bytes last id content a b (headed file start m e is header behind tells end first) (headed other from n f also front after told at format) =
-    let one = one_header content file.format other.format start from header front in
-    let there = subst (λ (k : ℕ). ReadsBehind last other content k (items_of b.batches.items) n f) (sym one.1) after in
-    let here = same_behind last file other content start n (items_of b.batches.items) f (is ∙ sym also) one.0 there in
-    let both = one_behind last file content start m n (items_of a.batches.items) (items_of b.batches.items) e f behind here in
+same_bytes last id content a b (headed file start n f is header behind whole told at format) (headless e wrong tells none end first) =
+    absurd (header_found content file.format start e header wrong)
+same_bytes last id content a b (torn file start n f is header behind bad told at format) (headless e wrong tells none end first) =
+    absurd (header_found content file.format start e header wrong)
+same_bytes last id content a b (torn file start m e is header behind bad tells end first) (torn other from n f also front after worse told at format) = record {
+  batches = ap items_of bad.2 ∙ sym (ap items_of worse.2);
+  format = first ∙ sym format;
+  end = end ∙ sym at;
+  damaged = told_some a.fault (Some (corrupt torn_header)) tells ∙ sym (told_some b.fault (Some (corrupt torn_header)) told);
+}
+same_bytes last id content a b (torn file start m e is header behind bad tells end first) (headed other from n f also front after whole told at format) =
+    absurd (whole (also_torn last id content a b file other start from m n e f (is ∙ sym also) header front behind after bad))
+same_bytes last id content a b (headed file start m e is header behind whole tells end first) (torn other from n f also front after bad told at format) =
+    absurd (whole (also_torn last id content b a other file from start n m f e (also ∙ sym is) front header after behind bad))
+same_bytes last id content a b (headed file start m e is header behind whole tells end first) (headed other from n f also front after sound told at format) =
+    let read = read_alike last content a b file other start from m n e f (is ∙ sym also) header front behind after in
     record {
-      batches = both.0;
-      format = first ∙ one.0 ∙ sym format;
-      end = end ∙ ap (λ (k : ℕ). Some k) both.1 ∙ sym at;
-      damaged = told_some a.fault e tells ∙ both.2 ∙ sym (told_some b.fault f told);
+      batches = read.1;
+      format = first ∙ read.0 ∙ sym format;
+      end = end ∙ ap (λ (k : ℕ). Some k) read.2 ∙ sym at;
+      damaged = told_some a.fault e tells ∙ read.3 ∙ sym (told_some b.fault f told);
     }
 
 -- ---- what a queue holds

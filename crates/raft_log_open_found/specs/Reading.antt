@@ -1,15 +1,19 @@
 -- What a log file that was found reads as.
-use Rattle.std.specs.Prelude.{◌≡◌, ℕ, ◌⊎◌, Bool, Option, Some, None, List, [], length, take, Result, Err}
+use Rattle.std.specs.Prelude.{◌≡◌, ℕ, ◌⊎◌, Bool, true, Option, Some, None, List, [], length, take, Result, Err, codes}
+use Rattle.std.specs.Global.{Vec}
 use Rattle.raft_log_record_base.specs.Fault.{Fault}
+use Rattle.raft_log_record_base.specs.Fault.Fault.{corrupt}
 use Rattle.raft_log_record_base.specs.declared.errors.Error.{Error}
 use Rattle.raft_log_record_base.specs.declared.errors.Error.TheVariants as errors
 use Rattle.raft_log_record_base.specs.declared.pipe_log.FileId.{FileId}
 use Rattle.raft_log_record_base.specs.declared.pipe_log.Version.TheVariants.{V1}
+use Rattle.raft_log_record_items.specs.declared.item.LogItem.{LogItem}
 use Rattle.raft_log_disk.specs.Disk.{Disk}
 use Rattle.raft_log_disk.specs.Reading.{IsNotMeasured, IsUnread}
 use Rattle.raft_log_disk.specs.declared.handle.Handle.{Handle}
 use Rattle.raft_log_file_format.specs.Header.{header_at, first_format}
 use Rattle.raft_log_file_format.specs.declared.header.LogFileFormat.{LogFileFormat}
+use Rattle.raft_log_file_queue.specs.Layout.{IsUnaligned}
 use Rattle.raft_log_file_reader.specs.Opening.{SaysFormat}
 use Rattle.raft_log_file_reader.specs.Source.{bytes_in}
 use Rattle.raft_log_file_reader.specs.declared.open_file.OpenFile.{OpenFile}
@@ -18,15 +22,31 @@ use Rattle.raft_log_open_found.specs.Faults.{TellsIfAny}
 use Rattle.raft_log_open_found.specs.Records.{ReadsBehind}
 use Rattle.raft_log_open_found.specs.declared.file_records.FileRecords.{FileRecords}
 
+-- What reads as a header is a torn one: it says an alignment, which no pipe writes, and it stands in the last
+-- file of a queue, whose header may have been written when the power was cut, with no whole record behind it.
+abbrev pub IsTornHeader : Bool → LogFileFormat → List (Vec LogItem) → Type 0
+IsTornHeader last format batches = (last ≡ true) × (IsUnaligned format → ⊥) × (batches ≡ [])
+
+-- the text for such a header
+abbrev pub torn_header : List ℕ
+torn_header = codes "log file header has an alignment, and no record behind it"
+
 -- What the bytes of a file read as, which is the last one of its queue or not: where they don't begin with a
--- header, nothing, and what is wrong with that; else what stands behind the header.
+-- header, or with a torn one, nothing, and what is wrong with that; else what stands behind the header.
 pub data ReadsBytes (last : Bool) (id : FileId) (content : List ℕ) (read : FileRecords) : Type 0 where
   headless : (fault : Fault) → header_at (take 69 content) ≡ Err fault
       → TellsIfAny read.fault (Some fault) → read.batches.items ≡ [] → read.end ≡ None
       → read.format ≡ first_format → ReadsBytes last id content read
+  torn : (file : OpenFile) (start end : ℕ) (fault : Option Fault) → file.id ≡ id
+      → SaysFormat content file.format start
+      → ReadsBehind last file content start (items_of read.batches.items) end fault
+      → IsTornHeader last file.format read.batches.items
+      → TellsIfAny read.fault (Some (corrupt torn_header)) → read.end ≡ None
+      → read.format ≡ first_format → ReadsBytes last id content read
   headed : (file : OpenFile) (start end : ℕ) (fault : Option Fault) → file.id ≡ id
       → SaysFormat content file.format start
       → ReadsBehind last file content start (items_of read.batches.items) end fault
+      → (IsTornHeader last file.format read.batches.items → ⊥)
       → TellsIfAny read.fault fault → read.end ≡ Some end → read.format ≡ file.format
       → ReadsBytes last id content read
 

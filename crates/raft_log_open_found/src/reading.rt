@@ -1,12 +1,15 @@
 //! Reading a log file that was found.
 
-ghost use Rattle.std.specs.Prelude.{◌≡◌, [], Some, None, IfOk, IfErr};
+ghost use Rattle.std.specs.Prelude.{◌≡◌, ◌↔◌, [], Some, None, IfOk, IfErr, IsTrue};
+ghost use Rattle.raft_log_record_base.specs.Fault.Fault.{corrupt};
+ghost use Rattle.raft_log_record_base.specs.declared.errors.Error.TheVariants.{Memory};
 ghost use Rattle.raft_log_file_reader.specs.Reader.{IsReading, file_of, end_of};
 ghost use Rattle.raft_log_file_reader.specs.Source.{CannotRead};
 ghost use Rattle.raft_log_file_reader.specs.declared.open_file.OpenFile.{OpenFile};
 ghost use Rattle.raft_log_open_found.specs.Behind.{HasFileOpen, WasReadBehind};
 ghost use Rattle.raft_log_open_found.specs.Records.{ReadsBehind};
-ghost use Rattle.raft_log_open_found.specs.Reading.{FailsToRead, ReadsFileAs};
+ghost use Rattle.raft_log_open_found.specs.Faults.{TellsFault};
+ghost use Rattle.raft_log_open_found.specs.Reading.{FailsToRead, IsTornHeader, ReadsFileAs, torn_header};
 ghost use Rattle.raft_log_file_format.specs.Header.{first_format};
 
 use crate::behind::{Behind, read_earlier, read_last};
@@ -16,11 +19,15 @@ use raft_log_disk::{FileSystem, Handle};
 use raft_log_file_format::LogFileFormat;
 use raft_log_file_reader::LogItemBatchFileReader;
 use raft_log_record_base::{Error, FileId, Result};
+use raft_log_record_items::LogItem;
 use std::alloc::Global;
 
 /// Reads a log file: its records up to its end, or to the first one that is damaged. Of the last file of a
 /// queue each record's entry block is looked at, of the others that of the last record alone, as their
 /// records were durable before the next file began. Nothing is changed.
+///
+/// A last file whose header has an alignment, and no record behind it, reads as one without a header: a power
+/// cut tore the header's write.
 ///
 /// `Io` where a read is refused, which is never told as damage; `Memory`.
 pub fn read_file<F: FileSystem>(
@@ -37,6 +44,10 @@ pub fn read_file<F: FileSystem>(
     match reader.open(alloc, file_system, id, handle) {
         Ok(format) => {
             let behind = read_behind(alloc, file_system, reader, is_last)?;
+            if is_torn_header(is_last, format, &behind.batches) {
+                let fault = torn_header(alloc)?;
+                return Ok(without_header(alloc, fault));
+            }
             Ok(FileRecords {
                 format,
                 batches: behind.batches,
@@ -49,6 +60,23 @@ pub fn read_file<F: FileSystem>(
             Ok(without_header(alloc, fault))
         }
     }
+}
+
+/// Whether what reads as a header is what a torn write left of one: in the last file of a queue, with an
+/// alignment, and without a record behind it.
+fn is_torn_header(is_last: bool, format: LogFileFormat, batches: &[Vec<LogItem>]) -> bool
+    ensures { IsTrue result ↔ IsTornHeader is_last format batches.now }
+{
+    is_last && format.alignment != 0 && batches.is_empty()
+}
+
+/// What is wrong with such a header. `Memory`.
+fn torn_header(alloc: Global) -> Result<Error>
+    ensures ok { IfOk result (λ error. TellsFault error (corrupt torn_header)) }
+    ensures err { IfErr result (λ error. error ≡ Memory) }
+{
+    let told = format!(in alloc; "log file header has an alignment, and no record behind it")?;
+    Ok(Error::Corruption(told))
 }
 
 /// What a file without a header reads as.

@@ -4,12 +4,13 @@ use Rattle.raft_log_file_format.specs.Header.{header_bytes}
 use Rattle.raft_log_file_format.specs.declared.header.LogFileFormat.{LogFileFormat}
 use Rattle.raft_log_file_laws.specs.LogFormat.{HasHeader}
 use Rattle.raft_log_engine_laws.specs.raft_log_file_layout.specs.Layout.{log_format}
-use Rattle.raft_log_open_found.specs.Reading.ReadsBytes.{headless, headed}
+use Rattle.raft_log_open_found.specs.Reading.ReadsBytes.{headless, headed, torn}
 use Rattle.raft_log_open_laws.specs.FileReading.{HeaderIsWritten}
 
 pub header_is_written : HeaderIsWritten
-header_is_written directories last id content read end (headless fault bad tells none no_end first) is = absurd cc
-header_is_written directories last id content read end (headed log_file start stop fault same begins reads tells is_end format) is =
+header_is_written directories last id content read end (headless fault bad tells none no_end first) aligned is = absurd cc
+header_is_written directories last id content read end (torn log_file start stop fault same begins reads bad tells no_end first) aligned is = absurd cc
+header_is_written directories last id content read end (headed log_file start stop fault same begins reads whole tells is_end format) aligned is =
     let written : begins.header ≡ header_bytes read.format = begins.written ∙ ap header_bytes (sym format) in
     subst (λ (h : List ℕ). HasHeader (log_format id.queue directories) h content) written
-    (record { is = (log_file.format, begins.says); rest = begins.rest; splits = begins.splits })
+    (record { is = (log_file.format, begins.says, ap (λ (f : LogFileFormat). f.alignment) (sym format) ∙ aligned); rest = begins.rest; splits = begins.splits })

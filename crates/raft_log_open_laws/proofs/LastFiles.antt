@@ -13,6 +13,9 @@ use Rattle.raft_log_file_format.proofs.Headers.{is_header}
 use Rattle.raft_log_disk.specs.Disk.{File}
 use Rattle.raft_log_file_laws.specs.Chains.{Written, AreFrames, Reads, spelled}
 use Rattle.raft_log_file_laws.specs.LogFormat.{HasHeader}
+use Rattle.raft_log_file_queue.specs.Layout.{IsUnaligned}
+use Rattle.raft_log_file_reader.specs.Opening.{SaysFormat}
+use Rattle.raft_log_record_base.proofs.Grammar.{prefix_free}
 use Rattle.raft_log_file_queue.specs.Reopening.{IsReadTo}
 use Rattle.raft_log_engine_laws.specs.raft_log_file_layout.specs.Layout.{IsRecordIn, log_format}
 use Rattle.raft_log_engine_laws.specs.raft_log_file_layout.specs.declared.record.LogRecord.{LogRecord}
@@ -20,7 +23,7 @@ use Rattle.raft_log_file_reader.specs.Batches.{context_of}
 use Rattle.raft_log_file_reader.specs.declared.open_file.OpenFile.{OpenFile}
 use Rattle.raft_log_open_found.specs.Behind.{items_of}
 use Rattle.raft_log_open_found.specs.Records.{HasRecords, ReadsLastFile}
-use Rattle.raft_log_open_found.specs.Reading.ReadsBytes.{headless, headed}
+use Rattle.raft_log_open_found.specs.Reading.ReadsBytes.{headless, headed, torn}
 use Rattle.raft_log_open_found.specs.declared.file_records.FileRecords.{FileRecords}
 use Rattle.raft_log_open_laws.specs.Records.{AreBatchesOf}
 use Rattle.raft_log_open_laws.specs.FileReading.{LastFileIsRead, ReadsRecords, ReadsTo, context_in}
@@ -53,6 +56,13 @@ no_header id directories content fault bad header has =
     let front : take 69 content ≡ header ++ take (69 - length header) has.rest = ap (λ (l : List ℕ). take 69 l) has.splits ∙ header_in_front header has.rest format has.is.1 in
     let good : header_at (take 69 content) ≡ Ok (format, take (69 - length header) has.rest) = ap (λ (l : List ℕ). header_at l) front ∙ is_header.again header (take (69 - length header) has.rest) format has.is.1 in
     absurd cc
+
+-- where the header that was read has an alignment there is none without
+pub no_whole_header : (id : FileId) (directories : List (List ℕ)) (content : List ℕ) (format : LogFileFormat) (start : ℕ) → SaysFormat content format start → (IsUnaligned format → ⊥) → (header : List ℕ)
+    → HasHeader (log_format id.queue directories) header content → ⊥
+no_whole_header id directories content format start begins aligned header has =
+    let one = prefix_free is_header header begins.header has.rest begins.rest has.is.0 format has.is.1 begins.says (sym has.splits ∙ begins.splits) in
+    aligned (ap (λ (f : LogFileFormat). f.alignment) (sym one.1) ∙ has.is.2)
 
 -- Records.
 
@@ -97,7 +107,7 @@ read_records directories id content read file start end fault header rest same s
     } in
     record {
       header = header;
-      begins = record { is = (file.format, says); rest = rest; splits = splits };
+      begins = record { is = (file.format, says, free); rest = rest; splits = splits };
       records = behind.records;
       reads = subst (λ (n : ℕ). Reads (IsRecordIn n header) (length header) behind.records content) numbered here;
       ends = omega (arith, behind.ends, starts);
@@ -117,6 +127,9 @@ pub last_file_is_read : LastFileIsRead
 last_file_is_read directories id file read (headless fault bad tells none no_end first) aligned =
     let nowhere = no_header id directories file.content fault bad in
     subst (λ (end : Option ℕ). Told directories id file read end) (sym no_end) ((nowhere, none), nowhere)
-last_file_is_read directories id file read (headed log_file start end fault same begins reads tells is_end format) aligned =
+last_file_is_read directories id file read (torn log_file start end fault same begins reads bad tells no_end first) aligned =
+    let nowhere = no_whole_header id directories file.content log_file.format start begins bad.1 in
+    subst (λ (end : Option ℕ). Told directories id file read end) (sym no_end) ((nowhere, bad.2), nowhere)
+last_file_is_read directories id file read (headed log_file start end fault same begins reads whole tells is_end format) aligned =
     let records = read_records directories id file.content read log_file start end fault begins.header begins.rest same begins.says begins.splits begins.ends reads format aligned in
     subst (λ (e : Option ℕ). Told directories id file read e) (sym is_end) (records, read_to directories id file read end records)

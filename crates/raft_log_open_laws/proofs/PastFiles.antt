@@ -22,7 +22,7 @@ use Rattle.raft_log_open_found.specs.Behind.{items_of}
 use Rattle.raft_log_open_found.specs.Faults.{TellsIfAny}
 use Rattle.raft_log_open_found.specs.Records.{IsRecordTorn, ReadsEarlier, StopsGood}
 use Rattle.raft_log_open_found.specs.Records.ReadsEarlier.{none as read_none, good as read_good, torn as read_torn}
-use Rattle.raft_log_open_found.specs.Reading.ReadsBytes.{headless, headed}
+use Rattle.raft_log_open_found.specs.Reading.ReadsBytes.{headless, headed, torn as torn_head}
 use Rattle.raft_log_open_laws.specs.Records.{AreBatchesOf}
 use Rattle.raft_log_open_laws.specs.FileReading.{FinishedFileIsRead, context_in}
 use Rattle.raft_log_open_laws.proofs.LastFiles.{no_header}
@@ -108,7 +108,8 @@ pub finished_file_is_read : FinishedFileIsRead
 finished_file_is_read directories id past file read is (headless fault bad tells none no_end first) aligned =
     let content : file.content ≡ past.header ++ spelled past.records = ap (λ (f : File). f.content) is.is in
     absurd (no_header id directories file.content fault bad past.header (record { is = is.header; rest = spelled past.records; splits = content }))
-finished_file_is_read directories id past file read is (headed log_file start end fault same begins reads tells is_end format) aligned =
+finished_file_is_read directories id past file read is (torn_head log_file start end fault same begins reads bad tells no_end first) aligned = (let never : ⊥ = let not_last = bad.0 in cc in absurd never)
+finished_file_is_read directories id past file read is (headed log_file start end fault same begins reads whole tells is_end format) aligned =
     let content : file.content ≡ past.header ++ spelled past.records = ap (λ (f : File). f.content) is.is in
     let one = prefix_free is_header begins.header past.header begins.rest (spelled past.records) log_file.format is.header.0 begins.says is.header.1 (sym begins.splits ∙ content) in
     let starts : start ≡ length past.header = begins.ends ∙ ap length one.0 in

@@ -28,7 +28,7 @@ use Rattle.raft_log_file_pipe.proofs.Lists.{path_numbered, span_end}
 use Rattle.raft_log_file_reader.specs.Source.{bytes_in}
 use Rattle.raft_log_open_found.specs.Behind.{items_of}
 use Rattle.raft_log_open_found.specs.Reading.{ReadsBytes}
-use Rattle.raft_log_open_found.specs.Reading.ReadsBytes.{headless, headed}
+use Rattle.raft_log_open_found.specs.Reading.ReadsBytes.{headless, headed, torn}
 use Rattle.raft_log_open_found.specs.declared.file_records.FileRecords.{FileRecords}
 use Rattle.raft_log_table_segments.specs.Machines.{Batch}
 use Rattle.raft_log_table_segments.specs.Segments.{all_batches}
@@ -153,8 +153,9 @@ module _ (queue : LogQueue) (directories : List (List ℕ)) (some : 0 < length d
       where
         by_read : ReadsBytes true (id_of queue f) content read → length header ≡ length (header_bytes read.format)
         by_read (headless fault bad tells none no_end first) = (let clash : None ≡ Some end = sym no_end ∙ is in let never : ⊥ = cc in absurd never)
-        by_read (headed log_file start stop fault same begins behind tells is_end format) =
-            let one : header ≡ begins.header = (is_layout queue directories some).format.headers header begins.header has.rest begins.rest has.is (log_file.format, begins.says) (sym has.splits ∙ begins.splits) in
+        by_read (torn log_file start stop fault same begins behind bad tells no_end first) = (let clash : None ≡ Some end = sym no_end ∙ is in let never : ⊥ = cc in absurd never)
+        by_read (headed log_file start stop fault same begins behind whole tells is_end format) =
+            let one : header ≡ begins.header = (is_layout queue directories some).format.headers header begins.header has.rest begins.rest has.is (log_file.format, begins.says, ap (λ (f : LogFileFormat). f.alignment) (sym format) ∙ aligned) (sym has.splits ∙ begins.splits) in
             ap length one ∙ header_long begins.header log_file.format begins.says ∙ ap (λ (k : LogFileFormat). length (header_bytes k)) (sym format)
 
     by_end : (end : Option ℕ) → read.end ≡ end → ReadsTo directories (id_of queue f) content read end → (header : List ℕ) → ((end : ℕ) → read.end ≡ Some end → header ≡ header_bytes read.format)

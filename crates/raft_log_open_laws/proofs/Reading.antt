@@ -97,7 +97,7 @@ module _ (queue : LogQueue) (directories : List (List ℕ)) (some : 0 < length d
         headed = λ end at. record {
           file = file;
           is = is;
-          has = subst (λ (k : LogFileFormat). HasHeader F (header_bytes k) file.content) (sym format_is) (header_is_written directories true (id_of queue f) file.content read end there (sym end_is ∙ at));
+          has = subst (λ (k : LogFileFormat). HasHeader F (header_bytes k) file.content) (sym format_is) (header_is_written directories true (id_of queue f) file.content read end there aligned (sym end_is ∙ at));
         };
       }
 

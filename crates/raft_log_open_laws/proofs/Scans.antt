@@ -25,10 +25,10 @@ there (Some file) not = (file, refl)
 
 -- the header of a file is its format's
 own_header : (directories : List (List ℕ)) (id : FileId) (last : Listed) (d : Disk) (read : FileRecords) (file : File) (end : Option ℕ) → d.files last.handle.file ≡ Some file → read.end ≡ end
-    → ReadsBytes true id file.content read → HasOwnHeader (log_format id.queue directories) end (with_format read.format last) d
-own_header directories id last d read file None is ends reads = tt
-own_header directories id last d read file (Some end) is ends reads =
-    record { file = file; is = is; has = header_is_written directories true id file.content read end reads ends }
+    → ReadsBytes true id file.content read → read.format.alignment ≡ 0 → HasOwnHeader (log_format id.queue directories) end (with_format read.format last) d
+own_header directories id last d read file None is ends reads aligned = tt
+own_header directories id last d read file (Some end) is ends reads aligned =
+    record { file = file; is = is; has = header_is_written directories true id file.content read end reads aligned ends }
 
 pub read_files_are_scanned : ReadFilesAreScanned
 read_files_are_scanned queue directories d earlier last read kept sound spanned reads aligned spares =
@@ -43,7 +43,7 @@ read_files_are_scanned queue directories d earlier last read kept sound spanned 
       listed = spanned.listed;
       opened = spanned.opened;
       read = record { file = file; is = found.1; has = told.1 };
-      headed = own_header directories id last d read file read.end found.1 refl held;
+      headed = own_header directories id last d read file read.end found.1 refl held aligned;
       span = subst (λ (n : ℕ). IsSpan (log_paths queue directories) d.names n earlier last.seq) first spanned.span;
       spares = subst (λ (n : ℕ). AllKept (log_format queue directories) (log_paths queue directories) n d kept) first spares;
     }

@@ -50,8 +50,8 @@ LastFileIsRead = (directories : List (List ℕ)) (id : FileId) (file : File) (re
 -- And the header of a file that has one is the one that its format is written with.
 abbrev pub HeaderIsWritten : Type 0
 HeaderIsWritten = (directories : List (List ℕ)) (last : Bool) (id : FileId) (content : List ℕ)
-    (read : FileRecords) (end : ℕ) → ReadsBytes last id content read → read.end ≡ Some end
-    → HasHeader (log_format id.queue directories) (header_bytes read.format) content
+    (read : FileRecords) (end : ℕ) → ReadsBytes last id content read → read.format.alignment ≡ 0
+    → read.end ≡ Some end → HasHeader (log_format id.queue directories) (header_bytes read.format) content
 
 -- a file that was finished reads whole: all of its records, and nothing is wrong with it
 pub record ReadsWhole (id : FileId) (past : Past LogRecord) (read : FileRecords) : Type 0 where

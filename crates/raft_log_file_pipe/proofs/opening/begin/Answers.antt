@@ -16,7 +16,7 @@ returns-in-Ok-clause-ok g c =
       recycled = c.args.recycled;
     } in
     begins (g.G.PipeFormat.format layout) (g.G.PipeFormat.own layout) (g.G.PipeFormat.file_paths layout) (g.met.G.PipeFormat.lawful layout) c.args.recycled.items c.args.new_files.now.format c.in_ok-choose_directory.field-0
-    c.header.result.now c.deref.result.now c.in-Ok.handle files (D c.args.file_system.now) (D c.begin_queue.new.file_system) c.header.ensures.has c.header.ensures.bytes (c.deref.ensures ∙ c.in_ok-path.ensures.ok)
+    c.header.result.now c.deref.result.now c.in-Ok.handle files (D c.args.file_system.now) (D c.begin_queue.new.file_system) c.header.ensures.unaligned c.header.ensures.bytes (c.deref.ensures ∙ c.in_ok-path.ensures.ok)
     refl c.new.ensures.items refl refl c.in-Ok.ensures.ok c.in-Ok.ensures.files c.in-Ok.ensures.calls
 
 pub returns-in-Err-clause-err : goal.returns-in-Err-clause-err
@@ -26,5 +26,5 @@ returns-in-Err-clause-err g c =
     let path_is = c.deref.ensures ∙ c.in_ok-path.ensures.ok in (
       (c.in_ok-choose_directory.field-0, refused_by c.in-Err.kind c.header.result.now (header_bytes c.args.new_files.now.format) c.deref.result.now _ (D c.args.file_system.now) (D c.begin_queue.new.file_system) c.header.ensures.bytes path_is c.in-Err.ensures.refusal),
       fails_to_begin (g.G.PipeFormat.format layout) (g.G.PipeFormat.own layout) (g.G.PipeFormat.file_paths layout) (g.met.G.PipeFormat.lawful layout) c.args.recycled.items c.args.new_files.now.format c.in_ok-choose_directory.field-0
-          c.header.result.now c.deref.result.now (D c.args.file_system.now) (D c.begin_queue.new.file_system) c.header.ensures.has c.header.ensures.bytes path_is c.in-Err.ensures.err,
+          c.header.result.now c.deref.result.now (D c.args.file_system.now) (D c.begin_queue.new.file_system) c.header.ensures.unaligned c.header.ensures.bytes path_is c.in-Err.ensures.err,
     )

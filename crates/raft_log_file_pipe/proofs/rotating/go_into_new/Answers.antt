@@ -12,7 +12,7 @@ pub returns-clause-err : goal.returns-clause-err
 returns-clause-err g c =
     let D = g.F.FileSystem.disk in
     let next : Listed = record { seq = c.args.seq; handle = c.args.files.now.active.handle; format = c.args.new_files.now.format; path_id = c.in_ok-path_id.path_id; reserved = false } in
-    let is_next : IsNext next (header_bytes c.args.new_files.now.format) c.args.files.now = record { number = c.requires.number; listed = refl; small = c.in_ok-path.ensures.named; header_is = refl; has = c.header-header.ensures.has } in
+    let is_next : IsNext next (header_bytes c.args.new_files.now.format) c.args.files.now = record { number = c.requires.number; listed = refl; small = c.in_ok-path.ensures.named; header_is = refl; unaligned = c.header-header.ensures.unaligned } in
     new_refused (g.G.PipeFormat.format c.args.layout.now) (g.G.PipeFormat.own c.args.layout.now) (g.G.PipeFormat.file_paths c.args.layout.now) (g.met.G.PipeFormat.lawful c.args.layout.now) (D c.args.file_system.now) (D c.rotate_to_new.new.file_system)
     c.args.files.now next c.deref.result.now (header_bytes c.args.new_files.now.format) c.header-header.result.now c.in-Err.kind (c.deref.ensures ∙ c.in_ok-path.ensures.ok) c.header-header.ensures.bytes c.requires.none is_next c.in-Err.ensures.err
     c.in-Err.ensures.refusal
@@ -21,7 +21,7 @@ pub returns-in-Ok-clause-ok : goal.returns-in-Ok-clause-ok
 returns-in-Ok-clause-ok g c =
     let D = g.F.FileSystem.disk in
     let next : Listed = record { seq = c.args.seq; handle = c.in-Ok.handle; format = c.args.new_files.now.format; path_id = c.in_ok-path_id.path_id; reserved = false } in
-    let is_next : IsNext next (header_bytes c.args.new_files.now.format) c.args.files.now = record { number = c.requires.number; listed = refl; small = c.in_ok-path.ensures.named; header_is = refl; has = c.header-header.ensures.has } in
+    let is_next : IsNext next (header_bytes c.args.new_files.now.format) c.args.files.now = record { number = c.requires.number; listed = refl; small = c.in_ok-path.ensures.named; header_is = refl; unaligned = c.header-header.ensures.unaligned } in
     let turns : IsTurnedTo next c.args.files.now c.turn_to.new.self = record { first = c.turn_to.ensures.first; earlier = c.turn_to.ensures.earlier; active = c.turn_to.ensures.active; recycled = search rules } in
     new_done (g.G.PipeFormat.format c.args.layout.now) (g.G.PipeFormat.own c.args.layout.now) (g.G.PipeFormat.file_paths c.args.layout.now) (g.met.G.PipeFormat.lawful c.args.layout.now) (D c.args.file_system.now) (D c.rotate_to_new.new.file_system)
     c.args.files.now c.turn_to.new.self next c.deref.result.now (header_bytes c.args.new_files.now.format) c.header-header.result.now c.in-Ok.handle (g.met.F.FileSystem.sound c.args.file_system.now)

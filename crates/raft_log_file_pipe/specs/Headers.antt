@@ -1,0 +1,18 @@
+-- The headers that a pipe writes: the records of its files follow one another.
+use Rattle.std.specs.Prelude.{◌≡◌, ℕ, List, codes}
+use Rattle.std.specs.String.{string_bytes}
+use Rattle.raft_log_record_base.specs.declared.errors.Error.{Error}
+use Rattle.raft_log_record_base.specs.declared.errors.Error.TheVariants as errors
+use Rattle.raft_log_file_format.specs.declared.header.LogFileFormat.{LogFileFormat}
+use Rattle.raft_log_file_queue.specs.Layout.{IsUnaligned}
+
+-- how it is told that a format has an alignment
+abbrev pub told_aligned : List ℕ
+told_aligned = codes "the files of a pipe have no alignment"
+
+-- why no header is made: the format has an alignment, as is told, or memory ran out
+abbrev pub IsAlignmentRefusal : LogFileFormat → Error → Type 0
+IsAlignmentRefusal format (errors.InvalidArgument text) =
+    (IsUnaligned format → ⊥) × (string_bytes text ≡ told_aligned)
+IsAlignmentRefusal format errors.Memory = Unit {0}
+IsAlignmentRefusal format _ = ⊥

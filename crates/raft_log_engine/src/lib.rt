@@ -11,7 +11,7 @@ pub use raft_log_closed::{
 };
 pub use raft_log_disk::{Fault, FileSystem, Handle, Permission};
 pub use raft_log_disk_memory::{MemoryFileSystem, Piece, Remainder};
-pub use raft_log_engine_core::{Engine, EnginePipes, LogEngine};
+pub use raft_log_engine_core::{Engine, EnginePipes, LogEngine, ReplayThreads};
 pub use raft_log_file_listeners::{EventListener, Listeners, Nobody, PurgeHook};
 pub use raft_log_file_pair::{OpenRefused, PipeLog};
 pub use raft_log_file_reader::LogItemReader;

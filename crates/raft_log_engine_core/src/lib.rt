@@ -12,3 +12,4 @@ mod writing;
 
 pub use engine::LogEngine;
 pub use engine::opening::{Engine, EnginePipes};
+pub use raft_log_table_segments::ReplayThreads;

@@ -20,7 +20,7 @@ use raft_log_file_settings::Config;
 use raft_log_open_scan::scanning::{ScannedFiles, scan};
 use raft_log_open_scan::{RecoveryConfig, share_workers};
 use raft_log_record_base::{Error, LogQueue, Result};
-use raft_log_table_segments::{Factory, ReplayMachine};
+use raft_log_table_segments::{Factory, ReplayMachine, ReplayThreads};
 use std::alloc::Global;
 use std::io::ErrorKind;
 use std::mem;
@@ -113,6 +113,50 @@ impl DualPipesBuilder {
             (F.disk file_system.old) (F.disk file_system.new)) }
         ensures same { OnErr result (self.new ≡ self.old) }
     {
+        self.recover_by(rt, alloc, ReplayThreads::Rayon, file_system, factory)
+    }
+
+    /// Recovers the log as `recover` does, but reads it by scoped threads: one for each chunk of both queues,
+    /// however many processors there are.
+    ///
+    /// Refused as `recover` is.
+    pub fn recover_scoped<
+        R: Threads + Log + Sync,
+        F: FileSystem + Sync,
+        M: ReplayMachine,
+        FA: Factory<M>,
+    >(&mut self, rt: &R, alloc: Global, file_system: &mut F, factory: &FA) -> Result<(M, M)>
+        ensures ok { IfOk result (λ both. RecoversLog M.reads both.0 both.1 self.old self.new
+            (F.disk file_system.old) (F.disk file_system.new)) }
+        ensures err { IfErr result (λ error. FailsToRecoverLog M.reads M.declines self.old error
+            (F.disk file_system.old) (F.disk file_system.new)) }
+        ensures same { OnErr result (self.new ≡ self.old) }
+    {
+        self.recover_by(rt, alloc, ReplayThreads::Scoped, file_system, factory)
+    }
+
+    /// Recovers the log as `recover` does, by these threads.
+    ///
+    /// Refused as `recover` is.
+    pub fn recover_by<
+        R: Threads + Log + Sync,
+        F: FileSystem + Sync,
+        M: ReplayMachine,
+        FA: Factory<M>,
+    >(
+        &mut self,
+        rt: &R,
+        alloc: Global,
+        threads: ReplayThreads,
+        file_system: &mut F,
+        factory: &FA,
+    ) -> Result<(M, M)>
+        ensures ok { IfOk result (λ both. RecoversLog M.reads both.0 both.1 self.old self.new
+            (F.disk file_system.old) (F.disk file_system.new)) }
+        ensures err { IfErr result (λ error. FailsToRecoverLog M.reads M.declines self.old error
+            (F.disk file_system.old) (F.disk file_system.new)) }
+        ensures same { OnErr result (self.new ≡ self.old) }
+    {
         let (count, others) = (self.append.files.len(), self.rewrite.files.len());
         let workers = share_workers(self.config.recovery_threads, count, others);
         let append = RecoveryConfig::new(&self.config, LogQueue::Append, workers.append);
@@ -120,6 +164,7 @@ impl DualPipesBuilder {
         let (append, rewrite) = recover_both(
             rt,
             alloc,
+            threads,
             file_system,
             append,
             &self.append.files,

@@ -9,18 +9,22 @@ use raft_log_file_queue::File;
 use raft_log_open_found::{FileEnding, QueueSegments};
 use raft_log_open_scan::RecoveryConfig;
 use raft_log_record_base::Result;
-use raft_log_table_segments::{Factory, ReadSegments, ReplayMachine, replay_segments};
+use raft_log_table_segments::{
+    Factory, ReadSegments, ReplayMachine, ReplayThreads, replay_segments_by,
+};
 use std::alloc::Global;
 use std::thread::{Threads, join};
 
-/// Reads the files of a queue by workers, each a part of them, and puts together what they have read, in the
-/// order of the files. Nothing is changed; what is to be cut is told. Without a worker no file is read.
+/// Reads the files of a queue by workers, each a part of them in one of these threads, and puts together what
+/// they have read, in the order of the files. Nothing is changed; what is to be cut is told. Without a worker
+/// no file is read.
 ///
 /// The error told is that of the first file that is refused: `Io` where a read is refused, `Corruption` or
 /// `Codec` for damage that isn't tolerated, or why the machine declines a record; or `Memory`.
 pub fn recover_files<F: FileSystem + Sync, M: ReplayMachine, FA: Factory<M>>(
     rt: &(impl Threads + Sync),
     alloc: Global,
+    threads: ReplayThreads,
     file_system: &F,
     config: RecoveryConfig,
     files: &[File],
@@ -38,7 +42,7 @@ pub fn recover_files<F: FileSystem + Sync, M: ReplayMachine, FA: Factory<M>>(
         read_block_size: config.read_block_size as usize,
         files,
     };
-    let answer = replay_segments(rt, alloc, &source, factory, config.concurrency);
+    let answer = replay_segments_by(rt, alloc, threads, &source, factory, config.concurrency);
     let QueueSegments {
         alloc: _alloc,
         file_system: _lent,
@@ -60,6 +64,7 @@ pub(crate) fn recover_both<
 >(
     rt: &R,
     alloc: Global,
+    threads: ReplayThreads,
     file_system: &F,
     append: RecoveryConfig,
     append_files: &[File],
@@ -87,13 +92,33 @@ pub(crate) fn recover_both<
                 (F.disk file_system.entry.now) done.machine done.endings.items) }
             ensures err { IfErr result
                 (FilesAreUnread M.declines append append_files.entry.now (F.disk file_system.entry.now)) }
-        { recover_files(rt, alloc, file_system, append, append_files, factory) },
+        {
+            recover_files(
+                rt,
+                alloc,
+                threads,
+                file_system,
+                append,
+                append_files,
+                factory,
+            )
+        },
         || -> Result<ReadSegments<M, FileEnding>>
             requires { IsSync R.row × IsSync F.row }
             ensures ok { IfOk result (λ done. HasReadFiles M.reads rewrite rewrite_files.entry.now
                 (F.disk file_system.entry.now) done.machine done.endings.items) }
             ensures err { IfErr result
                 (FilesAreUnread M.declines rewrite rewrite_files.entry.now (F.disk file_system.entry.now)) }
-        { recover_files(rt, alloc, file_system, rewrite, rewrite_files, factory) },
+        {
+            recover_files(
+                rt,
+                alloc,
+                threads,
+                file_system,
+                rewrite,
+                rewrite_files,
+                factory,
+            )
+        },
     )
 }

@@ -12,7 +12,7 @@ use raft_log_file_queue::File;
 use raft_log_open_found::FileEnding;
 use raft_log_open_scan::RecoveryConfig;
 use raft_log_record_base::Result;
-use raft_log_table_segments::{Factory, ReplayMachine};
+use raft_log_table_segments::{Factory, ReplayMachine, ReplayThreads};
 use std::alloc::Global;
 use std::thread::Threads;
 
@@ -66,7 +66,15 @@ impl RecoveredQueue {
             (F.disk file_system.old) (F.disk file_system.new)) }
         ensures same { OnErr result (self.new ≡ self.old) }
     {
-        let read = recover_files(rt, alloc, file_system, config, &self.files, factory)?;
+        let read = recover_files(
+            rt,
+            alloc,
+            ReplayThreads::Rayon,
+            file_system,
+            config,
+            &self.files,
+            factory,
+        )?;
         if !are_unaligned(&read.endings) {
             return Err(aligned(alloc));
         }

@@ -11,6 +11,7 @@ use raft_log_disk::FileSystem;
 use raft_log_file_pair::{DualPipes, OpenRefused, PipeLog};
 use raft_log_file_settings::Config;
 use raft_log_table_all::MemTables;
+use raft_log_table_segments::ReplayThreads;
 use std::alloc::Global;
 use std::thread::Threads;
 
@@ -27,8 +28,8 @@ pub struct OpenedLog<F> {
 }
 
 /// Opens the log of these settings: they are checked and made whole, its directories scanned, both queues
-/// read by workers, damaged files cut, the files that are kept for use readied; all files are synced, and its
-/// pipes opened.
+/// read by workers in these threads, damaged files cut, the files that are kept for use readied; all files are
+/// synced, and its pipes opened.
 ///
 /// Refused, the file system is handed back, and the log may be opened again. `Other` where the settings have
 /// a fault; then what `DualPipesBuilder` refuses: `Other`, `Corruption`, `Io` of the directories, and of the
@@ -38,6 +39,7 @@ pub struct OpenedLog<F> {
 pub fn open_directory<R: Threads + Log + Sync, F: FileSystem + Sync>(
     rt: &R,
     alloc: Global,
+    threads: ReplayThreads,
     config: Config,
     file_system: F,
 ) -> Result<OpenedLog<F>, OpenRefused<F>>
@@ -52,7 +54,7 @@ pub fn open_directory<R: Threads + Log + Sync, F: FileSystem + Sync>(
         builder,
         tables,
         written,
-    } = match read_log(rt, alloc, config, &mut file_system) {
+    } = match read_log(rt, alloc, threads, config, &mut file_system) {
         Ok(read) => read,
         Err(error) => return Err(OpenRefused { error, file_system }),
     };

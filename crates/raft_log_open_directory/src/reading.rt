@@ -15,6 +15,7 @@ use raft_log_open_builder::DualPipesBuilder;
 use raft_log_record_base::Result;
 use raft_log_table_all::MemTables;
 use raft_log_table_contexts::{MemTableRecoverContext, MemTableRecoverContextFactory};
+use raft_log_table_segments::ReplayThreads;
 use std::alloc::Global;
 use std::thread::Threads;
 
@@ -35,10 +36,11 @@ pub struct ReadQueues {
     pub rewrite: MemTableRecoverContext,
 }
 
-/// Reads the log of these settings into tables, and readies the files that are kept for use.
+/// Reads the log of these settings into tables, by these threads, and readies the files that are kept for use.
 pub fn read_log<R: Threads + Log + Sync, F: FileSystem + Sync>(
     rt: &R,
     alloc: Global,
+    threads: ReplayThreads,
     config: Config,
     file_system: &mut F,
 ) -> Result<ReadLog>
@@ -52,7 +54,7 @@ pub fn read_log<R: Threads + Log + Sync, F: FileSystem + Sync>(
         builder,
         append,
         rewrite,
-    } = match read_queues(rt, alloc, config, file_system) {
+    } = match read_queues(rt, alloc, threads, config, file_system) {
         Ok(read) => read,
         Err(error) => return Err(error),
     };
@@ -72,10 +74,12 @@ pub fn read_log<R: Threads + Log + Sync, F: FileSystem + Sync>(
     }
 }
 
-/// Reads both queues of the log of these settings, each into a context of its own; then cuts damaged files.
+/// Reads both queues of the log of these settings by these threads, each into a context of its own; then cuts
+/// damaged files.
 fn read_queues<R: Threads + Log + Sync, F: FileSystem + Sync>(
     rt: &R,
     alloc: Global,
+    threads: ReplayThreads,
     config: Config,
     file_system: &mut F,
 ) -> Result<ReadQueues>
@@ -89,7 +93,7 @@ fn read_queues<R: Threads + Log + Sync, F: FileSystem + Sync>(
         Err(error) => return Err(error),
     };
     let factory = MemTableRecoverContextFactory::new(alloc);
-    match builder.recover(rt, alloc, file_system, &factory) {
+    match builder.recover_by(rt, alloc, threads, file_system, &factory) {
         Ok((append, rewrite)) => Ok(ReadQueues {
             builder,
             append,

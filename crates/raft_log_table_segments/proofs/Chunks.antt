@@ -1,7 +1,23 @@
 -- Chunks that stand one behind the other.
-use Rattle.std.proofs.Common.{◌≡◌, ℕ, zero, suc, ◌+◌, ◌*◌, ◌<◌, ◌≤◌, min, List, [], ◌∷◌, refl, ap, subst, ◌∙◌, arith}
+use Rattle.std.proofs.Common.{◌≡◌, ℕ, zero, suc, ◌+◌, ◌*◌, ◌<◌, ◌≤◌, min, List, [], ◌∷◌, length, refl, ap, subst, ◌∙◌, arith}
 use Rattle.std.specs.List.{range_with_len, AllZip}
+use Rattle.std.specs.Prelude.{slice_index_or}
 use Rattle.raft_log_table_segments.specs.Segments.{chunk_start, read_by, Follow}
+
+-- what holds of each place and of what stands there holds of the places in a row
+pub each_in_row : {A : Type 0} (holds : ℕ → A → Type 0) (a n : ℕ) (xs : List A) → length xs ≡ n
+    → ((i : ℕ) (d : A) → i < n → holds (a + i) (slice_index_or xs i d)) → AllZip holds (range_with_len a n) xs
+each_in_row holds a zero [] many h = tt
+each_in_row holds a zero (x ∷ xs) many h = absurd (omega arith)
+each_in_row holds a (suc n) [] many h = absurd (omega arith)
+each_in_row holds a (suc n) (x ∷ xs) many h =
+    let here : a + 0 ≡ a = omega arith in
+    let fewer : length xs ≡ n = omega arith in (
+      subst (λ k. holds k x) here (h 0 x (omega arith)),
+      each_in_row holds (a + 1) n xs fewer (λ i d lt.
+          let next : a + suc i ≡ a + 1 + i = omega arith in
+          subst (λ k. holds k (slice_index_or xs i d)) next (h (suc i) d (omega arith))),
+    )
 
 module _ {A : Type 0} (between : ℕ → ℕ → A → Type 0) (start : ℕ → ℕ) (rises : (i : ℕ) → start i ≤ start (i + 1)) where
   rises_far : (i n : ℕ) → start i ≤ start (i + n)

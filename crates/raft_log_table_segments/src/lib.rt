@@ -5,9 +5,11 @@
 mod chunk;
 pub mod laws;
 pub mod machine;
+pub mod scoped;
 pub mod segments;
 pub mod source;
 
 pub use machine::{Factory, ReplayMachine};
+pub use scoped::{ReplayThreads, replay_segments_by, replay_segments_scoped};
 pub use segments::{ReadSegments, chunk_size, replay_segments};
 pub use source::ReplaySource;

@@ -76,7 +76,7 @@ pub fn chunk_size(segments: usize, workers: usize) -> usize
 }
 
 /// How many chunks there are, where each has so many segments.
-fn chunk_count(segments: usize, size: usize) -> usize
+pub(crate) fn chunk_count(segments: usize, size: usize) -> usize
     requires { 0 < size }
     ensures value { result ≡ div_ceil segments size }
     ensures enough { segments ≤ result * size }

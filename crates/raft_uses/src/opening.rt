@@ -9,6 +9,7 @@ use raft_log_disk::FileSystem;
 use raft_log_file_pair::OpenRefused;
 use raft_log_file_settings::Config;
 use raft_log_open_directory::open_directory;
+use raft_log_table_segments::ReplayThreads;
 use std::alloc::Global;
 use std::thread::Threads;
 
@@ -23,6 +24,6 @@ pub fn count_brought<R: Threads + Log + Sync, F: FileSystem + Sync + Drop>(
     ensures err { IfErr result (λ refused. FailsToOpenDirectory F.disk F.tells_space config refused.error
         files refused.file_system) }
 {
-    let log = open_directory(rt, alloc, config, files)?;
+    let log = open_directory(rt, alloc, ReplayThreads::Rayon, config, files)?;
     Ok(log.written)
 }

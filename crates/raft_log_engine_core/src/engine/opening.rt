@@ -12,6 +12,7 @@ use raft_log_file_pair::{DualPipes, OpenRefused, PipeLog};
 use raft_log_file_settings::Config;
 use raft_log_open_directory::{OpenedLog, open_directory};
 use raft_log_purge_rules::Thresholds;
+use raft_log_table_segments::ReplayThreads;
 use std::alloc::Global;
 use std::thread::Threads;
 
@@ -78,8 +79,68 @@ impl<F: FileSystem + Sync, E: EventListener> LogEngine<
         ensures err { IfErr result (λ refused. FailsToOpenDirectory F.disk F.tells_space config refused.error
             file_system refused.file_system) }
     {
+        Self::open_by(
+            rt,
+            alloc,
+            ReplayThreads::Rayon,
+            config,
+            file_system,
+            listener,
+        )
+    }
+
+    /// Opens the log as `open_with` does, but reads it by scoped threads: one for each chunk of both queues, however
+    /// many processors there are.
+    ///
+    /// Refused as `open_with` is.
+    pub fn open_scoped<R: Threads + Log + Sync>(
+        rt: &R,
+        alloc: Global,
+        config: Config,
+        file_system: F,
+        listener: E,
+    ) -> Result<Self, OpenRefused<F>>
+        ensures ok { IfOk result (λ engine. OpensDirectory F.disk F.tells_space config file_system
+            (⟦<ToldPipes<ToldPipes<DualPipes<F>, E>, PurgeHook> as PipeLog>⟧.shown engine.pipes)
+            engine.tables) }
+        ensures none { IfOk result (λ engine. engine.cache.place ≡ None) }
+        ensures purges { IfOk result (λ engine. IsPurgedBy config engine.thresholds engine.counts.rounds) }
+        ensures brought { IfOk result (λ engine. CountsBrought config (F.disk file_system) engine.counts) }
+        ensures err { IfErr result (λ refused. FailsToOpenDirectory F.disk F.tells_space config refused.error
+            file_system refused.file_system) }
+    {
+        Self::open_by(
+            rt,
+            alloc,
+            ReplayThreads::Scoped,
+            config,
+            file_system,
+            listener,
+        )
+    }
+
+    /// Opens the log as `open_with` does, and reads it by these threads.
+    ///
+    /// Refused as `open_with` is.
+    pub fn open_by<R: Threads + Log + Sync>(
+        rt: &R,
+        alloc: Global,
+        threads: ReplayThreads,
+        config: Config,
+        file_system: F,
+        listener: E,
+    ) -> Result<Self, OpenRefused<F>>
+        ensures ok { IfOk result (λ engine. OpensDirectory F.disk F.tells_space config file_system
+            (⟦<ToldPipes<ToldPipes<DualPipes<F>, E>, PurgeHook> as PipeLog>⟧.shown engine.pipes)
+            engine.tables) }
+        ensures none { IfOk result (λ engine. engine.cache.place ≡ None) }
+        ensures purges { IfOk result (λ engine. IsPurgedBy config engine.thresholds engine.counts.rounds) }
+        ensures brought { IfOk result (λ engine. CountsBrought config (F.disk file_system) engine.counts) }
+        ensures err { IfErr result (λ refused. FailsToOpenDirectory F.disk F.tells_space config refused.error
+            file_system refused.file_system) }
+    {
         let thresholds = Thresholds::of(&config);
-        match open_directory(rt, alloc, config, file_system) {
+        match open_directory(rt, alloc, threads, config, file_system) {
             Ok(
                 OpenedLog {
                     pipes,
@@ -124,7 +185,7 @@ impl<F: FileSystem + Sync> LogEngine<DualPipes<F>> {
             file_system refused.file_system) }
     {
         let thresholds = Thresholds::of(&config);
-        match open_directory(rt, alloc, config, file_system) {
+        match open_directory(rt, alloc, ReplayThreads::Rayon, config, file_system) {
             Ok(
                 OpenedLog {
                     pipes,

@@ -8,7 +8,9 @@ ghost use Rattle.raft_voter_store.specs.Opening.{FailsToOpenVoters, OpensVoters}
 
 use super::LogVoterStore;
 use log::Log;
-use raft_log_engine::{Config, EnginePipes, EventListener, FileSystem, LogEngine, Nobody, PipeLog};
+use raft_log_engine::{
+    Config, EnginePipes, EventListener, FileSystem, LogEngine, Nobody, PipeLog, ReplayThreads,
+};
 use raft_voter::Voter;
 use raft_voter_reading::{Unread, read_outlines, read_voters};
 use std::alloc::Global;
@@ -47,7 +49,66 @@ impl<F: FileSystem + Sync, E: EventListener> LogVoterStore<EnginePipes<F, E>> {
         ensures err { IfErr result (λ refused. FailsToOpenVoters F.disk F.tells_space config refused.cause
             file_system refused.file_system) }
     {
-        let mut engine = match LogEngine::open_with(rt, alloc, config, file_system, listener) {
+        Self::open_by(
+            rt,
+            alloc,
+            ReplayThreads::Rayon,
+            config,
+            file_system,
+            listener,
+        )
+    }
+
+    /// Opens the store as `open` does, but its log is read by scoped threads: one for each chunk of both queues,
+    /// however many processors there are.
+    ///
+    /// Refused as `open` is.
+    pub fn open_scoped<R: Threads + Log + Sync>(
+        rt: &R,
+        alloc: Global,
+        config: Config,
+        file_system: F,
+        listener: E,
+    ) -> Result<Self, StoreRefused<F>>
+        ensures ok { IfOk result (λ store. OpensVoters F.disk F.tells_space config file_system
+            (shows_of ⟦<EnginePipes<F, E> as PipeLog>⟧.shown store.engine) (outlines_in store.outlines)) }
+        ensures err { IfErr result (λ refused. FailsToOpenVoters F.disk F.tells_space config refused.cause
+            file_system refused.file_system) }
+    {
+        Self::open_by(
+            rt,
+            alloc,
+            ReplayThreads::Scoped,
+            config,
+            file_system,
+            listener,
+        )
+    }
+
+    /// Opens the store as `open` does, its log read by these threads.
+    ///
+    /// Refused as `open` is.
+    pub fn open_by<R: Threads + Log + Sync>(
+        rt: &R,
+        alloc: Global,
+        threads: ReplayThreads,
+        config: Config,
+        file_system: F,
+        listener: E,
+    ) -> Result<Self, StoreRefused<F>>
+        ensures ok { IfOk result (λ store. OpensVoters F.disk F.tells_space config file_system
+            (shows_of ⟦<EnginePipes<F, E> as PipeLog>⟧.shown store.engine) (outlines_in store.outlines)) }
+        ensures err { IfErr result (λ refused. FailsToOpenVoters F.disk F.tells_space config refused.cause
+            file_system refused.file_system) }
+    {
+        let mut engine = match LogEngine::open_by(
+            rt,
+            alloc,
+            threads,
+            config,
+            file_system,
+            listener,
+        ) {
             Ok(engine) => engine,
             Err(refused) => {
                 return Err(StoreRefused {

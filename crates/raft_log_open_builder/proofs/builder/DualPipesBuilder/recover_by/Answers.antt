@@ -8,8 +8,8 @@ use Rattle.raft_log_open_builder.specs.Recovering.{append_config, append_files, 
 use Rattle.raft_log_open_builder.specs.Unaligned.{AreUnaligned}
 use Rattle.raft_log_open_builder.specs.Recovering.FailsToRecoverLog.{aligned, append_unread, rewrite_unread, append_uncut, rewrite_uncut}
 use Rattle.raft_log_open_builder.proofs.Endings.{endings_fit}
-use Rattle.raft_log_open_builder.proofs.builder.DualPipesBuilder.recover.Goals.{then-not-are_unaligned-via-then-not-are_unaligned, then-not-are_unaligned-via-else-not-are_unaligned+then-not-are_unaligned-2}
-use Rattle.raft_log_open_builder.proofs.builder.DualPipesBuilder.recover.Goals as goal
+use Rattle.raft_log_open_builder.proofs.builder.DualPipesBuilder.recover_by.Goals.{then-not-are_unaligned-via-then-not-are_unaligned, then-not-are_unaligned-via-else-not-are_unaligned+then-not-are_unaligned-2}
+use Rattle.raft_log_open_builder.proofs.builder.DualPipesBuilder.recover_by.Goals as goal
 
 pub returns-in_err-append-clause-err : goal.returns-in_err-append-clause-err
 returns-in_err-append-clause-err g c =

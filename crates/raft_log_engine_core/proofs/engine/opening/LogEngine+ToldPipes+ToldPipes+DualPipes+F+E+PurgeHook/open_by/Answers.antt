@@ -1,5 +1,5 @@
 use Rattle.std.proofs.Common.{◌∙◌}
-use Rattle.raft_log_engine_core.proofs.engine.opening.LogEngine+ToldPipes+ToldPipes+DualPipes+F+E+PurgeHook.open_with.Goals as goal
+use Rattle.raft_log_engine_core.proofs.engine.opening.LogEngine+ToldPipes+ToldPipes+DualPipes+F+E+PurgeHook.open_by.Goals as goal
 
 pub returns-in-Ok-clause-purges : goal.returns-in-Ok-clause-purges
 returns-in-Ok-clause-purges g c = record { sizes = c.new-in-Ok.ensures.thresholds ∙ c.of-thresholds.ensures; unasked = c.new-in-Ok.ensures.unasked }

@@ -30,6 +30,8 @@ pub enum Act {
     MakesFile(&'static str),
     /// A file loses what it has behind so many bytes.
     Cuts(&'static str, usize),
+    /// These bytes are written to a file, so many bytes behind its front.
+    Writes(&'static str, usize, &'static [u8]),
     /// The changing call of this number from now on will be refused.
     Arms(u64),
     /// There is no such directory.
@@ -44,6 +46,7 @@ pub enum Cause {
     Io,
     Corruption,
     Hole,
+    InvalidArgument,
     Other,
 }
 
@@ -53,6 +56,7 @@ fn is_for(error: &Error, cause: Cause) -> bool {
         Cause::Io => matches!(error, Error::Io(_)),
         Cause::Corruption => matches!(error, Error::Corruption(_)),
         Cause::Hole => matches!(error, Error::Hole),
+        Cause::InvalidArgument => matches!(error, Error::InvalidArgument(_)),
         Cause::Other => matches!(error, Error::Other(_)),
     }
 }
@@ -143,6 +147,10 @@ fn touch<F: FileSystem>(files: &mut F, act: &Act) -> std::result::Result<(), Err
         Act::Cuts(path, size) => {
             let handle = files.open(path, Permission::ReadWrite)?;
             files.truncate(handle, *size)
+        }
+        Act::Writes(path, offset, bytes) => {
+            let handle = files.open(path, Permission::ReadWrite)?;
+            files.write_at(handle, *offset, bytes)
         }
         Act::Arms(call) => files.arm(&Fault::Refuse(*call)),
         Act::Lacks(path) => match files.list(path) {

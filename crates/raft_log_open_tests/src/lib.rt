@@ -13,10 +13,14 @@ mod engines;
 #[cfg(test)]
 mod expired;
 #[cfg(test)]
+mod headers;
+#[cfg(test)]
 mod opening;
 #[cfg(test)]
 mod purges;
 #[cfg(test)]
 mod reads;
+#[cfg(test)]
+mod side_by_side;
 #[cfg(test)]
 mod worked;

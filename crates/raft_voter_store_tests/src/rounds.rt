@@ -1,5 +1,5 @@
 //! Rounds, with replies and sizes that were worked by hand.
-use super::store::{MemoryStore, closed_size, first_append, fresh, vote};
+use super::store::{MemoryStore, closed_size, first_append, fresh, reopened, vote};
 use log::Log;
 use raft_log_engine::{Fault, Result};
 use raft_voter::Cause;
@@ -67,6 +67,16 @@ fn a_request_out_of_range_is_refused(rt: HostRuntime) -> std::result::Result<(),
     let mut store = fresh(&rt, rt.alloc())?;
     assert!(rt; answers(&rt, &mut store, 1, vote(u64::MAX, 2), Reply::Refused));
     assert!(rt; answers(&rt, &mut store, 1, vote(5, 2), Reply::Granted(5)));
+    assert!(rt; answers(&rt, &mut store, 1, vote(5, 3), Reply::Denied(5)));
+    Ok(())
+}
+
+/// A vote that was cast before a store was closed is known where scoped threads open it again.
+#[test]
+fn scoped_threads_find_the_votes(rt: HostRuntime) -> std::result::Result<(), Fail> {
+    let mut store = fresh(&rt, rt.alloc())?;
+    assert!(rt; answers(&rt, &mut store, 1, vote(5, 2), Reply::Granted(5)));
+    let mut store = reopened(&rt, rt.alloc(), store)?;
     assert!(rt; answers(&rt, &mut store, 1, vote(5, 3), Reply::Denied(5)));
     Ok(())
 }

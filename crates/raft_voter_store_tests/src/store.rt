@@ -1,6 +1,8 @@
 //! A store over a log that begins.
 use log::Log;
-use raft_log_engine::{Config, Engine, Error, FileSystem, MemoryFileSystem, Permission, Result};
+use raft_log_engine::{
+    Config, Engine, Error, FileSystem, MemoryFileSystem, Nobody, Permission, Result,
+};
 use raft_voter_messages::{Items, Request};
 use raft_voter_store::{LogVoterStore, VoterStore};
 use std::alloc::{AllocError, Global};
@@ -10,13 +12,32 @@ use std::thread::Threads;
 /// A store whose files are in memory.
 pub type MemoryStore = VoterStore<MemoryFileSystem>;
 
-/// A store over a log that begins in the directory `raft`.
-pub fn fresh(rt: &(impl Threads + Log + Sync), alloc: Global) -> Result<MemoryStore> {
+/// The settings of a log in the directory `raft`.
+fn config(alloc: Global) -> Result<Config> {
     let mut config = Config::default(alloc);
     config.dir = String::from_str(alloc, "raft")?;
-    match Engine::open_with_file_system(rt, alloc, config, MemoryFileSystem::new(alloc)) {
+    Ok(config)
+}
+
+/// A store over a log that begins there.
+pub fn fresh(rt: &(impl Threads + Log + Sync), alloc: Global) -> Result<MemoryStore> {
+    let files = MemoryFileSystem::new(alloc);
+    match Engine::open_with_file_system(rt, alloc, config(alloc)?, files) {
         Ok(engine) => Ok(LogVoterStore::over_fresh(alloc, engine)),
         Err(refused) => Err(refused.error),
+    }
+}
+
+/// A store that scoped threads open over the files of one that is closed.
+pub fn reopened(
+    rt: &(impl Threads + Log + Sync),
+    alloc: Global,
+    store: MemoryStore,
+) -> Result<MemoryStore> {
+    let files = store.close(rt);
+    match VoterStore::open_scoped(rt, alloc, config(alloc)?, files, Nobody) {
+        Ok(store) => Ok(store),
+        Err(_refused) => Err(Error::Failed),
     }
 }
 

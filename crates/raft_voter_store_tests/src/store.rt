@@ -1,75 +1,119 @@
-//! A store over a log that begins.
-use log::Log;
-use raft_log_engine::{
-    Config, Engine, Error, FileSystem, MemoryFileSystem, Nobody, Permission, Result,
-};
-use raft_voter_messages::{Items, Request};
-use raft_voter_store::{LogVoterStore, VoterStore};
-use std::alloc::{AllocError, Global};
-use std::string::String;
+//! The voter store, as steps use it.
+use log::sink::Discard;
+use log::{LevelFilter, Log, Logged};
+use raft_log_disk::Fault;
+use raft_log_disk_memory::MemoryFileSystem;
+use raft_log_file_listeners::Nobody;
+use raft_log_file_settings::Config;
+use raft_log_record_base::{Error, LogQueue};
+use raft_voter::{Cause, RoundFault, Voter};
+use raft_voter_messages::{Items, Reply};
+use raft_voter_store::{StoreRefused, VoterStore};
+use raft_voter_store_player::asks::{Ask, requests_of};
+use raft_voter_store_player::store::Store;
+use std::alloc::Global;
 use std::thread::Threads;
 
-/// A store whose files are in memory.
-pub type MemoryStore = VoterStore<MemoryFileSystem>;
+/// A voter store whose files are in memory, with its contracts.
+type Inner = VoterStore<MemoryFileSystem>;
 
-/// The settings of a log in the directory `raft`.
-fn config(alloc: Global) -> Result<Config> {
-    let mut config = Config::default(alloc);
-    config.dir = String::from_str(alloc, "raft")?;
-    Ok(config)
-}
-
-/// A store over a log that begins there.
-pub fn fresh(rt: &(impl Threads + Log + Sync), alloc: Global) -> Result<MemoryStore> {
-    let files = MemoryFileSystem::new(alloc);
-    match Engine::open_with_file_system(rt, alloc, config(alloc)?, files) {
-        Ok(engine) => Ok(LogVoterStore::over_fresh(alloc, engine)),
-        Err(refused) => Err(refused.error),
-    }
-}
-
-/// A store that scoped threads open over the files of one that is closed.
-pub fn reopened(
-    rt: &(impl Threads + Log + Sync),
+/// The same without them.
+#[derive(Drop)]
+pub struct MemoryStore {
     alloc: Global,
-    store: MemoryStore,
-) -> Result<MemoryStore> {
-    let files = store.close(rt);
-    match VoterStore::open_scoped(rt, alloc, config(alloc)?, files, Nobody) {
-        Ok(store) => Ok(store),
-        Err(_refused) => Err(Error::Failed),
+    store: Inner,
+}
+
+/// Opens the store whose log these settings name, over these files.
+pub fn open<R: Threads + Log + Sync>(
+    rt: &R,
+    alloc: Global,
+    config: Config,
+    files: MemoryFileSystem,
+) -> Result<MemoryStore, StoreRefused<MemoryFileSystem>> {
+    match VoterStore::open(rt, alloc, config, files, Nobody) {
+        Ok(store) => Ok(MemoryStore { alloc, store }),
+        Err(refused) => Err(refused),
     }
 }
 
-/// The size of the first file of Append, once the store was closed.
-pub fn closed_size(rt: &impl Log, store: MemoryStore) -> Result<usize> {
-    let files = store.close(rt);
-    let handle = files.open("raft/0000000000000001.raftlog", Permission::ReadOnly)?;
-    match files.file_size(handle) {
-        Ok(size) => Ok(size),
-        Err(_) => Err(Error::Failed),
+/// The same by scoped threads.
+pub fn open_scoped<R: Threads + Log + Sync>(
+    rt: &R,
+    alloc: Global,
+    config: Config,
+    files: MemoryFileSystem,
+) -> Result<MemoryStore, StoreRefused<MemoryFileSystem>> {
+    match VoterStore::open_scoped(rt, alloc, config, files, Nobody) {
+        Ok(store) => Ok(MemoryStore { alloc, store }),
+        Err(refused) => Err(refused),
     }
 }
 
-/// A vote for a candidate in a term, by a voter without entries.
-pub fn vote(term: u64, candidate: u64) -> Request {
-    Request::Vote {
-        term,
-        candidate,
-        last_index: 0,
-        last_term: 0,
+impl Store for MemoryStore {
+    fn open<R: Threads + Sync>(
+        rt: &R,
+        alloc: Global,
+        config: Config,
+        files: MemoryFileSystem,
+    ) -> Result<Self, MemoryFileSystem> {
+        let quiet = Logged::new(rt, LevelFilter::Off, Discard);
+        match VoterStore::open(&quiet, alloc, config, files, Nobody) {
+            Ok(store) => Ok(MemoryStore { alloc, store }),
+            Err(refused) => Err(refused.file_system),
+        }
     }
-}
 
-/// The first entry of a log, of term 1 without data, which is committed.
-pub fn first_append(alloc: Global) -> std::result::Result<Request, AllocError> {
-    let mut entries = Items::new(alloc);
-    entries.push((1, Items::new(alloc)))?;
-    Ok(Request::Append {
-        term: 1,
-        prev_index: 0,
-        prev_term: 0,
-        commit: 1,
-        entries,
-    })
+    fn fork<L: Log>(
+        rt: &L,
+        alloc: Global,
+        config: &Config,
+        files: &mut MemoryFileSystem,
+        target: &str,
+    ) -> Result<(), Error> {
+        Inner::fork(rt, alloc, config, files, target)?;
+        Ok(())
+    }
+
+    fn serve<L: Log>(&mut self, rt: &L, asks: &[(u64, Ask)]) -> Result<Items<Reply>, RoundFault> {
+        match requests_of(self.alloc, asks, asks.len(), &[]) {
+            Ok(round) => self.store.serve(rt, round.as_slice()),
+            Err(_) => Err(RoundFault::new(self.alloc, Cause::Memory)),
+        }
+    }
+
+    fn maintain<L: Log>(&mut self, rt: &L) -> Option<usize> {
+        match self.store.maintain(rt) {
+            Ok(groups) => Some(groups.len()),
+            Err(_) => None,
+        }
+    }
+
+    fn rewrite_append<L: Log>(&mut self, rt: &L) -> bool {
+        self.store.must_rewrite_append_queue(rt, None, None).is_ok()
+    }
+
+    fn voters(&mut self) -> Option<Vec<(u64, Voter)>> {
+        self.store.voters().ok()
+    }
+
+    fn span(&self) -> Option<(u64, u64)> {
+        self.store.file_span(LogQueue::Append).ok()
+    }
+
+    fn is_failed(&self) -> bool {
+        self.store.is_failed()
+    }
+
+    fn arm(&mut self, fault: &Fault) -> bool {
+        self.store.arm(fault).is_ok()
+    }
+
+    fn files(&self) -> &MemoryFileSystem {
+        self.store.file_system()
+    }
+
+    fn close<L: Log>(self, rt: &L) -> MemoryFileSystem {
+        self.store.close(rt)
+    }
 }

@@ -11,9 +11,9 @@ ghost use Rattle.raft_log_disk_device.specs.Following.{Follows, Follows-prop};
 use crate::device::Device;
 use raft_log_disk_storage::Storage;
 
-/// A file system over a device, whose files also lie in memory: content and synced bytes of each, so twice
-/// its size. A change goes to the model in memory first, and then to the device, which is synced where names
-/// changed. What is read comes from memory. Where the device refuses a call, the file system stops.
+/// A file system over a device, whose files also lie in memory, each byte once. A change goes to the model in
+/// memory first, and then to the device, which is synced where names changed. What is read comes from memory.
+/// Where the device refuses a call, the file system stops.
 #[derive(Drop)]
 pub struct DirectoryFileSystem<D: Device> {
     storage: Storage,

@@ -5,7 +5,7 @@ use Rattle.std.proofs.lemmas.List.{length-append, length-drop, length-take-le, l
 use Rattle.raft_log_disk.specs.Disk.{Wrote, GrewTo, File, Disk, zeros, grown, spliced, overwritten}
 use Rattle.raft_log_disk_storage.specs.Steps.{size_of, GrowsPast}
 
-length-grown : (size : ℕ) (old : List ℕ) → length (grown size old) ≡ length old + (size - length old)
+pub length-grown : (size : ℕ) (old : List ℕ) → length (grown size old) ≡ length old + (size - length old)
 length-grown size old = length-append old (zeros (size - length old)) ∙ ap (λ (n : ℕ). length old + n) (length-replicate {A = ℕ} (size - length old) 0)
 
 length-spliced : (at : ℕ) (bytes old : List ℕ) → length (spliced at bytes old) ≡ length old + (at + length bytes - length old)

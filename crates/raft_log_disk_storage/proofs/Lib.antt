@@ -1,6 +1,8 @@
 pub mod Items
+pub mod Restoring
+pub mod Keeping
+pub mod TakingBack
 pub mod CountLaws
-pub mod Flushed
 pub mod Names
 pub mod Paths
 pub mod RisingLaws

@@ -1,7 +1,6 @@
 -- The changes that a file system in memory keeps, as changes of a disk.
-use Rattle.std.specs.Prelude.{◌≡◌, ℕ, ◌<◌, ◌≤◌, ◌++◌, List, []}
-use Rattle.raft_log_disk.specs.Disk.{Wrote, ShortenedTo, GrewTo, file_limit}
-use Rattle.raft_log_disk.specs.Image.{Touches}
+use Rattle.std.specs.Prelude.{◌≡◌, ℕ, ◌++◌, take, drop, List, []}
+use Rattle.raft_log_disk.specs.Disk.{Wrote, ShortenedTo, GrewTo}
 use Rattle.raft_log_disk.specs.Disk as disk
 use Rattle.raft_log_disk_storage.specs.declared.change.Change.{Change}
 use Rattle.raft_log_disk_storage.specs.declared.change.Change.TheVariants.{Write, Shortening, Growth}
@@ -17,26 +16,27 @@ with_rest (GrewTo size) rest = GrewTo size
 abbrev pub IsLanded : disk.Change → disk.Change → Type 0
 IsLanded landed asked = (rest : List ℕ) × (asked ≡ with_rest landed rest)
 
--- the change of a disk that was made
-abbrev pub change_of : Change → disk.Change
-change_of (Write offset bytes rest) = Wrote offset bytes.items
-change_of (Shortening size) = ShortenedTo size
-change_of (Growth size) = GrewTo size
+-- the change of a disk that was made, a write with these bytes
+abbrev pub change_of : Change → List ℕ → disk.Change
+change_of (Write offset rest) bytes = Wrote offset bytes
+change_of (Shortening size) bytes = ShortenedTo size
+change_of (Growth size) bytes = GrewTo size
 
 -- the bytes behind these that were asked for too, of a write that was refused
 abbrev pub rest_of : Change → List ℕ
-rest_of (Write offset bytes rest) = rest.items
+rest_of (Write offset rest) = rest.items
 rest_of (Shortening size) = []
 rest_of (Growth size) = []
 
 -- the change of a disk that was asked for
-abbrev pub asked_of : Change → disk.Change
-asked_of change = with_rest (change_of change) (rest_of change)
+abbrev pub asked_of : Change → List ℕ → disk.Change
+asked_of change bytes = with_rest (change_of change bytes) (rest_of change)
 
--- of the places of a file the change touches only those from the one number up to the other
-abbrev pub TouchesWithin : disk.Change → ℕ → ℕ → Type 0
-TouchesWithin change start end =
-    (place : ℕ) → place < file_limit → Touches change place → (start ≤ place) × (place < end)
+-- so many bytes that a write put into a content stand there
+abbrev pub bytes_in : Change → ℕ → List ℕ → List ℕ
+bytes_in (Write offset rest) count after = take count (drop offset after)
+bytes_in (Shortening size) count after = []
+bytes_in (Growth size) count after = []
 
 -- a change as it was made, the bytes behind it that were asked for too, and how many changes of any file were
 -- made before it
@@ -45,7 +45,7 @@ pub record Made : Type 0 where
   pub change : disk.Change
   pub rest : List ℕ
 
--- a change with its stamp, as it is kept
-abbrev pub made_of : Stamped → Made
-made_of stamped =
-    record { stamp = stamped.stamp; change = change_of stamped.change; rest = rest_of stamped.change }
+-- a change with its stamp and the bytes that it wrote
+abbrev pub made_of : Stamped → List ℕ → Made
+made_of stamped bytes =
+    record { stamp = stamped.stamp; change = change_of stamped.change bytes; rest = rest_of stamped.change }

@@ -1,14 +1,16 @@
 -- What a file system in memory keeps of its files.
-use Rattle.std.specs.Prelude.{◌≡◌, ℕ, ◌-◌, ◌<◌, ◌≤◌, ◌⊎◌, min, length, take, drop, slice_index, List, [], ◌∷◌, ◌++◌, Option, Some, None}
+use Rattle.std.specs.Prelude.{◌≡◌, ℕ, ◌-◌, ◌<◌, min, length, take, drop, List, [], ◌∷◌, ◌++◌, Option, Some, None}
 use Rattle.std.specs.Map.{update}
 use Rattle.std.specs.List.{All}
 use Rattle.std.specs.Bool.{nat_eq}
 use Rattle.std.specs.Option.{option_map}
-use Rattle.std.proofs.Common.{get_or, map}
+use Rattle.std.proofs.Common.{get_or, map, Vec, Global}
 use Rattle.raft_log_disk.specs.Disk.{Change, File, changed, file_limit}
-use Rattle.raft_log_disk.specs.Image.{end_of, Spares}
+use Rattle.raft_log_disk.specs.Image.{end_of}
+use Rattle.raft_log_disk_storage.specs.declared.change.Stamped.{Stamped}
 use Rattle.raft_log_disk_storage.specs.declared.files.Stored.{Stored}
-use Rattle.raft_log_disk_storage.specs.Changes.{Made, made_of, with_rest}
+use Rattle.raft_log_disk_storage.specs.Changes.{Made, made_of, bytes_in, with_rest}
+use Rattle.raft_log_disk_storage.specs.Former.{restored}
 
 -- a file's content, what is synced of it, and the changes since then, the oldest first
 pub record Held : Type 0 where
@@ -16,12 +18,35 @@ pub record Held : Type 0 where
   pub synced : List ℕ
   pub changes : List Made
 
--- what is kept of a file
+-- the content before these changes, the oldest one first, from the one after them: the last is taken back first
+abbrev pub before : List Stamped → List ℕ → List ℕ
+before [] content = content
+before (u ∷ us) content = restored u.former (before us content)
+
+-- the bytes that the first of these changes wrote, from the content after all of them
+abbrev pub written : Stamped → List Stamped → List ℕ → List ℕ
+written u us content = bytes_in u.change u.length (before us content)
+
+-- the bytes that each of these changes wrote
+abbrev pub all_written : List Stamped → List ℕ → List (List ℕ)
+all_written [] content = []
+all_written (u ∷ us) content = written u us content ∷ all_written us content
+
+-- the changes with the bytes that they wrote
+abbrev pub made_in : List Stamped → List ℕ → List Made
+made_in [] content = []
+made_in (u ∷ us) content = made_of u (written u us content) ∷ made_in us content
+
+-- byte strings as lists
+abbrev pub items_of : List (Vec ℕ Global) → List (List ℕ)
+items_of strings = map (λ (v : Vec ℕ Global). v.items) strings
+
+-- what is kept of a file: the content, and, by taking back the changes, what was synced and what they wrote
 abbrev pub held : Stored → Held
 held stored = record {
   content = stored.content.items;
-  synced = stored.synced.items;
-  changes = map made_of stored.changes.items;
+  synced = before stored.changes.items stored.content.items;
+  changes = made_in stored.changes.items stored.content.items;
 }
 
 -- a file whose bytes are all synced
@@ -90,22 +115,3 @@ ReadsNumber files id at room count = IfHeld files id (λ file. count ≡ min roo
 abbrev pub ReadsFront : List (Option Stored) → ℕ → ℕ → ℕ → List ℕ → List ℕ → Type 0
 ReadsFront files id at count before after =
     IfHeld files id (λ file. after ≡ take count (drop at file.content) ++ drop count before)
-
--- what is synced, shortened or filled up to the size of the content
-abbrev pub fitted : List ℕ → List ℕ → List ℕ
-fitted content synced = take (length content) synced ++ drop (length synced) content
-
--- the places from `start` up to `end` have the bytes of this file
-abbrev pub HasRangeOf : ℕ → ℕ → List ℕ → List ℕ → Type 0
-HasRangeOf start end from new = (place : ℕ) → start ≤ place → place < end → place < length from
-    → slice_index new place ≡ slice_index from place
-
--- the other places are as they were
-abbrev pub KeepsOutside : ℕ → ℕ → List ℕ → List ℕ → Type 0
-KeepsOutside start end old new = (place : ℕ) → (place < start) ⊎ (end ≤ place)
-    → slice_index new place ≡ slice_index old place
-
--- a place is synced as it stands, if no change touches it
-abbrev pub IsSyncedIfSpared : List Made → List ℕ → List ℕ → ℕ → Type 0
-IsSyncedIfSpared made content synced place =
-    All (Spares place) (changes_in made) → slice_index synced place ≡ slice_index content place

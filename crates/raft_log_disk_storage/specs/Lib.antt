@@ -1,3 +1,4 @@
+pub mod Former
 pub mod Changes
 pub mod Held
 pub mod Order

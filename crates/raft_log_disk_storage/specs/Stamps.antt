@@ -6,9 +6,14 @@ use Rattle.std.proofs.Common.{map, nat_lt}
 use Rattle.raft_log_disk_storage.specs.declared.remainder.Remainder.{Remainder}
 use Rattle.raft_log_disk_storage.specs.Changes.{Made}
 use Rattle.raft_log_disk_storage.specs.Held.{Held, held_of, resting}
+use Rattle.raft_log_disk_storage.specs.declared.change.Stamped.{Stamped}
 use Rattle.raft_log_disk_storage.specs.declared.files.Stored.{Stored}
 use Rattle.std.specs.List.Sorted.{IsPermutation}
 use Rattle.raft_log_disk_storage.specs.Left.{left_by}
+
+-- the stamps of changes, as they are kept
+abbrev pub stamps_on : List Stamped → List ℕ
+stamps_on changes = map (λ (u : Stamped). u.stamp) changes
 
 -- the stamps of a file's changes
 abbrev pub stamps_in : List Made → List ℕ

@@ -1,7 +1,6 @@
 //! Changes of a file's bytes in place.
-ghost use Rattle.std.specs.Prelude.{◌≡◌, ◌+◌, ◌-◌, ◌++◌, min, take, drop, ◌<◌, ◌^◌, length, is_ok, if◌then◌else◌, OnOk, OnErr, vec_len};
+ghost use Rattle.std.specs.Prelude.{◌≡◌, ◌+◌, ◌-◌, ◌++◌, min, take, drop, ◌<◌, ◌^◌, length, is_ok, if◌then◌else◌, OnOk, OnErr};
 ghost use Rattle.raft_log_disk.specs.Disk.{grown, overwritten};
-ghost use Rattle.raft_log_disk_storage.specs.Held.{HasRangeOf, KeepsOutside};
 
 use std::alloc::AllocError;
 
@@ -18,30 +17,20 @@ pub(crate) fn grow_to(bytes: &mut Vec<u8>, size: usize) -> Result<(), AllocError
 
 // Puts bytes over the ones that stand from `at` on, with zeros in a gap. Without memory nothing changes.
 pub(crate) fn overwrite(bytes: &mut Vec<u8>, at: usize, over: &[u8]) -> Result<(), AllocError>
-    requires { at + length over.now < 2 ^ 63 }
+    requires { at + length over.now < 2 ^ 64 }
     ensures ok { OnOk result (bytes.new.items ≡ overwritten at over.now bytes.old.items) }
     ensures err { OnErr result (bytes.new.items ≡ bytes.old.items) }
 {
     if over.is_empty() {
         return Ok(());
     }
+    if at == bytes.len() {
+        return bytes.extend_from_slice(over);
+    }
     let end = at + over.len();
     grow_to(bytes, end)?;
     bytes[at..end].copy_from_slice(over);
     Ok(())
-}
-
-// Copies the places from `start` up to `end`, where there are such, of a file to one of the same size.
-pub(crate) fn copy_range(to: &mut Vec<u8>, from: &[u8], start: usize, end: usize)
-    requires { vec_len to.old ≡ length from.now }
-    ensures len { vec_len to.new ≡ vec_len to.old }
-    ensures inside { HasRangeOf start end from.now to.new.items }
-    ensures outside { KeepsOutside start end to.old.items to.new.items }
-{
-    let end = end.min(from.len());
-    if start < end {
-        to[start..end].copy_from_slice(&from[start..end]);
-    }
 }
 
 // Copies the bytes from `offset` on until the room is full or they end, and answers how many.

@@ -1,20 +1,19 @@
 //! Changes of a file's bytes, and the order in which they were made.
-ghost use Rattle.std.specs.Prelude.{◌≡◌, ◌<◌, OnOk, OnErr};
+ghost use Rattle.std.specs.Prelude.{◌≡◌, ◌<◌, ◌^◌, length, OnOk, OnErr, IfOk};
 ghost use Rattle.raft_log_disk.specs.Disk.{changed, file_limit};
 ghost use Rattle.raft_log_disk.specs.Image.{end_of};
 
 use crate::bytes::{grow_to, overwrite};
-use std::alloc::AllocError;
+use crate::former::Former;
+use std::alloc::{AllocError, Global};
 
-/// A change of a file's bytes.
+/// A change of a file's bytes. What a write puts there isn't kept with it.
 #[derive(Debug, Drop)]
 pub enum Change {
     /// Bytes over the ones that stand from a place on, with zeros in a gap.
     Write {
         /// The place.
         offset: usize,
-        /// The bytes.
-        bytes: Vec<u8>,
         /// The bytes behind these that were handed in too, of a write that was refused when these had landed.
         rest: Vec<u8>,
     },
@@ -37,24 +36,25 @@ pub struct Stamped {
     pub stamp: u64,
     /// What is changed.
     pub change: Change,
+    /// How many bytes it wrote. They stand in the content after it.
+    pub length: usize,
+    /// What it replaced.
+    pub former: Former,
 }
 
 impl Change {
-    ghost use Rattle.raft_log_disk_storage.specs.Changes.{change_of, asked_of, TouchesWithin};
+    ghost use Rattle.raft_log_disk_storage.specs.Changes.{change_of, bytes_in};
+    ghost use Rattle.raft_log_disk_storage.specs.Former.{Restores, replaced};
     ghost use Rattle.raft_log_disk_storage.specs.Left.{left_front, left_as};
 
-    // Makes the change. Without memory nothing changes.
-    pub(crate) fn carry_out(&self, content: &mut Vec<u8>) -> Result<(), AllocError>
-        requires { end_of (change_of self.now) < file_limit }
-        ensures ok { OnOk result (content.new.items ≡ changed (change_of self.now) content.old.items) }
+    // Makes the change, a write with these bytes. Without memory nothing changes.
+    pub(crate) fn carry_out(&self, bytes: &[u8], content: &mut Vec<u8>) -> Result<(), AllocError>
+        requires { end_of (change_of self.now bytes.now) < file_limit }
+        ensures ok { OnOk result (content.new.items ≡ changed (change_of self.now bytes.now) content.old.items) }
         ensures err { OnErr result (content.new.items ≡ content.old.items) }
     {
         match self {
-            Change::Write {
-                offset,
-                bytes,
-                rest: _,
-            } => overwrite(content, *offset, bytes),
+            Change::Write { offset, rest: _ } => overwrite(content, *offset, bytes),
             Change::Shortening { size } => {
                 content.truncate(*size);
                 Ok(())
@@ -67,53 +67,102 @@ impl Change {
     pub(crate) fn carry_out_front(
         &self,
         count: usize,
+        bytes: &[u8],
         content: &mut Vec<u8>,
     ) -> Result<(), AllocError>
-        requires { end_of (change_of self.now) < file_limit }
-        ensures { OnOk result (content.new.items ≡ left_front count (change_of self.now) content.old.items) }
+        requires { end_of (change_of self.now bytes.now) < file_limit }
+        ensures { OnOk result
+            (content.new.items ≡ left_front count (change_of self.now bytes.now) content.old.items) }
     {
         match self {
-            Change::Write {
-                offset,
-                bytes,
-                rest: _,
-            } => overwrite(content, *offset, &bytes[..count.min(bytes.len())]),
+            Change::Write { offset, rest: _ } => {
+                overwrite(content, *offset, &bytes[..count.min(bytes.len())])
+            }
             Change::Shortening { size: _ } | Change::Growth { size: _ } => Ok(()),
         }
     }
 
     // Makes a write of other bytes in place of its own, or another change.
-    pub(crate) fn carry_out_as(&self, other: &[u8], content: &mut Vec<u8>) -> Result<(), AllocError>
-        requires { end_of (change_of self.now) < file_limit }
-        ensures { OnOk result (content.new.items ≡ left_as other.now (change_of self.now) content.old.items) }
+    pub(crate) fn carry_out_as(
+        &self,
+        other: &[u8],
+        bytes: &[u8],
+        content: &mut Vec<u8>,
+    ) -> Result<(), AllocError>
+        requires { end_of (change_of self.now bytes.now) < file_limit }
+        ensures { OnOk result
+            (content.new.items ≡ left_as other.now (change_of self.now bytes.now) content.old.items) }
     {
         match self {
-            Change::Write {
-                offset,
-                bytes,
-                rest: _,
-            } => overwrite(content, *offset, &other[..bytes.len().min(other.len())]),
-            Change::Shortening { size: _ } | Change::Growth { size: _ } => self.carry_out(content),
+            Change::Write { offset, rest: _ } => {
+                overwrite(content, *offset, &other[..bytes.len().min(other.len())])
+            }
+            Change::Shortening { size: _ } | Change::Growth { size: _ } => {
+                self.carry_out(bytes, content)
+            }
         }
     }
 
-    // The change, as it was asked for, touches the places from the first number up to the second.
-    pub(crate) fn touched(&self) -> (usize, usize)
-        ensures { TouchesWithin (asked_of self.now) result.0 result.1 }
+    // What the change is about to replace in a content.
+    pub(crate) fn former(
+        &self,
+        alloc: Global,
+        bytes: &[u8],
+        content: &[u8],
+    ) -> Result<Former, AllocError>
+        requires { length content.now < 2 ^ 63 }
+        ensures { IfOk result (Restores (change_of self.now bytes.now) content.now) }
+    {
+        let (start, end) = self.replaced(bytes, content.len());
+        Former::of(alloc, content, start, end)
+    }
+
+    // Which places of a content of this size the change replaces: from the first one up to the second.
+    fn replaced(&self, bytes: &[u8], size: usize) -> (usize, usize)
+        requires { size < 2 ^ 63 }
+        ensures { result ≡ replaced (change_of self.now bytes.now) size }
     {
         match self {
-            Change::Write {
-                offset,
-                bytes,
-                rest,
-            } => (
-                *offset,
-                offset
-                    .saturating_add(bytes.len())
-                    .saturating_add(rest.len()),
+            Change::Write { offset, rest: _ } => (
+                size.min(*offset),
+                size.min(offset.saturating_add(bytes.len())),
             ),
-            Change::Shortening { size } => (*size, usize::MAX),
-            Change::Growth { size: _ } => (0, 0),
+            Change::Shortening { size: left } => (size.min(*left), size),
+            Change::Growth { size: _ } => (size, size),
         }
+    }
+
+    // The bytes that a write of so many left in a content.
+    fn bytes_in<'a>(&self, length: usize, content: &'a [u8]) -> &'a [u8]
+        ensures { result.now ≡ bytes_in self.now length content.now }
+    {
+        match self {
+            Change::Write { offset, rest: _ } => {
+                let start = content.len().min(*offset);
+                let end = content.len().min(offset.saturating_add(length));
+                &content[start..end]
+            }
+            Change::Shortening { size: _ } | Change::Growth { size: _ } => &[],
+        }
+    }
+}
+
+impl Stamped {
+    ghost use Rattle.raft_log_disk_storage.specs.Former.{restored};
+    ghost use Rattle.raft_log_disk_storage.specs.Changes.{bytes_in};
+
+    // Takes the change back, and answers which bytes it wrote.
+    pub(crate) fn take_back(
+        &self,
+        alloc: Global,
+        content: &mut Vec<u8>,
+    ) -> Result<Vec<u8>, AllocError>
+        ensures before { OnOk result (content.new.items ≡ restored self.now.former content.old.items) }
+        ensures bytes { IfOk result (λ bytes.
+            bytes.items ≡ bytes_in self.now.change self.now.length content.old.items) }
+    {
+        let bytes = Vec::from_slice(alloc, self.change.bytes_in(self.length, content))?;
+        self.former.put_back(content)?;
+        Ok(bytes)
     }
 }

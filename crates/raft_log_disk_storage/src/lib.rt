@@ -5,6 +5,7 @@
 mod bytes;
 pub mod change;
 pub mod files;
+pub mod former;
 pub mod laws;
 mod order;
 pub mod remainder;
@@ -13,5 +14,6 @@ pub mod storage;
 
 pub use change::{Change, Stamped};
 pub use files::Stored;
+pub use former::Former;
 pub use remainder::{Piece, Remainder};
 pub use storage::{Node, Storage};

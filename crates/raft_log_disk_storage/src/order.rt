@@ -1,8 +1,7 @@
 //! In which order the changes of all files were made.
-ghost use Rattle.std.specs.Prelude.{◌≡◌, ◌++◌, map, IfOk, OnOk};
+ghost use Rattle.std.specs.Prelude.{◌≡◌, ◌++◌, IfOk, OnOk};
 ghost use Rattle.std.specs.List.Sorted.{IsNonDecreasing};
-ghost use Rattle.raft_log_disk_storage.specs.Changes.{made_of};
-ghost use Rattle.raft_log_disk_storage.specs.Stamps.{HasAllStamps, stamps_in, place_in};
+ghost use Rattle.raft_log_disk_storage.specs.Stamps.{HasAllStamps, stamps_on, place_in};
 
 use crate::change::Stamped;
 use crate::files::Stored;
@@ -25,7 +24,7 @@ pub(crate) fn sorted_stamps(alloc: Global, files: &[Option<Stored>]) -> Result<V
 
 // Puts the stamps of a file's changes behind those that are there.
 fn add_stamps(stamps: &mut Vec<u64>, changes: &[Stamped]) -> Result<(), AllocError>
-    ensures { OnOk result (stamps.new.items ≡ stamps.old.items ++ stamps_in (map made_of changes.now)) }
+    ensures { OnOk result (stamps.new.items ≡ stamps.old.items ++ stamps_on changes.now) }
 {
     stamps.reserve(changes.len())?;
     for stamped in changes {

@@ -1,48 +1,72 @@
 //! What a crash leaves of the files.
-ghost use Rattle.std.specs.Prelude.{◌≡◌, ℕ, ◌<◌, length, IfOk, OnOk, vec_len};
+ghost use Rattle.std.specs.Prelude.{◌≡◌, ℕ, ◌<◌, length, reverse, IfOk, OnOk, vec_len};
 ghost use Rattle.std.specs.List.Sorted.{IsNonDecreasing};
 ghost use Rattle.raft_log_disk.specs.Disk.{file_limit};
 ghost use Rattle.raft_log_disk.specs.Image.{end_of};
 ghost use Rattle.raft_log_disk_storage.specs.Changes.{change_of};
-ghost use Rattle.raft_log_disk_storage.specs.Held.{IfHeld, AllBecome, AreShort, held};
+ghost use Rattle.raft_log_disk_storage.specs.Held.{IfHeld, AllBecome, AreShort, held, before, all_written, items_of};
 ghost use Rattle.raft_log_disk_storage.specs.Left.{left_by};
 ghost use Rattle.raft_log_disk_storage.specs.Stamps.{left_of_file, left_held, place_in};
 
-use crate::change::Change;
+use crate::change::{Change, Stamped};
 use crate::files::Stored;
 use crate::order::place_of;
 use crate::remainder::{Piece, Remainder};
 use std::alloc::{AllocError, Global};
 
-// Makes what is left of the change at a place in the order of the calls.
+// Makes what is left of the change at a place in the order of the calls, of a write with these bytes.
 fn carry_out(
     what: &Remainder,
     place: usize,
     change: &Change,
+    bytes: &[u8],
     content: &mut Vec<u8>,
 ) -> Result<(), AllocError>
-    requires { end_of (change_of change.now) < file_limit }
+    requires { end_of (change_of change.now bytes.now) < file_limit }
     ensures { OnOk result
-        (content.new.items ≡ left_by what.now place (change_of change.now) content.old.items) }
+        (content.new.items ≡ left_by what.now place (change_of change.now bytes.now) content.old.items) }
 {
     match what {
         Remainder::LastSync => Ok(()),
-        Remainder::AllWritten => change.carry_out(content),
-        Remainder::First { pieces, bytes } => {
+        Remainder::AllWritten => change.carry_out(bytes, content),
+        Remainder::First {
+            pieces,
+            bytes: count,
+        } => {
             if place < *pieces {
-                change.carry_out(content)
+                change.carry_out(bytes, content)
             } else if place == *pieces {
-                change.carry_out_front(*bytes, content)
+                change.carry_out_front(*count, bytes, content)
             } else {
                 Ok(())
             }
         }
         Remainder::Pieces(list) => match list.get(place) {
-            Some(Piece::Keep) => change.carry_out(content),
-            Some(Piece::Bytes(other)) => change.carry_out_as(other, content),
+            Some(Piece::Keep) => change.carry_out(bytes, content),
+            Some(Piece::Bytes(other)) => change.carry_out_as(other, bytes, content),
             Some(Piece::Lose) | None => Ok(()),
         },
     }
+}
+
+// Takes back all changes, the last one first, and answers what they wrote, that of the last one first.
+fn take_back(
+    alloc: Global,
+    changes: &[Stamped],
+    content: &mut Vec<u8>,
+) -> Result<Vec<Vec<u8>>, AllocError>
+    ensures before { OnOk result (content.new.items ≡ before changes.now content.old.items) }
+    ensures pieces { IfOk result (λ pieces.
+        items_of pieces.items ≡ reverse (all_written changes.now content.old.items)) }
+{
+    let mut pieces = Vec::with_capacity(alloc, changes.len())?;
+    let mut left = changes.len();
+    while 0 < left {
+        left -= 1;
+        let piece = changes[left].take_back(alloc, content)?;
+        pieces.push(piece)?;
+    }
+    Ok(pieces)
 }
 
 // What is left of a file's bytes, where the stamps of all changes are these.
@@ -56,12 +80,14 @@ fn left_bytes(
     requires short { AreShort (held stored.now).changes }
     ensures { IfOk result (λ bytes. bytes.items ≡ left_of_file what.now stamps.now (held stored.now)) }
 {
-    let mut bytes = Vec::from_slice(alloc, &stored.synced)?;
+    let mut content = Vec::from_slice(alloc, &stored.content)?;
+    let mut pieces = take_back(alloc, &stored.changes, &mut content)?;
     for stamped in &stored.changes {
         let place = place_of(stamps, stamped.stamp);
-        carry_out(what, place, &stamped.change, &mut bytes)?;
+        let piece = pieces.pop().unwrap();
+        carry_out(what, place, &stamped.change, &piece, &mut content)?;
     }
-    Ok(bytes)
+    Ok(content)
 }
 
 // What is left of all files, where the stamps of all changes are these.
@@ -82,7 +108,7 @@ pub(crate) fn left_files(
         let after = match slot {
             Some(stored) => {
                 let bytes = left_bytes(alloc, what, stamps, stored)?;
-                Some(Stored::at_rest(alloc, bytes)?)
+                Some(Stored::at_rest(alloc, bytes))
             }
             None => None,
         };

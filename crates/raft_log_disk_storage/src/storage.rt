@@ -189,15 +189,12 @@ impl Storage {
         if !bytes.is_empty() && self.grows_past(id, offset + bytes.len(), free) {
             return Err(ErrorKind::StorageFull);
         }
-        let Ok(bytes) = Vec::from_slice(self.alloc, bytes) else {
-            return Err(ErrorKind::OutOfMemory);
-        };
         let change = Change::Write {
             offset,
-            bytes,
             rest: Vec::new(self.alloc),
         };
-        self.change(id, change).map_err(|_| ErrorKind::OutOfMemory)
+        self.change(id, change, bytes)
+            .map_err(|_| ErrorKind::OutOfMemory)
     }
 
     /// Writes the first bytes of a write that is refused into a file that is there; the others count as asked
@@ -229,18 +226,11 @@ impl Storage {
             return Err(ErrorKind::StorageFull);
         }
         let (front, rest) = bytes.split_at(count.min(bytes.len()));
-        let Ok(bytes) = Vec::from_slice(self.alloc, front) else {
-            return Err(ErrorKind::OutOfMemory);
-        };
         let Ok(rest) = Vec::from_slice(self.alloc, rest) else {
             return Err(ErrorKind::OutOfMemory);
         };
-        let change = Change::Write {
-            offset,
-            bytes,
-            rest,
-        };
-        self.change(id, change).map_err(|_| ErrorKind::OutOfMemory)
+        self.change(id, Change::Write { offset, rest }, front)
+            .map_err(|_| ErrorKind::OutOfMemory)
     }
 
     /// Shortens a file that is there to a size in bytes. It is refused as `OutOfMemory` alone.
@@ -252,7 +242,7 @@ impl Storage {
         ensures errors { IfErr result (λ error. error ≡ ErrorKind.OutOfMemory) }
         ensures whole { IsStorageSound self.new }
     {
-        self.change(id, Change::Shortening { size })
+        self.change(id, Change::Shortening { size }, &[])
             .map_err(|_| ErrorKind::OutOfMemory)
     }
 
@@ -282,7 +272,7 @@ impl Storage {
         if self.grows_past(id, size, free) {
             return Err(ErrorKind::StorageFull);
         }
-        self.change(id, Change::Growth { size })
+        self.change(id, Change::Growth { size }, &[])
             .map_err(|_| ErrorKind::OutOfMemory)
     }
 
@@ -293,20 +283,20 @@ impl Storage {
         free < size.saturating_sub(self.size(id)) as u64
     }
 
-    // Makes a change of a file that is there. The 2^64-th one finds no stamp, and is refused as for want of
-    // memory.
-    fn change(&mut self, id: usize, change: Change) -> Result<(), AllocError>
+    // Makes a change of a file that is there, a write with these bytes. The 2^64-th one finds no stamp, and is
+    // refused as for want of memory.
+    fn change(&mut self, id: usize, change: Change, bytes: &[u8]) -> Result<(), AllocError>
         requires there { (held_of self.old.files.items id ≡ None) → ⊥ }
-        requires short { end_of (asked_of change) < file_limit }
+        requires short { end_of (asked_of change bytes.now) < file_limit }
         requires whole { IsStorageSound self.old }
-        ensures ok { OnOk result (Makes id (change_of change) (rest_of change) self.old self.new) }
+        ensures ok { OnOk result (Makes id (change_of change bytes.now) (rest_of change) self.old self.new) }
         ensures err { OnErr result (IsSame self.old self.new) }
         ensures whole { IsStorageSound self.new }
     {
         if self.made == u64::MAX {
             return Err(AllocError);
         }
-        change_file(&mut self.files, id, self.made, change)?;
+        change_file(&mut self.files, self.alloc, id, self.made, change, bytes)?;
         self.made += 1;
         Ok(())
     }
@@ -319,7 +309,8 @@ impl Storage {
         ensures err { OnErr result (IsSame self.old self.new) }
         ensures whole { IsStorageSound self.new }
     {
-        flush_file(&mut self.files, id)
+        flush_file(&mut self.files, id);
+        Ok(())
     }
 
     /// Adds an empty file under a new name; its node number is that of files that were ever made. It is
@@ -334,7 +325,7 @@ impl Storage {
         let id = self.files.len();
         self.files.reserve(1)?;
         self.name(path, Node::File(id))?;
-        let empty = Some(Stored::empty(self.alloc));
+        let empty = Some(Stored::at_rest(self.alloc, Vec::new(self.alloc)));
         self.files.push(empty).unwrap();
         Ok(())
     }

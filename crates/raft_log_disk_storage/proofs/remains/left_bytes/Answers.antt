@@ -1,44 +1,50 @@
-use Rattle.std.proofs.Common.{sym, ◌∙◌, ap, subst, ◌≡◌, ◌+◌, ◌<◌, ℕ, List, ◌∷◌, map, drop}
-use Rattle.std.specs.List.{All}
-use Rattle.std.proofs.lemmas.List.Elements.{All-head, All-tail}
+use Rattle.std.proofs.Common.{sym, ◌∙◌, ap, subst, ◌≡◌, ◌<◌, ◌+◌, ◌++◌, ◌∷◌, [], ℕ, List, Option, length, get_or, drop, Vec, Global}
+use Rattle.std.specs.Option.{option_to_list}
 use Rattle.raft_log_disk.specs.Disk.{file_limit}
 use Rattle.raft_log_disk.specs.Image.{end_of}
 use Rattle.raft_log_disk_storage.specs.declared.change.Stamped.{Stamped}
-use Rattle.raft_log_disk_storage.specs.Changes.{change_of, rest_of, asked_of, with_rest, made_of}
-use Rattle.raft_log_disk_storage.specs.Held.{changes_in}
+use Rattle.raft_log_disk_storage.specs.Changes.{change_of}
+use Rattle.raft_log_disk_storage.specs.Held.{written}
 use Rattle.raft_log_disk_storage.specs.Left.{left_by}
-use Rattle.raft_log_disk_storage.specs.Stamps.{left_own, place_in}
-use Rattle.raft_log_disk_storage.proofs.Fronts.{front_short}
-use Rattle.raft_log_disk_storage.proofs.Items.{next_item}
+use Rattle.raft_log_disk_storage.specs.Stamps.{place_in}
+use Rattle.raft_log_disk_storage.proofs.TakingBack.{next_piece, next_ends, next_left}
 use Rattle.raft_log_disk_storage.proofs.remains.left_bytes.Goals as goal
-
--- the changes from this one on
-next_of : (c : goal.After-bytes-in-loop-stamped-1) → drop c.loop-stamped.stamped-index c.args.stored.now.changes.items ≡ c.stamped-item.result ∷ drop (c.loop-stamped.stamped-index + 1) c.args.stored.now.changes.items
-next_of c =
-    let value = c.deref-stamped-items.ensures.value in
-    subst (λ (us : List Stamped). drop c.loop-stamped.stamped-index us ≡ c.stamped-item.result ∷ drop (c.loop-stamped.stamped-index + 1) us) value
-    (next_item c.deref-stamped-items.result.now c.loop-stamped.stamped-index c.stamped-item.result c.loop-stamped-test.true c.stamped-item.is)
 
 pub carry_out-requires : goal.carry_out-requires
 carry_out-requires c =
-    front_short (change_of c.stamped-item.result.change) (rest_of c.stamped-item.result.change) (
-    All-head (λ p. end_of p < file_limit) (asked_of c.stamped-item.result.change) (changes_in (map made_of (drop (c.loop-stamped.stamped-index + 1) c.args.stored.now.changes.items)))
-    (subst (λ (us : List Stamped). All (λ p. end_of p < file_limit) (changes_in (map made_of us))) (next_of c) c.loop-stamped.invariant.ends))
-
-next_of_ok : (c : goal.In_ok-carry_out) → drop c.loop-stamped.stamped-index c.args.stored.now.changes.items ≡ c.stamped-item.result ∷ drop (c.loop-stamped.stamped-index + 1) c.args.stored.now.changes.items
-next_of_ok c =
-    subst (λ (us : List Stamped). drop c.loop-stamped.stamped-index us ≡ c.stamped-item.result ∷ drop (c.loop-stamped.stamped-index + 1) us) c.deref-stamped-items.ensures.value
-    (next_item c.deref-stamped-items.result.now c.loop-stamped.stamped-index c.stamped-item.result c.loop-stamped-test.true c.stamped-item.is)
+    let us = c.args.stored.now.changes.items in
+    let i = c.loop-stamped.stamped-index in
+    let u = c.stamped-item.result in
+    let start = c.args.stored.now.content.items in
+    let rest = c.pop.new.self.items in
+    let here : (i < length us) × (u ≡ get_or us i u) =
+    subst (λ (vs : List Stamped). (i < length vs) × (u ≡ get_or vs i u)) c.deref-stamped-items.ensures.value (c.loop-stamped-test.true, c.stamped-item.is) in
+    let popped : c.loop-stamped.pieces.items ≡ rest ++ c.unwrap-piece.result ∷ [] =
+    c.pop.ensures.items ∙ ap (λ (o : Option (Vec ℕ Global)). rest ++ option_to_list o) c.unwrap-piece.ensures in
+    let next = next_piece us i u start c.loop-stamped.pieces.items rest c.unwrap-piece.result here.0 here.1 c.loop-stamped.invariant.pieces popped in
+    let bytes : c.deref-in-loop-stamped.result.now ≡ written u (drop (i + 1) us) start = c.deref-in-loop-stamped.ensures.value ∙ next.1 in
+    subst (λ (xs : List ℕ). end_of (change_of u.change xs) < file_limit) (sym bytes) (next_ends us i u start here.0 here.1 c.loop-stamped.invariant.ends).0
 
 pub loop-stamped-preserved : goal.loop-stamped-preserved
 loop-stamped-preserved c =
     let what = c.args.what.now in
     let place = place_in c.args.stamps.now in
-    let m = made_of c.stamped-item.result in
-    let rest = map made_of (drop (c.loop-stamped.stamped-index + 1) c.args.stored.now.changes.items) in
+    let us = c.args.stored.now.changes.items in
+    let i = c.loop-stamped.stamped-index in
+    let u = c.stamped-item.result in
+    let start = c.args.stored.now.content.items in
+    let old = c.loop-stamped.content.items in
+    let rest = c.pop.new.self.items in
+    let here : (i < length us) × (u ≡ get_or us i u) =
+    subst (λ (vs : List Stamped). (i < length vs) × (u ≡ get_or vs i u)) c.deref-stamped-items.ensures.value (c.loop-stamped-test.true, c.stamped-item.is) in
+    let popped : c.loop-stamped.pieces.items ≡ rest ++ c.unwrap-piece.result ∷ [] =
+    c.pop.ensures.items ∙ ap (λ (o : Option (Vec ℕ Global)). rest ++ option_to_list o) c.unwrap-piece.ensures in
+    let next = next_piece us i u start c.loop-stamped.pieces.items rest c.unwrap-piece.result here.0 here.1 c.loop-stamped.invariant.pieces popped in
+    let bytes : c.deref-in-loop-stamped.result.now ≡ written u (drop (i + 1) us) start = c.deref-in-loop-stamped.ensures.value ∙ next.1 in
+    let made : c.carry_out.new.content.items ≡ left_by what c.place_of-place.result (change_of u.change (written u (drop (i + 1) us) start)) old =
+    c.in_ok-carry_out.ensures ∙ ap (λ (xs : List ℕ). left_by what c.place_of-place.result (change_of u.change xs) old) bytes in
     record {
-      same = ap (left_own what place rest) (c.in_ok-carry_out.ensures ∙ ap (λ (n : ℕ). left_by what n m.change c.loop-stamped.bytes.items) c.place_of-place.ensures)
-          ∙ (sym (ap (λ (us : List Stamped). left_own what place (map made_of us) c.loop-stamped.bytes.items) (next_of_ok c)) ∙ c.loop-stamped.invariant.same);
-      ends = All-tail (λ p. end_of p < file_limit) (with_rest m.change m.rest) (changes_in rest)
-          (subst (λ (us : List Stamped). All (λ p. end_of p < file_limit) (changes_in (map made_of us))) (next_of_ok c) c.loop-stamped.invariant.ends);
+      same = next_left what place us i u start old c.carry_out.new.content.items c.place_of-place.result here.0 here.1 c.place_of-place.ensures made ∙ c.loop-stamped.invariant.same;
+      pieces = next.0;
+      ends = (next_ends us i u start here.0 here.1 c.loop-stamped.invariant.ends).1;
     }

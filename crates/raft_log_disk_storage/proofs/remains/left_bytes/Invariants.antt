@@ -1,16 +1,16 @@
-use Rattle.std.proofs.Common.{◌≡◌, ◌<◌, drop, map}
+use Rattle.std.proofs.Common.{◌≡◌, ◌<◌, drop, reverse}
 use Rattle.std.specs.List.{All}
 use Rattle.raft_log_disk.specs.Disk.{file_limit}
 use Rattle.raft_log_disk.specs.Image.{end_of}
-use Rattle.raft_log_disk_storage.specs.Changes.{made_of}
-use Rattle.raft_log_disk_storage.specs.Held.{held, changes_in}
-use Rattle.raft_log_disk_storage.specs.Stamps.{left_own, place_in}
+use Rattle.raft_log_disk_storage.specs.Held.{held, changes_in, made_in, all_written, items_of}
+use Rattle.raft_log_disk_storage.specs.Stamps.{left_own, left_of_file, place_in}
 use Rattle.raft_log_disk_storage.proofs.remains.left_bytes.Given as goal
 
--- the changes still to come leave of the bytes what all leave of the synced ones
+-- the changes still to come, with the bytes that they wrote, leave of the content what all leave of the synced one
 abbrev pub invariant-loop-stamped : goal.invariant-loop-stamped
 invariant-loop-stamped l = record {
-  same : left_own l.what (place_in l.stamps) (map made_of (drop l.stamped-index l.stored.changes.items)) l.bytes.items
-      ≡ left_own l.what (place_in l.stamps) (held l.stored).changes l.stored.synced.items;
-  ends : All (λ c. end_of c < file_limit) (changes_in (map made_of (drop l.stamped-index l.stored.changes.items)));
+  same : left_own l.what (place_in l.stamps) (made_in (drop l.stamped-index l.stored.changes.items) l.stored.content.items) l.content.items
+      ≡ left_of_file l.what l.stamps (held l.stored);
+  pieces : items_of l.pieces.items ≡ reverse (all_written (drop l.stamped-index l.stored.changes.items) l.stored.content.items);
+  ends : All (λ c. end_of c < file_limit) (changes_in (made_in (drop l.stamped-index l.stored.changes.items) l.stored.content.items));
 }

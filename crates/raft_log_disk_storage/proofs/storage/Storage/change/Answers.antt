@@ -14,10 +14,10 @@ returns-in_err-change_file-clause-whole c = whole_same c.args.self.now _ c.requi
 
 pub returns-clause-ok : goal.returns-clause-ok
 returns-clause-ok c =
-    makes c.args.self.now _ c.args.id (change_of c.args.change) (rest_of c.args.change) c.requires.whole c.requires.there (λ q. refl) c.in_ok-change_file.ensures.ok
+    makes c.args.self.now _ c.args.id (change_of c.args.change c.args.bytes.now) (rest_of c.args.change) c.requires.whole c.requires.there (λ q. refl) c.in_ok-change_file.ensures.ok
     (let next : c.args.self.now.made + 1 ≡ suc c.args.self.now.made = omega arith in next) c.change_file.ensures.len
 
 pub returns-clause-whole : goal.returns-clause-whole
 returns-clause-whole c =
-    whole_makes c.args.self.now _ c.args.id (change_of c.args.change) (rest_of c.args.change) c.requires.whole c.requires.there c.requires.short (returns-clause-ok c) c.in_ok-change_file.ensures.ok
+    whole_makes c.args.self.now _ c.args.id (change_of c.args.change c.args.bytes.now) (rest_of c.args.change) c.requires.whole c.requires.there c.requires.short (returns-clause-ok c) c.in_ok-change_file.ensures.ok
     (let next : c.args.self.now.made + 1 ≡ suc c.args.self.now.made = omega arith in next)

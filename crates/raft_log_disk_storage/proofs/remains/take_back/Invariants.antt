@@ -1,0 +1,14 @@
+use Rattle.std.proofs.Common.{◌≡◌, ◌≤◌, ℕ, length, drop, reverse}
+use Rattle.raft_log_disk_storage.specs.Held.{before, all_written, items_of}
+use Rattle.raft_log_disk_storage.proofs.remains.take_back.Given as goal
+
+-- the changes from a place on are taken back, and their bytes are there
+abbrev pub invariant-loop-left : goal.invariant-loop-left
+invariant-loop-left l = record {
+  within : l.left ≤ length l.changes;
+  content : l.content.items ≡ before (drop l.left l.changes) l.initial.content.items;
+  pieces : items_of l.pieces.items ≡ reverse (all_written (drop l.left l.changes) l.initial.content.items);
+}
+
+abbrev pub decreases-loop-left : goal.decreases-loop-left
+decreases-loop-left l = l.left

@@ -4,8 +4,8 @@ use Rattle.raft_log_disk.specs.Disk.{Wrote, ShortenedTo, GrewTo, overwritten, ch
 use Rattle.raft_log_disk.specs.Disk as disk
 use Rattle.raft_log_disk_storage.specs.declared.former.Former.{Former}
 
--- the content before a change: no longer than it was, with the bytes that stood where others were put or where
--- it was cut
+-- the content before a change: no longer than it was, with the bytes that stood where others were put, or
+-- where it was cut
 abbrev pub restored : Former → List ℕ → List ℕ
 restored former after = overwritten former.place former.bytes.items (take former.size after)
 

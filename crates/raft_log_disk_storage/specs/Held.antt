@@ -18,7 +18,8 @@ pub record Held : Type 0 where
   pub synced : List ℕ
   pub changes : List Made
 
--- the content before these changes, the oldest one first, from the one after them: the last is taken back first
+-- the content before these changes, which stand the oldest first, from the one after them: the last one is
+-- taken back first
 abbrev pub before : List Stamped → List ℕ → List ℕ
 before [] content = content
 before (u ∷ us) content = restored u.former (before us content)

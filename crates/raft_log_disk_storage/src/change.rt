@@ -50,7 +50,8 @@ impl Change {
     // Makes the change, a write with these bytes. Without memory nothing changes.
     pub(crate) fn carry_out(&self, bytes: &[u8], content: &mut Vec<u8>) -> Result<(), AllocError>
         requires { end_of (change_of self.now bytes.now) < file_limit }
-        ensures ok { OnOk result (content.new.items ≡ changed (change_of self.now bytes.now) content.old.items) }
+        ensures ok { OnOk result
+            (content.new.items ≡ changed (change_of self.now bytes.now) content.old.items) }
         ensures err { OnErr result (content.new.items ≡ content.old.items) }
     {
         match self {

@@ -40,8 +40,8 @@ impl Stored {
         bytes: &[u8],
     ) -> Result<(), AllocError>
         requires { end_of (asked_of change bytes.now) < file_limit }
-        ensures ok { OnOk result
-            (held self.new ≡ with_made stamp (change_of change bytes.now) (rest_of change) (held self.old)) }
+        ensures ok { OnOk result (held self.new
+            ≡ with_made stamp (change_of change bytes.now) (rest_of change) (held self.old)) }
         ensures err { OnErr result (held self.new ≡ held self.old) }
     {
         self.changes.reserve(1)?;

@@ -1,5 +1,5 @@
-//! What a file system in memory holds: names, files, and of each file what is synced and the changes since, in the
-//! order of the calls over all files. It tells what a crash may leave of them.
+//! What a file system in memory holds: names, and of each file its content and the changes since its last sync, each
+//! with what it replaced. So it tells what is synced, and what a crash may leave in the order of all files' calls.
 #![tactic(auto)]
 
 mod bytes;

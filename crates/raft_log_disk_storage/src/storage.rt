@@ -283,8 +283,8 @@ impl Storage {
         free < size.saturating_sub(self.size(id)) as u64
     }
 
-    // Makes a change of a file that is there, a write with these bytes. The 2^64-th one finds no stamp, and is
-    // refused as for want of memory.
+    // Makes a change of a file that is there, a write with these bytes. The 2^64-th one finds no stamp, and
+    // is refused as for want of memory.
     fn change(&mut self, id: usize, change: Change, bytes: &[u8]) -> Result<(), AllocError>
         requires there { (held_of self.old.files.items id ≡ None) → ⊥ }
         requires short { end_of (asked_of change bytes.now) < file_limit }
@@ -301,7 +301,8 @@ impl Storage {
         Ok(())
     }
 
-    /// Makes a file's bytes durable, at the cost of its own changes. It is refused for want of memory alone.
+    /// Makes a file's bytes durable, at the cost of the number of its changes. It may be refused for want of
+    /// memory alone, though nothing is asked for now.
     pub fn flush(&mut self, id: usize) -> Result<(), AllocError>
         requires there { (held_of self.old.files.items id ≡ None) → ⊥ }
         requires whole { IsStorageSound self.old }

@@ -1,9 +1,9 @@
 -- The tables of all groups: what shows of each, what each promised, and which groups count.
-use Rattle.std.specs.Prelude.{◌≡◌, ℕ, Bool, false, Option, Some, None, is_some, option_map, if◌then◌else◌}
+use Rattle.std.specs.Prelude.{◌≡◌, ◌⊎◌, ℕ, Bool, true, false, Option, Some, None, is_some, option_map, if◌then◌else◌}
 use Rattle.std.specs.BTreeMap.{get}
 use Rattle.std.specs.Ordering.{nat_cmp}
 use Rattle.raft_log_table_lists.specs.Shown.{Shown, nothing_shown, span}
-use Rattle.raft_log_table_one.specs.Room.{Promise, no_promise}
+use Rattle.raft_log_table_one.specs.Room.{Promise, no_promise, IsVacant}
 use Rattle.raft_log_table_lists.specs.Replayed.{Replayed, nothing_replayed}
 use Rattle.raft_log_table_one.specs.Table.{Raw, promise, replay_of, shown}
 use Rattle.raft_log_table_all.specs.declared.group_table.GroupTable.{GroupTable}
@@ -78,3 +78,11 @@ PromisesSame old new = (g : ℕ) → promise_of new g ≡ promise_of old g
 -- the groups that have a table stay
 abbrev pub TablesSame : MemTables → MemTables → Type 0
 TablesSame old new = (g : ℕ) → has_table new g ≡ has_table old g
+
+-- a table is needed: its group counts, or it isn't like a new one
+abbrev pub IsNeededTable : GroupTable → Type 0
+IsNeededTable t = (t.counts ≡ true) ⊎ (IsVacant (shown t.table) (promise t.table) → ⊥)
+
+-- a group needs a table: it counts, or something shows of it, or is promised
+abbrev pub IsNeeded : MemTables → ℕ → Type 0
+IsNeeded m g = (counts m g ≡ true) ⊎ (IsVacant (shown_of m g) (promise_of m g) → ⊥)

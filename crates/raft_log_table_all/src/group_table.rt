@@ -1,5 +1,5 @@
 //! The table of one group, and whether the group counts.
-ghost use Rattle.std.specs.Prelude.{◌≡◌, ◌≤◌, ◌++◌, ◌&&◌, ◌||◌, false, map, not, ℕ, OnOk, OnErr, IfErr};
+ghost use Rattle.std.specs.Prelude.{◌≡◌, ◌≤◌, ◌++◌, ◌&&◌, ◌||◌, false, true, map, not, ℕ, OnOk, OnErr, IfErr};
 ghost use Rattle.raft_log_record_items.specs.Run.{IsRun};
 ghost use Rattle.raft_log_record_items.specs.Writing.{value_of};
 ghost use Rattle.raft_log_table_lists.specs.Bridge.{unmarked};
@@ -19,6 +19,7 @@ ghost use Rattle.raft_log_table_one.specs.Room.{
   with_room_of,
   without_moves,
   CanTake,
+  IsVacant,
 };
 ghost use Rattle.raft_log_table_one.specs.Table.{promise, replay_of, shown, RunRefused};
 ghost use Rattle.raft_log_table_all.specs.Bare.{HasNothing};
@@ -47,6 +48,7 @@ impl GroupTable {
     ghost use Rattle.raft_log_table_all.specs.Owing.{delete_item, owed_commands, AddsOwed};
     ghost use Rattle.raft_log_table_all.specs.Replaying.{MayBeRead, ReadRefused};
     ghost use Rattle.raft_log_table_all.specs.Rewriting.{rewritten_item};
+    ghost use Rattle.raft_log_table_all.specs.Tables.{IsNeededTable};
 
     /// The table of a group of which nothing is known.
     pub(crate) fn new(alloc: Global) -> GroupTable
@@ -237,6 +239,21 @@ impl GroupTable {
         ensures room { promise self.new.table ≡ with_room_of (promise self.old.table) (shown self.old.table) }
     {
         self.table.clear_marks();
+    }
+
+    /// No mark is owed any more. Answers whether the table is needed: where the group doesn't count, and nothing
+    /// shows then or is promised, it isn't.
+    pub(crate) fn settle(&mut self) -> bool
+        ensures shows { shown self.new.table ≡ unmarked (shown self.old.table) }
+        ensures counts { self.new.counts ≡ self.old.counts }
+        ensures room { promise self.new.table ≡ with_room_of (promise self.old.table) (shown self.old.table) }
+        ensures needed { result ≡ true → IsNeededTable self.new }
+        ensures vacant { result ≡ false → (self.new.counts ≡ false)
+            × IsVacant (shown self.new.table) (promise self.new.table) }
+    {
+        self.clear_marks();
+        let vacant = self.table.is_vacant();
+        self.counts || !vacant
     }
 
     /// Adds the marks that this table owes to Rewrite, of a group of this number. Refused, some are added.

@@ -59,10 +59,12 @@ fn show(alloc: Global, tables: &MemTables, want: &[(u64, &str)]) -> Result<bool,
 fn joined_segments_are_one_reading(rt: HostRuntime) -> Result<(), Fail> {
     let tables = read_once(rt.alloc())?;
     assert!(rt; show(rt.alloc(), &tables, &BOTH)?);
-    let tables = joined(rt.alloc())?;
+    let mut tables = joined(rt.alloc())?;
     assert!(rt; show(rt.alloc(), &tables, &BOTH)?);
     assert!(rt; tables.raft_groups()?.as_slice() == [7, 9].as_slice());
     assert!(rt; tables.known_groups()?.as_slice() == [7, 8, 9].as_slice());
+    tables.clear_marks();
+    assert!(rt; tables.known_groups()?.as_slice() == [7, 9].as_slice());
     Ok(())
 }
 

@@ -75,6 +75,10 @@ with_mark ks k = record ks { values = with_held ks.values k None; deleted = with
 abbrev pub emptied : Keys → Keys
 emptied ks = record ks { values = λ k. None }
 
+-- no key has a value, and those that are marked have room
+abbrev pub cleared_keys : Keys → Keys
+cleared_keys ks = record ks { values = λ k. None; has = ks.deleted }
+
 -- no key is marked
 abbrev pub unmarked_keys : Keys → Keys
 unmarked_keys ks = record ks { deleted = λ k. false }

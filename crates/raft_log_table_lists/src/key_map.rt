@@ -1,6 +1,7 @@
 //! The keys of a group, in their order, and room for keys that are to come.
-ghost use Rattle.std.specs.Prelude.{◌≡◌, Some, None, true, false, is_some, option_copied, option_map, IsTrue, OnOk, OnErr};
+ghost use Rattle.std.specs.Prelude.{◌≡◌, ◌↔◌, Some, None, true, false, is_some, option_copied, option_map, IsTrue, OnOk, OnErr};
 ghost use Rattle.raft_log_table_lists.specs.Keys.{
+  cleared_keys,
   emptied,
   joined_keys,
   keys_of,
@@ -94,6 +95,15 @@ impl KeySlot {
         self.held.is_some()
     }
 
+    /// The key has no value any more. Answers whether it is marked.
+    fn clear(&mut self) -> bool
+        ensures slot { self.new ≡ record self.old { held = None } }
+        ensures mark { result ≡ self.old.deleted }
+    {
+        self.held = None;
+        self.deleted
+    }
+
     /// The key has no value, and is marked.
     fn delete(&mut self)
         ensures { self.new ≡ record { held = None; deleted = true } }
@@ -129,6 +139,13 @@ impl KeyMap {
             alloc,
             slots: BTreeMap::new(alloc),
         }
+    }
+
+    /// Whether nothing is kept of any key, nor room for one.
+    pub fn is_empty(&self) -> bool
+        ensures { IsTrue result ↔ (keys_of self.now ≡ no_keys) }
+    {
+        self.slots.is_empty()
     }
 
     /// The value of a key, if it has one.
@@ -221,6 +238,13 @@ impl KeyMap {
             slot.hold(None);
             true
         });
+    }
+
+    /// No key has a value any more. Marks stay, and of a key without a mark nothing is kept, nor its room.
+    pub fn clear(&mut self)
+        ensures { keys_of self.new ≡ cleared_keys (keys_of self.old) }
+    {
+        self.slots.retain(|_, slot| slot.clear());
     }
 
     /// No key is marked any more, and of one that has no value nothing is kept, nor its room.

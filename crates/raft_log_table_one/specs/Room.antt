@@ -4,7 +4,7 @@ use Rattle.raft_log_model_laws.specs.Item.{Item}
 use Rattle.raft_log_model_laws.specs.Item.Item.{Run, Clean, Compact, Put, Del}
 use Rattle.raft_log_model_laws.specs.Holes.{Window}
 use Rattle.raft_log_machine_laws.specs.Whereabouts.{with_key}
-use Rattle.raft_log_table_lists.specs.Shown.{Shown, span, next_span, MayFollow, MayAllFollow}
+use Rattle.raft_log_table_lists.specs.Shown.{Shown, nothing_shown, span, next_span, MayFollow, MayAllFollow}
 
 -- room for so many places, and for so many entries to move into Rewrite; the ends that the entries have once
 -- all that was prepared is done, and the keys that have room
@@ -41,6 +41,10 @@ IsForgotten q = (q.wanted ≡ 0) × (q.moves ≡ 0)
 -- nothing is promised
 abbrev pub no_promise : Promise
 no_promise = record { wanted = 0; moves = 0; ends = record { first = 0; end = 0 }; has = λ k. false }
+
+-- a table like a new one: nothing shows, no mark is owed, no files are noted, and nothing is promised
+abbrev pub IsVacant : Shown → Promise → Type 0
+IsVacant v q = (v ≡ nothing_shown) × (q ≡ no_promise)
 
 module _ {E V : Type 0} where
   -- how many places the item asks for

@@ -1,5 +1,5 @@
 -- A table as it is kept: what shows of it, and what is promised.
-use Rattle.std.specs.Prelude.{◌≡◌, ℕ, ◌⊎◌, Bool, List, Option}
+use Rattle.std.specs.Prelude.{◌≡◌, ℕ, ◌⊎◌, Bool, false, List, length, Option, None}
 use Rattle.raft_log_record_base.specs.declared.errors.Error.{Error}
 use Rattle.raft_log_record_base.specs.declared.errors.Error.TheVariants as errors
 use Rattle.raft_log_model_laws.specs.Item.{Item}
@@ -10,7 +10,7 @@ use Rattle.raft_log_table_lists.specs.Replayed.{Replayed}
 use Rattle.raft_log_table_one.specs.declared.ends.Ends.{Ends}
 use Rattle.raft_log_table_runs.specs.Entries.{PlaceList}
 use Rattle.raft_log_table_lists.specs.declared.key_map.KeySlot.{KeySlot}
-use Rattle.raft_log_table_lists.specs.Keys.{keys_of}
+use Rattle.raft_log_table_lists.specs.Keys.{keys_of, no_keys}
 use Rattle.raft_log_table_one.specs.Room.{Promise}
 
 -- a table with its room
@@ -69,3 +69,17 @@ promise t = record {
 abbrev pub RunRefused : {E V : Type 0} → Window → Item E V → Error → Type 0
 RunRefused w x error =
     ((error ≡ errors.Hole) × (MayFollow w x → ⊥)) ⊎ ((error ≡ errors.Memory) × MayFollow w x)
+
+-- nothing stands in a table, and no key has room
+abbrev pub StandsEmpty : Raw → Type 0
+StandsEmpty t =
+    (t.first ≡ 0) × (t.rewritten ≡ 0) × (length t.places.items ≡ 0) × (keys_of t.keys ≡ no_keys)
+
+-- a table owes neither a Clean nor a Compact, and notes no files
+abbrev pub OwesNothing : Raw → Type 0
+OwesNothing t = (t.cleaned ≡ false) × (t.compacted ≡ false) × (t.noted ≡ None)
+
+-- a table promised no places and no moves, and the ends that are promised are those of nothing
+abbrev pub PromisesNothing : Raw → Type 0
+PromisesNothing t =
+    (t.ahead.first ≡ 0) × (t.ahead.end ≡ 0) × (t.places.wanted ≡ 0) × (t.places.moves ≡ 0)

@@ -1,5 +1,5 @@
 //! The table of one group: where its entries and keys stand.
-ghost use Rattle.std.specs.Prelude.{◌≡◌, ◌^◌, ◌++◌, map, nat_lt, slice_get, take, drop, vec_len, vec_capacity, IfOk, ◌+◌, ◌-◌, ◌≤◌, ◌<◌, ℕ, List, length, min, option_copied, true, Some, OnOk, OnErr, IfErr};
+ghost use Rattle.std.specs.Prelude.{◌≡◌, ◌↔◌, IsTrue, ◌^◌, ◌++◌, map, nat_lt, slice_get, take, drop, vec_len, vec_capacity, IfOk, ◌+◌, ◌-◌, ◌≤◌, ◌<◌, ℕ, List, length, min, option_copied, true, Some, OnOk, OnErr, IfErr};
 ghost use Rattle.raft_log_record_base.specs.declared.errors.Error.TheVariants as errors;
 ghost use Rattle.raft_log_record_items.specs.Run.{IsRun};
 ghost use Rattle.raft_log_model_laws.specs.Item.Item.{Clean, Compact, Del, Put};
@@ -31,9 +31,10 @@ ghost use Rattle.raft_log_table_one.specs.Room.{
   with_room_of,
   without_moves,
   CanTake,
+  IsVacant,
 };
 ghost use Rattle.raft_log_table_lists.specs.Replayed.{nothing_replayed};
-ghost use Rattle.raft_log_table_one.specs.Table.{promise, replay_of, runs_of, shown, window_of, IsBoundAs, RunRefused};
+ghost use Rattle.raft_log_table_one.specs.Table.{promise, replay_of, runs_of, shown, window_of, IsBoundAs, OwesNothing, PromisesNothing, RunRefused, StandsEmpty};
 
 mod files;
 mod merge;
@@ -503,6 +504,36 @@ impl MemTable {
         self.cleaned = false;
         self.compacted = false;
         self.keys.clear_marks();
+    }
+
+    /// Whether the table is like a new one: nothing shows, no mark is owed, no files are noted, and nothing is
+    /// promised.
+    pub fn is_vacant(&self) -> bool
+        ensures { IsTrue result ↔ IsVacant (shown self.now) (promise self.now) }
+    {
+        self.stands_empty() && self.owes_nothing() && self.promises_nothing()
+    }
+
+    /// Whether nothing stands, and no key has room.
+    fn stands_empty(&self) -> bool
+        ensures { IsTrue result ↔ StandsEmpty self.now }
+    {
+        let begins = self.first == 0 && self.rewritten == 0;
+        begins && self.places.len() == 0 && self.keys.is_empty()
+    }
+
+    /// Whether neither a Clean nor a Compact is owed, and no files are noted.
+    fn owes_nothing(&self) -> bool
+        ensures { IsTrue result ↔ OwesNothing self.now }
+    {
+        !self.cleaned && !self.compacted && self.noted.is_none()
+    }
+
+    /// Whether no places are promised, and the ends that are promised are those of nothing.
+    fn promises_nothing(&self) -> bool
+        ensures { IsTrue result ↔ PromisesNothing self.now }
+    {
+        self.ahead.first == 0 && self.ahead.end == 0 && self.places.is_unpromised()
     }
 
     /// Whether a Clean is owed to Rewrite.

@@ -1,5 +1,5 @@
 //! The places of a group's entries, and room for more.
-ghost use Rattle.std.specs.Prelude.{◌≡◌, ◌+◌, ◌-◌, ◌≤◌, ◌<◌, ◌++◌, [], length, map, take, drop, slice_get, Some, OnOk, OnErr};
+ghost use Rattle.std.specs.Prelude.{◌≡◌, ◌↔◌, IsTrue, ◌+◌, ◌-◌, ◌≤◌, ◌<◌, ◌++◌, [], length, map, take, drop, slice_get, Some, OnOk, OnErr};
 ghost use Rattle.raft_log_table_runs.specs.Entries.{place_of, entry_of};
 ghost use Rattle.raft_log_table_runs.specs.Blocks.{pieces};
 ghost use Rattle.raft_log_table_runs.specs.Counts.{passing, sized};
@@ -170,6 +170,13 @@ impl Places {
     {
         self.wanted = 0;
         self.moves = 0;
+    }
+
+    /// Whether no room is promised.
+    pub fn is_unpromised(&self) -> bool
+        ensures { IsTrue result ↔ ((self.now.wanted ≡ 0) × (self.now.moves ≡ 0)) }
+    {
+        self.wanted == 0 && self.moves == 0
     }
 
     /// The places of these entries come to the end, in room that was promised for them.

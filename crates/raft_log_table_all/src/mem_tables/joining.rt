@@ -1,5 +1,5 @@
 //! Tables that were read of segments, one behind the other, and of Append over Rewrite.
-ghost use Rattle.std.specs.Prelude.{◌≡◌, ◌==◌, false, ℕ, OnOk, OnErr, IfErr};
+ghost use Rattle.std.specs.Prelude.{◌≡◌, ◌==◌, false, true, ℕ, OnOk, OnErr, IfErr};
 ghost use Rattle.raft_log_record_base.specs.declared.errors.Error.TheVariants as errors;
 ghost use Rattle.raft_log_table_lists.specs.Bridge.{unmarked};
 ghost use Rattle.raft_log_table_all.specs.Joining.{
@@ -16,7 +16,7 @@ ghost use Rattle.raft_log_table_all.specs.Joining.{
 ghost use Rattle.raft_log_table_all.specs.Replaying.{StaysAt};
 ghost use Rattle.raft_log_table_one.specs.Table.{replay_of};
 ghost use Rattle.raft_log_table_one.specs.Room.{with_room_of};
-ghost use Rattle.raft_log_table_all.specs.Tables.{counts, promise_of, shown_of, IsAtRest};
+ghost use Rattle.raft_log_table_all.specs.Tables.{counts, has_table, promise_of, shown_of, IsAtRest, IsNeeded};
 
 use super::MemTables;
 use crate::group_table::GroupTable;
@@ -59,17 +59,16 @@ impl MemTables {
     }
 
     /// No mark is owed any more, of any group: all of them were written to Rewrite, and synced. Of keys without a
-    /// value nothing is kept, nor room that was made for them.
+    /// value nothing is kept, nor room that was made for them; and no table of a group that doesn't count, of which
+    /// nothing shows, and to which nothing is promised.
     pub fn clear_marks(&mut self)
         ensures shows { (g : ℕ) → shown_of self.new g ≡ unmarked (shown_of self.old g) }
         ensures counts { (g : ℕ) → counts self.new g ≡ counts self.old g }
         ensures promises { (g : ℕ) → promise_of self.new g
             ≡ with_room_of (promise_of self.old g) (shown_of self.old g) }
+        ensures needed { (g : ℕ) → has_table self.new g ≡ true → IsNeeded self.new g }
     {
-        self.groups.retain(|_, table| {
-            table.clear_marks();
-            true
-        });
+        self.groups.retain(|_, table| table.settle());
     }
 
     /// A table that was read of the next segment comes behind that of its group. Refused, nothing changes but

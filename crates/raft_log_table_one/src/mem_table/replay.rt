@@ -123,12 +123,14 @@ impl MemTable {
         self.take_back();
     }
 
-    /// A Clean that was read. Nothing is promised any more.
+    /// A Clean that was read. Nothing is promised any more, and of a key without a mark nothing is kept.
     pub fn replay_clean(&mut self)
         ensures read { (q : Bool) (n : ℕ) → replay_of self.new ≡ replayed q n (replay_of self.old) Clean }
+        ensures keys { (promise self.new).has ≡ (shown self.old).deleted }
         ensures ends { (promise self.new).ends ≡ span (shown self.new) }
         ensures forgotten { IsForgotten (promise self.new) }
     {
+        self.keys.clear();
         self.clean();
         self.take_back();
     }

@@ -1,9 +1,10 @@
-"""The harness is tried with the store of `fake_node`: the right one has to pass, and each wrong one has to be found out."""
+"""The harness is tried with the store of `fake_node` and the copies of `fake_operator`: right ones pass, wrong ones are found out."""
 import sys
 import time
 from random import Random
 
 from cutting import Cutter
+from forking import Forker
 from killing import Killer
 from node import Node, settings
 from refusing import Refuser
@@ -11,6 +12,8 @@ from running import HERE
 from trial import Room
 
 FAKE = [sys.executable, "-S", f"{HERE}/fake_node"]
+OPERATOR = [sys.executable, "-S", f"{HERE}/fake_operator"]
+COPIED = ["no-sync", "no-names", "no-home", "leaves-out", "cuts", "passes-over"]
 CUT = ["no-sync", "no-names", "answers-first", "renames-first", "stale", "no-front", "no-load-sync"]
 
 
@@ -41,16 +44,29 @@ def kills(room, seconds, _until_wrong):
     return killer, "kills"
 
 
+def copies(room, seconds, until_wrong, operator=None):
+    """Copies for so long, or until something is wrong."""
+    end, number = time.time() + seconds, 0
+    forker = Forker(room, Random(1), settings, 10, OPERATOR + (operator or []))
+    while time.time() < end and not (until_wrong and forker.wrong):
+        forker.log(f"log {number}")
+        number += 1
+    return forker, "copies"
+
+
 def try_fakes(path, library, seconds):
     """Tries each store; how many were judged wrongly."""
     failed = 0
     trials = [("right", each, False, {}) for each in (kills, cuts, refusals)]
     trials += [(wrong, cuts, True, {}) for wrong in CUT] + [("passes-over", refusals, True, {})]
     trials += [("right", cuts, True, {"drops": [kind]}) for kind in ("bytes", "names")]
+    trials += [("right", copies, False, {})]
+    trials += [("right", copies, True, {"operator": ["--wrong", wrong]}) for wrong in COPIED]
     for wrong, play, is_wrong, more in trials:
         room = Room(path, Node(FAKE + ([] if wrong == "right" else ["--wrong", wrong])), library)
         tried, word = play(room, seconds, is_wrong, **more)
-        dropped = f", syncs of {more['drops'][0]} dropped" if more else ""
+        dropped = f", syncs of {more['drops'][0]} dropped" if "drops" in more else ""
+        dropped += f", copied wrongly: {more['operator'][1]}" if "operator" in more else ""
         is_well = bool(tried.wrong) == is_wrong
         failed += not is_well
         print(f"{wrong}{dropped}: {tried.counts[word]} {word}, {len(tried.wrong)} wrong{'' if is_well else ': NOT AS IT SHOULD BE'}", flush=True)

@@ -3,6 +3,7 @@
 # runs both so many times, and prints the best of each. Each line that they print has the work, its MB/s (or what UNIT says) and
 # a sum, which must be the same.
 # Usage: bench/common/run.sh FOLDER ROUNDS CRATE..; the crates are those that main.rt.txt names. RT names the toolchain's command.
+# With FOLDER both are run in a new folder below it, which is emptied before each run.
 # With CLOCK=processor both are measured by processor time, for a machine with other work beside.
 set -euo pipefail
 here="$(cd "$1" && pwd)"
@@ -39,9 +40,16 @@ if [ "${CLOCK:-wall}" = processor ]; then
     "${CC:-cc}" -O2 -shared -fPIC -o "$room/clock.so" "$top/bench/common/processor_clock.c"
     clock=(env LD_PRELOAD="$room/clock.so")
 fi
+# Runs a program in a folder of its own.
+apart() {
+    local folder
+    folder="$(mktemp -d "${FOLDER:-$room}/bench.XXXXXX")"
+    (cd "$folder" && "${clock[@]}" "$1") || { rm -rf "$folder"; exit 1; }
+    rm -rf "$folder"
+}
 for _ in $(seq "$rounds"); do
-    "${clock[@]}" "$room/rust" >> "$room/rust.out"
-    "${clock[@]}" "$room/crates/$name/out/$name" >> "$room/rattle.out"
+    apart "$room/rust" >> "$room/rust.out"
+    apart "$room/crates/$name/out/$name" >> "$room/rattle.out"
 done
 awk -v unit="${UNIT:-MB/s}" 'FNR == NR { if ($2 > rust[$1]) rust[$1] = $2; sum[$1] = $3; next }
      { if (sum[$1] != $3) { print $1 ": the sums differ"; bad = 1 }

@@ -1,12 +1,14 @@
 //! A store of voters that a node has open.
 use crate::rounds::serve_round;
-use log::Log;
-use raft_log_engine::{Config, FileSystem, Nobody, Result};
+use log::{Log, info};
+use raft_log_engine::{Config, FileSystem, LogQueue, Nobody, Result};
 use raft_voter::{Request, RoundService};
 use raft_voter_store::VoterStore;
 use raft_voter_world::Event;
 use std::alloc::Global;
+use std::io;
 use std::thread::Threads;
+use std::time::{Clock, Instant};
 
 /// A store of voters that is open, and how many rounds it was handed.
 #[derive(Drop)]
@@ -17,21 +19,30 @@ pub struct Node<F> {
 }
 
 impl<F: FileSystem + Sync + Drop> Node<F> {
-    /// Opens the store whose log these settings name.
-    pub fn open<R: Threads + Log + Sync>(
+    /// Opens the store whose log these settings name. How long that took and which files the log has now is logged.
+    pub fn open<R: Threads + Log + Sync + Clock>(
         rt: &R,
         alloc: Global,
         config: Config,
         files: F,
     ) -> anyhow::Result<Node<F>> {
-        match VoterStore::open(rt, alloc, config, files, Nobody) {
-            Ok(store) => Ok(Node {
-                alloc,
-                store,
-                rounds: 0,
-            }),
-            Err(refused) => Err(refused.cause.into()),
-        }
+        let start = Instant::now(rt);
+        let store = match VoterStore::open(rt, alloc, config, files, Nobody) {
+            Ok(store) => store,
+            Err(refused) => return Err(refused.cause.into()),
+        };
+        let append = store.file_span(LogQueue::Append)?;
+        let rewrite = store.file_span(LogQueue::Rewrite)?;
+        let millis = millis_since(rt, start);
+        info!(
+            rt;
+            "opened in {millis} ms: append files {} to {}, rewrite files {} to {}", append.0, append.1, rewrite.0, rewrite.1
+        );
+        Ok(Node {
+            alloc,
+            store,
+            rounds: 0,
+        })
     }
 
     /// A line for each voter that is stored, its group and its status, sorted by group.
@@ -85,5 +96,13 @@ impl<F: FileSystem + Sync + Drop> Node<F> {
     /// Closes the store.
     pub fn close<R: Log>(self, rt: &R) -> F {
         self.store.close(rt)
+    }
+}
+
+/// How many milliseconds passed since a time that was asked for; 0 where the clock tells none.
+fn millis_since<R: Clock>(rt: &R, start: io::Result<Instant>) -> u128 {
+    match start.and_then(|start| start.elapsed(rt)) {
+        Ok(passed) => passed.as_millis(),
+        Err(_) => 0,
     }
 }

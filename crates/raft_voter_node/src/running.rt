@@ -7,11 +7,12 @@ use raft_log_engine::{Config, FileSystem};
 use std::alloc::Global;
 use std::io::{BufRead, Write};
 use std::thread::Threads;
+use std::time::Clock;
 
 /// Runs a node over these files: the voters that stand are told, and then `ready`; what each line or round asks is
 /// done, and told once it is durable. At the end of the input the store is closed, and the files are given back. Where
 /// the log fails, or the output, the node ends with that.
-pub fn run<R: Threads + Log + Sync, F: FileSystem + Sync + Drop, I: BufRead, W: Write>(
+pub fn run<R: Threads + Log + Sync + Clock, F: FileSystem + Sync + Drop, I: BufRead, W: Write>(
     rt: &R,
     alloc: Global,
     config: Config,

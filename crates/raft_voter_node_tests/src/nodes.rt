@@ -5,9 +5,10 @@ use raft_voter_node::run;
 use std::alloc::Global;
 use std::test::Fail;
 use std::thread::Threads;
+use std::time::Clock;
 
 /// Runs a node over these files: what it told, and the files behind its close; none where it ended before.
-fn told<R: Threads + Log + Sync>(
+fn told<R: Threads + Log + Sync + Clock>(
     rt: &R,
     alloc: Global,
     files: MemoryFileSystem,
@@ -22,7 +23,7 @@ fn told<R: Threads + Log + Sync>(
 }
 
 /// Whether a node over these files tells this, and then closes.
-fn tells<R: Threads + Log + Sync>(
+fn tells<R: Threads + Log + Sync + Clock>(
     rt: &R,
     alloc: Global,
     files: MemoryFileSystem,

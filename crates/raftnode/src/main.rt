@@ -16,6 +16,7 @@ use std::io::{BufReader, Eprint, Input, Print};
 use std::process::ExitCode;
 use std::rt::Files;
 use std::thread::Threads;
+use std::time::Clock;
 use std::{env, fs, io};
 
 /// The settings: of the file that the second argument names, or else the usual ones; in the directory that the first
@@ -47,7 +48,7 @@ fn files<R: Files<File = File> + AllocGlobal + Clone + Drop>(
 }
 
 /// Runs the node over these files.
-fn serve<R: Threads + Log + Sync + Input + Print + AllocGlobal, F: FileSystem + Sync + Drop>(
+fn serve<R: Threads + Log + Sync + Clock + Input + Print + AllocGlobal, F: FileSystem + Sync + Drop>(
     rt: &R,
     config: Config,
     files: F,

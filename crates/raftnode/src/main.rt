@@ -48,11 +48,10 @@ fn files<R: Files<File = File> + AllocGlobal + Clone + Drop>(
 }
 
 /// Runs the node over these files.
-fn serve<R: Threads + Log + Sync + Clock + Input + Print + AllocGlobal, F: FileSystem + Sync + Drop>(
-    rt: &R,
-    config: Config,
-    files: F,
-) -> anyhow::Result<()> {
+fn serve<
+    R: Threads + Log + Sync + Clock + Input + Print + AllocGlobal,
+    F: FileSystem + Sync + Drop,
+>(rt: &R, config: Config, files: F) -> anyhow::Result<()> {
     let mut input = BufReader::new(rt.alloc(), rt.reader())?;
     run(
         rt,

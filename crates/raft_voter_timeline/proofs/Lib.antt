@@ -1,0 +1,3 @@
+pub mod Escaping
+pub mod Gaining
+pub mod Drawn

@@ -1,0 +1,25 @@
+-- What the picture of a run is.
+use Rattle.std.specs.Prelude.{◌≡◌, ℕ, List, map}
+use Rattle.raft_voter_messages.specs.declared.round.Round.{Round}
+use Rattle.raft_voter.specs.Service.{Service}
+use Rattle.raft_voter_world.specs.declared.event.Event.{Event}
+use Rattle.raft_voter_world.specs.declared.report.WorldReport.{WorldReport}
+use Rattle.raft_voter_world.specs.Run.{IsRun}
+use Rattle.raft_voter_world.specs.Stores.{Disk, Upkeep}
+use Rattle.raft_voter_timeline.specs.declared.line.Line.{Line}
+use Rattle.raft_voter_timeline.specs.declared.line.Mark.{Mark}
+use Rattle.raft_voter_timeline.specs.Marks.{all_marks, event_mark, marks_of}
+use Rattle.raft_voter_timeline.specs.Picture.{ShowsLines}
+
+-- a picture of events with these marks, and of what came of their rounds: it shows lines with just the marks of both
+pub record DrawsRounds (events : List Mark) (rounds : List Round) (cuts picture : List ℕ) : Type 0 where
+  pub lines : List Line
+  pub marked : marks_of lines ≡ all_marks events rounds cuts
+  pub shown : ShowsLines lines picture
+
+-- a picture of a run of these events from these files on, with the rounds and the cuts of the run's report
+pub record DrawsRun {S F : Type 0} (v : Service S) (u : Upkeep S) (d : Disk S F) (files : F) (events : List Event)
+    (picture : List ℕ) : Type 0 where
+  pub report : WorldReport F
+  pub ran : IsRun v u d files events report
+  pub drawn : DrawsRounds (map event_mark events) report.transcript.rounds report.cuts picture

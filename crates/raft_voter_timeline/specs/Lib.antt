@@ -1,0 +1,4 @@
+pub mod Escape
+pub mod Marks
+pub mod Picture
+pub mod Drawing

@@ -1,0 +1,75 @@
+//! From the events of a session to their picture.
+ghost use Rattle.std.specs.Prelude.{IfOk, string_bytes};
+ghost use Rattle.raft_voter_timeline.specs.Drawing.{DrawsRounds, DrawsRun};
+ghost use Rattle.raft_voter_timeline.specs.Marks.{marks_of};
+
+use crate::line::Line;
+use crate::picture::svg_of;
+use crate::rounds::lines_of;
+use crate::titles::titles_of;
+use raft_voter::{Memory, Transcript, judge};
+use raft_voter_world::{Event, VoterDisk, VoterStorage, run_world};
+use std::alloc::Global;
+use std::collections::VecDeque;
+use std::thread::Threads;
+
+/// The picture of these events, as SVG: they are run over these files, and drawn with what came of them.
+///
+/// `Memory`: there was no room for the run or for the picture.
+pub fn draw_run<R: Threads + Sync, S: VoterStorage<R> + Drop, F: VoterDisk<R, S> + Drop>(
+    rt: &R,
+    alloc: Global,
+    files: F,
+    events: VecDeque<Event>,
+) -> Result<String, Memory>
+    ensures { IfOk result (λ picture.
+        DrawsRun S.service S.upkeep F.disk files events.items (string_bytes picture)) }
+{
+    let titles = titles_of(alloc, &events)?;
+    let report = run_world::<R, S, F>(rt, alloc, files, events)?;
+    let heading = heading_of(
+        alloc,
+        titles.len(),
+        &report.transcript,
+        report.cuts.as_slice(),
+    )?;
+    picture_of(
+        alloc,
+        heading.as_str(),
+        titles,
+        &report.transcript,
+        report.cuts.as_slice(),
+    )
+}
+
+/// What stands above the lines: how many events and rounds there are, and the verdict on them.
+fn heading_of(
+    alloc: Global,
+    events: usize,
+    transcript: &Transcript,
+    cuts: &[usize],
+) -> Result<String, Memory> {
+    let rounds = transcript.rounds.len();
+    let cut_off = cuts.len();
+    let verdict = if judge(alloc, transcript, cuts)? {
+        "yes"
+    } else {
+        "no"
+    };
+    Ok(format!(in alloc; "events {events}, rounds {rounds}, cut off {cut_off}, verdict {verdict}")?)
+}
+
+/// The picture of these events, with what came of their rounds.
+fn picture_of(
+    alloc: Global,
+    heading: &str,
+    titles: VecDeque<Line>,
+    transcript: &Transcript,
+    cuts: &[usize],
+) -> Result<String, Memory>
+    ensures { IfOk result (λ picture.
+        DrawsRounds (marks_of titles.items) transcript.now.rounds cuts.now (string_bytes picture)) }
+{
+    let lines = lines_of(alloc, titles, transcript.rounds.as_slice(), cuts)?;
+    svg_of(alloc, heading, lines.as_slice())
+}

@@ -1,0 +1,158 @@
+//! The lines of rounds, with what came of them.
+ghost use Rattle.std.specs.Prelude.{◌≡◌, ◌≤◌, ◌<◌, ◌+◌, ◌^◌, ◌++◌, IfOk, OnOk, length};
+ghost use Rattle.raft_voter_timeline.specs.Marks.{all_marks, cuts_behind, end_mark, fate, fates, head_mark, marks_of, round_marks, taken_up_to};
+
+use crate::line::{Line, Mark};
+use crate::requests::request_words;
+use raft_voter_messages::{Memory, Outcome, Request, Round};
+use std::alloc::Global;
+use std::collections::VecDeque;
+
+/// The lines of a picture, from top to bottom: those of the events, where the one of a round gives way to the lines of
+/// the next of these rounds, and each of them that was cut off takes the next cut.
+///
+/// `Memory`: there was no room for them.
+pub fn lines_of(
+    alloc: Global,
+    mut titles: VecDeque<Line>,
+    rounds: &[Round],
+    cuts: &[usize],
+) -> Result<Vec<Line>, Memory>
+    ensures { IfOk result (λ lines. marks_of lines.items ≡ all_marks (marks_of titles.items) rounds.now cuts.now) }
+{
+    let mut lines = Vec::new(alloc);
+    let mut rounds = rounds;
+    let mut cuts = cuts;
+    let mut number = 0usize;
+    while let Some(title) = titles.pop_front() {
+        if !title.is_round() {
+            lines.push(title)?;
+            continue;
+        }
+        let Some((round, behind)) = rounds.split_first() else {
+            lines.push(title)?;
+            continue;
+        };
+        push_round(alloc, &mut lines, number, round, taken_up_to(round, cuts))?;
+        rounds = behind;
+        cuts = cuts_behind(round, cuts);
+        number = number.saturating_add(1);
+    }
+    Ok(lines)
+}
+
+/// Up to which place a round was taken: an answered one as a whole, else up to the next of these cuts.
+fn taken_up_to(round: &Round, cuts: &[usize]) -> usize
+    ensures { result ≡ taken_up_to round.now cuts.now }
+{
+    let count = round.requests.len();
+    match (&round.outcome, cuts.first()) {
+        (Outcome::Answered(_), _) => count,
+        (Outcome::Cut, Some(cut)) => count.min(*cut),
+        (Outcome::Cut, None) => 0,
+    }
+}
+
+/// The cuts of the rounds behind this one.
+fn cuts_behind<'a>(round: &Round, cuts: &'a [usize]) -> &'a [usize]
+    ensures { result.now ≡ cuts_behind round.now cuts.now }
+{
+    match (&round.outcome, cuts.split_first()) {
+        (Outcome::Cut, Some((_, behind))) => behind,
+        _ => cuts,
+    }
+}
+
+/// Adds the lines of a round: how it ended, a line for each request that was taken up to this place, where that ends,
+/// and a line for each request behind it.
+fn push_round(
+    alloc: Global,
+    lines: &mut Vec<Line>,
+    number: usize,
+    round: &Round,
+    up_to: usize,
+) -> Result<(), Memory>
+    requires { up_to ≤ length round.now.requests }
+    ensures { OnOk result (marks_of lines.new.items ≡ marks_of lines.old.items ++ round_marks round.now up_to) }
+{
+    let (above, below) = round.requests.as_slice().split_at(up_to);
+    lines.push(head_line(alloc, number, round)?)?;
+    push_requests(alloc, lines, round, Mark::Taken, 0, above)?;
+    lines.push(end_line(alloc, round, up_to)?)?;
+    push_requests(alloc, lines, round, Mark::Lost, up_to, below)
+}
+
+/// The line with which a round begins.
+fn head_line(alloc: Global, number: usize, round: &Round) -> Result<Line, Memory>
+    ensures { IfOk result (λ line. line.mark ≡ head_mark round.now.outcome) }
+{
+    let text = format!(in alloc; "round {number}")?;
+    match &round.outcome {
+        Outcome::Answered(_) => Line::new(alloc, Mark::Answered, text.as_str(), "answered"),
+        Outcome::Cut => Line::new(alloc, Mark::CutOff, text.as_str(), "cut off: no replies"),
+    }
+}
+
+/// The line where what was taken of a round ends.
+fn end_line(alloc: Global, round: &Round, up_to: usize) -> Result<Line, Memory>
+    ensures { IfOk result (λ line. line.mark ≡ end_mark round.now.outcome) }
+{
+    match &round.outcome {
+        Outcome::Answered(_) => Line::new(alloc, Mark::Durable, "durable", ""),
+        Outcome::Cut => {
+            let text = format!(in alloc; "cut {up_to}: taken above, lost below")?;
+            Line::new(alloc, Mark::Cut, text.as_str(), "")
+        }
+    }
+}
+
+/// Adds a line for each of these requests of a round, of which the first stands at this place. They have this mark, but
+/// for those that were refused.
+fn push_requests(
+    alloc: Global,
+    lines: &mut Vec<Line>,
+    round: &Round,
+    mark: Mark,
+    from: usize,
+    requests: &[(u64, Request)],
+) -> Result<(), Memory>
+    requires { from + length requests.now < 2 ^ 64 }
+    ensures { OnOk result (marks_of lines.new.items ≡ marks_of lines.old.items
+        ++ fates round.now.refused mark from requests.now) }
+{
+    for (offset, (group, request)) in requests.iter().enumerate() {
+        let words = request_words(alloc, *group, request)?;
+        lines.push(request_line(alloc, round, mark, from + offset, words.as_str())?)?;
+    }
+    Ok(())
+}
+
+/// The line of the request at a place of a round, with these words and this mark, unless it was refused.
+fn request_line(
+    alloc: Global,
+    round: &Round,
+    mark: Mark,
+    place: usize,
+    words: &str,
+) -> Result<Line, Memory>
+    ensures { IfOk result (λ line. line.mark ≡ fate round.now.refused mark place) }
+{
+    let outcome = outcome_words(alloc, round, place, mark)?;
+    if round.refused.as_slice().contains(&place) {
+        return Line::new(alloc, Mark::Refused, words, outcome.as_str());
+    }
+    Line::new(alloc, mark, words, outcome.as_str())
+}
+
+/// What came of the request at a place: its reply, and where the round was cut off the name of its mark.
+fn outcome_words(alloc: Global, round: &Round, place: usize, mark: Mark) -> Result<String, Memory> {
+    if let Outcome::Answered(replies) = &round.outcome {
+        if let Some(reply) = replies.as_slice().get(place) {
+            return Ok(format!(in alloc; "{reply}")?);
+        }
+    }
+    if round.refused.as_slice().contains(&place) {
+        return Ok(String::from_str(alloc, "refused")?);
+    }
+    Ok(String::from_str(alloc, mark.name())?)
+}

@@ -1,0 +1,5 @@
+mod InTurn
+mod Alone
+pub mod Parted
+pub mod Told
+pub mod Believed

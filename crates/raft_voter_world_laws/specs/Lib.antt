@@ -1,0 +1,3 @@
+pub mod Independent
+pub mod Causes
+pub mod Readers

@@ -1,0 +1,11 @@
+//! What follows for whoever reads a run of a world, or hands rounds to a store: laws in the words of voters alone.
+//!
+//! Each public function is a law over the definitions of `specs/`: it does nothing, and its contract is what is
+//! proved.
+//! * [`rounds`]: rounds of which nothing was refused but requests out of range; [`causes`]: why each round of a run is
+//!   told as it is; [`readers`]: by which knowledge the premise on chance is checked.
+#![tactic(auto)]
+
+pub mod causes;
+pub mod readers;
+pub mod rounds;

@@ -1,0 +1,4 @@
+pub mod Losses
+pub mod Listed
+pub mod Alike
+pub mod Causing

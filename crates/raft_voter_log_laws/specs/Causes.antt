@@ -1,0 +1,45 @@
+-- Why rounds are cut off, and purges refused, of a store that keeps voters.
+use Rattle.std.specs.Prelude.{◌≡◌, ◌⊎◌, IsTrue, ℕ, true, List}
+use Rattle.raft_log_disk.specs.Causes.{Fails}
+use Rattle.raft_log_record_base.specs.declared.errors.Error.{Error}
+use Rattle.raft_log_record_base.specs.declared.errors.Error.TheVariants as errors
+use Rattle.raft_log_record_marks.specs.Key.{is_internal}
+use Rattle.raft_log_table_lists.specs.Shown.{Shown}
+use Rattle.raft_log_engine_laws.specs.Shows.{Home, LogMap, Shows, has_failed}
+use Rattle.raft_log_purge_parts.specs.Reasons.{HasReason}
+use Rattle.raft_log_engine_core.specs.Purging.{StopsPurgingExpired, StopsRewritingAppend}
+use Rattle.raft_voter_messages.specs.declared.request.Request.{Request}
+use Rattle.raft_voter_outline.specs.State.{State}
+use Rattle.raft_voter.specs.Rounds.{World}
+use Rattle.raft_voter_meaning_laws.specs.Voters.{Means}
+use Rattle.raft_voter_standing_laws.specs.Standing.{AreOutlines, Keeps}
+use Rattle.raft_voter_opening_laws.specs.raft_voter_store.specs.Rounds.{CutsRoundOff}
+
+-- A round is cut off by the file system only where a file call failed in it.
+abbrev pub CutRoundsHaveFailed : Type 0
+CutRoundsHaveFailed = (home : Home) (V : World) (requests : List (ℕ × Request)) (refused : List ℕ) (s t : Shows)
+    (os : ℕ → State) → Keeps home s V → AreOutlines os V → CutsRoundOff requests refused s t os
+    → Fails s.pipes.disk t.pipes.disk
+
+-- a purge of either kind was refused
+abbrev pub StopsPurge : Shows → Shows → Error → Type 0
+StopsPurge s t error = StopsPurgingExpired s t error ⊎ StopsRewritingAppend s t error
+
+-- A purge leaves a store failed only where a file call failed in it.
+abbrev pub FailedPurgesHaveFailed : Type 0
+FailedPurgesHaveFailed = (home : Home) (V : World) (s t : Shows) (error : Error) → Keeps home s V
+    → StopsPurge s t error → has_failed t ≡ true → Fails s.pipes.disk t.pipes.disk
+
+-- the deletion of one of the log's own keys is owed
+abbrev pub OwesOwnKey : (ℕ → Shown) → Type 0
+OwesOwnKey v = (g : ℕ) × (k : List ℕ) × IsTrue (is_internal k) × ((v g).deleted k ≡ true)
+
+-- Why a purge is refused of a log that means voters, as it is of any log; but no group has one of the log's own keys.
+abbrev pub HasVotersReason : Home → LogMap → Error → Shows → Shows → Type 0
+HasVotersReason home m (errors.InvalidArgument text) s t = OwesOwnKey t.tables
+HasVotersReason home m error s t = HasReason home m error s t
+
+-- A purge of a store tells why it was refused.
+abbrev pub PurgesTellCauses : Type 0
+PurgesTellCauses = (home : Home) (V : World) (s t : Shows) (error : Error) → Keeps home s V → StopsPurge s t error
+    → (m : LogMap) × Means m V × HasVotersReason home m error s t

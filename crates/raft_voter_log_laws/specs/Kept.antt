@@ -1,0 +1,20 @@
+-- What is told of voters that are kept.
+use Rattle.std.specs.Prelude.{◌≡◌, IsTrue, ℕ, List, None}
+use Rattle.raft_log_model_laws.specs.Meaning.Slot.{Key}
+use Rattle.raft_log_record_marks.specs.Key.{is_internal}
+use Rattle.raft_log_engine_laws.specs.Shows.{Home, LogMap, Shows}
+use Rattle.raft_voter_outline.specs.State.{State}
+use Rattle.raft_voter.specs.Rounds.{World}
+use Rattle.raft_voter_meaning_laws.specs.Voters.{Means}
+use Rattle.raft_voter_standing_laws.specs.Standing.{Keeps}
+use Rattle.raft_voter_reading.specs.Reading.{ListsVoters, world_in}
+
+-- A store that keeps voters lists just these.
+abbrev pub KeptVotersAreTold : Type 0
+KeptVotersAreTold = (home : Home) (s : Shows) (W : World) (voters : List (ℕ × State)) → Keeps home s W
+    → ListsVoters s voters → world_in voters ≡ W
+
+-- No group of a map that means voters has one of the log's own keys.
+abbrev pub VotersHaveNoOwnKey : Type 0
+VotersHaveNoOwnKey = (m : LogMap) (W : World) → Means m W → (g : ℕ) (k : List ℕ) → IsTrue (is_internal k)
+    → m g (Key k) ≡ None

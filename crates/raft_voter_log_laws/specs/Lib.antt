@@ -1,0 +1,4 @@
+pub mod Workers
+pub mod Chance
+pub mod Kept
+pub mod Causes

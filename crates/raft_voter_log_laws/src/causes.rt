@@ -1,0 +1,20 @@
+//! Why rounds are cut off, and purges refused.
+
+ghost use Rattle.raft_voter_log_laws.specs.Causes.{CutRoundsHaveFailed, FailedPurgesHaveFailed, PurgesTellCauses};
+
+/// The file system cuts a round off only where a file call failed in it: a stop, or a failure that was counted.
+pub fn cut_rounds_have_failed()
+    ensures { CutRoundsHaveFailed }
+{}
+
+/// A purge leaves a store failed only where a file call failed in it.
+pub fn failed_purges_have_failed()
+    ensures { FailedPurgesHaveFailed }
+{}
+
+/// A purge of a store is refused only for one of these causes: a file call failed, an entry wasn't read, a queue stands at
+/// the last number of a file, what a group has is too long for a record, a deletion of one of the log's own keys is owed,
+/// a file of Rewrite in use is none of its span's, or memory ran out.
+pub fn purges_tell_causes()
+    ensures { PurgesTellCauses }
+{}

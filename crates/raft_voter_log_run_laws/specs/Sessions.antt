@@ -1,0 +1,69 @@
+-- Sessions on a log whose crashes fall under stores that run, told by the bytes that they leave.
+use Rattle.std.specs.Prelude.{◌≡◌, ◌⊎◌, ℕ, false, List, [], ◌∷◌, ◌++◌}
+use Rattle.raft_log_disk.specs.Disk.{Disk as OnDisk}
+use Rattle.raft_log_disk_memory.specs.Memory.{disk_of}
+use Rattle.raft_log_disk_memory.specs.declared.memory.MemoryFileSystem.{MemoryFileSystem}
+use Rattle.raft_log_file_settings.specs.declared.config.Config.{Config}
+use Rattle.raft_log_engine_laws.specs.Shows.{Shows, has_failed, log_in}
+use Rattle.raft_log_open_laws.specs.Bare.{IsBare}
+use Rattle.raft_log_open_laws.specs.ByCalls.{home_of}
+use Rattle.raft_voter_outline.specs.State.{State}
+use Rattle.raft_voter.specs.Rounds.{Explains}
+use Rattle.raft_voter.specs.Service.{CutRound}
+use Rattle.raft_voter_store.specs.Service.{LeavesAt, service_in}
+use Rattle.raft_voter_world.specs.declared.event.Event.{Event}
+use Rattle.raft_voter_world.specs.declared.report.WorldReport.{WorldReport}
+use Rattle.raft_voter_world.specs.declared.storage.Storage.{Storage}
+use Rattle.raft_voter_world.specs.declared.storage.Storage.TheVariants.{Closed, Open}
+use Rattle.raft_voter_world.specs.Cuts.{NoneLost}
+use Rattle.raft_voter_world.specs.History.{Moment}
+use Rattle.raft_voter_world.specs.History.Change.{closes, purges, arms}
+use Rattle.raft_voter_world.specs.History.Moment.{opened, crashed, kept, answered, cut_off, idle}
+use Rattle.raft_voter_world.specs.Run.{IsRun, moments_of}
+use Rattle.raft_voter_log.specs.declared.files.LogFiles.{LogFiles}
+use Rattle.raft_voter_log.specs.Instance.{log_disk, log_upkeep}
+use Rattle.raft_voter_log.specs.Leaving.{SparesStore}
+use Rattle.raft_voter_log_laws.specs.Chance.{LeavesForeign, LosesWrites}
+
+-- A crash fell under a store that ran, and left of its last files only what it had written there.
+abbrev pub OnlyLoses : Config → Shows → OnDisk → Type 0
+OnlyLoses config s d = (has_failed s ≡ false) × LosesWrites (home_of config) s.pipes d
+
+-- In these moments a store is opened, serves rounds, is purged and has faults armed below it, and is crashed, where each
+-- crash only loses; and no round comes while none is open but is idle. Behind the last one it may be closed.
+abbrev pub CrashesOnlyLose : {S : Type 0} → (S → Config) → (S → Shows) → Storage S LogFiles
+    → List (Moment S LogFiles) → Type 0
+CrashesOnlyLose config shows storage [] = Unit {0}
+CrashesOnlyLose config shows (Closed files) (opened workers store voters place now ∷ ms) =
+    CrashesOnlyLose config shows (Open now) ms
+CrashesOnlyLose config shows (Open store) (answered round now ∷ ms) = CrashesOnlyLose config shows (Open now) ms
+CrashesOnlyLose config shows (Open store) (cut_off round cause now ∷ ms) = CrashesOnlyLose config shows (Open now) ms
+CrashesOnlyLose config shows (Open store) (kept (purges purge) (Open now) ∷ ms) =
+    CrashesOnlyLose config shows (Open now) ms
+CrashesOnlyLose config shows (Open store) (kept (arms fault) (Open now) ∷ ms) =
+    CrashesOnlyLose config shows (Open now) ms
+CrashesOnlyLose config shows (Open store) (kept closes (Closed files) ∷ []) = Unit {0}
+CrashesOnlyLose config shows (Open store) (crashed gone left ∷ ms) =
+    OnlyLoses (config store) (shows store) (disk_of left.files) × CrashesOnlyLose config shows (Closed left) ms
+CrashesOnlyLose config shows (Closed files) (idle round now ∷ ms) = CrashesOnlyLose config shows (Closed now) ms
+CrashesOnlyLose config shows storage ms = ⊥
+
+-- A run of a store on a log, from files on in which no log began, with such moments: nothing is lost, and voters that
+-- never fail explain its transcript.
+abbrev pub SessionsAskNothing : (S : Type 0) → (MemoryFileSystem → List ℕ → ℕ → Type 0) → Type 0
+SessionsAskNothing S tells = (config : S → Config) (files : S → MemoryFileSystem) (shows : S → Shows)
+    (outlines : S → ℕ → State) (first : LogFiles) (events : List Event) (report : WorldReport LogFiles)
+    → (run : IsRun (service_in (λ s. home_of (config s)) shows outlines) (log_upkeep files shows)
+    (log_disk tells config shows outlines) first events report)
+    → IsBare first.config (disk_of first.files)
+    → CrashesOnlyLose config shows (Closed first) (moments_of run.turns ++ run.closing)
+    → NoneLost (moments_of run.turns ++ run.closing) × Explains report.transcript.rounds report.cuts
+
+-- Of a store that runs: where a crash leaves a record that nobody wrote behind all that was written, in either queue,
+-- the premise on chance is broken, by whichever knowledge of what the store leaves.
+abbrev pub ForeignRecordsBreakPremise : Type 0
+ForeignRecordsBreakPremise = (config : Config) (s : Shows) (cut : CutRound) → has_failed s ≡ false
+    → (under : LeavesAt (home_of config) s cut) → (d : OnDisk)
+    → LeavesForeign (log_in (home_of config)).append.format s.pipes.append.files s.pipes.disk d
+    ⊎ LeavesForeign (log_in (home_of config)).rewrite.format s.pipes.rewrite.files s.pipes.disk d
+    → SparesStore (home_of config) s cut under d → ⊥

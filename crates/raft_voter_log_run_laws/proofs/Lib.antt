@@ -1,2 +1,3 @@
 pub mod Resting
 pub mod Walking
+pub mod Opening

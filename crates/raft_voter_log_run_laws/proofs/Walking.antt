@@ -23,17 +23,14 @@ use Rattle.raft_voter_world_laws.specs.Readers.{GoesBy}
 use Rattle.raft_voter_world_laws.proofs.Believed.{runs_go_by}
 use Rattle.raft_voter_world_laws.proofs.Told.{run_happened}
 use Rattle.raft_voter_log.specs.declared.files.LogFiles.{LogFiles}
-use Rattle.raft_voter_log.specs.Instance.{log_disk, log_upkeep}
+use Rattle.raft_voter_log.specs.Instance.{log_disk}
 use Rattle.raft_voter_log.specs.Leaving.FilesLeave.{bare}
-use Rattle.raft_voter_log_run_laws.specs.Sessions.{CrashesOnlyLose, SessionsAskNothing}
+use Rattle.raft_voter_log_run_laws.specs.Sessions.{CrashesOnlyLose, RunsAskNothing}
 use Rattle.raft_voter_log_run_laws.proofs.Resting.{IsPlain, IsPlainly, image_under, loses_rests, loses_spared, plain_spared}
 
-module _ {S : Type 0} (tells : MemoryFileSystem → List ℕ → ℕ → Type 0) (config : S → Config) (files : S → MemoryFileSystem) (shows : S → Shows) (outlines : S → ℕ → State) (End : Storage S LogFiles → CutRound → Type 0) where
+module _ {S : Type 0} (tells : MemoryFileSystem → List ℕ → ℕ → Type 0) (config : S → Config) (u : Upkeep S) (shows : S → Shows) (outlines : S → ℕ → State) (End : Storage S LogFiles → CutRound → Type 0) where
   abbrev v : Service S
   v = service_in (λ s. home_of (config s)) shows outlines
-
-  abbrev u : Upkeep S
-  u = log_upkeep files shows
 
   abbrev d : Disk S LogFiles
   d = log_disk tells config shows outlines
@@ -70,14 +67,14 @@ module _ {S : Type 0} (tells : MemoryFileSystem → List ℕ → ℕ → Type 0)
       walk (Closed now) cut still at_rest ms (goes.1 still) h.1 c
   walk storage cut known plain (m ∷ ms) goes h c = absurd c
 
-pub sessions_ask_nothing : (S : Type 0) (tells : MemoryFileSystem → List ℕ → ℕ → Type 0) → SessionsAskNothing S tells
-sessions_ask_nothing S tells config files shows outlines first events report run is only =
+pub runs_ask_nothing : {S : Type 0} (tells : MemoryFileSystem → List ℕ → ℕ → Type 0) (config : S → Config) (u : Upkeep S) (shows : S → Shows) (outlines : S → ℕ → State)
+    → RunsAskNothing (service_in (λ s. home_of (config s)) shows outlines) u (log_disk tells config shows outlines) config shows
+runs_ask_nothing {S} tells config u shows outlines first events report run is only =
     let v : Service S = service_in (λ s. home_of (config s)) shows outlines in
-    let u : Upkeep S = log_upkeep files shows in
     let d : Disk S LogFiles = log_disk tells config shows outlines in
     let ms = moments_of run.turns ++ run.closing in
     let goes = runs_go_by v u d first events report run (bare is refl) in
-    let ends = walk tells config files shows outlines (λ storage cut. EndsWell ms cut) (Closed first) (uncut fresh_world) (bare is refl) tt ms goes (run_happened v u d first events report run) only in (
+    let ends = walk tells config u shows outlines (λ storage cut. EndsWell ms cut) (Closed first) (uncut fresh_world) (bare is refl) tt ms goes (run_happened v u d first events report run) only in (
       ends.0,
       subst (λ (rounds : List Round). Explains rounds report.cuts) (sym run.rounds) (subst (λ (cuts : List ℕ). Explains (rounds_in ms) cuts) (sym run.cuts) ends.1.2.explained),
     )

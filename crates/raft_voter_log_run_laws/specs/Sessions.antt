@@ -1,16 +1,14 @@
 -- Sessions on a log whose crashes fall under stores that run, told by the bytes that they leave.
-use Rattle.std.specs.Prelude.{◌≡◌, ◌⊎◌, ℕ, false, List, [], ◌∷◌, ◌++◌}
+use Rattle.std.specs.Prelude.{◌≡◌, ◌⊎◌, false, List, [], ◌∷◌, ◌++◌}
 use Rattle.raft_log_disk.specs.Disk.{Disk as OnDisk}
 use Rattle.raft_log_disk_memory.specs.Memory.{disk_of}
-use Rattle.raft_log_disk_memory.specs.declared.memory.MemoryFileSystem.{MemoryFileSystem}
 use Rattle.raft_log_file_settings.specs.declared.config.Config.{Config}
 use Rattle.raft_log_engine_laws.specs.Shows.{Shows, has_failed, log_in}
 use Rattle.raft_log_open_laws.specs.Bare.{IsBare}
 use Rattle.raft_log_open_laws.specs.ByCalls.{home_of}
-use Rattle.raft_voter_outline.specs.State.{State}
 use Rattle.raft_voter.specs.Rounds.{Explains}
-use Rattle.raft_voter.specs.Service.{CutRound}
-use Rattle.raft_voter_store.specs.Service.{LeavesAt, service_in}
+use Rattle.raft_voter.specs.Service.{CutRound, Service}
+use Rattle.raft_voter_store.specs.Service.{LeavesAt}
 use Rattle.raft_voter_world.specs.declared.event.Event.{Event}
 use Rattle.raft_voter_world.specs.declared.report.WorldReport.{WorldReport}
 use Rattle.raft_voter_world.specs.declared.storage.Storage.{Storage}
@@ -20,8 +18,8 @@ use Rattle.raft_voter_world.specs.History.{Moment}
 use Rattle.raft_voter_world.specs.History.Change.{closes, purges, arms}
 use Rattle.raft_voter_world.specs.History.Moment.{opened, crashed, kept, answered, cut_off, idle}
 use Rattle.raft_voter_world.specs.Run.{IsRun, moments_of}
+use Rattle.raft_voter_world.specs.Stores.{Disk, Upkeep}
 use Rattle.raft_voter_log.specs.declared.files.LogFiles.{LogFiles}
-use Rattle.raft_voter_log.specs.Instance.{log_disk, log_upkeep}
 use Rattle.raft_voter_log.specs.Leaving.{SparesStore}
 use Rattle.raft_voter_log_laws.specs.Chance.{LeavesForeign, LosesWrites}
 
@@ -48,14 +46,11 @@ CrashesOnlyLose config shows (Open store) (crashed gone left ∷ ms) =
 CrashesOnlyLose config shows (Closed files) (idle round now ∷ ms) = CrashesOnlyLose config shows (Closed now) ms
 CrashesOnlyLose config shows storage ms = ⊥
 
--- A run of a store on a log, from files on in which no log began, with such moments: nothing is lost, and voters that
--- never fail explain its transcript.
-abbrev pub SessionsAskNothing : (S : Type 0) → (MemoryFileSystem → List ℕ → ℕ → Type 0) → Type 0
-SessionsAskNothing S tells = (config : S → Config) (files : S → MemoryFileSystem) (shows : S → Shows)
-    (outlines : S → ℕ → State) (first : LogFiles) (events : List Event) (report : WorldReport LogFiles)
-    → (run : IsRun (service_in (λ s. home_of (config s)) shows outlines) (log_upkeep files shows)
-    (log_disk tells config shows outlines) first events report)
-    → IsBare first.config (disk_of first.files)
+-- A run from files on in which no log began, with such moments: nothing is lost, and voters that never fail explain its
+-- transcript.
+abbrev pub RunsAskNothing : {S : Type 0} → Service S → Upkeep S → Disk S LogFiles → (S → Config) → (S → Shows) → Type 0
+RunsAskNothing {S} v u d config shows = (first : LogFiles) (events : List Event) (report : WorldReport LogFiles)
+    → (run : IsRun v u d first events report) → IsBare first.config (disk_of first.files)
     → CrashesOnlyLose config shows (Closed first) (moments_of run.turns ++ run.closing)
     → NoneLost (moments_of run.turns ++ run.closing) × Explains report.transcript.rounds report.cuts
 

@@ -1,19 +1,25 @@
 //! Sessions whose crashes fall under stores that run.
 
-ghost use Rattle.raft_voter_log_run_laws.specs.Sessions.{ForeignRecordsBreakPremise, SessionsAskNothing};
+ghost use Rattle.raft_log_engine_core.specs.Reads.{shows_of};
+ghost use Rattle.raft_voter_log_run_laws.specs.Sessions.{ForeignRecordsBreakPremise, RunsAskNothing};
 
-use raft_log_disk::FileSystem;
-use raft_log_disk_memory::MemoryFileSystem;
+use log::Log;
+use raft_log_engine::{EnginePipes, MemoryFileSystem, Nobody, PipeLog};
+use raft_voter::RoundService;
+use raft_voter_log::{LogFiles, LogVoters};
+use raft_voter_world::{VoterDisk, VoterStorage};
 
-/// The premise on chance is met by each session in which stores are opened, serve, are purged, and are crashed while they
-/// run, where each crash leaves of the last files only what was written there, a record torn or lost at the end: so
-/// nothing is lost at an open, and voters that never fail explain the rounds.
-pub fn sessions_ask_nothing<S>()
-    ensures { SessionsAskNothing S ⟦<MemoryFileSystem as FileSystem>⟧.tells_space }
+/// The premise on chance is met by each run over a log in which stores are opened, serve, are purged, and are crashed
+/// while they run, where each crash leaves of the last files only what was written there, a record torn or lost at the
+/// end: so nothing is lost at an open, and voters that never fail explain the rounds.
+pub fn runs_ask_nothing<R: Log>()
+    ensures { RunsAskNothing ⟦<LogVoters as RoundService<R>>⟧.service ⟦<LogVoters as VoterStorage<R>>⟧.upkeep
+        ⟦<LogFiles as VoterDisk<R, LogVoters>>⟧.disk (λ voters. voters.config)
+        (λ voters. shows_of ⟦<EnginePipes<MemoryFileSystem, Nobody> as PipeLog>⟧.shown voters.store.engine) }
 {}
 
-/// It is broken by a session in which a crash under a store that runs leaves a record behind all that was written, which
-/// no write handed in.
+/// It is broken by a run in which a crash under a store that runs leaves a record behind all that was written, which no
+/// write handed in.
 pub fn foreign_records_break_the_premise()
     ensures { ForeignRecordsBreakPremise }
 {}

@@ -1,3 +1,4 @@
 pub mod Resting
 pub mod Walking
 pub mod Opening
+pub mod Purging

@@ -3,8 +3,9 @@
 //! Each public function is a law over the definitions of `specs/`: it does nothing, and its contract is what is
 //! proved.
 //! * [`sessions`]: sessions that ask nothing of chance, and such that break its premise; [`workers`]: opens by any number
-//!   of workers.
+//!   of workers; [`purges`]: what a purge makes of the voters.
 #![tactic(auto)]
 
+pub mod purges;
 pub mod sessions;
 pub mod workers;

@@ -1,3 +1,4 @@
 pub mod Independent
 pub mod Causes
 pub mod Readers
+pub mod Examples

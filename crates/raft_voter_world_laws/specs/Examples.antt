@@ -1,0 +1,14 @@
+-- A short round of two groups: a vote, a request out of range, and a vote of another group.
+use Rattle.std.specs.Prelude.{◌^◌, ℕ, List, [], ◌∷◌}
+use Rattle.raft_voter_messages.specs.declared.reply.Reply.{Reply}
+use Rattle.raft_voter_messages.specs.declared.reply.Reply.TheVariants.{Granted, Refused}
+use Rattle.raft_voter_messages.specs.declared.request.Request.{Request}
+use Rattle.raft_voter_messages.specs.declared.request.Request.TheVariants.{Vote}
+
+-- the requests, with their groups
+abbrev pub mixed_round : List (ℕ × Request)
+mixed_round = (1, Vote 5 2 0 0) ∷ (1, Vote (2 ^ 63) 3 0 0) ∷ (2, Vote 1 1 0 0) ∷ []
+
+-- the replies
+abbrev pub mixed_replies : List Reply
+mixed_replies = Granted 5 ∷ Refused ∷ Granted 1 ∷ []

@@ -1,0 +1,3 @@
+mod Making
+mod Reading
+mod Copying

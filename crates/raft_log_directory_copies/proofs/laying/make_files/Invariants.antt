@@ -1,0 +1,7 @@
+use Rattle.std.proofs.Common.{take}
+use Rattle.raft_log_directory_copies.specs.Copies.{HoldsExactly}
+use Rattle.raft_log_directory_copies.proofs.laying.make_files.Given as goal
+
+-- the directory has the first files
+abbrev pub invariant-loop-file : goal.invariant-loop-file
+invariant-loop-file g l = HoldsExactly (take l.file-index l.files) l.directory (g.F.FileSystem.disk l.file_system)

@@ -1,0 +1,68 @@
+//! The files of a file system's directory are gathered.
+ghost use Rattle.std.specs.Prelude.{◌≡◌, Some, IfOk};
+ghost use Rattle.std.specs.String.{string_bytes};
+ghost use Rattle.raft_log_directory_copies.specs.Copies.{AreGathered, HasContent, path_in};
+
+use crate::fault::CopyFault;
+use crate::laying::path_in;
+use crate::stored_file::StoredFile;
+use raft_log_disk::{FileSystem, Permission};
+use std::alloc::Global;
+use std::io::ErrorKind;
+
+/// The files of a directory of a file system, each once, as they are read now, in no promised order. `FileSystem`
+/// where the directory isn't there or a file isn't read.
+pub fn gather<F: FileSystem>(
+    alloc: Global,
+    file_system: &F,
+    directory: &str,
+) -> Result<Vec<StoredFile>, CopyFault>
+    ensures { IfOk result (λ files. AreGathered files.items directory.now (F.disk file_system.now)) }
+{
+    let names = match file_system.list(directory) {
+        Ok(names) => names,
+        Err(kind) => return Err(CopyFault::of_file_system(alloc, directory, kind)),
+    };
+    let mut files = Vec::new(alloc);
+    for name in names.as_slice() {
+        let file = read_file(alloc, file_system, directory, name.as_str())?;
+        files.push(file)?;
+    }
+    Ok(files)
+}
+
+/// The file of a name in a directory.
+fn read_file<F: FileSystem>(
+    alloc: Global,
+    file_system: &F,
+    directory: &str,
+    name: &str,
+) -> Result<StoredFile, CopyFault>
+    ensures name { IfOk result (λ file. string_bytes file.name ≡ name.now) }
+    ensures bytes { IfOk result (λ file.
+        HasContent (path_in directory.now name.now) file.bytes.items (F.disk file_system.now)) }
+{
+    let path = path_in(alloc, directory, name)?;
+    let name = String::from_str(alloc, name)?;
+    match read_whole(alloc, file_system, path.as_str()) {
+        Ok(bytes) => Ok(StoredFile { name, bytes }),
+        Err(kind) => Err(CopyFault::of_file_system(alloc, path.as_str(), kind)),
+    }
+}
+
+/// All bytes of the file with a path.
+fn read_whole<F: FileSystem>(
+    alloc: Global,
+    file_system: &F,
+    path: &str,
+) -> Result<Vec<u8>, ErrorKind>
+    ensures { IfOk result (λ bytes. HasContent path.now bytes.items (F.disk file_system.now)) }
+{
+    let handle = file_system.open(path, Permission::ReadOnly)?;
+    let size = file_system.file_size(handle)?;
+    let Ok(mut bytes) = vec![in alloc; 0u8; size] else {
+        return Err(ErrorKind::OutOfMemory);
+    };
+    file_system.read_at(handle, 0, bytes.as_mut_slice())?;
+    Ok(bytes)
+}

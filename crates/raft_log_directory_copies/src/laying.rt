@@ -1,0 +1,83 @@
+//! Files are laid out in a directory of a file system.
+ghost use Rattle.std.specs.Prelude.{◌≡◌, IfOk, OnOk, true};
+ghost use Rattle.std.specs.String.{string_bytes};
+ghost use Rattle.raft_log_directory_copies.specs.Copies.{HoldsExactly, IsUnnamed, MakesFile, path_in};
+
+use crate::fault::CopyFault;
+use crate::stored_file::StoredFile;
+use raft_log_disk::FileSystem;
+use std::alloc::Global;
+use std::io::ErrorKind;
+
+/// Makes a directory, and in it each of these files, synced. Answered, the directory has exactly these files, all at
+/// rest; refused, it may have some of them. `FileSystem` where the file system refuses a call: `AlreadyExists` where the
+/// directory is there, or two files have one name. `Occupied` where the directory, once it is made, has a file.
+pub fn lay_out<F: FileSystem>(
+    alloc: Global,
+    files: &[StoredFile],
+    file_system: &mut F,
+    directory: &str,
+) -> Result<(), CopyFault>
+    ensures { OnOk result (HoldsExactly files.now directory.now (F.disk file_system.new)) }
+{
+    make_directory(alloc, file_system, directory)?;
+    make_files(alloc, files, file_system, directory)
+}
+
+/// Makes a directory without a file.
+fn make_directory<F: FileSystem>(
+    alloc: Global,
+    file_system: &mut F,
+    directory: &str,
+) -> Result<(), CopyFault>
+    ensures there { OnOk result ((F.disk file_system.new).directories directory.now ≡ true) }
+    ensures unnamed { OnOk result (IsUnnamed directory.now (F.disk file_system.new)) }
+{
+    if let Err(kind) = file_system.create_dir(directory) {
+        return Err(CopyFault::of_file_system(alloc, directory, kind));
+    }
+    match file_system.list(directory) {
+        Ok(names) if names.is_empty() => Ok(()),
+        Ok(_) => Err(CopyFault::of_occupied(alloc, directory)),
+        Err(kind) => Err(CopyFault::of_file_system(alloc, directory, kind)),
+    }
+}
+
+/// Makes each of these files in a directory that is there.
+fn make_files<F: FileSystem>(
+    alloc: Global,
+    files: &[StoredFile],
+    file_system: &mut F,
+    directory: &str,
+) -> Result<(), CopyFault>
+    requires there { (F.disk file_system.old).directories directory.now ≡ true }
+    requires unnamed { IsUnnamed directory.now (F.disk file_system.old) }
+    ensures { OnOk result (HoldsExactly files.now directory.now (F.disk file_system.new)) }
+{
+    for file in files {
+        let path = path_in(alloc, directory, file.name.as_str())?;
+        let made = make_file(file_system, path.as_str(), file.bytes.as_slice());
+        if let Err(kind) = made {
+            return Err(CopyFault::of_file_system(alloc, path.as_str(), kind));
+        }
+    }
+    Ok(())
+}
+
+/// Makes a file of these bytes, and syncs it.
+fn make_file<F: FileSystem>(file_system: &mut F, path: &str, bytes: &[u8]) -> Result<(), ErrorKind>
+    ensures { OnOk result (MakesFile path.now bytes.now (F.disk file_system.old) (F.disk file_system.new)) }
+{
+    let handle = file_system.create(path)?;
+    file_system.write_at(handle, 0, bytes)?;
+    file_system.sync(handle)?;
+    Ok(())
+}
+
+/// The path of a file in a directory.
+pub(crate) fn path_in(alloc: Global, directory: &str, name: &str) -> Result<String, CopyFault>
+    ensures { IfOk result (λ path. string_bytes path ≡ path_in directory.now name.now) }
+{
+    let path = format!(in alloc; "{directory}/{name}")?;
+    Ok(path)
+}

@@ -1,1 +1,2 @@
 pub mod Settling
+mod Loaded

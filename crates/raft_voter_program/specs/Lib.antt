@@ -1,1 +1,4 @@
 pub mod Setup
+pub mod Asking
+pub mod Loading
+pub mod Keeping

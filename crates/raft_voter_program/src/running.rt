@@ -3,28 +3,40 @@ ghost use Rattle.std.specs.Prelude.{◌≡◌, false, true, IfOk, IfSome, OnErr}
 ghost use Rattle.raft_voter_run.specs.Run.{Ends, EndsEarly, WritesSession};
 ghost use Rattle.raft_voter_program.specs.Setup.{log_setup};
 
+use crate::arguments::Arguments;
+use crate::loading::load;
+use crate::saving::save;
 use crate::setup::LogSetup;
 use log::Log;
 use raft_voter::RoundService;
 use raft_voter_log::{LogFiles, LogVoters};
-use raft_voter_run::{exit_status, has_arguments};
+use raft_voter_run::exit_status;
 use raft_voter_world::{VoterDisk, VoterStorage};
 use std::alloc::Global;
 use std::env::Env;
+use std::fs::File;
 use std::io;
 use std::io::{Input, Print, Read, Write};
+use std::rt::Files;
 use std::thread::Threads;
 
-/// The whole program over its runtime: with arguments they are refused, else the session on standard input is
-/// run. The answer is the status with which it ends.
-pub fn start(rt: &(impl Env + Input + Print + Threads + Log + Sync + AllocGlobal)) -> u8 {
-    let ended = program(
-        rt,
-        has_arguments(rt),
-        rt.alloc(),
-        &mut rt.reader(),
-        &mut io::writer(rt),
-    );
+/// The whole program over its runtime: without arguments the session on standard input is run, and with `--save` and a
+/// directory its log is kept there; with `--load` and a directory the voters of the log there are told; others are
+/// refused. The answer is the status with which it ends.
+pub fn start<
+    R: Env + Input + Print + Threads + Log + Sync + Files<File = File> + AllocGlobal + Clone + Drop,
+>(rt: &R) -> u8 {
+    let mut reader = rt.reader();
+    let mut writer = io::writer(rt);
+    let ended = match Arguments::read(rt) {
+        Ok(Arguments::Nothing) => program(rt, false, rt.alloc(), &mut reader, &mut writer),
+        Ok(Arguments::Load(directory)) => { load(rt, rt.alloc(), directory.as_str(), &mut writer) }
+        Ok(Arguments::Save(directory)) => {
+            save(rt, rt.alloc(), directory.as_str(), &mut reader, &mut writer)
+        }
+        Ok(Arguments::Others) => program(rt, true, rt.alloc(), &mut reader, &mut writer),
+        Err(short) => Err(io::Error::from(short)),
+    };
     exit_status(ended)
 }
 

@@ -3,16 +3,16 @@ ghost use Rattle.std.specs.Prelude.{◌≡◌, IfErr, IfOk};
 ghost use Rattle.std.specs.Option.{option_map};
 ghost use Rattle.std.specs.String.{string_bytes};
 ghost use Rattle.raft_log_file_settings.specs.Settings.{settings_of};
-ghost use Rattle.raft_voter_program.specs.Setup.{IsUnset, log_setup, refusal_of, TellsSettings};
+ghost use Rattle.raft_voter_program.specs.Setup.{IsUnset, log_setup, refusal_of, TellsSettings, usual_settings};
 
 use log::Log;
 use raft_log_engine::{Config, Error};
 use raft_voter_log::{LogFiles, LogVoters};
 use raft_voter_run::{NoFiles, StoreSetup};
-use std::alloc::Global;
+use std::alloc::{AllocError, Global};
 
 /// The directory of the log where a session tells no settings.
-const USUAL_DIRECTORY: &str = "raft";
+pub(crate) const USUAL_DIRECTORY: &str = "raft";
 
 /// Begins a store in a file system in memory without a file.
 #[derive(Clone, Copy, Debug, PartialEq, Eq)]
@@ -38,17 +38,24 @@ fn config_of(alloc: Global, settings: &Option<String>) -> Result<Config, NoFiles
     ensures err { IfErr result (IsUnset (option_map string_bytes settings.now)) }
 {
     let Some(text) = settings else {
-        let mut config = Config::default(alloc);
-        let Ok(directory) = String::from_str(alloc, USUAL_DIRECTORY) else {
+        let Ok(config) = usual_config(alloc) else {
             return Err(NoFiles::Memory);
         };
-        config.dir = directory;
         return Ok(config);
     };
     match Config::from_toml(alloc, text.as_str()) {
         Ok(config) => Ok(config),
         Err(error) => Err(refusal_of(error)),
     }
+}
+
+/// The usual settings, in the usual directory.
+pub(crate) fn usual_config(alloc: Global) -> Result<Config, AllocError>
+    ensures { IfOk result (λ config. settings_of config ≡ usual_settings) }
+{
+    let mut config = Config::default(alloc);
+    config.dir = String::from_str(alloc, USUAL_DIRECTORY)?;
+    Ok(config)
 }
 
 /// Why there are no settings: want of memory, or else they are refused.

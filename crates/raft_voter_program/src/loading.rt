@@ -1,0 +1,69 @@
+//! The voters of a log that lies in a real directory.
+ghost use Rattle.std.specs.Prelude.{IfOk, OnErr};
+ghost use Rattle.raft_voter_program.specs.Loading.{IsLoaded, Loads, LoadsEarly};
+
+use crate::setup::{USUAL_DIRECTORY, usual_config};
+use log::{Log, error};
+use raft_log_directory_copies::{CopyFault, load_directory};
+use raft_log_engine::MemoryFileSystem;
+use raft_voter::RoundService;
+use raft_voter_listing::list_voters;
+use raft_voter_log::{LogFiles, LogVoters};
+use raft_voter_world::VoterDisk;
+use std::alloc::Global;
+use std::fs::File;
+use std::io;
+use std::io::{ErrorKind, Write};
+use std::rt::Files;
+use std::thread::Threads;
+
+/// Copies the files of a real directory into a file system in memory, opens a store on them with the usual settings,
+/// and writes a line for each of its voters, from the least group up, with status 0; or, with status 4, that the open
+/// is refused. Nothing in the real directory is changed. An `Err` tells that it can't be read, which is logged, and then
+/// nothing was written; or that memory, a read of the store or the writer was refused: then nothing was written, or
+/// the front of what may be written.
+pub fn load<R: Threads + Log + Sync + Files<File = File> + AllocGlobal + Clone + Drop, W: Write>(
+    rt: &R,
+    alloc: Global,
+    directory: &str,
+    writer: &mut W,
+) -> io::Result<u8>
+    ensures ok { IfOk result (Loads ⟦<LogVoters as RoundService<R>>⟧.service
+        ⟦<LogFiles as VoterDisk<R, LogVoters>>⟧.disk (W.contents writer.old) (W.contents writer.new)) }
+    ensures err { OnErr result (LoadsEarly ⟦<LogVoters as RoundService<R>>⟧.service
+        ⟦<LogFiles as VoterDisk<R, LogVoters>>⟧.disk (W.contents writer.old) (W.contents writer.new)) }
+{
+    let files = loaded_files(rt, alloc, directory)?;
+    let workers = files.config.recovery_threads as u64;
+    list_voters::<R, LogVoters, LogFiles, W>(rt, alloc, files, workers, writer)
+}
+
+/// The files of a real directory, in a file system in memory, as a log with the usual settings. Where they can't be
+/// read, that is logged.
+fn loaded_files<R: Log + Files<File = File> + AllocGlobal + Clone + Drop>(
+    rt: &R,
+    alloc: Global,
+    directory: &str,
+) -> io::Result<LogFiles>
+    ensures { IfOk result IsLoaded }
+{
+    let config = usual_config(alloc)?;
+    let mut files = MemoryFileSystem::new(alloc);
+    match load_directory(rt, directory, &mut files, USUAL_DIRECTORY) {
+        Ok(()) => Ok(LogFiles { config, files }),
+        Err(fault) => {
+            error!(rt; "{fault}");
+            Err(error_of(&fault))
+        }
+    }
+}
+
+/// Why files weren't loaded, as an error of reading.
+fn error_of(fault: &CopyFault) -> io::Error {
+    match fault {
+        CopyFault::System { error, .. } => error.kind().into(),
+        CopyFault::FileSystem { kind, .. } => (*kind).into(),
+        CopyFault::Occupied { .. } => ErrorKind::AlreadyExists.into(),
+        CopyFault::Memory => ErrorKind::OutOfMemory.into(),
+    }
+}

@@ -1,0 +1,115 @@
+//! A session whose log is kept in a real directory.
+ghost use Rattle.std.specs.Prelude.{IfOk, IfSome, OnErr, false, string_bytes};
+ghost use Rattle.raft_log_disk_memory.specs.Memory.{disk_of};
+ghost use Rattle.raft_voter_run.specs.Leaving.{WritesLeaving};
+ghost use Rattle.raft_voter_run.specs.Run.{EndsEarly, WritesSession};
+ghost use Rattle.raft_voter_program.specs.Keeping.{AreFilesIn, AreKept, EndsKept, IsToldOrUnkept};
+ghost use Rattle.raft_voter_program.specs.Setup.{log_setup};
+
+use crate::setup::LogSetup;
+use log::{Log, error};
+use raft_log_directory_copies::{CopyFault, StoredFile, gather, write_directory};
+use raft_log_engine::{FileSystem, MemoryFileSystem};
+use raft_voter::RoundService;
+use raft_voter_log::{LogFiles, LogVoters};
+use raft_voter_run::run_leaving;
+use raft_voter_world::{VoterDisk, VoterStorage};
+use std::alloc::Global;
+use std::fs::File;
+use std::io;
+use std::io::{ErrorKind, Read, Write};
+use std::rt::Files;
+use std::thread::Threads;
+
+/// The status where the files weren't kept.
+const UNKEPT: u8 = 3;
+
+/// Runs a session as `run` does and, where a verdict was written, writes the files that its log has in the end into a
+/// real directory, which has to be there: those of the settings' `dir` and then those of their `spill-dir`, so that of
+/// two files of one name the latter stays. The status is that of `run`, or 3 where the files can't be written, which
+/// is logged. An `Err` is one of `run`, and then nothing is kept.
+pub fn save<R: Threads + Log + Sync + Files<File = File> + AllocGlobal, I: Read, W: Write>(
+    rt: &R,
+    alloc: Global,
+    directory: &str,
+    reader: &mut I,
+    writer: &mut W,
+) -> io::Result<u8>
+    ensures ok { IfOk result (λ status. IfSome (I.remaining reader.old) (λ input.
+        EndsKept (WritesLeaving ⟦<LogVoters as RoundService<R>>⟧.service ⟦<LogVoters as VoterStorage<R>>⟧.upkeep
+        ⟦<LogFiles as VoterDisk<R, LogVoters>>⟧.disk log_setup) input
+        (W.contents writer.old) (W.contents writer.new) status)) }
+    ensures err { OnErr result (IfSome (I.remaining reader.old) (λ input.
+        EndsEarly (WritesSession ⟦<LogVoters as RoundService<R>>⟧.service ⟦<LogVoters as VoterStorage<R>>⟧.upkeep
+        ⟦<LogFiles as VoterDisk<R, LogVoters>>⟧.disk log_setup) false input
+        (W.contents writer.old) (W.contents writer.new))) }
+{
+    let ended = run_leaving::<R, LogVoters, LogFiles, LogSetup, I, W>(
+        rt,
+        alloc,
+        &LogSetup {},
+        reader,
+        writer,
+    )?;
+    Ok(kept(rt, alloc, directory, ended.status, &ended.files))
+}
+
+/// Keeps the files that a run left, where it left any; the status is the one that was told, or 3.
+fn kept<R: Log + Files<File = File> + AllocGlobal>(
+    rt: &R,
+    alloc: Global,
+    directory: &str,
+    told: u8,
+    left: &Option<LogFiles>,
+) -> u8
+    ensures { IsToldOrUnkept left.now told result }
+{
+    let Some(left) = left else {
+        return told;
+    };
+    match keep(rt, alloc, left, directory) {
+        Ok(()) => told,
+        Err(fault) => {
+            error!(rt; "{fault}");
+            UNKEPT
+        }
+    }
+}
+
+/// Writes the files of a log into a real directory that is there.
+fn keep<R: Files<File = File> + AllocGlobal>(
+    rt: &R,
+    alloc: Global,
+    log: &LogFiles,
+    directory: &str,
+) -> Result<(), CopyFault> {
+    let files = kept_files(alloc, log)?;
+    write_directory(rt, files.as_slice(), directory)
+}
+
+/// The files of a log in memory: those of its main directory, and then those of its second one, where it has one. A
+/// directory that isn't there, as where no store was opened, has none. `FileSystem` where a file isn't read.
+pub fn kept_files(alloc: Global, log: &LogFiles) -> Result<Vec<StoredFile>, CopyFault>
+    ensures { IfOk result (λ files. AreKept log.now files.items) }
+{
+    let mut files = files_in(alloc, &log.files, log.config.dir.as_str())?;
+    if let Some(second) = &log.config.spill_dir {
+        let mut spilled = files_in(alloc, &log.files, second.as_str())?;
+        files.append(&mut spilled)?;
+    }
+    Ok(files)
+}
+
+/// The files of a directory, and none where it isn't there.
+fn files_in(
+    alloc: Global,
+    files: &MemoryFileSystem,
+    directory: &str,
+) -> Result<Vec<StoredFile>, CopyFault>
+    ensures { IfOk result (λ found. AreFilesIn (disk_of files.now) directory.now found.items) }
+{
+    match files.list(directory) {
+        Err(ErrorKind::NotFound) if !files.has_stopped() => Ok(Vec::new(alloc)),
+        _ => gather(alloc, files, directory),
+    }
+}

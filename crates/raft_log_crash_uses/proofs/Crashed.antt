@@ -1,5 +1,5 @@
 -- What was saved is read behind a crash.
-use Rattle.std.proofs.Common.{◌≡◌, ℕ, ◌≤◌, List, [], ◌∷◌, length, take, Option, Some, refl, sym, ap, subst, ◌∙◌}
+use Rattle.std.proofs.Common.{◌≡◌, ℕ, List, [], ◌∷◌, take, Option, refl, sym, ap, subst}
 use Rattle.std.proofs.Math.Seq.{take-nil}
 use Rattle.raft_log_engine.specs.raft_log_model_laws.specs.Groups.{taken}
 use Rattle.raft_log_engine.specs.raft_log_disk.specs.Disk.{Disk, empty_disk}
@@ -11,12 +11,11 @@ use Rattle.raft_log_engine.specs.raft_log_file_pair.specs.Pipes.{Said}
 use Rattle.raft_log_engine.specs.raft_log_engine_laws.specs.Shows.{LogMap, Shows}
 use Rattle.raft_log_open_laws.specs.Bare.{IsBare}
 use Rattle.raft_log_open_laws.specs.ByCalls.{home_of}
-use Rattle.raft_log_open_laws.specs.Running.{LeavesNoChance}
 use Rattle.raft_log_open_laws.proofs.Bare.{bare_directories_open}
 use Rattle.raft_log_open_laws.proofs.Running.{crashed_engines_open}
 use Rattle.raft_log_engine.specs.raft_log_engine_laws.specs.Reading.{StandsUnder}
 use Rattle.raft_log_crash_uses.specs.Saving.{Loads, Saves, put_of}
-use Rattle.raft_log_crash_uses.specs.Crashing.{SavesAcrossACrash}
+use Rattle.raft_log_crash_uses.specs.Crashing.{SavedValuesAreLoaded, SavesAcrossACrash}
 use Rattle.raft_log_crash_uses.proofs.Saved.{stands, told_value}
 use Rattle.raft_log_machine_laws.specs.Fresh.{nothing_stands}
 
@@ -37,18 +36,28 @@ bare config d empty = subst (IsBare config) (sym empty) (record {
   unnamed = λ path among. refl;
 })
 
+-- a value that was saved is loaded behind a crash
+pub saved_values_are_loaded : {F : Type 0} (disk : F → Disk) (tells : F → List ℕ → ℕ → Type 0) → ((system : F) → IsSound (disk system)) → SavedValuesAreLoaded disk tells
+saved_values_are_loaded disk tells sound config again g k v nothing left engine found none saves is named chance loads =
+    let fresh = (bare_directories_open disk tells config nothing (sound nothing) none).answered saves.pipes saves.tables saves.opens in
+    let map : LogMap = taken nothing_stands (put_of g k v ∷ []) in
+    let holds = saves.saved (home_of config) nothing_stands fresh in
+    let (count, within, rests, opens) = crashed_engines_open disk tells (home_of config) engine map [] holds left (sound left) is chance in
+    let now = (opens again named).answered loads.pipes loads.tables loads.opens in
+    let told = loads.told (home_of again) (taken map (take count [])) now in
+    let same : taken map (take count []) ≡ map = ap (λ (l : List Said). taken map l) (take-nil count) in
+    told_value map g k v found (stands nothing_stands g k v) (subst (λ (m : LogMap). StandsUnder m g k found) same told)
+
 module _ {F : Type 0} (disk : F → Disk) (tells : F → List ℕ → ℕ → Type 0) (sound : (system : F) → IsSound (disk system)) (config again : Config) (g : ℕ) (k v : List ℕ) (nothing left : F) (engine : Shows) (found : Option (List ℕ))
     (empty : disk nothing ≡ empty_disk) (saves : Saves disk tells config g k v nothing engine) (is : IsImage engine.pipes.disk (disk left)) (loads : Loads disk tells again g k left found) where
-  kept : home_of again ≡ home_of config → LeavesNoChance (home_of config) engine.pipes (disk left) → found ≡ Some v
-  kept named chance =
-      let fresh = (bare_directories_open disk tells config nothing (sound nothing) (bare config (disk nothing) empty)).answered saves.pipes saves.tables saves.opens in
-      let map : LogMap = taken nothing_stands (put_of g k v ∷ []) in
-      let holds = saves.saved (home_of config) nothing_stands fresh in
-      let (count, within, rests, opens) = crashed_engines_open disk tells (home_of config) engine map [] holds left (sound left) is chance in
-      let now = (opens again named).answered loads.pipes loads.tables loads.opens in
-      let told = loads.told (home_of again) (taken map (take count [])) now in
-      let same : taken map (take count []) ≡ map = ap (λ (l : List Said). taken map l) (take-nil count) in
-      told_value map g k v found (stands nothing_stands g k v) (subst (λ (m : LogMap). StandsUnder m g k found) same told)
-
   pub saves_across : SavesAcrossACrash disk tells config again g k v found
-  saves_across = record { nothing = nothing; empty = empty; engine = engine; saves = saves; left = left; kept = kept }
+  saves_across = record {
+    nothing = nothing;
+    empty = empty;
+    engine = engine;
+    saves = saves;
+    left = left;
+    crashes = is;
+    loads = loads;
+    kept = λ named chance. saved_values_are_loaded disk tells sound config again g k v nothing left engine found (bare config (disk nothing) empty) saves is named chance loads;
+  }

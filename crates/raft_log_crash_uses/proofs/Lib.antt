@@ -1,2 +1,13 @@
 mod Saved
+mod Named
+mod Valued
+mod Closed
+mod Between
+mod Written
+mod Folded
+mod Kept
+mod Rested
+mod Purged
+mod Both
+mod Copied
 mod Crashed

@@ -23,12 +23,13 @@ use Rattle.raft_log_engine.specs.raft_log_table_all.specs.declared.mem_tables.Me
 use Rattle.raft_log_engine.specs.raft_log_file_blocks.specs.declared.block_cache.BlockCache.{BlockCache}
 use Rattle.raft_log_engine.specs.raft_log_file_pair.specs.Pipes.{LogPipes, Said}
 use Rattle.raft_log_engine.specs.raft_log_engine_laws.specs.Shows.{Home, LogMap, Shows, said_of, shows}
-use Rattle.raft_log_engine.specs.raft_log_engine_laws.specs.Holding.{Holds}
+use Rattle.raft_log_engine.specs.raft_log_engine_laws.specs.Holding.{EndsAt, Holds}
 use Rattle.raft_log_engine.specs.raft_log_engine_laws.specs.Reading.{ReadsValue, StandsUnder}
 use Rattle.raft_log_engine.specs.raft_log_engine_laws.specs.Writing.{Writes, WritesBytes}
 use Rattle.raft_log_engine.specs.raft_log_open_directory.specs.Opening.{OpensDirectory}
 use Rattle.raft_log_open_laws.specs.Opened.{HoldsFresh}
 use Rattle.raft_log_crash_uses.specs.Saving.{Loads, Saves, put_of}
+use Rattle.raft_log_crash_uses.specs.Unsynced.{PutsUnsynced}
 
 -- a key that a batch took isn't the log's own
 pub users_key : (k : List ℕ) → (IsTrue (is_internal k) → false ≡ true) → is_internal k ≡ false
@@ -89,7 +90,26 @@ module _ {F : Type 0} (disk : F → Disk) (tells : F → List ℕ → ℕ → Ty
     | inr some ↦ record { pipes = pipes; tables = tables; opens = opens; saved = saved_in pipes tables cache b t none own items some.1 }
   ]
 
+  -- opened, and written without a sync
+  pub puts_in : (pipes : LogPipes) (tables : MemTables) (cache : BlockCache) (b : Batch) (len : ℕ) (t : Shows) → OpensDirectory disk tells config old pipes tables → cache.place ≡ None → is_internal k ≡ false
+      → b.items ≡ put_item g k v ∷ [] → WritesBytes b false len (shows pipes tables cache) t → PutsUnsynced disk tells config g k v old t
+  puts_in pipes tables cache b len t opens none own items wrote =
+      let says_it : said_of b ≡ put_of g k v = ap (λ l. unwrap_or (record_of (entry_bytes b.entries) l) (Plain [])) items ∙ put_said (entry_bytes b.entries) g k v own in elim wrote [
+        | inl nothing ↦ absurd (some_items b g k v items nothing.0)
+        | inr some ↦ record {
+          pipes = pipes;
+          tables = tables;
+          opens = opens;
+          put = λ home m fresh. subst (λ (r : Said). EndsAt home t m (r ∷ [])) says_it (some.1.holds home m [] (fresh cache none));
+        }
+      ]
+
   -- opened, and read
   pub loads_of : (pipes : LogPipes) (tables : MemTables) (cache : BlockCache) (found : Option (List ℕ)) → OpensDirectory disk tells config old pipes tables → cache.place ≡ None → ReadsValue (shows pipes tables cache) g k found
       → Loads disk tells config g k old found
   loads_of pipes tables cache found opens none reads = record { pipes = pipes; tables = tables; opens = opens; told = λ home m fresh. reads.exact home m [] (fresh cache none) }
+
+  -- opened, and read under these bytes
+  pub loads_under : (read : List ℕ) (pipes : LogPipes) (tables : MemTables) (cache : BlockCache) (found : Option (List ℕ)) → read ≡ k → OpensDirectory disk tells config old pipes tables → cache.place ≡ None → ReadsValue (shows pipes tables cache) g read found
+      → Loads disk tells config g k old found
+  loads_under read pipes tables cache found same opens none reads = loads_of pipes tables cache found opens none (subst (λ (x : List ℕ). ReadsValue (shows pipes tables cache) g x found) same reads)

@@ -1,11 +1,13 @@
 -- A log is begun, a key's value is saved in it, and the power goes.
 use Rattle.std.specs.Prelude.{◌≡◌, ℕ, List, Option, Some}
 use Rattle.raft_log_engine.specs.raft_log_disk.specs.Disk.{Disk, empty_disk}
+use Rattle.raft_log_engine.specs.raft_log_disk.specs.Image.{IsImage}
 use Rattle.raft_log_engine.specs.raft_log_file_settings.specs.declared.config.Config.{Config}
 use Rattle.raft_log_engine.specs.raft_log_engine_laws.specs.Shows.{Shows}
+use Rattle.raft_log_open_laws.specs.Bare.{IsBare}
 use Rattle.raft_log_open_laws.specs.ByCalls.{home_of}
 use Rattle.raft_log_open_laws.specs.Running.{LeavesNoChance}
-use Rattle.raft_log_crash_uses.specs.Saving.{Saves}
+use Rattle.raft_log_crash_uses.specs.Saving.{Loads, Saves}
 
 -- A value was saved in a log over a file system without files, a crash left one of it, and the key was read of
 -- that by other settings. Where these name the same directories, and no checksum was met by chance, it is the
@@ -17,5 +19,16 @@ pub record SavesAcrossACrash {F : Type 0} (disk : F → Disk) (tells : F → Lis
   pub engine : Shows
   pub saves : Saves disk tells config group key value nothing engine
   pub left : F
+  pub crashes : IsImage engine.pipes.disk (disk left)
+  pub loads : Loads disk tells again group key left found
   pub kept : home_of again ≡ home_of config → LeavesNoChance (home_of config) engine.pipes (disk left)
       → found ≡ Some value
+
+-- So it is of any file system, and of whatever a crash leaves of it: a value that was saved where no log was before
+-- is loaded, by whatever settings name the same directories.
+abbrev pub SavedValuesAreLoaded : {F : Type 0} → (F → Disk) → (F → List ℕ → ℕ → Type 0) → Type 0
+SavedValuesAreLoaded {F} disk tells = (config again : Config) (group : ℕ) (key value : List ℕ) (old left : F)
+    (engine : Shows) (found : Option (List ℕ)) → IsBare config (disk old)
+    → Saves disk tells config group key value old engine → IsImage engine.pipes.disk (disk left)
+    → home_of again ≡ home_of config → LeavesNoChance (home_of config) engine.pipes (disk left)
+    → Loads disk tells again group key left found → found ≡ Some value

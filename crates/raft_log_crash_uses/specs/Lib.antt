@@ -1,2 +1,11 @@
 pub mod Saving
 pub mod Crashing
+pub mod Keys
+pub mod Changing
+pub mod Ending
+pub mod Standing
+pub mod Lives
+pub mod Unsynced
+pub mod Purging
+pub mod Batches
+pub mod Copies

@@ -1,5 +1,13 @@
 //! Callers of an engine across a crash: what was answered before it is there behind it, whatever it left.
 #![tactic(auto)]
 
+pub mod batches;
+pub mod changing;
+pub mod copies;
 pub mod crashing;
+pub mod ending;
+pub mod laws;
+pub mod lives;
+pub mod purging;
 pub mod saving;
+pub mod unsynced;

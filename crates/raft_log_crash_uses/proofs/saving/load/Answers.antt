@@ -1,5 +1,4 @@
 use Rattle.std.proofs.Common.{[]}
-use Rattle.std.specs.Prelude.{option_map}
 use Rattle.std.proofs.lemmas.Result.{IfOk-weaker}
 use Rattle.raft_log_crash_uses.proofs.Saved.{loads_of}
 use Rattle.raft_log_crash_uses.proofs.saving.load.Goals as goal

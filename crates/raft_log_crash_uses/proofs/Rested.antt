@@ -1,0 +1,30 @@
+-- What stood when a crash came, and was left by it with nothing left to chance, rests.
+use Rattle.std.proofs.Common.{◌<◌, ℕ, List, [], length, take, inl, inr, subst}
+use Rattle.std.proofs.Math.Seq.{take-nil}
+use Rattle.raft_log_engine.specs.raft_log_model_laws.specs.Groups.{taken}
+use Rattle.raft_log_engine.specs.raft_log_disk.specs.Disk.{Disk}
+use Rattle.raft_log_engine.specs.raft_log_disk.specs.Image.{IsImage, IsSound}
+use Rattle.raft_log_engine.specs.raft_log_file_pair.specs.OnDisk.{LogRestsOn}
+use Rattle.raft_log_engine.specs.raft_log_file_pair.specs.Pipes.{Said}
+use Rattle.raft_log_engine.specs.raft_log_engine_laws.specs.Shows.{Home, LogMap, Shows, log_in}
+use Rattle.raft_log_open_laws.proofs.Directory.{crashed_directories_open}
+use Rattle.raft_log_open_laws.proofs.Running.{crashed_engines_open}
+use Rattle.raft_log_crash_uses.specs.Standing.{CrashesWithoutChance, RunsOrIsLeft}
+
+module _ {F : Type 0} (disk : F → Disk) (tells : F → List ℕ → ℕ → Type 0) (sound : (system : F) → IsSound (disk system)) (home : Home) (some : 0 < length home.append) (other : 0 < length home.rewrite) where
+  -- as the map after some first pending batches
+  pub rested : (e : Shows) (m : LogMap) (pending : List Said) (next : F) → IsImage e.pipes.disk (disk next) → (runs : RunsOrIsLeft home e m pending) → CrashesWithoutChance home e m pending runs (disk next)
+      → (k : ℕ) × LogRestsOn (log_in home) (disk next) (taken m (take k pending))
+  rested e m pending next is (inl holds) chance =
+      let (count, within, at, opens) = crashed_engines_open disk tells home e m pending holds next (sound next) is chance in
+      (count, at)
+  rested e m pending next is (inr left) chance =
+      let (count, within, at, opens) = crashed_directories_open disk tells home some other e.pipes.disk next m pending (sound next) left.1 chance in
+      (count, at)
+
+  -- as the map, where nothing was pending
+  pub rested_as : (e : Shows) (m : LogMap) (next : F) → IsImage e.pipes.disk (disk next) → (runs : RunsOrIsLeft home e m []) → CrashesWithoutChance home e m [] runs (disk next)
+      → LogRestsOn (log_in home) (disk next) m
+  rested_as e m next is runs chance =
+      let (count, at) = rested e m [] next is runs chance in
+      subst (λ (l : List Said). LogRestsOn (log_in home) (disk next) (taken m l)) (take-nil count) at

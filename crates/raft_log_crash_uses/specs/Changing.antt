@@ -1,0 +1,43 @@
+-- Keys of a log are changed: what a change says in a batch, and what an engine is then.
+use Rattle.std.specs.Prelude.{◌≡◌, ℕ, List, [], ◌∷◌, ◌++◌, Option, Some, None, false, map}
+use Rattle.std.specs.Global.{Vec}
+use Rattle.raft_log_engine.specs.raft_log_model_laws.specs.Groups.{taken}
+use Rattle.raft_log_engine.specs.raft_log_model_laws.specs.Item.{Item}
+use Rattle.raft_log_engine.specs.raft_log_model_laws.specs.Item.Item.{Del, Put}
+use Rattle.raft_log_engine.specs.raft_log_model_laws.specs.Item.Record.{Plain}
+use Rattle.raft_log_engine.specs.raft_log_record_items.specs.Items.{del_item, put_item}
+use Rattle.raft_log_engine.specs.raft_log_record_items.specs.declared.item.LogItem.{LogItem}
+use Rattle.raft_log_engine.specs.raft_log_record_marks.specs.Key.{is_internal}
+use Rattle.raft_log_engine.specs.raft_log_record_batches.specs.Batch.{Batch}
+use Rattle.raft_log_engine.specs.raft_log_file_pair.specs.Pipes.{Said}
+use Rattle.raft_log_engine.specs.raft_log_engine_laws.specs.Shows.{Home, LogMap, Shows}
+use Rattle.raft_log_engine.specs.raft_log_engine_laws.specs.Holding.{Holds}
+use Rattle.raft_log_crash_uses.specs.declared.changing.KeyChange.{KeyChange}
+
+-- what a change says of its group: the key gets the value, or it goes
+abbrev pub word_of : List ℕ → Option (Vec ℕ) → Item (List ℕ) (List ℕ)
+word_of key None = Del key
+word_of key (Some value) = Put key value.items
+
+-- the record of a batch that says it alone
+abbrev pub said_by : KeyChange → Said
+said_by c = Plain (record { group = c.group; item = word_of c.key.items c.value } ∷ [])
+
+-- the item of a batch that says it
+abbrev pub item_of : ℕ → List ℕ → Option (Vec ℕ) → LogItem
+item_of group key None = del_item group key
+item_of group key (Some value) = put_item group key value.items
+
+-- A change was added to a batch, and its key isn't the log's own.
+pub record AddsChange (c : KeyChange) (old new : Batch) : Type 0 where
+  pub adds : new.items ≡ old.items ++ item_of c.group c.key.items c.value ∷ []
+  pub filling : new.state ≡ old.state
+  pub users : is_internal c.key.items ≡ false
+
+-- A key was changed durably: whatever map the log was, with nothing pending, it is that map with the change.
+abbrev pub ChangesKey : KeyChange → Shows → Shows → Type 0
+ChangesKey c s t = (home : Home) (m : LogMap) → Holds home s m [] → Holds home t (taken m (said_by c ∷ [])) []
+
+-- so were keys, one after another
+abbrev pub ChangesKeys : List KeyChange → Shows → Shows → Type 0
+ChangesKeys cs s t = (home : Home) (m : LogMap) → Holds home s m [] → Holds home t (taken m (map said_by cs)) []

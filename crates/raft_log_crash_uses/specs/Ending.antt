@@ -1,0 +1,46 @@
+-- How an engine ends, and what is asked of chance then.
+use Rattle.std.specs.Prelude.{◌≡◌, ◌⊎◌, ℕ, Some, List, length, false}
+use Rattle.raft_log_file_laws.specs.Chains.{LiesIn, Meets, Written}
+use Rattle.raft_log_file_laws.specs.KeepsSynced.{IsHandedIn}
+use Rattle.raft_log_file_laws.specs.LogFormat.{Format, HasHeader}
+use Rattle.raft_log_file_pipe.specs.declared.pipe_files.PipeFiles.{PipeFiles}
+use Rattle.raft_log_engine.specs.raft_log_disk.specs.Disk.{Disk, File}
+use Rattle.raft_log_engine.specs.raft_log_disk.specs.Image.{IsImage}
+use Rattle.raft_log_engine.specs.raft_log_file_pair.specs.ClosingCalls.{ClosesLog}
+use Rattle.raft_log_engine.specs.raft_log_file_pair.specs.Pipes.{LogPipes}
+use Rattle.raft_log_engine.specs.raft_log_engine_laws.specs.raft_log_file_layout.specs.declared.record.LogRecord.{LogRecord}
+use Rattle.raft_log_engine.specs.raft_log_engine_laws.specs.Shows.{Home, Shows, has_failed, log_in}
+use Rattle.raft_log_open_laws.specs.Running.{LeavesNoChance, active_header, own_bytes}
+use Rattle.raft_log_crash_uses.specs.declared.ending.Ending.{Ending}
+use Rattle.raft_log_crash_uses.specs.declared.ending.Ending.TheVariants.{Close, Crash}
+
+-- what the next open finds: an image of the disk; or what a close leaves of a log whose engine hasn't failed
+abbrev pub Ends : {C : Type 0} → Ending C → Shows → Disk → Type 0
+Ends (Crash what) e d = IsImage e.pipes.disk d
+Ends Close e d = has_failed e ≡ false → ClosesLog e.pipes d
+
+-- No checksum is met by chance in the file that was a pipe's last one, before it was closed, as the close left it:
+-- no header but its own, and no record but those that the pipe wrote there, or that a write which isn't synced
+-- handed in.
+pub record MeetsWritten (F : Format LogRecord) (files : PipeFiles) (before file : File) : Type 0 where
+  pub headers : (other : List ℕ) → HasHeader F other file.content → other ≡ active_header files
+  pub records : (at : ℕ) (w : Written LogRecord)
+      → Meets (F.IsFrame files.active.seq (active_header files)) (length (active_header files)) at w file.content
+      → LiesIn (length (active_header files)) (own_bytes files before) at w.bytes
+      ⊎ IsHandedIn file.changes at w.bytes
+
+-- so it is of the file that has its number
+abbrev pub LeavesWritten : Format LogRecord → PipeFiles → Disk → Disk → Type 0
+LeavesWritten F files old new = (before file : File) (path : List ℕ) (id : ℕ)
+    → old.files files.writer.handle.file ≡ Some before → F.IsPath files.active.seq path
+    → new.names path ≡ Some id → new.files id ≡ Some file → MeetsWritten F files before file
+
+-- So it is of either queue: a close of an engine with these pipes left nothing to chance.
+pub record ClosesWithoutChance (home : Home) (v : LogPipes) (d : Disk) : Type 0 where
+  pub append : LeavesWritten (log_in home).append.format v.append.files v.disk d
+  pub rewrite : LeavesWritten (log_in home).rewrite.format v.rewrite.files v.disk d
+
+-- an end of an engine left nothing to chance
+abbrev pub EndsWithoutChance : {C : Type 0} → Home → Ending C → Shows → Disk → Type 0
+EndsWithoutChance home (Crash what) e d = LeavesNoChance home e.pipes d
+EndsWithoutChance home Close e d = ClosesWithoutChance home e.pipes d

@@ -1,0 +1,24 @@
+-- Changes of keys, and the value that a key has behind them.
+use Rattle.std.specs.Prelude.{◌≡◌, ◌==◌, ◌&&◌, ℕ, List, [], ◌∷◌, ◌++◌, Bool, true, false}
+use Rattle.std.specs.Prelude.{Option, option_map, if◌then◌else◌, bytes_eq}
+use Rattle.raft_log_crash_uses.specs.declared.changing.KeyChange.{KeyChange}
+
+-- whether a change is of this key of this group
+abbrev pub is_of : ℕ → List ℕ → KeyChange → Bool
+is_of group key c = (c.group == group) && bytes_eq c.key.items key
+
+-- The value that a key has behind changes, one after another, where it had this one before: the last change that
+-- is of it says it.
+abbrev pub value_behind : ℕ → List ℕ → List KeyChange → Option (List ℕ) → Option (List ℕ)
+value_behind group key [] value = value
+value_behind group key (c ∷ cs) value = value_behind group key cs
+    (if is_of group key c then option_map (λ bytes. bytes.items) c.value else value)
+
+-- Behind a change of a key it has the value that the change says, whatever came before: a deleted one none. Behind
+-- one of another key it has the value that it had.
+pub record LastChangeCounts : Type 0 where
+  pub own : (group : ℕ) (key : List ℕ) (cs : List KeyChange) (c : KeyChange) (value : Option (List ℕ))
+      → is_of group key c ≡ true
+      → value_behind group key (cs ++ c ∷ []) value ≡ option_map (λ bytes. bytes.items) c.value
+  pub others : (group : ℕ) (key : List ℕ) (cs : List KeyChange) (c : KeyChange) (value : Option (List ℕ))
+      → is_of group key c ≡ false → value_behind group key (cs ++ c ∷ []) value ≡ value_behind group key cs value

@@ -1,0 +1,21 @@
+-- What stands of a log when a crash comes, and what is asked of chance then.
+use Rattle.std.proofs.Common.{inl, inr}
+use Rattle.std.specs.Prelude.{◌≡◌, ◌⊎◌, List, true}
+use Rattle.raft_log_engine.specs.raft_log_disk.specs.Disk.{Disk}
+use Rattle.raft_log_engine.specs.raft_log_file_pair.specs.Pipes.{Said}
+use Rattle.raft_log_engine.specs.raft_log_engine_laws.specs.Shows.{Home, LogMap, Shows, has_failed}
+use Rattle.raft_log_engine.specs.raft_log_engine_laws.specs.Holding.{Holds, IsLeftAt}
+use Rattle.raft_log_open_laws.specs.Left.{IsCrashOf}
+use Rattle.raft_log_open_laws.specs.Running.{LeavesNoChance}
+
+-- the engine runs, and its log is this map with these batches pending; or it has failed, and left the log so
+abbrev pub RunsOrIsLeft : Home → Shows → LogMap → List Said → Type 0
+RunsOrIsLeft home e m pending =
+    Holds home e m pending ⊎ ((has_failed e ≡ true) × IsLeftAt home e.pipes.disk m pending)
+
+-- A crash left nothing to chance: of an engine that runs, told of its pipes; of one that has failed, of the records
+-- that its files have.
+abbrev pub CrashesWithoutChance : (home : Home) → (e : Shows) → (m : LogMap) → (pending : List Said)
+    → RunsOrIsLeft home e m pending → Disk → Type 0
+CrashesWithoutChance home e m pending (inl holds) image = LeavesNoChance home e.pipes image
+CrashesWithoutChance home e m pending (inr left) image = IsCrashOf home left.1.1.lies.state e.pipes.disk image

@@ -1,0 +1,65 @@
+-- A key's value is put in a log without a sync, and the power goes.
+use Rattle.std.specs.Prelude.{◌≡◌, ◌⊎◌, ℕ, List, [], ◌∷◌, Option, Some, None}
+use Rattle.raft_log_engine.specs.raft_log_disk.specs.Disk.{Disk}
+use Rattle.raft_log_engine.specs.raft_log_disk.specs.Image.{IsImage}
+use Rattle.raft_log_engine.specs.raft_log_file_settings.specs.declared.config.Config.{Config}
+use Rattle.raft_log_engine.specs.raft_log_table_all.specs.declared.mem_tables.MemTables.{MemTables}
+use Rattle.raft_log_engine.specs.raft_log_file_pair.specs.Pipes.{LogPipes}
+use Rattle.raft_log_engine.specs.raft_log_engine_laws.specs.Shows.{Home, LogMap, Shows}
+use Rattle.raft_log_engine.specs.raft_log_engine_laws.specs.Holding.{EndsAt, Holds}
+use Rattle.raft_log_engine.specs.raft_log_engine_laws.specs.Reading.{StandsUnder}
+use Rattle.raft_log_engine.specs.raft_log_open_directory.specs.Opening.{OpensDirectory}
+use Rattle.raft_log_open_laws.specs.Bare.{IsBare}
+use Rattle.raft_log_open_laws.specs.ByCalls.{home_of}
+use Rattle.raft_log_open_laws.specs.Opened.{HoldsFresh}
+use Rattle.raft_log_open_laws.specs.Running.{LeavesNoChance}
+use Rattle.raft_log_crash_uses.specs.declared.ending.Ending.{Ending}
+use Rattle.raft_log_crash_uses.specs.declared.lives.Life.{Life}
+use Rattle.raft_log_crash_uses.specs.Ending.{Ends, EndsWithoutChance}
+use Rattle.raft_log_crash_uses.specs.Keys.{value_behind}
+use Rattle.raft_log_crash_uses.specs.Lives.{AllLiveIn, LivesOn, LivesWithoutChance, changes_of}
+use Rattle.raft_log_crash_uses.specs.Saving.{Loads, put_of}
+
+-- The log of these settings was opened, and a key's value was put in it: whatever map the log was, the put is
+-- pending behind that map, or the map has it.
+pub record PutsUnsynced {F : Type 0} (disk : F → Disk) (tells : F → List ℕ → ℕ → Type 0) (config : Config) (group : ℕ)
+    (key value : List ℕ) (old : F) (engine : Shows) : Type 0 where
+  pub pipes : LogPipes
+  pub tables : MemTables
+  pub opens : OpensDirectory disk tells config old pipes tables
+  pub put : (home : Home) (m : LogMap) → HoldsFresh home pipes tables m
+      → EndsAt home engine m (put_of group key value ∷ [])
+
+-- The log of these settings was opened, a key was read of it, and it ended: whatever map the log was, it is that,
+-- and the key has this value there.
+pub record LoadsAndEnds {F C : Type 0} (disk : F → Disk) (tells : F → List ℕ → ℕ → Type 0) (config : Config)
+    (group : ℕ) (key : List ℕ) (ending : Ending C) (old : F) (found : Option (List ℕ)) (new : F) : Type 0 where
+  pub pipes : LogPipes
+  pub tables : MemTables
+  pub opens : OpensDirectory disk tells config old pipes tables
+  pub engine : Shows
+  pub holds : (home : Home) (m : LogMap) → HoldsFresh home pipes tables m → Holds home engine m []
+  pub told : (home : Home) (m : LogMap) → HoldsFresh home pipes tables m → StandsUnder m group key found
+  pub ends : Ends ending engine (disk new)
+
+-- A key was put without a sync, the power went, the key was read, the log lived on, and the key was read once
+-- more. Where there was no log at first, all settings name the same directories, and nothing was left to chance, it
+-- was read first as without a value, or with the one that was put; and later as the value that the changes since
+-- give it, and as the same where there are none.
+pub record StaysAsRead {F C : Type 0} (disk : F → Disk) (tells : F → List ℕ → ℕ → Type 0) (config : Config)
+    (group : ℕ) (key value : List ℕ) (look : Config) (ending : Ending C) (lives : List (Life C)) (last : Config)
+    (old : F) (first later : Option (List ℕ)) : Type 0 where
+  pub engine : Shows
+  pub puts : PutsUnsynced disk tells config group key value old engine
+  pub left : F
+  pub crashes : IsImage engine.pipes.disk (disk left)
+  pub seen : F
+  pub reads : LoadsAndEnds disk tells look group key ending left first seen
+  pub behind : F
+  pub on : LivesOn disk tells lives seen behind
+  pub again : Loads disk tells last group key behind later
+  pub stays : IsBare config (disk old) → home_of look ≡ home_of config → AllLiveIn (home_of config) lives
+      → home_of last ≡ home_of config → LeavesNoChance (home_of config) engine.pipes (disk left)
+      → EndsWithoutChance (home_of config) ending reads.engine (disk seen)
+      → LivesWithoutChance disk tells (home_of config) lives seen behind on
+      → ((first ≡ None) ⊎ (first ≡ Some value)) × (later ≡ value_behind group key (changes_of lives) first)

@@ -1,0 +1,71 @@
+//! Keys of a log are changed, the log is purged, and the power goes.
+
+ghost use Rattle.std.specs.Prelude.{IfOk, option_map};
+ghost use Rattle.raft_log_engine.specs.raft_log_engine_core.specs.Reads.{shows_of};
+ghost use Rattle.raft_log_crash_uses.specs.Purging.{KeepsTheMap, ReadsBehindPurges};
+
+use crate::changing::KeyChange;
+use crate::ending::Crash;
+use crate::lives::change_keys;
+use crate::saving::load;
+use log::Log;
+use raft_log_engine::{Config, FileSystem, LogEngine, PipeLog, Result};
+use std::alloc::Global;
+use std::thread::Threads;
+
+/// A purge of a log, as an engine's calls have it.
+#[derive(Clone, Copy, Debug, PartialEq, Eq)]
+pub enum Purge {
+    /// Files that are past the thresholds of the settings.
+    Expired,
+    /// All of Append.
+    Append,
+    /// Rewrite.
+    Rewrite,
+    /// All stale files.
+    Stale,
+}
+
+/// Purges a log: whether that was answered.
+pub fn purge_once<L: Log, P: PipeLog>(rt: &L, engine: &mut LogEngine<P>, which: Purge) -> bool
+    ensures { KeepsTheMap (shows_of P.shown engine.old) (shows_of P.shown engine.new) }
+{
+    match which {
+        Purge::Expired => engine.purge_expired_files(rt).is_ok(),
+        Purge::Append => engine.must_rewrite_append_queue(rt, None, None).is_ok(),
+        Purge::Rewrite => engine.must_rewrite_rewrite_queue(rt).is_ok(),
+        Purge::Stale => engine.must_purge_all_stale(rt).is_ok(),
+    }
+}
+
+/// Purges a log by one purge after another, whichever of them are answered.
+pub fn purge_all<L: Log, P: PipeLog>(rt: &L, engine: &mut LogEngine<P>, purges: &[Purge])
+    ensures { KeepsTheMap (shows_of P.shown engine.old) (shows_of P.shown engine.new) }
+{
+    for which in purges {
+        let _answered = purge_once(rt, engine, *which);
+    }
+}
+
+/// Begins the log of these settings, changes keys in it, purges it, loses power, of which this is left, and reads a
+/// key by other settings. Of the purges any may be refused, in any part of them.
+pub fn read_behind_purges<R: Threads + Log + Sync, F: FileSystem + Sync + Drop, C: Crash<F>>(
+    rt: &R,
+    alloc: Global,
+    config: Config,
+    files: F,
+    changes: &[KeyChange],
+    purges: &[Purge],
+    what: &C,
+    again: Config,
+    group: u64,
+    key: &[u8],
+) -> Result<Option<Vec<u8>>>
+    ensures ok { IfOk result (λ found. ReadsBehindPurges F.disk F.tells_space config changes.now again group key.now
+        files (option_map (λ bytes. bytes.items) found)) }
+{
+    let mut engine = change_keys(rt, alloc, config, files, changes)?;
+    purge_all(rt, &mut engine, purges);
+    let left = what.leave(engine.file_system())?;
+    load(rt, alloc, again, left, group, key)
+}

@@ -39,7 +39,7 @@ followed earlier later = record {
   hole_after = option_or earlier.hole_after (option_or (hole_between earlier later) later.hole_after);
 }
 
--- the same, where there may be none of either
+-- what is kept of runs and of those behind them, where there may be none of either
 abbrev pub both_kept : Option GroupRuns → Option GroupRuns → Option GroupRuns
 both_kept None later = later
 both_kept (Some earlier) None = Some earlier

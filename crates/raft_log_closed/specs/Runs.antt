@@ -26,7 +26,7 @@ abbrev pub run_of_content : LogItemContent → List Run
 run_of_content (contents.EntryIndexes entries) = run_in entries
 run_of_content _ = []
 
--- the same, where the item is of this group
+-- the run of an item's entries, if it has any and the item is of this group
 abbrev pub run_of_item : ℕ → LogItem → List Run
 run_of_item group item = if item.raft_group_id == group then run_of_content item.content else []
 

@@ -19,7 +19,7 @@ pub record IsLastOf (found : List FoundFile) (file : FoundFile) : Type 0 where
   pub there : Contains found file
   pub last : (other : FoundFile) → Contains found other → other.seq ≡ file.seq → other.path_id ≤ file.path_id
 
--- their numbers rise
+-- the numbers of these files rise
 abbrev pub AreRising : List FoundFile → Type 0
 AreRising [] = Unit {0}
 AreRising (file ∷ files) =

@@ -110,7 +110,7 @@ fn is_file_name(name: &str) -> bool
     FileId::parse_file_name(name).is_some() || parse_reserved_file_name(name).is_some()
 }
 
-/// The same settings. `Memory`.
+/// A copy of the settings. `Memory`.
 fn copy_of(alloc: Global, config: &Config) -> Result<Config>
     ensures ok { IfOk result (λ copy. settings_of copy ≡ settings_of config.now) }
     ensures err { IfErr result (λ error. error ≡ Memory) }
@@ -136,7 +136,7 @@ fn copy_of(alloc: Global, config: &Config) -> Result<Config>
     })
 }
 
-/// The same spill directory, if there is one. `Memory`.
+/// A copy of the path of the spill directory, if the settings have one. `Memory`.
 fn copy_of_spill_dir(alloc: Global, config: &Config) -> Result<Option<String>>
     ensures ok { IfOk result (λ spill. option_map string_bytes spill ≡ (settings_of config.now).spill_dir) }
     ensures err { IfErr result (λ error. error ≡ Memory) }

@@ -7,10 +7,10 @@ use raft_log_record_base::FileSeq;
 /// A file of the source that is to be copied, open.
 #[derive(Clone, Copy, Debug)]
 pub struct SourceFile {
-    /// Its kind: Append's or Rewrite's.
+    /// The file's kind: Append's or Rewrite's.
     pub kind: FileKind,
-    /// Its number.
+    /// The file's number.
     pub seq: FileSeq,
-    /// It is read by this.
+    /// What the file is read by.
     pub handle: Handle,
 }

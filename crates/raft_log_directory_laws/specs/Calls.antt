@@ -16,12 +16,12 @@ pub data Which : Type 0 where
   InAppend : Which
   InRewrite : Which
 
--- its files
+-- the files of one of the two queues
 abbrev pub queue_at : {E V : Type 0} → Which → Files E V → FileQueue E V
 queue_at InAppend f = f.append
 queue_at InRewrite f = f.rewrite
 
--- the number from which they count on
+-- the number from which the files of one queue count
 abbrev pub from_at : {E V : Type 0} → Which → Files E V → ℕ
 from_at InAppend f = f.append_from
 from_at InRewrite f = f.rewrite_from

@@ -44,11 +44,11 @@ pub record IsModelSound {E V : Type 0} (d : Model E V) : Type 0 where
   pub rewrite_numbers : IsNumbered d.files.rewrite_from d.files.rewrite
   pub append_numbers : IsNumbered d.files.append_from d.files.append
 
--- the same files, but for Append's
+-- the files with others of Append, which count from this number on
 abbrev pub with_append : {E V : Type 0} → Files E V → ℕ → FileQueue E V → Files E V
 with_append f from q = record f { append = q; append_from = from }
 
--- the same files, but for Rewrite's
+-- the files with others of Rewrite, which count from this number on
 abbrev pub with_rewrite : {E V : Type 0} → Files E V → ℕ → FileQueue E V → Files E V
 with_rewrite f from q = record f { rewrite = q; rewrite_from = from }
 
@@ -56,6 +56,6 @@ with_rewrite f from q = record f { rewrite = q; rewrite_from = from }
 abbrev pub no_files : {E V : Type 0} → Files E V
 no_files = record { rewrite = fresh_files; rewrite_from = 1; append = fresh_files; append_from = 1 }
 
--- its model: nothing stands
+-- the model of a directory in which nothing was ever written: nothing stands
 abbrev pub fresh_model : {E V : Type 0} → Model E V
 fresh_model = record { files = no_files; map = nothing_stands; whereabouts = λ g. nowhere; failed = false }

@@ -46,7 +46,7 @@ abbrev pub spliced : ℕ → List ℕ → List ℕ → List ℕ
 spliced at bytes old =
     let room = grown (at + length bytes) old in take at room ++ (bytes ++ drop (at + length bytes) room)
 
--- the same as a write does it: one of no bytes changes nothing, wherever it is
+-- what a write of these bytes at a place makes of old ones: one of no bytes changes nothing, wherever it is
 abbrev pub overwritten : ℕ → List ℕ → List ℕ → List ℕ
 overwritten at [] old = old
 overwritten at (b ∷ bs) old = spliced at (b ∷ bs) old

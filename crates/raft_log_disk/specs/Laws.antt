@@ -11,11 +11,11 @@ use Rattle.raft_log_disk.specs.Causes.{HasCause, Fails, IsUndisturbed}
 abbrev pub StandsIsImage : Type 0
 StandsIsImage = (d : Disk) → IsSound d → IsImage d (as_it_stands d)
 
--- and the only one where every file is synced
+-- where every file is synced, the files as they stand are the only image
 abbrev pub SyncedIsOnlyImage : Type 0
 SyncedIsOnlyImage = (d image : Disk) → IsSound d → IsAllSynced d → IsImage d image → image ≡ as_it_stands d
 
--- the same of one file: after a sync a stop leaves what a read gives
+-- of a file whose changes are all synced a stop leaves what a read gives
 abbrev pub SyncedFileHasOneImage : Type 0
 SyncedFileHasOneImage = (d image : Disk) (id : ℕ) (file : File) → IsSound d → d.files id ≡ Some file
     → file.changes ≡ [] → IsImage d image

@@ -31,7 +31,7 @@ pub record RenamingLeaves (from to : List ℕ) (id : ℕ) (d : Disk) : Type 0 wh
       → (renamed from to id d).names other ≡ d.names other
   pub files : (other : ℕ) → (d.names to ≡ Some other → ⊥) → (renamed from to id d).files other ≡ d.files other
 
--- so every creation, deletion and renaming
+-- each creation on a sound disk, each deletion and each renaming changes its own names and files alone
 pub record NamesChange : Type 0 where
   pub creation : (d : Disk) (path : List ℕ) → IsSound d → CreationLeaves path d
   pub deletion : (d : Disk) (path : List ℕ) (id : ℕ) → DeletionLeaves path id d

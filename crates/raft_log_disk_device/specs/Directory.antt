@@ -19,15 +19,15 @@ with_failures failures d = record d { failures = failures }
 abbrev pub FailsOnce : Disk → Disk → Type 0
 FailsOnce old new = (new ≡ counted old) ⊎ (new ≡ at_stop old)
 
--- it has stopped, or it runs and the path isn't a directory's
+-- the file system has stopped, or the path isn't a directory's
 abbrev pub LacksDirectory : List ℕ → Disk → ErrorKind → Type 0
 LacksDirectory path d error = (d.stopped ≡ true) ⊎ WrongListing path d error
 
--- it has stopped, or it runs and the handle's file is gone
+-- the file system has stopped, or it runs and the handle's file is gone
 abbrev pub LacksFile : Handle → Disk → ErrorKind → Type 0
 LacksFile handle d error = (d.stopped ≡ true) ⊎ ((d.stopped ≡ false) × WrongHandle handle d error)
 
--- it has stopped, or it runs and the handle's file is gone or the handle may only read
+-- the file system has stopped, or it runs and the handle's file is gone or the handle may only read
 abbrev pub LacksWriter : Handle → Disk → ErrorKind → Type 0
 LacksWriter handle d error = (d.stopped ≡ true) ⊎ ((d.stopped ≡ false) × WrongWriter handle d error)
 
@@ -36,22 +36,22 @@ module _ {D : Type 0} (g : device.Ghosts D) where
   abbrev pub disk_of : DirectoryFileSystem D g → Disk
   disk_of system = shown (g.trace system.device) system.stopped system.failures
 
-  -- it runs, and so its disk has what the model has
+  -- the file system runs, and so its disk has what the model has
   pub record Runs (system : DirectoryFileSystem D g) : Type 0 where
     pub running : system.stopped ≡ false
     pub same : disk_of system ≡ with_failures system.failures (contents_of system.storage)
 
-  -- it runs, and the path is a directory's
+  -- the file system runs, and the path is a directory's
   pub record RunsWithDirectory (path : List ℕ) (system : DirectoryFileSystem D g) : Type 0 where
     pub runs : Runs system
     pub there : (contents_of system.storage).directories path ≡ true
 
-  -- it runs, and the handle's file is there
+  -- the file system runs, and the handle's file is there
   pub record RunsWithFile (handle : Handle) (system : DirectoryFileSystem D g) : Type 0 where
     pub runs : Runs system
     pub there : (contents_of system.storage).files handle.file ≡ None → ⊥
 
-  -- it runs, the handle's file is there, and the handle may write
+  -- the file system runs, the handle's file is there, and the handle may write
   pub record RunsWithWriter (handle : Handle) (system : DirectoryFileSystem D g) : Type 0 where
     pub file : RunsWithFile handle system
     pub writes : handle.permission ≡ ReadWrite

@@ -17,7 +17,7 @@ impl Model for Record {
     ghost also_owns = { λ _. ftrue };
 }
 
-// It has no bytes, so that whoever holds one may be lent to another thread.
+// A record has no bytes, so that whoever holds one may be lent to another thread.
 unsafe impl Send for Record {}
 
 unsafe impl Sync for Record {}

@@ -89,7 +89,7 @@ SyncsAll id old new = Changes id flushed old new
 abbrev pub RunsWithDirectory : List ℕ → Disk → Type 0
 RunsWithDirectory path d = (d.stopped ≡ false) × (d.directories path ≡ true)
 
--- it has stopped, or the path isn't a directory's
+-- the file system has stopped, or the path isn't a directory's
 abbrev pub LacksDirectory : List ℕ → Disk → ErrorKind → Type 0
 LacksDirectory path d error = (d.stopped ≡ true) ⊎ WrongListing path d error
 
@@ -97,7 +97,7 @@ LacksDirectory path d error = (d.stopped ≡ true) ⊎ WrongListing path d error
 abbrev pub RunsWithFile : Handle → Disk → Type 0
 RunsWithFile handle d = (d.stopped ≡ false) × (d.files handle.file ≡ None → ⊥)
 
--- it has stopped, or it runs and the handle's file is gone
+-- the file system has stopped, or it runs and the handle's file is gone
 abbrev pub LacksFile : Handle → Disk → ErrorKind → Type 0
 LacksFile handle d error = (d.stopped ≡ true) ⊎ ((d.stopped ≡ false) × WrongHandle handle d error)
 
@@ -106,7 +106,7 @@ abbrev pub RunsWithWriter : Handle → Disk → Type 0
 RunsWithWriter handle d =
     (d.stopped ≡ false) × (d.files handle.file ≡ None → ⊥) × (handle.permission ≡ ReadWrite)
 
--- it has stopped, or it runs and the handle's file is gone or the handle may only read
+-- the file system has stopped, or it runs and the handle's file is gone or the handle may only read
 abbrev pub LacksWriter : Handle → Disk → ErrorKind → Type 0
 LacksWriter handle d error = (d.stopped ≡ true) ⊎ ((d.stopped ≡ false) × WrongWriter handle d error)
 

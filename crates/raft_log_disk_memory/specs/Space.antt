@@ -12,7 +12,7 @@ abbrev pub size_named : Disk → Option ℕ → ℕ
 size_named d None = 0
 size_named d (Some id) = size_of (d.files id)
 
--- the same, by a path
+-- how many bytes the file has that lies under a path; none where none does
 abbrev pub size_at : Disk → List ℕ → ℕ
 size_at d path = size_named d (d.names path)
 

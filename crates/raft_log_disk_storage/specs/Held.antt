@@ -90,11 +90,11 @@ with_made stamp change rest file = record {
 abbrev pub all_synced : Held → Held
 all_synced file = resting file.content
 
--- its changes as they were asked for, without the stamps
+-- changes that were made, as they were asked for, without the stamps
 abbrev pub changes_in : List Made → List Change
 changes_in made = map (λ (m : Made). with_rest m.change m.rest) made
 
--- and as they were made
+-- changes that were made, as they landed, without the stamps
 abbrev pub landed_in : List Made → List Change
 landed_in made = map (λ (m : Made). m.change) made
 

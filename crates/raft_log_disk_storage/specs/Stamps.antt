@@ -19,12 +19,12 @@ stamps_on changes = map (λ (u : Stamped). u.stamp) changes
 abbrev pub stamps_in : List Made → List ℕ
 stamps_in made = map (λ (m : Made). m.stamp) made
 
--- the same, where the file is there
+-- the stamps of a file's changes, and none where the file isn't there
 abbrev pub file_stamps : Option Held → List ℕ
 file_stamps None = []
 file_stamps (Some file) = stamps_in file.changes
 
--- those of the files with a node number below `count`
+-- the stamps of the changes of the files with a node number below `count`
 abbrev pub stamps_of : (ℕ → Option Held) → ℕ → List ℕ
 stamps_of files zero = []
 stamps_of files (suc id) = stamps_of files id ++ file_stamps (files id)

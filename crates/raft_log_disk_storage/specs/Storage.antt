@@ -74,6 +74,6 @@ pub Rises-prop : (low next : ℕ) (made : List Made) → IsProp (Rises low next 
 Rises-prop low next [] = hlevel props
 Rises-prop low next (m ∷ ms) = hlevel (Rises-prop (suc m.stamp) next ms, props)
 
--- it is whole in one way only, so that a type may keep the fact beside its fields
+-- a storage is sound in one way only, so that a type may keep the fact beside its fields
 pub IsWhole-prop : (storage : Storage) → IsProp (IsStorageSound storage)
 IsWhole-prop storage = hlevel (IsSound-prop, Rises-prop, Change-set, props)

@@ -24,7 +24,7 @@ pub enum Change {
     },
     /// A shorter file is filled up with zeros.
     Growth {
-        /// Its size then, in bytes.
+        /// The file's size then, in bytes.
         size: usize,
     },
 }

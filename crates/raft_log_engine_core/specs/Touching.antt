@@ -19,7 +19,7 @@ pub record StaysPurged {P : Type 0} (old new : LogEngine P) : Type 0 where
 abbrev pub WritesRecord : Batch → LogPipes → LogPipes → Type 0
 WritesRecord b v w = (block : FileBlockHandle) × WritesAt (signed_for b) block v w
 
--- it wasn't: nothing was done; or the pipes refused it
+-- a batch's record wasn't written: nothing was done; or the pipes refused it
 abbrev pub LeavesRecord : Batch → Error → LogPipes → LogPipes → Type 0
 LeavesRecord b error v w = (w ≡ v) ⊎ RefusesAt (signed_for b) error v w
 

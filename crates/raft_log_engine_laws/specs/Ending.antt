@@ -77,8 +77,8 @@ WrittenEndsKeepTheMap = (home : Home) (e t : Shows) (gate : Option ℕ) (o : Une
     → ShowsWhole gate (parts_of o ++ record { block = block; batch = b } ∷ []) (files_of_group o block)
     e.tables t.tables → KeepsOrForgets e t → Holds home t m []
 
--- It was refused: all stands where it stood, and the group is given up, or may go on where nothing was done
--- to its records.
+-- Rewrite refused a part that ends a group: all stands where it stood, and the group is given up, or may go
+-- on where nothing was done to its records.
 pub record RefusedEndsKeepTheMap : Type 0 where
   pub given_up : (home : Home) (e t : Shows) (gate : Option ℕ) (o : UnendedGroup) (b : Batch) (m : LogMap)
       (error : Error) → HoldsInGroup home e m o → IsGroupPart o.number End b

@@ -27,12 +27,12 @@ abbrev pub IsEntryOf : {M : Type 0} → (List ℕ → Option M) → LogMap → �
 IsEntryOf reading m g i message =
     (bytes : List ℕ) × (m g (Index i) ≡ Some (Entry bytes)) × (reading bytes ≡ Some message)
 
--- so is the one that is told, if there is an entry
+-- what is told of an index of a group: the message that its entry is read as, or none where there is no entry
 abbrev pub IsEntryTold : {M : Type 0} → (List ℕ → Option M) → LogMap → ℕ → ℕ → Option M → Type 0
 IsEntryTold reading m g i None = m g (Index i) ≡ None
 IsEntryTold reading m g i (Some message) = IsEntryOf reading m g i message
 
--- and so are those of the entries from an index on
+-- the messages are those that a group's entries are read as, from an index on, one after another
 abbrev pub AreEntriesOf : {M : Type 0} → (List ℕ → Option M) → LogMap → ℕ → ℕ → List M → Type 0
 AreEntriesOf reading m g i [] = Unit {0}
 AreEntriesOf reading m g i (x ∷ xs) = IsEntryOf reading m g i x × AreEntriesOf reading m g (i + 1) xs

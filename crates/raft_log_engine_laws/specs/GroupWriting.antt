@@ -33,8 +33,9 @@ LeavesRecords errors.NumberRange = Unit {0}
 LeavesRecords errors.Memory = Unit {0}
 LeavesRecords _ = ⊥
 
--- It was refused. The group may be given up: then the log is left as any record that Rewrite refuses leaves
--- it. Where nothing was done to its records it may go on as well.
+-- Rewrite refused a part that begins a group or goes on with one. The group may be given up: then the log is
+-- left as any record that Rewrite refuses leaves it. One that had begun may go on as well, where nothing was
+-- done to its records.
 pub record RefusedPartsKeepTheMap : Type 0 where
   pub begins : (home : Home) (e t : Shows) (number : ℕ) (b : Batch) (m : LogMap) (error : Error)
       → Holds home e m [] → IsGroupPart number Begin b → SameTables e t

@@ -59,7 +59,7 @@ pub record IsGroupPart (number : ℕ) (status : AtomicGroupStatus) (b : Batch) :
   pub laid : IsLaidOut b
   pub fits : AllFit (said_items b)
 
--- it holds of the place of each entry of the item
+-- this holds of the place of each entry of the item
 abbrev pub OfEntries : (Place → Type 0) → Item Place (List ℕ) → Type 0
 OfEntries P (Run f ps) = Each P ps
 OfEntries P x = Unit {0}

@@ -48,7 +48,8 @@ TurnLeavesHeld home m pending t errors.NumberRange = Holds home t m pending
 TurnLeavesHeld home m pending t errors.Failed = IsLeftAt home t.pipes.disk m pending
 TurnLeavesHeld home m pending t _ = ⊥
 
--- so it is of either queue
+-- a refused rotation of either queue keeps the map: nothing was done, or the engine has failed and its log is
+-- held
 abbrev pub RefusedRotationsKeepTheMap : Type 0
 RefusedRotationsKeepTheMap = (which : Which) (home : Home) (e t : Shows) (m : LogMap) (pending : List Said)
     (error : Error) → Holds home e m pending → SameTables e t

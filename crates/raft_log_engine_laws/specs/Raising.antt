@@ -43,7 +43,8 @@ PurgeLeavesHeld home m t errors.NumberRange = HoldsSettled home t m
 PurgeLeavesHeld home m t errors.Failed = IsLeftAt home t.pipes.disk m []
 PurgeLeavesHeld home m t _ = ⊥
 
--- so it is of either queue
+-- a refused purge of either queue keeps the map: nothing was done, or the engine has failed and its log is
+-- held
 abbrev pub RefusedPurgesKeepTheMap : Type 0
 RefusedPurgesKeepTheMap = (which : Which) (home : Home) (e t : Shows) (m : LogMap) (n : ℕ) (error : Error)
     → HoldsSettled home e m → MayBegin which n e.tables → t.tables ≡ e.tables → t.cache.place ≡ None

@@ -36,13 +36,14 @@ pub record ReadsFirst (e : Shows) (g : ℕ) (index : Option ℕ) : Type 0 where
   pub exact : (home : Home) (m : LogMap) (pending : List Said) → Holds home e m pending
       → IsFirstIn (taken m pending) g index
 
--- so is its last one
+-- A group's last index is told: what the tables show, which is the map's, once the pending batches are taken.
 pub record ReadsLast (e : Shows) (g : ℕ) (index : Option ℕ) : Type 0 where
   pub shown : index ≡ last_of (e.tables g)
   pub exact : (home : Home) (m : LogMap) (pending : List Said) → Holds home e m pending
       → IsLastIn (taken m pending) g index
 
--- and the value of a key
+-- The value of a group's key is told: what the tables show, which is the map's, once the pending batches are
+-- taken.
 pub record ReadsValue (e : Shows) (g : ℕ) (key : List ℕ) (value : Option (List ℕ)) : Type 0 where
   pub shown : value ≡ bytes_held ((e.tables g).held key)
   pub exact : (home : Home) (m : LogMap) (pending : List Said) → Holds home e m pending
@@ -60,7 +61,8 @@ pub record AreKeysOf (m : LogMap) (g : ℕ) (start end : Option (List ℕ)) (es 
   pub inside : (k : List ℕ) → is_within start end k ≡ true → StandsUnder m g k (lookup (bytes_eq k) es)
   pub outside : (k : List ℕ) → is_within start end k ≡ false → lookup (bytes_eq k) es ≡ None
 
--- so are all that are told
+-- All keys of a group that are asked for are told with their values: those that the tables show, which are
+-- the map's, once the pending batches are taken.
 pub record ReadsKeys (e : Shows) (g : ℕ) (start end : Option (List ℕ)) (es : List (List ℕ × List ℕ))
     : Type 0 where
   pub shown : ListsAll (values_within start end (e.tables g)) es

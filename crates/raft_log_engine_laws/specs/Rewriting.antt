@@ -55,7 +55,7 @@ WrittenMarksKeepTheMap = (home : Home) (e t : Shows) (b : Batch) (block : FileBl
     → Holds home e m [] → SaysOwed b e.tables → AppendsTo InRewrite (signed_for b) block e.pipes t.pipes
     → t.tables ≡ (λ g. unmarked (e.tables g)) → KeepsOrForgets e t → Holds home t m []
 
--- They were refused: the tables owe them still.
+-- Rewrite refused the marks that are owed: the tables owe them still.
 abbrev pub RefusedMarksKeepTheMap : Type 0
 RefusedMarksKeepTheMap = (home : Home) (e t : Shows) (b : Batch) (m : LogMap) (error : Error)
     → Holds home e m [] → SaysOwed b e.tables → SameTables e t
@@ -85,7 +85,7 @@ WrittenCopiesKeepTheMap = (home : Home) (e t : Shows) (gate : Option ℕ) (b : B
     → AppendsTo InRewrite (signed_for b) block e.pipes t.pipes → t.tables ≡ moved_to gate block b e.tables
     → KeepsOrForgets e t → Holds home t m []
 
--- They were refused: all stands where it stood.
+-- Rewrite refused copies: all stands where it stood.
 abbrev pub RefusedCopiesKeepTheMap : Type 0
 RefusedCopiesKeepTheMap = (home : Home) (e t : Shows) (gate : Option ℕ) (b : Batch) (m : LogMap)
     (error : Error) → Holds home e m [] → CountsAlone b → HasCopies gate b e.tables m → SameTables e t

@@ -62,7 +62,7 @@ said_by r = unwrap_or (record_of (entry_bytes (block_bytes r.entries)) (placed n
 abbrev pub sense : Home → LogSense
 sense home = record { says = said_by; append = home.append; rewrite = home.rewrite }
 
--- its two queues
+-- the two queues of the log that lies in these directories
 abbrev pub log_in : Home → TwoQueues LogRecord (List ℕ) (List ℕ)
 log_in home = queues (sense home)
 
@@ -70,16 +70,16 @@ log_in home = queues (sense home)
 abbrev pub said_of : Batch → Said
 said_of b = unwrap_or (record_of (entry_bytes b.entries) b.items) (Plain [])
 
--- its entries are laid out over its bytes one after another, as a batch keeps them
+-- a batch's entries are laid out over its bytes one after another, and there are no other bytes
 pub record IsLaidOut (b : Batch) : Type 0 where
   pub laid : laid_out 0 b.items ≡ b.items
   pub adds : entries_len b.items ≡ length b.entries
 
--- it has at most one mark of an atomic group, and that is whole
+-- a batch has at most one mark of an atomic group, and that is whole
 abbrev pub IsWellMarked : Batch → Type 0
 IsWellMarked b = marking_of_items b.items ≡ Broken → ⊥
 
--- it may be written: items were added to it, and its record may be made already
+-- a batch in this state may be written: it has no signature yet, though its record may be made already
 abbrev pub IsWritable : BatchState → Type 0
 IsWritable Filling = Unit {0}
 IsWritable Populated = Unit {0}

@@ -27,12 +27,12 @@ abbrev pub RefusesRecord : (LogFileContext → List ℕ) → Error → LogPipes 
 RefusesRecord signed error v w =
     FailsToAppendTo InAppend signed error v w × EndsNumbersAt InAppend signed error v w
 
--- it is refused: at the first try, and not for want of space; or at the second
+-- a record is refused: at the first try, and not for want of space; or at the second
 abbrev pub RefusesAt : (LogFileContext → List ℕ) → Error → LogPipes → LogPipes → Type 0
 RefusesAt signed error v w = ((SaysTryAgain error → ⊥) × RefusesRecord signed error v w)
     ⊎ ((mid : LogPipes) × TriesInVain signed v mid × IsLater mid.disk w.disk
     × RefusesRecord signed error mid w)
 
--- it was tried twice, and there was no space either time
+-- a record was tried twice, and there was no space either time
 abbrev pub TriesTwiceInVain : (LogFileContext → List ℕ) → LogPipes → LogPipes → Type 0
 TriesTwiceInVain signed v w = (mid : LogPipes) × TriesInVain signed v mid × TriesInVain signed mid w

@@ -25,7 +25,8 @@ pub fn written_parts_keep_the_map()
     ensures { WrittenPartsKeepTheMap }
 {}
 
-/// So does one that Rewrite refuses: the group is given up, or goes on where nothing was done to its records.
+/// A part that Rewrite refuses keeps the map: its group is given up, or goes on where nothing was done to the
+/// records.
 pub fn refused_parts_keep_the_map()
     ensures { RefusedPartsKeepTheMap }
 {}
@@ -40,7 +41,8 @@ pub fn written_ends_keep_the_map()
     ensures { WrittenEndsKeepTheMap }
 {}
 
-/// So does an end that Rewrite refuses, be it there or not: all stands where it stood.
+/// A part that ends a group keeps the map where Rewrite refuses it, be it there or not: all stands where it
+/// stood.
 pub fn refused_ends_keep_the_map()
     ensures { RefusedEndsKeepTheMap }
 {}
@@ -68,8 +70,8 @@ pub fn whole_groups_are_moved<E>()
     ensures { WholeGroupsAreMoved E }
 {}
 
-/// So the tables may take a whole group at its end; and a table that notes its files does so by the least
-/// file in which something of Rewrite lies.
+/// The tables may take a whole group at its end; and a table that notes the group's files does so by the
+/// least file in which something of Rewrite lies.
 pub fn whole_groups_may_end<E>()
     ensures ends { WholeGroupsMayEnd E }
     ensures noted { WholeGroupsAreNoted }

@@ -46,7 +46,7 @@ pub fn purges_keep_the_map()
     ensures { PurgesKeepTheMap }
 {}
 
-/// So it does where that is refused, be the files gone or not.
+/// A purge that is refused keeps the map, where nothing is pending and its files may go: be they gone or not.
 pub fn refused_purges_keep_the_map()
     ensures { RefusedPurgesKeepTheMap }
 {}
@@ -56,7 +56,8 @@ pub fn written_marks_keep_the_map()
     ensures { WrittenMarksKeepTheMap }
 {}
 
-/// So do marks that Rewrite refuses, be they there or not.
+/// Marks that are owed keep the map where Rewrite refuses them, be they there or not: the tables owe them
+/// still.
 pub fn refused_marks_keep_the_map()
     ensures { RefusedMarksKeepTheMap }
 {}
@@ -66,7 +67,7 @@ pub fn written_copies_keep_the_map()
     ensures { WrittenCopiesKeepTheMap }
 {}
 
-/// So do copies that Rewrite refuses, be they there or not: all stands where it stood.
+/// Copies that Rewrite refuses keep the map, be they there or not: all stands where it stood.
 pub fn refused_copies_keep_the_map()
     ensures { RefusedCopiesKeepTheMap }
 {}

@@ -10,9 +10,9 @@ use std::test::Fail;
 pub enum Step {
     /// The numbers 1 and 2 come to the batch as entries of group 7, from an index on.
     Add(u64),
-    /// A key of group 7 comes to it.
+    /// A key of group 7 comes to the batch.
     Put(&'static [u8], &'static [u8]),
-    /// It is written, with a sync or without, and has some bytes, or none.
+    /// The batch is written, with a sync or without, and has some bytes, or none.
     Write(bool, bool),
     /// A compaction of a group up to an index takes so many entries.
     Compact(u64, u64, u64),
@@ -47,18 +47,18 @@ pub enum Step {
 /// How a step ends.
 #[derive(Clone, Copy, PartialEq)]
 pub enum End {
-    /// It is answered as it says.
+    /// The step is answered as it says.
     So,
-    /// It is answered otherwise.
+    /// The step is answered otherwise.
     Otherwise,
-    /// It is refused, by this error.
+    /// The step is refused, by the error of this name.
     Hole,
     Io,
     Failed,
     NotFound,
     Compacted,
     NoMessage,
-    /// It is refused by another one.
+    /// The step is refused by another error.
     Refused,
 }
 

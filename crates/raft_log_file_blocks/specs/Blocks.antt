@@ -28,7 +28,7 @@ KeepsBlock v block old new = (new.place ≡ Some block)
     × (((old.place ≡ Some block) × (new ≡ old))
     ⊎ (IsNotKept block old × StandsAt v block new.bytes.items × IsOk (block_of new.bytes.items)))
 
--- why it isn't: the pipes don't read it, or these are the bytes there, and their first fault
+-- why a block isn't kept: the pipes don't read it, or these are the bytes there, and their first fault
 abbrev pub IsBlockUnread : LogPipes → FileBlockHandle → Error → Type 0
 IsBlockUnread v block error =
     IsReadRefused (pipe_at (which_of block.id.queue) (files_of v)) block v.disk error
@@ -40,7 +40,7 @@ IsUnplaced entry errors.Memory = entry.entries ≡ None
 IsUnplaced entry (errors.InvalidArgument text) = entry.entries ≡ None
 IsUnplaced entry _ = ⊥
 
--- it isn't, and wasn't before: no block is kept any longer
+-- a block that wasn't kept before isn't now, and why: no block is kept any longer
 abbrev pub LosesBlock : LogPipes → FileBlockHandle → BlockCache → BlockCache → Error → Type 0
 LosesBlock v block old new error =
     IsBlockUnread v block error × (new.place ≡ None) × IsNotKept block old
@@ -113,6 +113,6 @@ KeptBlocksAreWritten = (log : LogSense) (v : LogPipes) (s : State) → RunsOn lo
     → (old new : BlockCache) → IsOfLog s old → (block : FileBlockHandle) → BlockIsStored s block
     → KeepsBlock v block old new → IsOfLog s new × (new.bytes.items ≡ written_block s block)
 
--- and it goes on to be so through calls that keep the log's bytes
+-- a kept block that is what was written stays so through calls that keep the log's bytes
 abbrev pub KeptBlocksStay : Type 0
 KeptBlocksStay = (s t : State) → KeepsLog s t → (cache : BlockCache) → IsOfLog s cache → IsOfLog t cache

@@ -10,11 +10,11 @@ use Rattle.raft_log_file_layout.specs.declared.record.LogRecord.{LogRecord}
 use Rattle.raft_log_file_pair.specs.Queues.{SaysRecord}
 use Rattle.raft_log_file_pair.specs.Own.{log_layout}
 
--- its bytes in this file
+-- the bytes of a batch's record in this file
 abbrev pub signed_for : Batch → LogFileContext → List ℕ
 signed_for b context = batch_bytes (signature_of context) b.items b.entries
 
--- what its record says: the items without their places, and the bytes of their entries
+-- what a batch's record says: the items without their places, and the bytes of their entries
 abbrev pub record_said : Batch → LogRecord
 record_said b = record { items = map plain_item b.items; entries = b.entries }
 

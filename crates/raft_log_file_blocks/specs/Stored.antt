@@ -19,7 +19,7 @@ use Rattle.raft_log_table_lists.specs.Shown.{Shown}
 use Rattle.raft_log_table_lists.specs.Bridge.{Located, located}
 use Rattle.raft_log_table_all.specs.Views.{AreMeant}
 
--- it holds of each element
+-- this holds of each element
 abbrev pub Each : {A : Type 0} → (A → Type 0) → List A → Type 0
 Each P [] = Unit {0}
 Each P (x ∷ xs) = P x × Each P xs
@@ -73,8 +73,8 @@ pub record KeepsBytes {R : Type 0} (q p : LogFiles R) : Type 0 where
   pub last : q.last ≤ p.last
   pub files : (n : ℕ) → n ≤ q.last → (more : List ℕ) × (file_bytes p n ≡ file_bytes q n ++ more)
 
--- So does every call of a pipe, answered or refused, but for what it hands out of the span: a record that is
--- taken, one that is cut back, a rotation, a sync.
+-- Every call of a pipe, answered or refused, keeps what was written to the queue's files, but for what it
+-- hands out of the span: a record that is taken, one that is cut back, a rotation, a sync.
 pub record CallsKeepBytes (R : Type 0) : Type 0 where
   pub same : (q : LogFiles R) → KeepsBytes q q
   pub later : (q p r : LogFiles R) → KeepsBytes q p → KeepsBytes p r → KeepsBytes q r
@@ -94,12 +94,12 @@ pub record KeepsLog {R : Type 0} (s t : LogOnDisk R) : Type 0 where
   pub append_first : t.append.first ≤ s.append.first
   pub rewrite_first : t.rewrite.first ≤ s.rewrite.first
 
--- So does a call on one queue that keeps its bytes.
+-- a call on one queue that keeps the bytes of its files keeps those of the log, and neither span begins later
 abbrev pub CallsKeepLog : Type 0 → Type 0
 CallsKeepLog R = (which : Which) (s : LogOnDisk R) (files : LogFiles R) (d : Disk)
     → KeepsBytes (spanned_at which s).files files → KeepsLog s (next_log which s files d)
 
--- Where it does, entries that lie in the log still do, and what the tables show means the same.
+-- Where the log keeps its bytes, entries that lie in it still do, and what the tables show means the same.
 abbrev pub StoredEntriesStay : Type 0 → Type 0
 StoredEntriesStay R = (s t : LogOnDisk R) → KeepsLog s t → (v : ℕ → Shown) → AreStored s v
     → AreStored t v × ((m : Map (List ℕ) (List ℕ)) → AreMeant (entries_at s) v m → AreMeant (entries_at t) v m)

@@ -7,8 +7,9 @@ pub fn kept_blocks_are_written()
     ensures { KeptBlocksAreWritten }
 {}
 
-/// It goes on to be so through every call that keeps what was written: appends, answered and refused, syncs and
-/// rotations. Where a file leaves the span, the cache is to be emptied.
+/// A kept block goes on to be what was written at its place through every call that keeps what was written:
+/// appends, answered and refused, syncs and rotations. Where a file leaves the span, the cache is to be
+/// emptied.
 pub fn kept_blocks_stay()
     ensures { KeptBlocksStay }
 {}

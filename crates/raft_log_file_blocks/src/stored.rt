@@ -13,13 +13,13 @@ pub fn calls_keep_bytes<R>()
     ensures { CallsKeepBytes R }
 {}
 
-/// So the whole log is kept through a call on one of its queues.
+/// A call on one of the log's queues that keeps the bytes of its files keeps the whole log's.
 pub fn calls_keep_log<R>()
     ensures { CallsKeepLog R }
 {}
 
-/// Where they are kept, an entry that lies in a log stays there with its bytes, and what the tables show means
-/// the same map.
+/// Where the log's bytes are kept, an entry that lies in it stays there with its bytes, and what the tables
+/// show means the same map.
 pub fn stored_entries_stay<R>()
     ensures { StoredEntriesStay R }
 {}

@@ -62,7 +62,7 @@ pub record LiesIn (from : ℕ) (all : List ℕ) (at : ℕ) (bytes : List ℕ) : 
   pub splits : all ≡ ahead ++ (bytes ++ behind)
   pub place : at ≡ from + length ahead
 
--- it can be told of any bytes whether a record begins there
+-- of any bytes it can be told whether they begin with a record
 abbrev pub CanTell : {R : Type 0} → (List ℕ → R → Type 0) → Type 0
 CanTell {R} IsFrame = (bytes : List ℕ) → ((w : Written R) × (rest : List ℕ) × IsFrame w.bytes w.value
     × (bytes ≡ w.bytes ++ rest)) ⊎ Refuses IsFrame bytes

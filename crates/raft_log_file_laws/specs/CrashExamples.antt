@@ -24,8 +24,8 @@ TornRecordIsLost {R} IsFrame = IsSelfDelimiting IsFrame
     IsLeft file bytes × NoChanceMatch IsFrame (length front) stale (spelled (durable ++ w ∷ [])) file bytes
     × Reads IsFrame (length front) durable bytes)
 
--- The same file, and another record than the one written, no longer than it: a stop may leave that one in its
--- place, and the premise says that this doesn't happen.
+-- A file whose last record isn't synced, and another record, no longer than that one: a stop may leave the
+-- other one in its place, and the premise says that this doesn't happen.
 abbrev pub ForeignRecordIsChance : {R : Type 0} → (List ℕ → R → Type 0) → Type 0
 ForeignRecordIsChance {R} IsFrame = IsSelfDelimiting IsFrame
     → (front stale : List ℕ) (durable : List (Written R)) (w foreign : Written R)

@@ -28,7 +28,7 @@ pub record HasHeader {R : Type 0} (F : Format R) (header bytes : List ℕ) : Typ
   pub rest : List ℕ
   pub splits : bytes ≡ header ++ rest
 
--- it can be told of any bytes whether they begin with a header, or with a record
+-- of any bytes it can be told whether they begin with a header, or with a record
 pub record CanTellFormat {R : Type 0} (F : Format R) : Type 0 where
   pub headers : (bytes : List ℕ) → ((header : List ℕ) × HasHeader F header bytes)
       ⊎ ((header : List ℕ) → HasHeader F header bytes → ⊥)

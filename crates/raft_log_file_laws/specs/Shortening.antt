@@ -16,7 +16,7 @@ pub record CanShorten {R : Type 0} (IsFrame : List ℕ → R → Type 0)
   pub front : drop start (take size file.content) ≡ spelled (kept_records durable pending count)
   pub end : size ≡ start + length (spelled (kept_records durable pending count))
 
--- It holds these records still, and has just those that it was shortened behind.
+-- The file holds these records still, and has just those that it was shortened behind.
 pub record IsShortened {R : Type 0} (IsFrame : List ℕ → R → Type 0) (start : ℕ) (stale : List ℕ) (count : ℕ)
     (durable pending : List (Written R)) (file : File) : Type 0 where
   pub holds : HoldsChain IsFrame start stale durable pending file
@@ -33,7 +33,8 @@ pub record CanShortenRead {R : Type 0} (IsFrame : List ℕ → R → Type 0) (st
   pub front : drop start (take size file.content) ≡ spelled ws
   pub end : size ≡ start + length (spelled ws)
 
--- It holds these records still, and has just those that are read.
+-- The file holds these records still, and has just those that were read of it, of which the durable ones are
+-- the first.
 pub record IsShortenedRead {R : Type 0} (IsFrame : List ℕ → R → Type 0) (start : ℕ) (stale : List ℕ)
     (durable pending ws : List (Written R)) (file : File) : Type 0 where
   pub holds : HoldsChain IsFrame start stale durable pending file

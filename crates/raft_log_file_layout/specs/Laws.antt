@@ -11,7 +11,7 @@ use Rattle.raft_log_file_format.specs.Name.{reserved_suffix, suffix_of}
 use Rattle.raft_log_file_layout.specs.Paths.{IsPathWith, IsOwnPath, reserved_suffix_of}
 use Rattle.raft_log_file_layout.specs.Layout.{IsRecordIn, log_format}
 
--- it can be told of any bytes whether they begin with a header, or with a record
+-- of any bytes it can be told whether they begin with a header of a log file, or with a record of one
 abbrev pub LogFilesAreTold : Type 0
 LogFilesAreTold = (queue : LogQueue) (directories : List (List ℕ))
     → CanTellFormat (log_format queue directories)

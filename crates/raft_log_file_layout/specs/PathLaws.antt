@@ -158,7 +158,8 @@ reserved_written queue directories place n some fit ended slashless =
     subst (IsPathWith (reserved_suffix_of queue) directories n) (sym joined)
     (written_path (reserved_suffix_of queue) directories place n some fit ended slashless)
 
--- and so is each queue's, whose number is the greatest one where it has over sixteen digits
+-- the reserved path of a file of either queue is that of one with the reserved suffix, whose number is the
+-- greatest one where the file's has over sixteen digits
 pub reserved_is : (queue : LogQueue) (directories : List (List ℕ)) (place n : ℕ) → 0 < length directories
     → IsPathWith (reserved_suffix_of queue) directories (min n (10 ^ 16 - 1))
     (reserved_path queue directories place n)

@@ -2,7 +2,7 @@
 
 ghost use Rattle.raft_log_file_layout.specs.Laws.{LogFilesAreTold, PlacesAreFresh, QueuesAreApart, ReservedNamesAreTheLogs, ZerosHoldNoRecord};
 
-/// It can be told of any bytes whether they begin with a header, or with a record of a file.
+/// Of any bytes it can be told whether they begin with a header of a log file, or with a record of one.
 pub fn log_files_are_told()
     ensures { LogFilesAreTold }
 {}

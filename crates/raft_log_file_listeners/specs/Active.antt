@@ -104,7 +104,7 @@ abbrev pub WaitingFilesAreHeld : Type 0
 WaitingFilesAreHeld = (h : ActiveFiles) (seq place : ℕ) → place_of Append seq h ≡ Some place
     → 0 < slice_index h.waiting place → (first : ℕ) × (first_held Append h ≡ Some first) × (first ≤ seq)
 
--- and so is one that couldn't be listed
+-- a file that couldn't be listed is held back: the first one that is held is that one, or one before it
 abbrev pub MissingFilesAreHeld : Type 0
 MissingFilesAreHeld = (h : ActiveFiles) (seq : ℕ) → h.missing ≡ Some seq
     → (first : ℕ) × (first_held Append h ≡ Some first) × (first ≤ seq)

@@ -65,7 +65,7 @@ LeavesRefused log which o before s header y after errors.Failed new =
     (MayAppend (Ties log) (Ties log) which y)
 LeavesRefused log which o before s header y after _ new = ⊥
 
--- and so it is, whatever the pipe answered
+-- a record that a pipe refuses leaves what its error says, however the other queue stands
 abbrev pub FailsToAppendBeside : {R E V : Type 0} → TwoQueues R E V → Type 0
 FailsToAppendBeside {R} {E} {V} log = AreTwoQueues log → (which : Which) (o : OpenPipes) (before : PipeFiles)
     (s : LogOnDisk R) → RunOrLie log (with_open which o (Some before)) s
@@ -151,7 +151,7 @@ pub record PurgesBeside {R E V : Type 0} (log : TwoQueues R E V) (which : Which)
       capacity seq before after error s.disk new
       → LeavesUnpurged log which o s seq after error new
 
--- so it is of syncs, of rotations and of purges
+-- a sync, a rotation and a purge of one queue do what is said of each, however the other queue stands
 abbrev pub QuietCallsBeside : {R E V : Type 0} → TwoQueues R E V → Type 0
 QuietCallsBeside {R} log = AreTwoQueues log → (which : Which) (o : OpenPipes) (files : PipeFiles)
     (s : LogOnDisk R) → RunOrLie log (with_open which o (Some files)) s

@@ -64,7 +64,7 @@ RefusalLeaves log which s y v w errors.Memory = LeavesOutOn log which s v w
 RefusalLeaves log which s y v w errors.Failed = Fails v.disk w.disk × MayTakeOn log which s y v w
 RefusalLeaves log which s y v w _ = ⊥
 
--- so it is of a log that the pipes ran over
+-- a record is refused: any log that the pipes ran over is left as the error says
 abbrev pub FailsToAppendTo : Which → (LogFileContext → List ℕ) → Error → LogPipes → LogPipes → Type 0
 FailsToAppendTo which signed error v w = (log : LogSense) (s : State) (y : Said) → RunsOn log v s
     → SaysRecord log.says (layout_at which (queues log)) (queue_of which) signed y
@@ -107,7 +107,7 @@ TurnLeaves log which s v w errors.Failed = Fails v.disk w.disk
     (FailsMoved (Ties (queues log)) (Ties (queues log)) which)
 TurnLeaves log which s v w _ = ⊥
 
--- so it is of a log that the pipes ran over
+-- a rotation is refused: any log that the pipes ran over is left as the error says
 abbrev pub FailsToRotateQueue : Which → Error → LogPipes → LogPipes → Type 0
 FailsToRotateQueue which error v w = (log : LogSense) (s : State) → RunsOn log v s
     → TurnLeaves log which s v w error
@@ -129,7 +129,7 @@ PurgeLeavesOn log which seq s v w errors.Failed = Fails v.disk w.disk
     × LeavesRaised (queues log) which (both_open (files_of v)) None s seq w.disk
 PurgeLeavesOn log which seq s v w _ = ⊥
 
--- so it is of a log that the pipes ran over
+-- a purge is refused: any log that the pipes ran over is left as the error says
 abbrev pub FailsToPurgeQueue : Which → ℕ → Error → LogPipes → LogPipes → Type 0
 FailsToPurgeQueue which seq error v w = (log : LogSense) (s : State) → RunsOn log v s
     → PurgeLeavesOn log which seq s v w error

@@ -46,12 +46,12 @@ pub record ClosesBeside {R E V : Type 0} (log : TwoQueues R E V) (which : Which)
   pub below : AreBelow (spanned_at which s).files.last files.recycled.items
   pub below_first : AreBelow (spanned_at which s).first files.recycled.items
 
--- and so it is; behind it, reserved names take nothing away
+-- a pipe that is closed holds what there was, maybe all of it synced, however the other queue stands
 abbrev pub CloseIsAStep : {R E V : Type 0} → TwoQueues R E V → Type 0
 CloseIsAStep {R} log = AreTwoQueues log → (which : Which) (o : OpenPipes) (files : PipeFiles)
     (s : LogOnDisk R) → RunOrLie log (with_open which o (Some files)) s → ClosesBeside log which o files s
 
--- files that are kept for use get reserved names
+-- that files kept for use get reserved names takes nothing away of a queue whose pipe is closed
 abbrev pub NamesAreReserved : {R E V : Type 0} → TwoQueues R E V → Type 0
 NamesAreReserved {R} log = AreTwoQueues log → (which : Which) (o : OpenPipes) (kept : List Listed)
     (s : LogOnDisk R) (new : Disk) → RunOrLie log (with_open which o None) s
@@ -91,7 +91,7 @@ pub record LiesClosed {R E V : Type 0} (log : TwoQueues R E V) (s : LogOnDisk R)
   pub ends : (v : View E V) (m : Map E V) (pending : List (Record E V)) → IsAt (Ties log s) v m pending
       → ViewEndsAt (Ties log (closed_log s append rewrite new)) v m pending
 
--- so it is, whatever was refused meanwhile
+-- a log whose two pipes are closed lies closed, whatever was refused meanwhile
 abbrev pub ClosedLogIsALog : {R E V : Type 0} → TwoQueues R E V → Type 0
 ClosedLogIsALog {R} log = AreTwoQueues log → (p : Pipes) (s : LogOnDisk R) (new : Disk) → Run log p s
     → ClosesBoth log p s.disk new → LiesClosed log s new

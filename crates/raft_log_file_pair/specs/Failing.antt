@@ -52,7 +52,7 @@ pub record FailedPipeLeavesALog {R E V : Type 0} (log : TwoQueues R E V) (p : Pi
       → LogEndsLying log (failed_pipe InAppend p) new m pending
       ⊎ LogEndsLying log (failed_pipe InAppend p) new m (pending ++ y ∷ [])
 
--- so it is, whatever an engine says of its log
+-- where a pipe of an engine's log fails, that log lies on the disk
 abbrev pub FailedPipesLeaveLogs : {R E V : Type 0} → TwoQueues R E V → Type 0
 FailedPipesLeaveLogs {R} {E} {V} log = AreTwoQueues log → (p : Pipes) (old : Disk) (v : View E V)
     (m : Map E V) (pending : List (Record E V)) → IsAtOn log p old v m pending

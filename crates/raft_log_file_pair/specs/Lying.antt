@@ -50,7 +50,7 @@ abbrev pub with_open : Which → OpenPipes → Option PipeFiles → OpenPipes
 with_open InAppend o now = record { append = now; rewrite = o.rewrite }
 with_open InRewrite o now = record { append = o.append; rewrite = now }
 
--- so stand both queues of the log, over one disk
+-- of each queue the pipe runs with its files, or none runs and the files lie there, over one disk
 pub record RunOrLie {R E V : Type 0} (log : TwoQueues R E V) (o : OpenPipes) (s : LogOnDisk R) : Type 0 where
   pub append : RunsOrLies log.append o.append s.append s.disk
   pub rewrite : RunsOrLies log.rewrite o.rewrite s.rewrite s.disk
@@ -77,6 +77,6 @@ pub record LyingLogIsALog {R E V : Type 0} (log : TwoQueues R E V) : Type 0 wher
       → HasSpan log.rewrite.format s.rewrite s.disk → RunOrLie log none_open s
   pub dropped : (o : OpenPipes) (s : LogOnDisk R) → RunOrLie log o s → RunOrLie log none_open s
 
--- and so it is
+-- two queues that run or lie there are a log: what is said of their numbered files is true of it
 abbrev pub LyingLogsAreLogs : {R E V : Type 0} → TwoQueues R E V → Type 0
 LyingLogsAreLogs log = AreTwoQueues log → LyingLogIsALog log

@@ -28,7 +28,7 @@ pub record LogLiesOn {R E V : Type 0} (log : TwoQueues R E V) (o : OpenPipes) (d
   pub stands : RunOrLie log o state
   pub holds : IsLog (Ties log state) m pending
 
--- it lies there at rest, as a stop leaves it, and nothing of it is unsynced
+-- Some log lies on the disk at rest, as a stop leaves it: it is this map, and nothing of it is unsynced.
 pub record LogRestsOn {R E V : Type 0} (log : TwoQueues R E V) (d : Disk) (m : Map E V) : Type 0 where
   pub state : LogOnDisk R
   pub disk : state.disk ≡ d
@@ -59,7 +59,7 @@ pub record LogsGoOn {R E V : Type 0} (log : TwoQueues R E V) : Type 0 where
       → NoChanceInLast log.rewrite.format h.state.rewrite.files d image
       → (k : ℕ) × (k ≤ length pending) × LogRestsOn log image (taken m (take k pending))
 
--- and so it is
+-- a log of any two queues goes on: on the disk while an engine has it, at rest behind a crash
 abbrev pub LogsGoOnDisks : {R E V : Type 0} → TwoQueues R E V → Type 0
 LogsGoOnDisks log = AreTwoQueues log → LogsGoOn log
 
@@ -92,7 +92,7 @@ pub record OpensBoth {R E V : Type 0} (log : TwoQueues R E V) (d : Disk) (m : Ma
       → OpensPipe log.rewrite.format log.rewrite.own log.rewrite.paths next rewrite other mid new
       → LogOpenedOn log (record { append = one; rewrite = other }) h.state new m
 
--- and so it is
+-- a log at rest is opened by both pipes, over what was found of its queues; refused, it lies there still
 abbrev pub RestingLogsOpen : {R E V : Type 0} → TwoQueues R E V → Type 0
 RestingLogsOpen {R} {E} {V} log = AreTwoQueues log → (d : Disk) (m : Map E V) (h : LogRestsOn log d m)
     → IsSound d → (append rewrite : FoundFiles) (begin next : NewFiles)

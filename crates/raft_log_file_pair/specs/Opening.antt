@@ -23,17 +23,17 @@ use Rattle.raft_log_file_pair.specs.declared.opening.FoundPipe.{FoundPipe}
 abbrev pub layout_found : FoundPipe → QueueLayout LogRecord
 layout_found p = log_layout p.layout.queue (map string_bytes p.layout.paths.items)
 
--- its pipe was opened
+-- the pipe of a queue that was found is opened
 abbrev pub OpensFound : FoundPipe → PipeFiles → Disk → Disk → Type 0
 OpensFound p files old new = OpensPipe (layout_found p).format (layout_found p).own (layout_found p).paths
     p.settings.new_files p.found files old new
 
--- or it wasn't, and why
+-- the pipe of a queue that was found isn't opened, and why
 abbrev pub FailsToOpenFound : FoundPipe → Error → Disk → Disk → Type 0
 FailsToOpenFound p error old new = OpenLeaves (layout_found p).format (layout_found p).own (layout_found p).paths
     p.settings.new_files p.found error old new
 
--- it was found in these directories, as that queue
+-- what was found is of that queue, in these directories
 pub record IsFoundAs (queue : LogQueue) (directories : List (List ℕ)) (p : FoundPipe) : Type 0 where
   pub named : p.layout.queue ≡ queue
   pub told : p.settings.queue ≡ queue
@@ -66,7 +66,8 @@ pub record IsOpenedOf (p : FoundPipe) (o : OnePipe) : Type 0 where
   pub settings : o.settings ≡ p.settings
   pub alive : o.failed ≡ false
 
--- They were opened, that of Append first; and so of a log that was found at rest.
+-- Both pipes of a log were opened, that of Append first; of one that was found at rest they run over what was
+-- read.
 pub record OpensLog (append rewrite : FoundPipe) (old : Disk) (v : LogPipes) : Type 0 where
   pub mid : Disk
   pub append_is : IsOpenedOf append v.append
@@ -76,7 +77,8 @@ pub record OpensLog (append rewrite : FoundPipe) (old : Disk) (v : LogPipes) : T
   pub log : (log : LogSense) (m : Map (List ℕ) (List ℕ)) → (h : RestsAsFound log m append rewrite old)
       → RunsAsFound log m h.rests.state v
 
--- They weren't, as one of them wasn't, and why; and the log lies on the disk still, with its map.
+-- Both pipes of a log weren't opened, as one of them wasn't, and why; and one that was found at rest lies on
+-- the disk still, with its map.
 pub record FailsToOpenLog (append rewrite : FoundPipe) (error : Error) (old new : Disk) : Type 0 where
   pub call : FailsToOpenFound append error old new ⊎ ((files : PipeFiles) × (mid : Disk)
       × OpensFound append files old mid × FailsToOpenFound rewrite error mid new)

@@ -35,7 +35,7 @@ pub record SameRules (before after : OnePipe) : Type 0 where
   pub directories : after.directories ≡ before.directories
   pub settings : after.settings ≡ before.settings
 
--- so do both, whatever was called
+-- both pipes go by the rules that they went by, in the same directories
 abbrev pub KeepRules : LogPipes → LogPipes → Type 0
 KeepRules v w = SameRules v.append w.append × SameRules v.rewrite w.rewrite
 
@@ -44,38 +44,39 @@ abbrev pub PipeAppends : Which → (LogFileContext → List ℕ) → FileBlockHa
 PipeAppends which signed block = DoesToPipe which (λ layout rules before after.
     AppendsAt layout.format layout.own layout.paths rules.new_files rules.queue signed before after block)
 
--- it didn't, and why: an `Io` is of the kind that the file system answered the write with
+-- the pipe didn't write a record, and why: an `Io` is of the kind that the file system answered the write
+-- with
 abbrev pub PipeFailsToAppend : Which → (LogFileContext → List ℕ) → Error → LogPipes → LogPipes → Type 0
 PipeFailsToAppend which signed error = LeavesPipe which (λ layout rules before after.
     AppendFails layout.format layout.own layout.paths rules.new_files rules.queue signed before after error)
 
--- it synced its records
+-- the pipe synced its records
 abbrev pub PipeSyncs : Which → LogPipes → LogPipes → Type 0
 PipeSyncs which = DoesToPipe which (λ layout rules before after.
     SyncsPipe layout.format layout.own layout.paths before)
 
--- it didn't
+-- the pipe didn't sync its records
 abbrev pub PipeFailsToSync : Which → LogPipes → LogPipes → Type 0
 PipeFailsToSync which = LeavesPipe which (λ layout rules before after.
     FailsToSyncPipe layout.format layout.own layout.paths before)
 
--- it went on in its next file
+-- the pipe went on in its next file
 abbrev pub PipeRotates : Which → LogPipes → LogPipes → Type 0
 PipeRotates which = DoesToPipe which (λ layout rules before after.
     Rotates layout.format layout.own layout.paths (header_bytes rules.new_files.format) before after)
 
--- it didn't, and why
+-- the pipe didn't go on in its next file, and why
 abbrev pub PipeFailsToRotate : Which → Error → LogPipes → LogPipes → Type 0
 PipeFailsToRotate which error = LeavesPipe which (λ layout rules before after.
     RotationLeaves layout.format layout.own layout.paths (header_bytes rules.new_files.format) before after
     error)
 
--- its files below a number went, but for those that stay for use
+-- the pipe's files below a number went, but for those that stay for use
 abbrev pub PipePurges : Which → ℕ → LogPipes → LogPipes → Type 0
 PipePurges which seq = DoesToPipe which (λ layout rules before after.
     Purges layout.format layout.own layout.paths rules.capacity seq before after)
 
--- they didn't, or some of them, and why
+-- the pipe's files below a number didn't go, or some of them, and why
 abbrev pub PipeFailsToPurge : Which → ℕ → Error → LogPipes → LogPipes → Type 0
 PipeFailsToPurge which seq error = LeavesPipe which (λ layout rules before after.
     PurgeLeaves layout.format layout.own layout.paths rules.capacity seq before after error)

@@ -51,12 +51,12 @@ abbrev pub which_of : LogQueue → Which
 which_of Append = InAppend
 which_of Rewrite = InRewrite
 
--- its name
+-- the name of a queue
 abbrev pub queue_of : Which → LogQueue
 queue_of InAppend = Append
 queue_of InRewrite = Rewrite
 
--- the files that both have open
+-- the files that both pipes have open
 abbrev pub files_of : LogPipes → Pipes
 files_of v = record { append = v.append.files; rewrite = v.rewrite.files }
 
@@ -87,7 +87,7 @@ pub record LogSense : Type 0 where
   pub append : List (List ℕ)
   pub rewrite : List (List ℕ)
 
--- its queues
+-- the queues of a log that is read so
 abbrev pub queues : LogSense → TwoQueues LogRecord (List ℕ) (List ℕ)
 queues log = log_queues log.says log.append log.rewrite
 

@@ -16,7 +16,7 @@ pub record QueueLayout (R : Type 0) : Type 1 where
   pub own : List ℕ → Type 0
   pub paths : FilePaths
 
--- it is a layout, and it can be told of any bytes whether they begin with a header, or with a record
+-- the layout is lawful, and of any bytes it can be told whether they begin with a header, or with a record
 pub record IsQueueLayout {R : Type 0} (layout : QueueLayout R) : Type 0 where
   pub lawful : IsLayout layout.format layout.own layout.paths
   pub told : CanTellFormat layout.format

@@ -36,7 +36,8 @@ ReadsAgain {S} {E} {V} ties which s t = (f : Files E V) → ties s f
     → (r : ReadAgain (queue_at which f))
     × ties t (put which f (from_at which f) (read_files (queue_at which f) r))
 
--- so it is of both
+-- Of both queues some numbered files that had left the span are in it again, some first unsynced records are
+-- kept, and all that was read is synced.
 abbrev pub ReadsBothAgain : {S E V : Type 0} → (S → Files E V → Type 0) → S → S → Type 0
 ReadsBothAgain {S} {E} {V} ties s t = (f : Files E V) → ties s f
     → (r : ReadAgain f.rewrite) × (a : ReadAgain f.append)
@@ -46,7 +47,7 @@ ReadsBothAgain {S} {E} {V} ties s t = (f : Files E V) → ties s f
 abbrev pub RestsQueue : {R : Type 0} → QueueLayout R → Spanned R → Disk → Type 0
 RestsQueue layout q d = (IsStopped layout q.files d × HasSpan layout.format q d) ⊎ IsUnbegun layout q d
 
--- so do those of both
+-- the files of both queues lie on the disk as a stop left them, each of its span; or none was made yet
 pub record RestBoth {R E V : Type 0} (log : TwoQueues R E V) (s : LogOnDisk R) : Type 0 where
   pub append : RestsQueue log.append s.append s.disk
   pub rewrite : RestsQueue log.rewrite s.rewrite s.disk
@@ -131,7 +132,7 @@ pub record OpensBeside {R E V : Type 0} (log : TwoQueues R E V) (which : Which) 
       found error s.disk new
       → LeavesUnopened log which o s error new
 
--- and so it is
+-- a pipe is opened over what was found of its queue, or refused, however the other queue stands
 abbrev pub OpenIsAStep : {R E V : Type 0} → TwoQueues R E V → Type 0
 OpenIsAStep {R} log = AreTwoQueues log → (which : Which) (o : OpenPipes) (begin : NewFiles)
     (found : FoundFiles) (s : LogOnDisk R) → IsSound s.disk → RunOrLie log (with_open which o None) s

@@ -72,7 +72,7 @@ pub record IsStopped {R : Type 0} (layout : QueueLayout R) (q : LogFiles R) (d :
 abbrev pub HoldsQueue : {R : Type 0} → QueueLayout R → LogFiles R → Disk → Type 0
 HoldsQueue layout q d = StandsWithRecords layout.format layout.own d q d ⊎ IsStopped layout q d
 
--- so are those of both queues
+-- the records of both queues are held, each by a pipe, also by one that has failed, or as a stop left them
 pub record HoldsBoth {R E V : Type 0} (log : TwoQueues R E V) (s : LogOnDisk R) : Type 0 where
   pub append : HoldsQueue log.append s.append.files s.disk
   pub rewrite : HoldsQueue log.rewrite s.rewrite.files s.disk

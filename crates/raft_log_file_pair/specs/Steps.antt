@@ -28,7 +28,7 @@ pub record StaysAside {R : Type 0} (layout : QueueLayout R) (theirs : List ℕ �
   pub runs : (files : PipeFiles) (q : Spanned R) → RunsQueue layout files q old → RunsQueue layout files q new
   pub holds : (q : Spanned R) → HoldsQueue layout q.files old → HoldsQueue layout q.files new
 
--- so it is of either queue, where no path is own to both
+-- a queue stays as it was in a call that touches only names of which none is a path of its own
 abbrev pub OtherQueueStays : {R : Type 0} → QueueLayout R → (List ℕ → Type 0) → Type 0
 OtherQueueStays layout theirs = IsQueueLayout layout → ((path : List ℕ) → layout.own path → theirs path → ⊥)
     → (old new : Disk) → TouchesOnlyNames theirs old new → StaysAside layout theirs old new
@@ -93,7 +93,7 @@ NotAppended log which p s header y after errors.Memory new = LeavesWithout log w
 NotAppended log which p s header y after errors.Failed new = LeavesFailed log which p s header y new
 NotAppended log which p s header y after _ new = ⊥
 
--- and so it is, whatever the pipe answered
+-- a record that a pipe refuses leaves what its error says
 abbrev pub RefusedAppendIsAStep : {R E V : Type 0} → TwoQueues R E V → Type 0
 RefusedAppendIsAStep {R} {E} {V} log = AreTwoQueues log → (which : Which) (p : Pipes) (s : LogOnDisk R)
     → Run log p s → (begin : NewFiles) (queue : LogQueue) (signed : LogFileContext → List ℕ) (y : Record E V)
@@ -121,7 +121,7 @@ RefusedAppendHasFailed {R} {E} {V} log = AreTwoQueues log → (which : Which) (p
     queue signed (pipe_at which p) after error s.disk new
     → TellsOfCall error → Fails s.disk new
 
--- and of a rotation
+-- where the error of a refused rotation tells of a file call, one has failed
 abbrev pub RefusedRotationHasFailed : {R E V : Type 0} → TwoQueues R E V → Type 0
 RefusedRotationHasFailed {R} log = AreTwoQueues log → (which : Which) (p : Pipes) (s : LogOnDisk R)
     → Run log p s → (header : List ℕ) (after : PipeFiles) (error : Error) (new : Disk)

@@ -59,7 +59,7 @@ NotRotated {R} log which p s header after errors.Failed new = (files : LogFiles 
     × FailsMoved (Ties log) (AllowsIn log) which s (next_log which s files new)
 NotRotated log which p s header after _ new = ⊥
 
--- and so it is
+-- a rotation that is refused leaves what its error says
 abbrev pub RefusedRotationIsAStep : {R E V : Type 0} → TwoQueues R E V → Type 0
 RefusedRotationIsAStep {R} log = AreTwoQueues log → (which : Which) (p : Pipes) (s : LogOnDisk R)
     → Run log p s → (header : List ℕ) (after : PipeFiles) (error : Error) (new : Disk) → IsSound new
@@ -95,7 +95,7 @@ NotPurged log which p s seq after errors.Failed new = HoldsBoth log (raised_log 
     × Raises (Ties log) (AllowsIn log) which seq s (raised_log which s seq new)
 NotPurged log which p s seq after _ new = ⊥
 
--- and so it is
+-- a purge that is refused leaves what its error says
 abbrev pub RefusedPurgeIsAStep : {R E V : Type 0} → TwoQueues R E V → Type 0
 RefusedPurgeIsAStep {R} log = AreTwoQueues log → (which : Which) (p : Pipes) (s : LogOnDisk R)
     → Run log p s → (capacity seq : ℕ) (after : PipeFiles) (error : Error) (new : Disk) → IsSound new

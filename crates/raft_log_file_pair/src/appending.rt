@@ -23,7 +23,7 @@ pub fn refused_append_has_failed<G: LogQueues>()
     ensures { (log : G) → RefusedAppendHasFailed (G.queues log) }
 {}
 
-/// So it is of a refused rotation.
+/// Behind a refused rotation that is told as `Io`, `TryAgain` or `Failed` a file call has failed.
 pub fn refused_rotation_has_failed<G: LogQueues>()
     ensures { (log : G) → RefusedRotationHasFailed (G.queues log) }
 {}

@@ -37,10 +37,10 @@ pub trait PipeLog {
     /// The file system.
     ghost files: { Self → Self.Files };
 
-    /// Its disk.
+    /// The disk of the file system that a close gives back.
     ghost disk_of: { Self.Files → Disk };
 
-    /// What arming a fault makes of it, beside its disk.
+    /// What arming a fault makes of that file system, beside its disk.
     ghost arms_files: { Fault → Self.Files → Self.Files → Type 0 };
 
     /// What whoever listens holds back of a queue: nothing, or the files from a number on.

@@ -30,7 +30,8 @@ pub data Reserves (paths : FilePaths) (f : Listed) (last next : ℕ) (old new : 
       → Reserves paths f last next old new
   unnamed : next ≡ last → new ≡ old → Reserves paths f last next old new
 
--- So each of these files, one after the other, up to the first that has a reserved name already.
+-- Each of these files got a reserved name or didn't, one after the other, up to the first that has one
+-- already.
 abbrev pub ReservesAll : FilePaths → List Listed → ℕ → Disk → Disk → Type 0
 ReservesAll paths [] last old new = new ≡ old
 ReservesAll paths (f ∷ fs) last old new = ((f.reserved ≡ true) × (new ≡ old))
@@ -46,8 +47,8 @@ FinishesOrNot writer old new = ((after : LogFileWriter) × Closes writer after o
 abbrev pub IsHeldOrSettled : {R : Type 0} → Format R → (List ℕ → Type 0) → Disk → LogFiles R → Disk → Type 0
 IsHeldOrSettled F own base q d = StandsWithRecords F own base q d ⊎ StandsWithRecords F own base (settled q) d
 
--- So it is of a pipe that is closed, whatever was refused; no gap was filled, and the files of the span are
--- there.
+-- What a pipe leaves that is closed, whatever was refused: what there was is held, or held and all of it
+-- durable; no gap was filled, and the files of the span are there.
 abbrev pub LeavesClosed : {R : Type 0} → Format R → (List ℕ → Type 0) → FilePaths → PipeFiles → Disk → Disk
     → Type 0
 LeavesClosed {R} F own paths files old new = (base : Disk) (q : LogFiles R)

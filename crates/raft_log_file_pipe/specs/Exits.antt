@@ -21,7 +21,7 @@ use Rattle.raft_log_file_pipe.specs.Files.{Listed, IsSpan, IsPipe}
 use Rattle.raft_log_file_pipe.specs.Calls.{TurnsBy, TurnsNot}
 use Rattle.raft_log_file_pipe.specs.declared.pipe_files.PipeFiles.{PipeFiles}
 
--- the same files, listed alike
+-- a pipe has the same files, listed alike
 pub record SameFiles (before after : PipeFiles) : Type 0 where
   pub first : after.first_seq ≡ before.first_seq
   pub earlier : after.earlier.items ≡ before.earlier.items
@@ -92,9 +92,9 @@ Adds {R} F own paths bytes at before after old new = (base : Disk) (q : LogFiles
     → (at ≡ length (whole q))
     × ((room : ℕ) × IsPipe F own paths base after (with_more (w ∷ []) (with_room room q)) new)
 
--- What stands where it was refused: it was cut off again, and all records before it are durable. Or that
--- was refused too: then it may be there, and counts as the last one that isn't synced; the files of the span
--- are there.
+-- What stands where a record was refused: it was cut off again, and all records before it are durable. Or
+-- that was refused too: then it may be there, and counts as the last one that isn't synced; the files of the
+-- span are there.
 abbrev pub AddLeaves : {R : Type 0} → Format R → (List ℕ → Type 0) → FilePaths → WriteFault → Disk → Written R
     → LogFiles R → PipeFiles → Disk → Type 0
 AddLeaves F own paths (CutBack kind) base w q after new = IsPipe F own paths base after (settled q) new
@@ -102,7 +102,7 @@ AddLeaves F own paths (Failed kind) base w q after new = (room : ℕ)
     × StandsWithRecords F own base (with_more (w ∷ []) (with_room room q)) new
     × IsSpan paths new.names after.first_seq after.earlier.items q.last
 
--- either way a file call failed
+-- a record of these bytes wasn't added, as its fault says: a file call failed
 abbrev pub FailsToAdd : {R : Type 0} → Format R → (List ℕ → Type 0) → FilePaths → List ℕ → WriteFault →
     PipeFiles
     → PipeFiles → Disk → Disk → Type 0
@@ -110,7 +110,7 @@ FailsToAdd {R} F own paths bytes fault before after old new = (base : Disk) (q :
     → F.IsFrame q.last q.header w.bytes w.value → w.bytes ≡ bytes → IsPipe F own paths base before q old
     → Fails old new × AddLeaves F own paths fault base w q after new
 
--- the same files, listed alike, but for what the writer of the last one counts
+-- a pipe has the same files, listed alike, but for what the writer of the last one counts
 pub record SameLists (before after : PipeFiles) : Type 0 where
   pub first : after.first_seq ≡ before.first_seq
   pub earlier : after.earlier.items ≡ before.earlier.items
@@ -123,7 +123,7 @@ abbrev pub SyncsPipe : {R : Type 0} → Format R → (List ℕ → Type 0) → F
 SyncsPipe {R} F own paths files old new = (base : Disk) (q : LogFiles R) → IsPipe F own paths base files q old
     → IsPipe F own paths base files (synced q) new × Syncs files.writer.handle old new
 
--- they weren't: that file call failed, the records are held, and the files of the span are there
+-- the records weren't synced: that file call failed, they are held, and the files of the span are there
 abbrev pub FailsToSyncPipe : {R : Type 0} → Format R → (List ℕ → Type 0) → FilePaths → PipeFiles → Disk → Disk
     → Type 0
 FailsToSyncPipe {R} F own paths files old new = (base : Disk) (q : LogFiles R)

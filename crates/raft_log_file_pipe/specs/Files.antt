@@ -42,7 +42,7 @@ abbrev pub NoneHas : FilePaths → List ℕ → List Listed → Type 0
 NoneHas paths path [] = Unit {0}
 NoneHas paths path (f ∷ fs) = (path_of paths f ≡ path → ⊥) × NoneHas paths path fs
 
--- so are all of these, and no two of them are one
+-- each of these files is kept for use, and no two of them have one path
 abbrev pub AllKept : {R : Type 0} → Format R → FilePaths → ℕ → Disk → List Listed → Type 0
 AllKept F paths first d [] = Unit {0}
 AllKept F paths first d (f ∷ fs) = IsKeptForUse F paths first d f

@@ -68,7 +68,8 @@ TakesUpFound {R} F own paths earlier last end kept files old new = (base : Disk)
     × GapsStay F q old new
     × ReopensBy last.handle end (header_bytes (taken_up end last).format) files.writer old new
 
--- it doesn't: a file call failed, all that was read is held, and the files that were found are there
+-- the queue doesn't go on: a file call failed, all that was read is held, and the files that were found are
+-- there
 abbrev pub FailsToTakeUpFound : {R : Type 0} → Format R → (List ℕ → Type 0) → FilePaths → List Listed → Listed
     → Option ℕ → List Listed → Disk → Disk → Type 0
 FailsToTakeUpFound {R} F own paths earlier last end kept old new = (base : Disk) (q : LogFiles R)
@@ -92,7 +93,8 @@ BeginsPipe {R} F own paths format kept files old new = (base : Disk) (older : �
     × BeginsQueueBy (path_of paths files.active) (header_bytes format) files.active.handle files.writer
     old new
 
--- it didn't: a file call failed, and there is a place for it still, or its file 1 is there, without a record
+-- a pipe didn't begin: a file call failed, and there is a place for it still, or its file 1 is there, without
+-- a record
 abbrev pub FailsToBeginPipe : {R : Type 0} → Format R → (List ℕ → Type 0) → FilePaths → LogFileFormat
     → List Listed → Disk → Disk → Type 0
 FailsToBeginPipe {R} F own paths format kept old new = (base : Disk) (older : ℕ → Past R)

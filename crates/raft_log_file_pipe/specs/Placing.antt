@@ -9,13 +9,13 @@ use Rattle.raft_log_file_pipe.specs.Files.{Listed}
 abbrev pub HasSpace : (List ℕ → ℕ → Type 0) → ℕ → List ℕ → Type 0
 HasSpace tells size directory = (space : ℕ) × tells directory space × (size ≤ space)
 
--- It lacks room: less space was told of it; or none, as the file system has stopped or the directory isn't
--- there.
+-- A directory lacks room: less space was told of it; or none, as the file system has stopped or the directory
+-- isn't there.
 abbrev pub LacksRoom : (List ℕ → ℕ → Type 0) → Disk → ℕ → List ℕ → Type 0
 LacksRoom tells d size directory = ((space : ℕ) × tells directory space × (space < size))
     ⊎ ((d.stopped ≡ true) ⊎ ((error : ErrorKind) × WrongListing directory d error))
 
--- whether it has room
+-- whether a directory has room for so many bytes
 abbrev pub TellsRoom : (List ℕ → ℕ → Type 0) → Disk → ℕ → List ℕ → Bool → Type 0
 TellsRoom tells d size directory true = HasSpace tells size directory
 TellsRoom tells d size directory false = LacksRoom tells d size directory

@@ -87,12 +87,12 @@ pub record IsRaised (capacity seq : ℕ) (before after : PipeFiles) : Type 0 whe
   pub recycled : after.recycled.items ≡ before.recycled.items
       ++ staying (room_from capacity seq before) (take (seq - before.first_seq) before.earlier.items)
 
--- the paths of those that go
+-- the paths of the files that go
 abbrev pub paths_going : FilePaths → ℕ → ℕ → PipeFiles → List (List ℕ)
 paths_going paths capacity seq files = map (path_of paths)
     (going (room_from capacity seq files) (take (seq - files.first_seq) files.earlier.items))
 
--- they went, one after the other, and no other name changed
+-- the files that go went, one after the other, and no other name changed
 abbrev pub Purges : {R : Type 0} → Format R → (List ℕ → Type 0) → FilePaths → ℕ → ℕ → PipeFiles → PipeFiles
     → Disk → Disk → Type 0
 Purges {R} F own paths capacity seq before after old new = (base : Disk) (q : LogFiles R)

@@ -18,7 +18,7 @@ use std::test::Fail;
 /// Bytes that aren't signed.
 #[derive(Drop)]
 pub struct Plain {
-    /// They.
+    /// The bytes.
     pub bytes: Vec<u8>,
 }
 

@@ -38,9 +38,9 @@ pub enum Step {
 /// What is answered.
 #[derive(Clone, Copy, PartialEq, Eq)]
 pub enum Told {
-    /// It was done.
+    /// The step was done.
     Done,
-    /// It was refused.
+    /// The step was refused.
     Refused(Why),
     /// The file, the offset and the length of what was written.
     At(u64, u64, usize),

@@ -47,8 +47,9 @@ AppendsRecord {R} F own bytes before after old new = (base : Disk) (q : LogFiles
     → F.IsFrame q.last q.header w.bytes w.value → w.bytes ≡ bytes → IsOpen F own base before q path N old
     → (room : ℕ) × IsOpen F own base after (with_more (w ∷ []) (with_room room q)) path N new
 
--- It was refused, and what was written of it cut off and synced: all records before it are durable. Or so
--- was that: then it may be there, and counts as the last one that isn't synced.
+-- A record was refused, and what was written of it cut off and synced: all records before it are durable. Or
+-- the cut or its sync was refused too: then the record may be there, and counts as the last one that isn't
+-- synced.
 abbrev pub AppendLeaves : {R : Type 0} → Format R → (List ℕ → Type 0) → WriteFault → Disk → Written R
     → LogFiles R → LogFileWriter → LogFileWriter
     → List ℕ → Names → Disk → Type 0
@@ -57,7 +58,7 @@ AppendLeaves F own (CutBack kind) base w q before after path N new = IsOpen F ow
 AppendLeaves F own (Failed kind) base w q before after path N new = (room : ℕ) × IsHeld F own base before
     (with_more (w ∷ []) (with_room room q)) path N new
 
--- either way a file call failed
+-- a record of these bytes wasn't written, as its fault says: a file call failed
 abbrev pub FailsToAppend : {R : Type 0} → Format R → (List ℕ → Type 0) → List ℕ → WriteFault
     → LogFileWriter → LogFileWriter → Disk → Disk → Type 0
 FailsToAppend {R} F own bytes fault before after old new = (base : Disk) (q : LogFiles R) (w : Written R)
@@ -94,7 +95,7 @@ abbrev pub SyncsAll : {R : Type 0} → Format R → (List ℕ → Type 0) → Lo
 SyncsAll {R} F own writer old new = (base : Disk) (q : LogFiles R) (path : List ℕ) (N : Names)
     → IsOpen F own base writer q path N old → IsOpen F own base writer (synced q) path N new
 
--- they weren't: a file call failed, and the records are held
+-- the records weren't synced: a file call failed, and they are held
 abbrev pub FailsToSyncAll : {R : Type 0} → Format R → (List ℕ → Type 0) → LogFileWriter → Disk → Disk
     → Type 0
 FailsToSyncAll {R} F own writer old new = (base : Disk) (q : LogFiles R) (path : List ℕ) (N : Names)
@@ -106,7 +107,7 @@ abbrev pub Finishes : {R : Type 0} → Format R → (List ℕ → Type 0) → Lo
 Finishes {R} F own before after old new = (base : Disk) (q : LogFiles R) (path : List ℕ) (N : Names)
     → IsOpen F own base before q path N old → IsFinished F own base after q path N new
 
--- it wasn't: a file call failed, and the records are held
+-- the last file wasn't finished: a file call failed, and the records are held
 abbrev pub FailsToFinish : {R : Type 0} → Format R → (List ℕ → Type 0) → LogFileWriter → Disk → Disk
     → Type 0
 FailsToFinish {R} F own before old new = (base : Disk) (q : LogFiles R) (path : List ℕ) (N : Names)
@@ -126,7 +127,7 @@ Begins {R} F own handle header writer old new = (base : Disk) (q : LogFiles R) (
     → IsGiven F own base handle (begun header stale q) path N old
     → (room : ℕ) × IsOpen F own base writer (with_room room (begun header stale q)) path N new
 
--- it didn't: a file call failed, and any of the header may be there, but no record
+-- the last file didn't get its header: a file call failed, and any of the header may be there, but no record
 abbrev pub FailsToBegin : {R : Type 0} → Format R → (List ℕ → Type 0) → Handle → List ℕ → Disk → Disk
     → Type 0
 FailsToBegin {R} F own handle header old new = (base : Disk) (q : LogFiles R) (stale : List ℕ)

@@ -25,7 +25,7 @@ pub record IsCutTo {R : Type 0} (F : Format R) (capacity : ℕ) (q : LogFiles R)
   pub cut : IsCut F q more file
   pub ends : length file.content ≤ capacity
 
--- and once that is synced: it is finished
+-- a file that was cut behind its records and synced is finished, and ends there at the latest
 pub record IsPastTo {R : Type 0} (F : Format R) (capacity : ℕ) (q : LogFiles R) (file : File) : Type 0 where
   pub past : IsPast F q.last (finished q) file
   pub ends : length file.content ≤ capacity
@@ -35,12 +35,12 @@ pub record IsNewTo {R : Type 0} (F : Format R) (capacity : ℕ) (q : LogFiles R)
   pub new : IsNew F q file
   pub ends : length file.content ≤ capacity
 
--- and once its header is written
+-- a file whose header is written, and that has no record yet, ends there at the latest
 pub record IsHeadedTo {R : Type 0} (F : Format R) (capacity : ℕ) (q : LogFiles R)
     (file : File) : Type 0 where
   pub headed : IsHeaded F q file
   pub ends : length file.content ≤ capacity
 
--- the same once some room was made ahead
+-- this holds of the queue's last file once some room was made ahead
 abbrev pub HasRoom : {R : Type 0} → (LogFiles R → File → Type 0) → LogFiles R → File → Type 0
 HasRoom P q file = (room : ℕ) × P (with_room room q) file

@@ -16,14 +16,14 @@ pub record FilesAreKept {R : Type 0} (F : Format R) (own : List ℕ → Type 0) 
   pub left_over : (base : Disk) (q : LogFiles R) (path : List ℕ) (id : ℕ) (N : Names) (d : Disk)
       → Stands F own base q path id (IsLeftover F q) N d → KeepsQueue F q d
 
--- and it can be read, from each number on behind which none is missing, whatever is known of its last file
+-- a queue can be read, from each number on behind which none is missing, whatever is known of its last file
 abbrev pub FilesAreReadable : {R : Type 0} → Format R → (List ℕ → Type 0) → Type 0
 FilesAreReadable {R} F own = CanTellFormat F → (base : Disk) (q : LogFiles R) (path : List ℕ) (id : ℕ)
     (N : Names) (d : Disk)
     → IsSound d → Stands F own base q path id Anything N d → IsReadable F q d
 
--- What a stop leaves of it is the queue again, seen from that image, with some first pending records, all
--- durable.
+-- What a stop leaves of a queue is the queue again, seen from that image, with some first pending records,
+-- all durable.
 abbrev pub FilesRestart : {R : Type 0} → Format R → (List ℕ → Type 0) → Type 0
 FilesRestart {R} F own = CanTellFormat F → (base : Disk) (q : LogFiles R) (path : List ℕ) (id : ℕ)
     (N : Names) (d image : Disk)

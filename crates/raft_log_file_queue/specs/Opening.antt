@@ -42,7 +42,8 @@ BeginsQueue {R} F own header path handle writer old new = (base : Disk) (older :
 abbrev pub IsHalfBegun : {R : Type 0} → Format R → (List ℕ → Type 0) → Disk → LogFiles R → Disk → Type 0
 IsHalfBegun F own base q d = IsFresh F own base d ⊎ ((room : ℕ) × StandsWithRecords F own base (with_room room q) d)
 
--- it hasn't begun: a file call failed
+-- a queue hasn't begun: a file call failed, and there is a place for it still, or its file 1 is there,
+-- without a record
 abbrev pub FailsToBeginQueue : {R : Type 0} → Format R → (List ℕ → Type 0) → List ℕ → List ℕ → Disk → Disk
     → Type 0
 FailsToBeginQueue {R} F own header path old new = (base : Disk) (older : ℕ → Past R)

@@ -43,7 +43,7 @@ pub record StandsWithRecords {R : Type 0} (F : Format R) (own : List ℕ → Typ
   pub N : Names
   pub stands : Stands F own base q path id (HoldsLast F q) N d
 
--- so does the queue as it was, or with a next file, which has no record
+-- the queue stands as it was, or with a next file, which has no record, and its last file holds its records
 abbrev pub IsLeftTurned : {R : Type 0} → Format R → (List ℕ → Type 0) → Disk → LogFiles R → List ℕ
     → List ℕ → Disk → Type 0
 IsLeftTurned F own base q header stale d = StandsWithRecords F own base q d ⊎
@@ -56,7 +56,7 @@ abbrev pub QueueGoesOnInNext : {R : Type 0} → Format R → (List ℕ → Type 
 QueueGoesOnInNext F own base writer q header stale to N old new = (room : ℕ)
     × IsOpen F own base writer (with_room room (rotated header stale q)) to N new × GapsStay F q old new
 
--- it doesn't: a file call failed, and what there was is held
+-- the queue doesn't go on in the next file: a file call failed, and what there was is held
 abbrev pub StaysBehind : {R : Type 0} → Format R → (List ℕ → Type 0) → Disk → LogFiles R → List ℕ
     → List ℕ → Disk → Disk → Type 0
 StaysBehind F own base q header stale old new = Fails old new
@@ -133,14 +133,14 @@ pub record CanDrop {R : Type 0} (F : Format R) (own : List ℕ → Type 0) (q : 
   pub id : ℕ
   pub named : N gone ≡ Some id
 
--- it went, and nothing else changed
+-- a file of the queue went, and nothing else changed
 abbrev pub Drops : {R : Type 0} → Format R → (List ℕ → Type 0) → List ℕ → Disk → Disk → Type 0
 Drops {R} F own gone old new = (base : Disk) (writer : LogFileWriter) (q : LogFiles R) (path : List ℕ)
     (N : Names)
     → CanDrop F own q gone N → IsOpen F own base writer q path N old
     → IsOpen F own base writer q path (update bytes_eq N gone None) new × GapsStay F q old new
 
--- it didn't, or a stop came: a file call failed, and what there was is held
+-- a file of the queue didn't go, or a stop came: a file call failed, and what there was is held
 abbrev pub FailsToDrop : {R : Type 0} → Format R → (List ℕ → Type 0) → List ℕ → Disk → Disk → Type 0
 FailsToDrop {R} F own gone old new = (base : Disk) (writer : LogFileWriter) (q : LogFiles R)
     (path : List ℕ) (N : Names)

@@ -77,7 +77,7 @@ TrimsLeftover {R} F own handle end old new = (base : Disk) (q : LogFiles R) (pat
     → IsLeftBehind F own base handle end q path N old
     → IsTrimmed F own base handle end q path N old new
 
--- it wasn't: a file call failed, and all is held, whatever header it is to get
+-- what a stop left wasn't cut: a file call failed, and all is held, whatever header the file is to get
 abbrev pub FailsToTrim : {R : Type 0} → Format R → (List ℕ → Type 0) → Handle → Option ℕ → Disk → Disk
     → Type 0
 FailsToTrim {R} F own handle end old new = (base : Disk) (q : LogFiles R) (path : List ℕ) (N : Names)
@@ -121,7 +121,7 @@ Reopens {R} F own handle end header writer old new = (base : Disk) (q : LogFiles
     → (front : List ℕ) × (room : ℕ) × GoesOnBehind F handle end header old front
     × IsOpen F own base writer (with_room room (reread front [] q)) path N new
 
--- it doesn't: a file call failed, and all is held
+-- the queue doesn't go on: a file call failed, and all is held
 abbrev pub FailsToReopen : {R : Type 0} → Format R → (List ℕ → Type 0) → Handle → Option ℕ → List ℕ → Disk
     → Disk → Type 0
 FailsToReopen {R} F own handle end header old new = (base : Disk) (q : LogFiles R) (path : List ℕ)

@@ -26,15 +26,15 @@ pub const DEFAULT_FIRST_FILE_SEQ: FileSeq = 1;
 /// A file of a queue.
 #[derive(Clone, Copy, Debug)]
 pub struct File {
-    /// Its number; of a reserved file the number in its name.
+    /// The file's number; of a reserved file the number in its name.
     pub seq: FileSeq,
-    /// It.
+    /// The open file.
     pub handle: Handle,
-    /// How it is written.
+    /// How the file is written.
     pub format: LogFileFormat,
-    /// The directory that it lies in.
+    /// The directory that the file lies in.
     pub path_id: PathId,
-    /// Whether it has a reserved name.
+    /// Whether the file has a reserved name.
     pub reserved: bool,
 }
 

@@ -18,7 +18,7 @@ use std::io::ErrorKind;
 pub enum WriteFault {
     /// The write was refused; what it left was cut off, and that was synced.
     CutBack(ErrorKind),
-    /// So was the cut, or the sync: the record may be there.
+    /// The write was refused, and so was the cut, or its sync: the record may be there.
     Failed(ErrorKind),
 }
 

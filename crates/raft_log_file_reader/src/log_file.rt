@@ -7,6 +7,6 @@ use raft_log_record_base::FileId;
 pub struct LogFile {
     /// Which file it is.
     pub id: FileId,
-    /// Its path.
+    /// The file's path.
     pub path: String,
 }

@@ -21,7 +21,7 @@ pub record HasReadTo (id : FileId) (handle : Handle) (d : Disk) (file : OpenFile
   pub batches : List (List LogItem)
   pub has : HasBatches file (bytes_of file.source d) start batches end
 
--- they are, and behind the offset no batch comes any more
+-- the batches of the file by this handle are read up to an offset, and behind it no batch comes any more
 pub record EndsItsBatches (id : FileId) (handle : Handle) (d : Disk) (end : ℕ) : Type 0 where
   pub file : OpenFile
   pub read : HasReadTo id handle d file end

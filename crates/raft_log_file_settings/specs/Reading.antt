@@ -76,7 +76,7 @@ at_value key read absent (Some d) = ok_or (read d) key
 abbrev pub at : {X : Type 0} → List ℕ → (Data → Option X) → X → Members → Result X (List ℕ)
 at key read absent t = at_value key read absent (get_member key t)
 
--- the same of a key that may be absent for good
+-- a value of a key that may be absent for good, if it can be read
 abbrev pub maybe : {X : Type 0} → (Data → Option X) → Data → Option (Option X)
 maybe read d = option_map (λ x. Some x) (read d)
 
@@ -174,19 +174,19 @@ GivesAt (Ok x) key reading = reading ≡ Ok x
 GivesAt (Err errors.Memory) key reading = Unit {0}
 GivesAt (Err e) key reading = (reading ≡ Err key) × NamesKey e key
 
--- the same of several keys, the first wrong one of which is told
+-- the values of several keys were read, or the first wrong key is told, or memory ran out
 abbrev pub GivesKeys : {X : Type 0} → Result X Error → Result X (List ℕ) → Type 0
 GivesKeys (Ok x) reading = reading ≡ Ok x
 GivesKeys (Err errors.Memory) reading = Unit {0}
 GivesKeys (Err e) reading = (key : List ℕ) × (reading ≡ Err key) × NamesKey e key
 
--- the same of a text that is lent
+-- a text that is lent was read of a key, or the key is wrong, or memory ran out
 abbrev pub GivesText : Result (Bor (List ℕ)) Error → List ℕ → Result (List ℕ) (List ℕ) → Type 0
 GivesText (Ok x) key reading = reading ≡ Ok x.now
 GivesText (Err errors.Memory) key reading = Unit {0}
 GivesText (Err e) key reading = (reading ≡ Err key) × NamesKey e key
 
--- the same of one that may be absent for good
+-- a text that is lent and may be absent for good was read of a key, or the key is wrong, or memory ran out
 abbrev pub GivesTextIfAny : Result (Option (Bor (List ℕ))) Error → List ℕ
     → Result (Option (List ℕ)) (List ℕ) → Type 0
 GivesTextIfAny (Ok x) key reading = reading ≡ Ok (option_map (λ text. text.now) x)

@@ -29,13 +29,13 @@ pub enum Step {
 // How a call was answered.
 #[derive(Drop)]
 enum Answer {
-    // It was done.
+    // The call was done.
     Done,
-    // It was refused, and nothing was done.
+    // The call was refused, and nothing was done.
     Refused,
-    // It was refused, and what it left was cut off; all before it is durable.
+    // The call was refused, and what it left was cut off; all before it is durable.
     CutBack,
-    // It was refused, and the pipe has failed.
+    // The call was refused, and the pipe has failed.
     Failed,
     // The pipe had failed before.
     Late,

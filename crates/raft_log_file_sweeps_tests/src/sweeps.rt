@@ -53,11 +53,11 @@ pub const STEPS: [Step; 37] = [
 // How the n-th changing call is met.
 #[derive(Clone, Copy)]
 enum Way {
-    // It is refused.
+    // The call is refused.
     Refused,
-    // It is refused, and so is the next one.
+    // The call is refused, and so is the next one.
     RefusedTwice,
-    // The file system stops at it.
+    // The file system stops at the call.
     Stopped,
 }
 

@@ -33,7 +33,8 @@ pub record HasStaleFrom (from : ℕ) (stale : List ℕ) (file : File) : Type 0 w
   pub stands : StandsBehind from stale file.content
   pub covers : length stale ≤ length file.content
 
--- So it is, and no write was refused since the file was closed: behind the offset stand stale bytes alone.
+-- Up to the writer's offset its file has a chain of records, and holds it; no write was refused since the
+-- file was closed, and behind the offset stand stale bytes alone.
 abbrev pub IsReady : {R : Type 0} → (List ℕ → R → Type 0) → ℕ → List ℕ → List (Written R) → List (Written R)
     → LogFileWriter → Disk → Type 0
 IsReady IsFrame start stale durable pending writer d = IsAtEnd IsFrame start stale durable pending [] writer d
@@ -68,7 +69,7 @@ pub record ChainIsWritten {R : Type 0} (IsFrame : List ℕ → R → Type 0) (st
       → FailsToClose before after error old new
       → HasFile before.handle.file (HoldsAtLeast IsFrame start stale durable (pending ++ more)) new
 
--- so it is in each state and with each call
+-- whatever was written, each call of a writer makes of a chain of records what is said of it
 abbrev pub WriterKeepsChain : {R : Type 0} → (List ℕ → R → Type 0) → Type 0
 WriterKeepsChain {R} IsFrame = IsSelfDelimiting IsFrame
     → (start : ℕ) (stale : List ℕ) (durable pending : List (Written R))
@@ -81,7 +82,7 @@ pub record HoldsNothing {R : Type 0} (IsFrame : List ℕ → R → Type 0) (star
   pub chain : HoldsChain IsFrame start stale [] [] file
   pub only : HasStaleFrom 0 stale file
 
--- so it is with each file at rest, new or used before
+-- each file at rest, new or used before, is one without records
 abbrev pub RestHoldsNothing : {R : Type 0} → (List ℕ → R → Type 0) → Type 0
 RestHoldsNothing IsFrame = (start : ℕ) (content : List ℕ)
     → HoldsNothing IsFrame start content (at_rest content)
@@ -101,7 +102,7 @@ abbrev pub GetsHeader : Handle → List ℕ → Bool → Disk → Type 0
 GetsHeader handle header reset d = (file : File) → d.files handle.file ≡ Some file
     → needs_header header reset file.content ≡ true
 
--- so it is with each such file
+-- in each file without records that gets a header a chain begins; refused, it is without records still
 abbrev pub WriterBeginsChain : {R : Type 0} → (List ℕ → R → Type 0) → Type 0
 WriterBeginsChain {R} IsFrame = (handle : Handle) (header stale : List ℕ) (reset : Bool) (old new : Disk)
     → HasFile handle.file (HoldsNothing IsFrame (length header) stale) old → GetsHeader handle header reset old

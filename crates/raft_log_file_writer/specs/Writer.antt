@@ -25,12 +25,12 @@ pub record IsWritten (writer : LogFileWriter) (bytes : List ℕ) (d : Disk) : Ty
   pub content : file.content ≡ bytes ++ behind
   pub end : length file.content ≤ writer.capacity
 
--- these are all its bytes
+-- these are all bytes of the writer's file
 abbrev pub AreItsBytes : LogFileWriter → List ℕ → Disk → Type 0
 AreItsBytes writer bytes d = IsWritten writer bytes d
     × HasFile writer.handle.file (λ file. file.content ≡ bytes) d
 
--- and they are synced
+-- these are all bytes of the writer's file, and they are synced
 abbrev pub IsClosed : LogFileWriter → List ℕ → Disk → Type 0
 IsClosed writer bytes d = IsWritten writer bytes d × (d.files writer.handle.file ≡ Some (at_rest bytes))
 
@@ -88,7 +88,7 @@ pub record WritesAtPlace (handle : Handle) (at capacity : ℕ) (bytes : List ℕ
   pub room : MakesRoom handle capacity (at + length bytes) target old between
   pub writes : Writes handle at bytes between new
 
--- room was made for them, and the write was refused
+-- room was made for the bytes of a write at a place, and the write was refused
 pub record FailsToWriteAt (handle : Handle) (at capacity : ℕ) (bytes : List ℕ) (target : ℕ)
     (error : ErrorKind) (old new : Disk) : Type 0 where
   pub between : Disk
@@ -102,7 +102,8 @@ pub record WritesNext (before after : LogFileWriter) (bytes : List ℕ) (target 
   pub moved : IsWriterAt after before.handle (before.written + length bytes)
       (reach before.capacity (before.written + length bytes) target)
 
--- they were refused, and the writer stands where it stood; but the file may end where the write would have
+-- a writer's next bytes were refused, and the writer stands where it stood; but the file may end where the
+-- write would have
 pub record FailsToWriteNext (before after : LogFileWriter) (bytes : List ℕ) (target : ℕ)
     (error : ErrorKind) (old new : Disk) : Type 0 where
   pub calls : FailsToWriteAt before.handle before.written before.capacity bytes target error old new
@@ -118,7 +119,7 @@ pub data CutsBehind (before after : LogFileWriter) (old new : Disk) : Type 0 whe
       → IsWriterAt after before.handle before.written before.written
       → CutsBehind before after old new
 
--- it may be longer, and the cut was refused
+-- a file that may be longer than up to the writer's offset wasn't cut: that was refused
 pub record FailsToCutBehind (before after : LogFileWriter) (error : ErrorKind) (old new : Disk) : Type 0 where
   pub longer : before.written < before.capacity
   pub fails : FailsToShorten before.handle before.written error old new

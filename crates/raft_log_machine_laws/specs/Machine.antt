@@ -19,12 +19,12 @@ abbrev pub Fits : {E V : Type 0} → Item E V → Type 0
 Fits (Run f es) = f + length es ≤ top
 Fits _ = Unit {0}
 
--- so does each run of these items
+-- each run of these items ends at or below `top`
 abbrev pub AllFit : {E V : Type 0} → List (Tagged E V) → Type 0
 AllFit [] = Unit {0}
 AllFit (x ∷ xs) = Fits x.item × AllFit xs
 
--- so does each run of these records
+-- each run of the items of these records ends at or below `top`
 abbrev pub RecordsFit : {E V : Type 0} → List (Record E V) → Type 0
 RecordsFit [] = Unit {0}
 RecordsFit (r ∷ rs) = AllFit (items_of r) × RecordsFit rs

@@ -20,7 +20,8 @@ UnbrokenFrom going (Part (Begin n) xs ∷ rs) = UnbrokenFrom (Some n) rs
 UnbrokenFrom going (Part (Middle n) xs ∷ rs) = (going ≡ Some n) × UnbrokenFrom going rs
 UnbrokenFrom going (Part (End n) xs ∷ rs) = (going ≡ Some n) × UnbrokenFrom None rs
 
--- the same of a list that may begin in the middle of a group, as after the loss of older files
+-- A middle or an end comes right after the begin or a middle of its group, in a list that may begin in the
+-- middle of a group, as after the loss of older files.
 abbrev pub IsUnbroken : {E V : Type 0} → List (Record E V) → Type 0
 IsUnbroken rs = (going : Option ℕ) × UnbrokenFrom going rs
 

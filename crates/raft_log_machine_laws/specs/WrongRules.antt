@@ -31,7 +31,7 @@ LosesByAppend rewrite out stay all =
     × (HoldsMap (with_append (lone_store rewrite all) (raised (lone all) out stay))
     (directory_meaning rewrite all) → ⊥)
 
--- the same, once its Rewrite does
+-- the directory holds what it means, and no longer once its Rewrite begins at the records that stay
 abbrev pub LosesByRewrite : (append out stay all : List (Record ℕ ℕ)) → Type 0
 LosesByRewrite append out stay all =
     HoldsMap (lone_store all append) (directory_meaning all append)
@@ -70,7 +70,7 @@ other_key = Plain (tagged 2 (Put (7 ∷ []) 70 ∷ []))
 abbrev pub group_begin : Record ℕ ℕ
 group_begin = Part (Begin 1) (tagged 1 (Run 1 (11 ∷ 12 ∷ []) ∷ []))
 
--- its second and last record
+-- the second and last record of the atomic group
 abbrev pub group_end : Record ℕ ℕ
 group_end = Part (End 1) (tagged 1 (Run 3 (13 ∷ 14 ∷ []) ∷ []))
 

@@ -121,7 +121,7 @@ of g x = record { group = g; item = x }
 abbrev pub first_part : List (Record ℕ ℕ)
 first_part = Part (Begin 1) (of 1 (Run 1 (1 ∷ 2 ∷ [])) ∷ []) ∷ []
 
--- its end
+-- the end of the atomic group in two records
 abbrev pub second_part : List (Record ℕ ℕ)
 second_part = Part (End 1) (of 1 (Run 3 (3 ∷ 4 ∷ [])) ∷ []) ∷ []
 

@@ -8,14 +8,14 @@ use Rattle.raft_log_model_laws.specs.Groups.{of_group, settled}
 
 -- what a segment does with the group of a number that may be open before it
 pub data Head (E V : Type 0) : Type 0 where
-  -- it goes on with these items, and neither ends nor begins anew
+  -- the group goes on with these items, and neither ends nor begins anew
   GoesOn : List (Tagged E V) → Head E V
-  -- it ends, with these items up to its end
+  -- the group ends, with these items up to its end
   Ends : List (Tagged E V) → Head E V
   -- a group of its number begins first: what was open is cut short
   BeginsAnew : Head E V
 
--- where it has these items so far
+-- what a segment does with the group of a number, of which it has these items so far
 abbrev pub head : {E V : Type 0} → ℕ → List (Tagged E V) → List (Record E V) → Head E V
 head n xs [] = GoesOn xs
 head n xs (Plain ys ∷ rs) = head n xs rs

@@ -23,7 +23,7 @@ Open E V = ℕ → Option (List (Tagged E V))
 abbrev pub none_open : {E V : Type 0} → Open E V
 none_open n = None
 
--- the same, but for the group of one number
+-- the open groups, but for that of one number, which is so
 abbrev pub set_open : {E V : Type 0} → Open E V → ℕ → Option (List (Tagged E V)) → Open E V
 set_open o n v k = if n == k then v else o k
 

@@ -68,7 +68,7 @@ abbrev pub table_after : {E V : Type 0} → Table E V → List (Item E V) → Ta
 table_after t [] = t
 table_after t (x ∷ xs) = table_after (table_step t x) xs
 
--- the same where a run past the end drops what stood
+-- the table after one more item, where a run past the end drops what stood
 abbrev pub table_step_past : {E V : Type 0} → Table E V → Item E V → Table E V
 table_step_past t (Run f []) = t
 table_step_past t (Run f (e ∷ es)) =

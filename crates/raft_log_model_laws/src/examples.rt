@@ -33,7 +33,8 @@ pub fn overwritten_then_compacted()
     ensures between { shown 0 25 (twenty ++ Compact top ∷ []) overwritten ≡ replicate 25 None }
 {}
 
-/// The same with a compaction below 16: entry 16 stands, and nothing else.
+/// Entries 1 to 20, two entries in place of the 15th and all behind it, and a compaction below 16: entry 16
+/// stands, and nothing else.
 pub fn overwritten_then_compacted_inside()
     ensures before { shown 14 4 twenty truncated ≡ None ∷ None ∷ Some (Entry 116) ∷ None ∷ [] }
     ensures rewritten { shown 14 4 (twenty ++ Compact top ∷ Run 16 (116 ∷ []) ∷ []) []

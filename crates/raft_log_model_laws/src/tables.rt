@@ -24,7 +24,8 @@ pub fn table_takes_an_item<E, V>()
         → content (table_step t x) s ≡ unwrap_or (write s x) (content t s) }
 {}
 
-/// The same for every item, where a run past the end drops the entries that stood.
+/// A table after any item, where a run past the end drops the entries that stood: where the item says
+/// something that, else what stood.
 pub fn hostile_table_takes_an_item<E, V>()
     ensures { (t : Table E V) (x : Item E V) (s : Slot)
         → content (table_step_past t x) s ≡ unwrap_or (write_past (span_of t) s x) (content t s) }

@@ -11,7 +11,7 @@ abbrev pub CutsIf : Bool → File → FileEnding → Disk → Disk → Type 0
 CutsIf true file ending old new = Trims file.handle (unwrap_or ending.end 0) old new
 CutsIf false file ending old new = new ≡ old
 
--- and so is done with this file
+-- a file whose ending tells of damage is cut behind its last good record, or behind nothing, and synced
 abbrev pub CutsOne : File → FileEnding → Disk → Disk → Type 0
 CutsOne file ending old new = CutsIf ending.is_damaged file ending old new
 
@@ -21,7 +21,7 @@ pub record FailsToCutOne (file : File) (ending : FileEnding) (kind : ErrorKind) 
   pub damaged : ending.is_damaged ≡ true
   pub makes : TrimMakes file.handle (unwrap_or ending.end 0) kind old new
 
--- so is done with each of these, in order
+-- of these files, in order, each whose ending tells of damage is cut so and synced
 abbrev pub CutsEach : List File → List FileEnding → Disk → Disk → Type 0
 CutsEach [] endings old new = new ≡ old
 CutsEach (file ∷ files) [] old new = new ≡ old

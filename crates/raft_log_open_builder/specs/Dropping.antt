@@ -15,7 +15,7 @@ pub data DropsOrNot (paths : FilePaths) (file : File) (old new : Disk) : Type 0 
   refused : (kind : ErrorKind) → FailsToDelete (path_of paths file) kind old new
       → DropsOrNot paths file old new
 
--- so were these, one after the other
+-- each of these files was deleted, or the file system refused that, one after the other
 abbrev pub DropsEach : FilePaths → List File → Disk → Disk → Type 0
 DropsEach paths [] old new = new ≡ old
 DropsEach paths (file ∷ files) old new =

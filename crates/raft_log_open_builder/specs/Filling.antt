@@ -13,7 +13,7 @@ WritesPieces handle bytes zero old new = new ≡ old
 WritesPieces handle bytes (suc count) old new = (mid : Disk) × WritesPieces handle bytes count old mid
     × Writes handle (count * length bytes) bytes mid new
 
--- they were written until the file reached a size
+-- these bytes were written one behind the other until the file reached a size
 abbrev pub FillsFile : Handle → List ℕ → ℕ → Disk → Disk → Type 0
 FillsFile handle bytes size old new = WritesPieces handle bytes (div_ceil size (length bytes)) old new
 

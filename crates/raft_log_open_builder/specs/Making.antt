@@ -34,7 +34,8 @@ module _ {F : Type 0} (disk : F → Disk) (tells : F → List ℕ → ℕ → Ty
     pub creates : Creates (path_of paths file) file.handle.file (disk old) created
     pub fills : FillsOrNot file.handle bytes size full created (disk new)
 
-  -- Why it wasn't made: for want of memory, or of a number; or its creation was refused in that directory.
+  -- Why a file wasn't made: for want of memory, or of a number; or its creation was refused in that
+  -- directory.
   abbrev pub FailsToMake : FilePaths → ℕ → ℕ → Error → F → F → Type 0
   FailsToMake paths size seq errors.Memory old new = disk new ≡ disk old
   FailsToMake paths size seq errors.NumberRange old new = (10 ^ 16 ≤ seq) × (disk new ≡ disk old)
@@ -43,7 +44,7 @@ module _ {F : Type 0} (disk : F → Disk) (tells : F → List ℕ → ℕ → Ty
       × FailsToCreate (paths.reserved directory seq) kind (disk old) (disk new))
   FailsToMake paths size seq _ old new = ⊥
 
-  -- So were these, with the numbers from one on; and whether there was no space for one of them.
+  -- These files were made, with the numbers from one on; and whether there was no space for one of them.
   abbrev pub MakesEach : FilePaths → List ℕ → ℕ → ℕ → List File → Bool → F → F → Type 0
   MakesEach paths bytes size seq [] full old new = (full ≡ false) × (new ≡ old)
   MakesEach paths bytes size seq (file ∷ files) full old new = (one : Bool) × (others : Bool) × (mid : F)

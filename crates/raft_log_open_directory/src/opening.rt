@@ -18,7 +18,7 @@ use std::thread::Threads;
 /// A log that was opened: its pipes, and the tables of all groups, in which nothing is prepared.
 #[derive(Drop)]
 pub struct OpenedLog<F> {
-    /// Its pipes, which own its file system.
+    /// The log's pipes, which own its file system.
     pub pipes: DualPipes<F>,
     /// The tables of all groups.
     pub tables: MemTables,

@@ -50,7 +50,7 @@ pub data ReadsBytes (last : Bool) (id : FileId) (content : List ℕ) (read : Fil
       → TellsIfAny read.fault fault → read.end ≡ Some end → read.format ≡ file.format
       → ReadsBytes last id content read
 
--- and so do the bytes of the file by this handle, as they stand on the disk
+-- what is read of the file by this handle, whose bytes are those that stand on the disk
 abbrev pub ReadsFileAs : Bool → FileId → Handle → Disk → FileRecords → Type 0
 ReadsFileAs last id handle d read = ReadsBytes last id (bytes_in (d.files handle.file)) read
 

@@ -36,7 +36,7 @@ pub record OpensFirst {F : Type 0} (disk : F → Disk) (tells : F → List ℕ �
   pub refused : (error : Error) (new : F) → FailsToOpenDirectory disk tells config error old new
       → IsBare config (disk new) ⊎ IsLeftAt (home_of config) (disk new) nothing_stands []
 
--- and so it is of bare directories
+-- an engine that is opened over bare directories holds nothing; refused, nothing stands in them still
 abbrev pub BareDirectoriesOpen : {F : Type 0} → (F → Disk) → (F → List ℕ → ℕ → Type 0) → Type 0
 BareDirectoriesOpen {F} disk tells = (config : Config) (old : F) → IsSound (disk old)
     → IsBare config (disk old) → OpensFirst disk tells config old

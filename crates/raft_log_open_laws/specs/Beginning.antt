@@ -30,8 +30,8 @@ BeginsBehindGap queue directories d first =
     ((m : ℕ) → suc m ≡ first → IsAbsent (log_format queue directories) m d)
     ⊎ IsTwice (kind_of queue) directories d first
 
--- So do the files of a queue that a scan answered. (Of a number that two directories have, the file of the
--- later one is kept with those behind it, also where the number below is there.)
+-- The files of a queue that a scan answered begin behind a gap. (Of a number that two directories have, the
+-- file of the later one is kept with those behind it, also where the number below is there.)
 abbrev pub ScannedFilesBegin : Type 0
 ScannedFilesBegin = (queue : LogQueue) (directories : List (List ℕ)) (mode : RecoveryMode) (d : Disk)
     (earlier : List Listed) (last : Listed)

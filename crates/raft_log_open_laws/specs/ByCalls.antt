@@ -28,7 +28,7 @@ use Rattle.raft_log_open_laws.specs.Files.{AreQueueFiles}
 abbrev pub home_of : Config → Home
 home_of config = record { append = paths_of config; rewrite = paths_of config }
 
--- so it is for all settings that name these directories, whatever else they say: any number of workers, too
+-- this holds of all settings that name these directories, whatever else they say: any number of workers, too
 abbrev pub ForAllNaming : Home → (Config → Type 0) → Type 0
 ForAllNaming home P = (config : Config) → home_of config ≡ home → P config
 

@@ -24,13 +24,13 @@ pub record OpensAs {F : Type 0} (disk : F → Disk) (tells : F → List ℕ → 
   pub refused : (error : Error) (new : F) → FailsToOpenDirectory disk tells config error old new
       → IsLeftAt (home_of config) (disk new) m []
 
--- So are those of a log that rests there.
+-- The directories of a log that rests there are opened as its map; refused, it is left there with the map.
 abbrev pub RestingDirectoriesOpen : {F : Type 0} → (F → Disk) → (F → List ℕ → ℕ → Type 0) → Type 0
 RestingDirectoriesOpen {F} disk tells = (config : Config) (old : F) (m : LogMap) → IsSound (disk old)
     → LogRestsOn (log_in (home_of config)) (disk old) m → OpensAs disk tells config old m
 
--- And so are those of whatever a crash leaves of what an engine left, which rests there: as the map after
--- some first pending batches, the same by all settings that name them.
+-- The directories of whatever a crash leaves of what an engine left, which rests there, are opened as the map
+-- after some first pending batches, the same by all settings that name them.
 abbrev pub CrashedDirectoriesOpen : {F : Type 0} → (F → Disk) → (F → List ℕ → ℕ → Type 0) → Type 0
 CrashedDirectoriesOpen {F} disk tells = (home : Home) → 0 < length home.append → 0 < length home.rewrite
     → (d : Disk) (old : F) (m : LogMap) (pending : List Said) → IsSound (disk old)

@@ -40,14 +40,15 @@ ReadsTo directories id content read None =
     × (read.batches.items ≡ [])
 ReadsTo directories id content read (Some end) = ReadsRecords directories id content read end
 
--- And so the last file is read, which is how far its pipe takes it to be read.
+-- The last file of a queue reads as its records, or as none without a header; and up to where its pipe takes
+-- it to be read.
 abbrev pub LastFileIsRead : Type 0
 LastFileIsRead = (directories : List (List ℕ)) (id : FileId) (file : File) (read : FileRecords)
     → ReadsBytes true id file.content read → read.format.alignment ≡ 0
     → ReadsTo directories id file.content read read.end
     × IsReadTo (log_format id.queue directories) id.seq read.end file
 
--- And the header of a file that has one is the one that its format is written with.
+-- The header of a file that has one is the one that its format is written with.
 abbrev pub HeaderIsWritten : Type 0
 HeaderIsWritten = (directories : List (List ℕ)) (last : Bool) (id : FileId) (content : List ℕ)
     (read : FileRecords) (end : ℕ) → ReadsBytes last id content read → read.format.alignment ≡ 0
@@ -60,7 +61,7 @@ pub record ReadsWhole (id : FileId) (past : Past LogRecord) (read : FileRecords)
   pub batches : AreBatchesOf (context_in id read.format) (length past.header)
       (items_of read.batches.items) past.records
 
--- And so each file before the last one is read, once a pipe has finished it.
+-- Each file before the last one reads whole, once a pipe has finished it.
 abbrev pub FinishedFileIsRead : Type 0
 FinishedFileIsRead = (directories : List (List ℕ)) (id : FileId) (past : Past LogRecord) (file : File)
     (read : FileRecords) → IsPast (log_format id.queue directories) id.seq past file

@@ -31,7 +31,7 @@ pub record LeavesSource (config : Config) (old new : Disk) : Type 0 where
       → IsLeftAt (home_of config) new m pending
   pub bare : IsBare config old → IsBare config new
 
--- so it is wherever a fork ends
+-- wherever a fork ends, it leaves what lay in the directories of its source
 abbrev pub ForksLeaveTheSource : Type 0
 ForksLeaveTheSource = (config : Config) (target : List ℕ) (old new : Disk) → IsSound old
     → EndsFork config target old new → LeavesSource config old new

@@ -19,7 +19,7 @@ pub record OpenAlike {F : Type 0} (disk : F → Disk) (tells : F → List ℕ �
   pub source : OpensAs disk tells config now m
   pub before : OpensAs disk tells config old m
 
--- So it is of a log that rests, and its fork.
+-- The fork of a log that rests, and its source, before and after, are opened as the same map.
 abbrev pub ForksOpenAsTheirSource : {F : Type 0} → (F → Disk) → (F → List ℕ → ℕ → Type 0) → Type 0
 ForksOpenAsTheirSource {F} disk tells = (config to : Config) (target : List ℕ) (copied : List (List ℕ))
     (old now : F) (m : LogMap) → IsSound (disk old) → IsSound (disk now) → NamesOnly to target

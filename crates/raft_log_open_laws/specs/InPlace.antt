@@ -72,8 +72,9 @@ pub record OpensStandingByCalls {F : Type 0} (disk : F → Disk) (tells : F → 
   pub refused : (new : Disk) → FailsToOpenByCalls disk tells config d new
       → IsLeftEither (home_of config) new m pending now
 
--- So it is with a log that an engine left, and its map after some first pending batches: those with which it
--- would rest if a crash kept all that stands there, the same by all settings that name its directories.
+-- A log that an engine left is opened call by call as its map after some first pending batches: those with
+-- which it would rest if a crash kept all that stands there, the same by all settings that name its
+-- directories.
 abbrev pub StandingLogsOpenByCalls : {F : Type 0} → (F → Disk) → (F → List ℕ → ℕ → Type 0) → Type 0
 StandingLogsOpenByCalls {F} disk tells = (home : Home) → 0 < length home.append → 0 < length home.rewrite
     → (d : Disk) (m : LogMap) (pending : List Said) → IsSound d → (left : IsLeftAt home d m pending)
@@ -81,7 +82,8 @@ StandingLogsOpenByCalls {F} disk tells = (home : Home) → 0 < length home.appen
     → RestsAfterSome home (as_it_stands d) m pending
     (λ now. ForAllNaming home (λ config. OpensStandingByCalls disk tells config d m pending now))
 
--- So it is where its directories are opened by the call that does all of it, answered and refused.
+-- Where the directories are opened without a crash, by the call that does all of it, an engine of them holds
+-- this map, and nothing is pending; where that is refused, the log is left with the map or as it was.
 pub record OpensStanding {F : Type 0} (disk : F → Disk) (tells : F → List ℕ → ℕ → Type 0) (config : Config)
     (old : F) (m : LogMap) (pending : List Said) (now : LogMap) : Type 0 where
   pub answered : (v : LogPipes) (tables : MemTables) → OpensDirectory disk tells config old v tables
@@ -89,8 +91,8 @@ pub record OpensStanding {F : Type 0} (disk : F → Disk) (tells : F → List �
   pub refused : (error : Error) (new : F) → FailsToOpenDirectory disk tells config error old new
       → IsLeftEither (home_of config) (disk new) m pending now
 
--- and so it is of a log that an engine left, and its map after some first pending batches, the same by all
--- settings that name its directories
+-- the directories of a log that an engine left are opened as its map after some first pending batches, the
+-- same by all settings that name them
 abbrev pub StandingDirectoriesOpen : {F : Type 0} → (F → Disk) → (F → List ℕ → ℕ → Type 0) → Type 0
 StandingDirectoriesOpen {F} disk tells = (home : Home) → 0 < length home.append → 0 < length home.rewrite
     → (old : F) (m : LogMap) (pending : List Said) → IsSound (disk old)

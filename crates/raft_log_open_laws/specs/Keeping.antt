@@ -17,7 +17,7 @@ pub record KeepsNumbered {R : Type 0} (F : Format R) (old new : Disk) : Type 0 w
       → new.files id ≡ old.files id
   pub places : (m : ℕ) (path : List ℕ) → m < F.limit → F.IsPath m path → IsPlace path old → IsPlace path new
 
--- so are those of both queues
+-- the files of both queues are as they were
 pub record KeepsBothQueues {R E V : Type 0} (log : TwoQueues R E V) (old new : Disk) : Type 0 where
   pub append : KeepsNumbered log.append.format old new
   pub rewrite : KeepsNumbered log.rewrite.format old new
@@ -33,6 +33,6 @@ pub record KeptLogStays {R E V : Type 0} (log : TwoQueues R E V) (old new : Disk
   pub lies : (m : Map E V) (pending : List (Record E V)) → LogLiesOn log none_open old m pending
       → LogLiesOn log none_open new m pending
 
--- and so it is
+-- a log of which both queues' files are as they were rests, or lies, on the disk still
 abbrev pub KeptLogsStay : {R E V : Type 0} → TwoQueues R E V → Type 0
 KeptLogsStay log = AreTwoQueues log → (old new : Disk) → KeepsBothQueues log old new → KeptLogStays log old new

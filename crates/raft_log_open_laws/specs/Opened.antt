@@ -42,7 +42,7 @@ abbrev pub HoldsFresh : Home → LogPipes → MemTables → LogMap → Type 0
 HoldsFresh home v tables m =
     (cache : BlockCache) → cache.place ≡ None → Holds home (shows v tables cache) m []
 
--- So an engine of them holds the map that the log was.
+-- An engine of the pipes and tables that a log was opened as holds the map that the log was.
 abbrev pub OpenedEnginesHold : Type 0
 OpenedEnginesHold = (home : Home) (was : State) (m : LogMap) (v : LogPipes) (tables : MemTables)
     → IsLog (Ties (log_in home) was) m [] → IsOpenedOver home was v tables → HoldsFresh home v tables m

@@ -22,13 +22,14 @@ pub record OpensByCallsAs {F : Type 0} (disk : F → Disk) (tells : F → List �
       → HoldsFresh (home_of config) v tables m
   pub refused : (new : Disk) → FailsToOpenByCalls disk tells config d new → IsLeftAt (home_of config) new m []
 
--- So does a log that rests there, where its settings name it.
+-- A log that rests there, where its settings name it, is opened call by call as its map; refused, it is left
+-- with the map.
 abbrev pub RestingLogsOpenByCalls : {F : Type 0} → (F → Disk) → (F → List ℕ → ℕ → Type 0) → Type 0
 RestingLogsOpenByCalls disk tells = (config : Config) (d : Disk) (m : LogMap) → IsSound d
     → LogRestsOn (log_in (home_of config)) d m → OpensByCallsAs disk tells config d m
 
--- And so does whatever a crash leaves of what an engine left, which rests there: as the map after some first
--- pending batches, the same by all settings that name its directories.
+-- Whatever a crash leaves of what an engine left, which rests there, is opened call by call as the map after
+-- some first pending batches, the same by all settings that name its directories.
 abbrev pub CrashedLogsOpenByCalls : {F : Type 0} → (F → Disk) → (F → List ℕ → ℕ → Type 0) → Type 0
 CrashedLogsOpenByCalls disk tells = (home : Home) → 0 < length home.append → 0 < length home.rewrite
     → (d image : Disk) (m : LogMap) (pending : List Said) → IsSound image

@@ -51,11 +51,11 @@ abbrev pub as_counted : Bool → Said → Said
 as_counted true y = Plain (items_of y)
 as_counted false y = y
 
--- so do those of a file
+-- the records of a file as they count
 abbrev pub counted_file : Bool → LogFile (List ℕ) (List ℕ) → LogFile (List ℕ) (List ℕ)
 counted_file appended f = record { number = f.number; records = map (as_counted appended) f.records }
 
--- and of a queue
+-- the files of a queue with their records as they count
 abbrev pub counted_queue : Bool → FileQueue (List ℕ) (List ℕ) → FileQueue (List ℕ) (List ℕ)
 counted_queue appended q = record {
   behind = q.behind;

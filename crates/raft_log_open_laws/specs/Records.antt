@@ -15,7 +15,7 @@ IsBatchOf context at batch w = (block : List ℕ)
     × IsFrame (signature_of context) w.bytes w.value.items block × IsBlock block w.value.entries
     × (batch ≡ placed (block_at context at (length block)) w.value.items)
 
--- so have these of the records that stand one behind the other from this offset on
+-- the batches have the items of the records that stand one behind the other from this offset on
 abbrev pub AreBatchesOf :
     LogFileContext → ℕ → List (List LogItem) → List (Written LogRecord) → Type 0
 AreBatchesOf context at [] [] = Unit {0}

@@ -33,12 +33,13 @@ pub record MeetsOwnAlone (F : Format LogRecord) (files : PipeFiles) (file : File
       → LiesIn (length (active_header files)) (own_bytes files file) at w.bytes
       ⊎ IsHandedIn file.changes at w.bytes
 
--- so it is of the last file of a pipe, on a disk and on what a crash leaves of that
+-- no checksum is met by chance in the last file of a pipe, of what a crash leaves of a disk
 abbrev pub LeavesOwnAlone : Format LogRecord → PipeFiles → Disk → Disk → Type 0
 LeavesOwnAlone F files d image = (file after : File) → d.files files.writer.handle.file ≡ Some file
     → image.files files.writer.handle.file ≡ Some after → MeetsOwnAlone F files file after.content
 
--- So it is of the last files of both queues: a crash of an engine with these pipes leaves nothing to chance.
+-- A crash of an engine with these pipes leaves nothing to chance: no checksum is met so in the last file of
+-- either queue.
 pub record LeavesNoChance (home : Home) (v : LogPipes) (image : Disk) : Type 0 where
   pub append : LeavesOwnAlone (log_in home).append.format v.append.files v.disk image
   pub rewrite : LeavesOwnAlone (log_in home).rewrite.format v.rewrite.files v.disk image

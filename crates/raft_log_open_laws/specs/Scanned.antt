@@ -35,7 +35,8 @@ pub record AreSpanned (queue : LogQueue) (directories : List (List ℕ)) (earlie
   pub opened : IsOpened (path_of (log_paths queue directories) last) ReadWrite last.handle d
   pub span : IsSpan (log_paths queue directories) d.names (first_number earlier last) earlier last.seq
 
--- So are the files of a queue that a scan answered.
+-- The files of a queue that a scan answered have the numbers of a span, each under its path, and the last one
+-- is open to be written.
 abbrev pub ScannedFilesAreSpanned : Type 0
 ScannedFilesAreSpanned = (queue : LogQueue) (directories : List (List ℕ)) (mode : RecoveryMode) (d : Disk)
     (earlier : List Listed) (last : Listed)

@@ -19,8 +19,8 @@ pub fn forked_logs_rest()
     ensures { ForkedLogsRest }
 {}
 
-/// So an engine that is opened over the fork holds the map that one holds that is opened over its source,
-/// whether before the fork or after it; and where either isn't opened, the log is left with its map.
+/// An engine that is opened over a fork holds the map that one holds that is opened over its source, whether
+/// before the fork or after it; and where either isn't opened, the log is left with its map.
 pub fn forks_open_as_their_source<F: FileSystem>()
     ensures { ForksOpenAsTheirSource F.disk F.tells_space }
 {}

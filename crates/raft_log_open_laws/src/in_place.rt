@@ -13,7 +13,8 @@ pub fn standing_logs_open_by_calls<F: FileSystem>()
     ensures { StandingLogsOpenByCalls F.disk F.tells_space }
 {}
 
-/// So it is where its directories are opened by `open_directory` of `raft_log_open_directory`, or aren't.
+/// What an engine left is opened without a crash by `open_directory` of `raft_log_open_directory` as the map
+/// after some first pending batches, and nothing is pending; refused, it is left with that map, or as it was.
 pub fn standing_directories_open<F: FileSystem>()
     ensures { StandingDirectoriesOpen F.disk F.tells_space }
 {}

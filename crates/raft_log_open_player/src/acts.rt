@@ -18,11 +18,12 @@ use std::thread::Threads;
 pub enum Act {
     /// The log of these settings is opened, the steps of these lists are answered as they say, and it is closed.
     Uses(Settings, &'static [&'static [Step]]),
-    /// So it is, and before it is closed a file has so many bytes.
+    /// The log of these settings is opened, the steps of these lists are answered as they say, and before the
+    /// log is closed a file has so many bytes.
     Leaves(Settings, &'static [&'static [Step]], &'static str, usize),
-    /// It isn't opened, for this cause, and the files are handed back.
+    /// The log of these settings isn't opened, for this cause, and the files are handed back.
     Refuses(Settings, Cause),
-    /// It is copied into a directory.
+    /// The log of these settings is copied into a directory.
     Forks(Settings, &'static str),
     /// A directory is made.
     MakesDirectory(&'static str),

@@ -42,13 +42,13 @@ pub const USUAL: Settings = Settings {
     entry_size: 3,
 };
 
-/// The same with one worker.
+/// The usual settings with one worker.
 pub const BY_ONE: Settings = Settings {
     workers: 1,
     ..USUAL
 };
 
-/// Those of a log of which each record ends its file, and that is always purged.
+/// The settings of a log of which each record ends its file, and that is always purged.
 pub const SMALL: Settings = Settings {
     file_size: 1,
     purge_threshold: 1,
@@ -56,7 +56,7 @@ pub const SMALL: Settings = Settings {
 };
 
 impl Settings {
-    /// They, as an open takes them.
+    /// The settings, as an open takes them.
     pub fn config(&self, alloc: Global) -> Result<Config> {
         let mut config = Config::default(alloc);
         config.dir = String::from_str(alloc, self.directory)?;

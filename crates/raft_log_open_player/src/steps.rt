@@ -12,9 +12,10 @@ pub enum Step {
     Write(bool, &'static [Word]),
     /// A group gets entries from an index on, below another one, in one batch.
     Append(u64, u64, u64),
-    /// It gets them in a batch each.
+    /// A group gets entries from an index on, below another one, in a batch each.
     AppendEach(u64, u64, u64),
-    /// Each group from one on, up to another one, gets them, in a batch for each group.
+    /// Each group from one on, up to another one, gets entries from an index on, below another one, in a
+    /// batch for each group.
     AppendToAll((u64, u64), u64, u64),
     /// Entries that come or are asked for have so many bytes from now on.
     Resize(usize),
@@ -28,7 +29,7 @@ pub enum Step {
     PurgeStale,
     /// A purge asks that these groups be compacted.
     Asks(&'static [u64]),
-    /// It does, and takes files of Append, or none.
+    /// A purge asks that these groups be compacted, and takes files of Append, or none.
     Purge(&'static [u64], bool),
     /// A group has just the entries from an index on, below another one, as steps append them.
     Has(u64, u64, u64),
@@ -50,9 +51,9 @@ pub enum Step {
     Groups(usize),
     /// There is no group.
     IsEmpty,
-    /// Append's files begin with this one.
+    /// Append's files begin with this number.
     Begins(u64),
-    /// They go from one to another one.
+    /// Append's files go from this number to that one.
     Span(u64, u64),
 }
 

@@ -18,7 +18,8 @@ AreAmong kind place (name ∷ names) files = (IsOther kind name × AreAmong kind
     ⊎ ((file : FoundFile) × (more : List FoundFile) × IsBuilt kind file.seq name × (file.path_id ≡ place)
     × (files ≡ file ∷ more) × AreAmong kind place names more)
 
--- the same for the names of several directories, from this place on
+-- The files among those with these names in several directories, from this place on, in the order of the
+-- names; none is misnamed.
 abbrev pub AreAmongAll : FileKind → ℕ → List (List (List ℕ)) → List FoundFile → Type 0
 AreAmongAll kind place [] files = files ≡ []
 AreAmongAll kind place (names ∷ listings) files = (first : List FoundFile) × (more : List FoundFile)
@@ -29,13 +30,13 @@ abbrev pub TellsOneOf : FileKind → List (List ℕ) → List ℕ → Type 0
 TellsOneOf kind names text =
     (name : List ℕ) × Contains names name × IsMisnamed kind name × (text ≡ told_misnamed name)
 
--- why they weren't found: a name is misnamed, or memory ran out
+-- why the files of a directory weren't found: a name is misnamed, or memory ran out
 abbrev pub FailsAmong : FileKind → List (List ℕ) → Error → Type 0
 FailsAmong kind names (errors.Corruption text) = TellsOneOf kind names (string_bytes text)
 FailsAmong kind names errors.Memory = Unit {0}
 FailsAmong kind names _ = ⊥
 
--- and so in one of several directories
+-- why the files of several directories weren't found: a name in one of them is misnamed, or memory ran out
 abbrev pub FailsAmongAll : FileKind → List (List (List ℕ)) → Error → Type 0
 FailsAmongAll kind listings (errors.Corruption text) =
     (names : List (List ℕ)) × Contains listings names × TellsOneOf kind names (string_bytes text)

@@ -20,7 +20,7 @@ const APPENDED: [Step; 10] = [
     Append(19, 19, 21),
 ];
 
-/// They have them.
+/// The groups have the entries that came to them.
 const HAD: [Step; 10] = [
     Has(10, 10, 12),
     Has(11, 11, 13),
@@ -74,7 +74,7 @@ const SHORT_READ: [Act; 2] = [
     Uses(SHORT, &[&HAD, &GOT]),
 ];
 
-/// So are those of 5,120.
+/// Entries of 5,120 bytes are read before and behind an open.
 const LONG_READ: [Act; 2] = [
     Uses(LONG, &[&APPENDED, &HAD, &GOT]),
     Uses(LONG, &[&HAD, &GOT]),
@@ -92,7 +92,7 @@ const NOTHING: [Step; 3] = [
     Write(true, &[Entries(2, 0, &[b""]), Put(2, b"key", b"")]),
 ];
 
-/// They are read.
+/// The entries and messages without bytes are read.
 const NOTHING_READ: [Step; 4] = [
     Entry(0, 0, b""),
     Entry(2, 0, b""),
@@ -100,7 +100,7 @@ const NOTHING_READ: [Step; 4] = [
     Message(2, b""),
 ];
 
-/// They are read behind an open.
+/// Entries and messages without bytes are read behind an open.
 const WITHOUT_BYTES: [Act; 2] = [Uses(BY_ONE, &[&NOTHING]), Uses(BY_ONE, &[&NOTHING_READ])];
 
 #[test]

@@ -22,7 +22,7 @@ const KIBIBYTES: Settings = Settings {
     ..SMALL
 };
 
-/// The same, in files of 5 KiB, purged from 80 KiB on.
+/// Entries of a kibibyte, in files of 5 KiB, purged from 80 KiB on.
 const TO_80: Settings = Settings {
     file_size: 5 << 10,
     purge_threshold: 80 << 10,
@@ -43,7 +43,7 @@ const FILL: [Step; 10] = [
     AppendToAll((1, 11), 10, 11),
 ];
 
-/// They stand behind a purge that asks nobody and takes files, and behind an open.
+/// The entries of eleven groups stand behind a purge that asks nobody and takes files, and behind an open.
 const RECOVERED: [Act; 2] = [
     Uses(
         TO_80,
@@ -157,7 +157,8 @@ const WITHOUT_REUSE: [Act; 3] = [
     Uses(OLD, &[&[Has(1, 38, 40)]]),
 ];
 
-/// So it does with files that are.
+/// A log goes on in the first version, in the second one with files that are used again, and in the first
+/// again.
 const WITH_REUSE: [Act; 3] = [
     Uses(OLD, &[&BEGUN]),
     Uses(RECYCLING, &[&GOES_ON]),
@@ -177,7 +178,7 @@ const SOURCE: Settings = Settings {
     ..KIBIBYTES
 };
 
-/// Its copy.
+/// The copy of a log.
 const TARGET: Settings = Settings {
     directory: "t",
     ..SOURCE

@@ -30,7 +30,7 @@ const SYNCED: Step = Write(
     &[Entries(1, 1, &[b"abc", b"def"]), Put(1, b"key", b"value")],
 );
 
-/// They come to group 2, and aren't.
+/// Two entries and a key come to group 2, and aren't synced.
 const UNSYNCED: Step = Write(
     false,
     &[Entries(2, 1, &[b"abc", b"def"]), Put(2, b"key", b"value")],
@@ -61,7 +61,7 @@ const MORE: Step = Write(
     &[Entries(1, 3, &[b"abc", b"def"]), Put(1, b"key", b"value")],
 );
 
-/// It has them, and group 3 has nothing.
+/// Group 1 has two more entries, and group 3 has nothing.
 const HAS_MORE: [Step; 5] = [
     Ends(1, Some(1), Some(4)),
     Entry(1, 4, b"def"),
@@ -85,7 +85,7 @@ fn a_closed_log_is_opened(rt: HostRuntime) {
 /// Append's file.
 const FILE: &str = "d/0000000000000001.raftlog";
 
-/// Its header has 69 bytes: 53 say what it is, eight its version, eight its alignment.
+/// The header of Append's file has 69 bytes: 53 say what it is, eight its version, eight its alignment.
 const HEADER: usize = 69;
 
 /// Each of the two records has 50: a header of 16; six of entries, and four of a checksum; one of the number of items,
@@ -191,7 +191,7 @@ const FIRST_CALL: [Act; 3] = [
     Uses(USUAL, &[&FIRST, &SECOND]),
 ];
 
-/// So is one at its second.
+/// An open is refused by the file system at its second changing call, and may be tried again.
 const SECOND_CALL: [Act; 3] = [
     Arms(2),
     Refuses(USUAL, Cause::Io),

@@ -83,7 +83,7 @@ fn test_clean_raft_group(rt: HostRuntime) {
     }
 }
 
-/// Its key gets a value, and another one, and goes.
+/// A key of group 1 gets a value, and another one, and goes.
 const PUT: Step = Write(true, &[Put(1, b"key", b"v1")]);
 
 const AGAIN: Step = Write(true, &[Put(1, b"key", b"v2")]);

@@ -14,7 +14,7 @@ const PUT: Step = Write(true, &[Put(1, b"key", b"value")]);
 
 const STANDS: Step = Key(1, Some(b"value"));
 
-/// It goes, and is gone.
+/// The key goes, and is gone.
 const DELETE: Step = Write(true, &[Delete(1, b"key")]);
 
 const GONE: Step = Key(1, None);

@@ -24,7 +24,7 @@ abbrev pub Copies : Place → String Global → Disk → Disk → Type 0
 Copies place target old new =
     (copied : List (List ℕ)) × Forks (kept_settings place) (string_bytes target) copied old new
 
--- It wasn't copied; or it was, and the output was refused.
+-- The log wasn't copied; or it was, and the output was refused.
 abbrev pub FailsToCopy : Place → String Global → CommandFault → Disk → Disk → Type 0
 FailsToCopy place target (Log error) old new = FailsToFork (kept_settings place) (string_bytes target) error old new
 FailsToCopy place target (Output _) old new = Copies place target old new

@@ -34,18 +34,18 @@ pub enum Command {
 /// What is done with a log.
 #[derive(Debug, Drop, PartialEq, Eq)]
 pub enum Task {
-    /// Its items are listed, or those of one file.
+    /// The log's items are listed, or those of one file.
     Dump,
-    /// It is checked for holes.
+    /// The log is checked for holes.
     Check,
-    /// What it holds is told in numbers.
+    /// What the log holds is told in numbers.
     Stat,
-    /// It is copied into the directory with this path.
+    /// The log is copied into the directory with this path.
     Fork(String),
 }
 
 impl Task {
-    /// The same task without the slashes at the end of its path.
+    /// This task without the slashes at the end of its path.
     pub fn trimmed(&self, alloc: Global) -> Result<Task, AllocError> {
         match self {
             Task::Dump => Ok(Task::Dump),

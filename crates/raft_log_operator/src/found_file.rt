@@ -9,9 +9,9 @@ use std::io::ErrorKind;
 /// A log file that lies in one of a log's directories.
 #[derive(Debug, Drop)]
 pub struct FoundFile {
-    /// Its queue and its number.
+    /// The file's queue and its number.
     pub id: FileId,
-    /// Its path.
+    /// The file's path.
     pub path: String,
 }
 

@@ -4,14 +4,14 @@ use std::alloc::{AllocError, Global};
 /// Where a log lies.
 #[derive(Debug, Drop, PartialEq, Eq)]
 pub struct Place {
-    /// Its main directory; for a dump the path of one file, maybe.
+    /// The log's main directory; for a dump the path of one file, maybe.
     pub directory: String,
-    /// Its second directory, where it has one.
+    /// The log's second directory, where it has one.
     pub spill_directory: Option<String>,
 }
 
 impl Place {
-    /// The same place without the slashes at the end of its paths.
+    /// This place without the slashes at the end of its paths.
     pub fn trimmed(&self, alloc: Global) -> Result<Place, AllocError> {
         let directory = String::from_str(alloc, trimmed(self.directory.as_str()))?;
         let spill_directory = match &self.spill_directory {

@@ -12,9 +12,9 @@ use std::alloc::Global;
 /// A file that was found: it has the name that is built for its number.
 #[derive(Clone, Copy, Debug, PartialEq, Eq)]
 pub struct FoundFile {
-    /// Its number.
+    /// The file's number.
     pub seq: FileSeq,
-    /// The directory that it lies in.
+    /// The directory that the file lies in.
     pub path_id: PathId,
 }
 

@@ -65,11 +65,11 @@ pub record RewritesSynced (test : ℕ → Bool) (gate : ℕ) (s t : Shows) : Typ
   pub stays : StaysInFile s.pipes t.pipes
   pub settles : OweNothing s.tables → (home : Home) (m : LogMap) → Holds home s m [] → HoldsSettled home t m
 
--- so it is of each of these groups
+-- each of these groups was rewritten up to the gate, and Rewrite was synced
 abbrev pub RewritesThese : List ℕ → ℕ → Shows → Shows → Type 0
 RewritesThese groups gate s t = RewritesSynced (λ g. list_any (λ k. k == g) groups) gate s t
 
--- and of all groups
+-- all groups were rewritten up to the gate, and Rewrite was synced
 abbrev pub RewritesAll : ℕ → Shows → Shows → Type 0
 RewritesAll gate s t = RewritesSynced (λ g. true) gate s t
 
@@ -143,7 +143,9 @@ abbrev pub StaysOrIsLeftSettled : Error → Shows → Shows → Type 0
 StaysOrIsLeftSettled error s t = OweNothing s.tables → (home : Home) (m : LogMap) → HoldsSettled home s m
     → Holds home t m [] ⊎ ((error ≡ errors.Failed) × IsLeftAt home t.pipes.disk m [])
 
--- so it is of files that don't go; and why, where the gate lies below Append's last file
+-- Append's files below the gate don't go: where it is rewritten up to there, the map stays, with nothing
+-- pending, or the engine has failed, and its log is held; and why, where the gate lies below Append's last
+-- file
 pub record FailsToLoseTo (gate : ℕ) (error : Error) (s t : Shows) : Type 0 where
   pub tells : has_failed s ≡ false → IsTrue (has_failed t) ↔ (error ≡ errors.Failed)
   pub later : IsLater s.pipes.disk t.pipes.disk
@@ -151,7 +153,8 @@ pub record FailsToLoseTo (gate : ℕ) (error : Error) (s t : Shows) : Type 0 whe
   pub cause : gate < last_of InAppend s.pipes → (home : Home) (log : LogMap) → HoldsSettled home s log
       → HasFileReason error s t
 
--- so it is of what is done behind the marks
+-- what is done behind the marks is refused: the map stays, with nothing pending, or the engine has failed,
+-- and its log is held; and why, where the gate lies below Append's last file
 pub record StopsGoingOn (gate : ℕ) (error : Error) (s t : Shows) : Type 0 where
   pub tells : has_failed s ≡ false → IsTrue (has_failed t) ↔ (error ≡ errors.Failed)
   pub later : IsLater s.pipes.disk t.pipes.disk

@@ -20,12 +20,12 @@ pub record CountsStanding (m : MemTables) (old new : PurgeCounts) : Type 0 where
   pub rounds : new.rounds ≡ old.rounds
   pub number : new.number ≡ old.number
 
--- so they were if that was wanted; else they are as they were
+-- the counts were brought to what stands in Rewrite, if that was wanted; else they are as they were
 abbrev pub CountsIf : Bool → MemTables → PurgeCounts → PurgeCounts → Type 0
 CountsIf true m old new = CountsStanding m old new
 CountsIf false m old new = new ≡ old
 
--- so they were before something was written, and behind it
+-- the counts were brought to what stood in Rewrite before something was written, and to what stands behind it
 pub record CountsTwice (before after : MemTables) (old new : PurgeCounts) : Type 0 where
   pub between : PurgeCounts
   pub first : CountsStanding before old between

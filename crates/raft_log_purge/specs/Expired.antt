@@ -56,8 +56,8 @@ pub record LosesBelow (held : Option ℕ) (m : MemTables) (s t : Shows) : Type 0
   pub keeps : OweNothing s.tables → (home : Home) (log : LogMap) → HoldsSettled home s log
       → HoldsSettled home t log
 
--- they didn't go, and why: where no mark is owed, whatever the log was, with nothing pending, it is so; or the
--- engine has failed, and its log is held
+-- Append's files didn't go, and why: where no mark is owed, whatever the log was, with nothing pending, it is
+-- so; or the engine has failed, and its log is held
 pub record FailsToLoseBelow (error : Error) (s t : Shows) : Type 0 where
   pub tells : has_failed s ≡ false → IsTrue (has_failed t) ↔ (error ≡ errors.Failed)
   pub later : IsLater s.pipes.disk t.pipes.disk

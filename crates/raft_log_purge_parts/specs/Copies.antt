@@ -32,9 +32,9 @@ pub record MovesCopies (gate : Option ℕ) (b : Batch) (s t : Shows) : Type 0 wh
 abbrev pub WritesCopies : Option ℕ → Batch → Shows → Shows → Type 0
 WritesCopies gate b s t = ((b.items ≡ []) × (t ≡ s)) ⊎ (((b.items ≡ []) → ⊥) × MovesCopies gate b s t)
 
--- It was refused: all that shows shows as it did; and whatever the log was, it is so, if the batch has
--- copies; where the engine has failed, its log is held. Why is told of a batch that is no part of an atomic
--- group: its record is too long, or as of any part.
+-- A batch of copies was refused: all that shows shows as it did; and whatever the log was, it is so, if the
+-- batch has copies; where the engine has failed, its log is held. Why is told of a batch that is no part of
+-- an atomic group: its record is too long, or as of any part.
 pub record FailsToCopy (gate : Option ℕ) (b : Batch) (error : Error) (s t : Shows) : Type 0 where
   pub same : t ≡ record s { pipes = t.pipes }
   pub tells : has_failed s ≡ false → IsTrue (has_failed t) ↔ (error ≡ errors.Failed)

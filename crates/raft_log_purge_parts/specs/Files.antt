@@ -25,7 +25,7 @@ abbrev pub least_in : LogQueue → Option Raw → Option ℕ
 least_in queue None = None
 least_in queue (Some t) = min_file queue t
 
--- it is the least file of a queue in which a group has something, as its table answers it and by what shows
+-- this is the least file of a queue in which a group has something, as its table answers it and by what shows
 abbrev pub IsLeastIn : LogQueue → MemTables → ℕ → ℕ → Type 0
 IsLeastIn queue m g n = (least_in queue (raw_of m g) ≡ Some n) × IsMinFile queue (shown_of m g) (Some n)
 
@@ -54,7 +54,7 @@ pub record LosesFiles (queue : LogQueue) (limit : ℕ) (m : MemTables) (count : 
   pub keeps : (home : Home) (log : LogMap) → HoldsSettled home s log
       → MayLoseFiles (which_of queue) s.tables → HoldsSettled home t log
 
--- what is true where that was refused: nothing was done; or the engine has failed, and its log is held
+-- what is true where files don't go: nothing was done; or the engine has failed, and its log is held
 abbrev pub RemainsSettled : Home → LogMap → Shows → Error → Type 0
 RemainsSettled home m t errors.Failed = IsLeftAt home t.pipes.disk m []
 RemainsSettled home m t _ = HoldsSettled home t m
@@ -65,7 +65,8 @@ IsNoLimit queue limit (errors.Other fault) s =
     IsInSpan limit (pipe_at (which_of queue) (files_of s.pipes)) → ⊥
 IsNoLimit queue limit _ s = ⊥
 
--- So it is of whatever log it was; and why.
+-- Files of a queue below a limit don't go, and why: whatever the log was, nothing was done, or the engine has
+-- failed, and its log is held.
 pub record FailsToLoseFiles (queue : LogQueue) (limit : ℕ) (error : Error) (s t : Shows) : Type 0 where
   pub tells : has_failed s ≡ false → IsTrue (has_failed t) ↔ (error ≡ errors.Failed)
   pub later : IsLater s.pipes.disk t.pipes.disk

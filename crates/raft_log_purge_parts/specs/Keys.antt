@@ -35,7 +35,7 @@ pub record CopiesKeys (group gate : ℕ) (s t : Shows) : Type 0 where
   pub later : IsLater s.pipes.disk t.pipes.disk
   pub holds : StaysHeld s t
 
--- they were refused, and why: all that shows of the tables shows as it did
+-- the copies of the group's values were refused, and why: all that shows of the tables shows as it did
 pub record FailsToCopyKeys (error : Error) (s t : Shows) : Type 0 where
   pub same : t ≡ record s { pipes = t.pipes }
   pub tells : has_failed s ≡ false → IsTrue (has_failed t) ↔ (error ≡ errors.Failed)

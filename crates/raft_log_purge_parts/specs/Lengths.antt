@@ -38,8 +38,8 @@ pub record AreOfGroup (g first : ℕ) (bytes : List (List ℕ)) (pairs : List (L
   pub are : items ≡ (entries_items g 0 indexes bytes ++ map (λ e. put_item g e.0 e.1) pairs) ++ mark
   pub joins : entries ≡ joined bytes
 
--- So they are of what one group has in the map: its entries there from an index on, and values there, no key
--- twice.
+-- The items, and the bytes of their entries, are those of what one group has in the map: its entries there
+-- from an index on, values there, no key twice, and at most one mark of an atomic group.
 pub record AreOfMap (m : LogMap) (items : List LogItem) (entries : List ℕ) : Type 0 where
   pub group : ℕ
   pub first : ℕ
@@ -52,12 +52,12 @@ pub record AreOfMap (m : LogMap) (items : List LogItem) (entries : List ℕ) : T
   pub values : AreValuesIn m group pairs
   pub once : IsStrictlySortedBy (slice_cmp nat_cmp) (keys_of pairs)
 
--- a record of them would be too long: more bytes of entries than a batch may have, or a length of more than
--- 56 bits
+-- a record of these items would be too long: more bytes of entries than a batch may have, or a length of more
+-- than 56 bits
 abbrev pub IsTooLong : List LogItem → List ℕ → Type 0
 IsTooLong items entries = (max_entries_len < length entries) ⊎ (2 ^ 56 ≤ record_len items entries)
 
--- so is a record of what one group has in the map, or that of the marks which are owed
+-- a record of what one group has in the map would be too long, or that of the marks which are owed
 abbrev pub HasTooMuch : LogMap → (ℕ → Shown) → Type 0
 HasTooMuch m v =
     ((items : List LogItem) × (entries : List ℕ) × AreOfMap m items entries × IsTooLong items entries)

@@ -12,7 +12,8 @@ copied_value gate n None = None
 copied_value gate n (Some h) =
     if is_asked (Some gate) h then Some (record { bytes = h.bytes; appended = false; file = n }) else Some h
 
--- so do all values of a group
+-- all values of a group in Append, in files up to the gate, stand in this file of Rewrite; the others where
+-- they stood
 abbrev pub with_copied_values : ℕ → ℕ → Shown → Shown
 with_copied_values gate n v = record v { held = λ k. copied_value gate n (v.held k) }
 

@@ -56,7 +56,7 @@ HasReason home m (errors.Other fault) s t = HasStray t
 HasReason home m errors.Memory s t = Unit {0}
 HasReason home m _ s t = ⊥
 
--- so it is whatever the engine's log was, with nothing pending
+-- the error has its reason whatever the engine's log was, with nothing pending
 abbrev pub GivesReason : Error → Shows → Shows → Type 0
 GivesReason error s t = (home : Home) (m : LogMap) → Holds home s m [] → HasReason home m error s t
 

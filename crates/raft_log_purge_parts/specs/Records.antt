@@ -38,14 +38,14 @@ pub record RefusesRecord (b : Batch) (error : Error) (v w : LogPipes) : Type 0 w
   pub range : EndsNumbersAt InRewrite (signed_for b) error synced w
   pub before : IsLater v.disk synced.disk
 
--- why it wasn't written: it isn't made, as it would be too long or for want of memory; or the sync failed; or
--- Rewrite refused it
+-- why a batch's record wasn't written: it isn't made, as it would be too long or for want of memory; or the
+-- sync failed; or Rewrite refused it
 abbrev pub IsUnwritten : Batch → Error → LogPipes → LogPipes → Type 0
 IsUnwritten b error v w = (IsUnrecorded b error × (w ≡ v))
     ⊎ (((error ≡ errors.Failed) × FailsToSyncQueue InRewrite v w)
     ⊎ RefusesRecord b error v w)
 
--- it wasn't written: the pipes have failed now exactly where that is told
+-- a batch's record wasn't written: the pipes have failed now exactly where that is told
 pub record FailsToWriteRecord (b : Batch) (error : Error) (v w : LogPipes) : Type 0 where
   pub why : IsUnwritten b error v w
   pub tells : is_failed v ≡ false → IsTrue (is_failed w) ↔ (error ≡ errors.Failed)

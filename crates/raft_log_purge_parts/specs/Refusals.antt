@@ -24,7 +24,7 @@ IsUnmade _ = ⊥
 abbrev pub IsUnrecorded : Batch → Error → Type 0
 IsUnrecorded b error = IsMemoryOrFull error (record_len b.items b.entries)
 
--- it was refused as its length needs more than 56 bits
+-- the record of a batch isn't made, as its length needs more than 56 bits
 abbrev pub IsOverlong : Batch → Error → Type 0
 IsOverlong b error = (error ≡ errors.Full) × (2 ^ 56 ≤ record_len b.items b.entries)
 
@@ -44,13 +44,13 @@ abbrev pub IsNoDeletion : OpType → List ℕ → Type 0
 IsNoDeletion ops.Put key = Unit {0}
 IsNoDeletion ops.Del key = IsTrue (is_internal key)
 
--- so it is of an item: entries, or such a key
+-- an item is no mark: it is entries, a value of a key, or a deletion of one of the log's own keys
 abbrev pub IsNoMark : LogItemContent → Type 0
 IsNoMark (contents.EntryIndexes es) = Unit {0}
 IsNoMark (contents.Command c) = ⊥
 IsNoMark (contents.Kv kv) = IsNoDeletion kv.op_type kv.key
 
--- and of one of these items
+-- one of these items is no mark
 abbrev pub HasNoMark : List LogItem → Type 0
 HasNoMark [] = ⊥
 HasNoMark (x ∷ xs) = IsNoMark x.content ⊎ HasNoMark xs

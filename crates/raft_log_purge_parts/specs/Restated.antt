@@ -41,7 +41,7 @@ last_file s = written_file Rewrite s.pipes
 abbrev pub StaysHeld : Shows → Shows → Type 0
 StaysHeld s t = (home : Home) (m : LogMap) → Holds home s m [] → Holds home t m []
 
--- so it is; or the engine has failed, and its log is held
+-- whatever the log was, with nothing pending, it is so; or the engine has failed, and its log is held
 abbrev pub StaysOrIsLeft : Error → Shows → Shows → Type 0
 StaysOrIsLeft error s t = (home : Home) (m : LogMap) → Holds home s m []
     → Holds home t m [] ⊎ ((error ≡ errors.Failed) × IsLeftAt home t.pipes.disk m [])
@@ -62,7 +62,7 @@ pub record Restates (test : ℕ → Bool) (s t : Shows) : Type 0 where
 abbrev pub RestatesOne : ℕ → Shows → Shows → Type 0
 RestatesOne group s t = Restates (λ g. group == g) s t
 
--- It wasn't, and why: all that shows of the tables shows as it did.
+-- Groups weren't restated, and why: all that shows of the tables shows as it did.
 pub record FailsToRestate (error : Error) (s t : Shows) : Type 0 where
   pub same : t ≡ record s { pipes = t.pipes; cache = t.cache }
   pub tells : has_failed s ≡ false → IsTrue (has_failed t) ↔ (error ≡ errors.Failed)

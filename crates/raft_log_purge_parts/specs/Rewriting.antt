@@ -23,7 +23,8 @@ OweNothing v = (g : ℕ) → OwesNothing (whereabouts (v g))
 abbrev pub StaysHeld : Shows → Shows → Type 0
 StaysHeld s t = OweNothing s.tables → (home : Home) (m : LogMap) → Holds home s m [] → Holds home t m []
 
--- so it is; or the engine has failed, and its log is held
+-- whatever the log was, with nothing pending, it is so, if no mark is owed; or the engine has failed, and its
+-- log is held
 abbrev pub StaysOrIsLeft : Error → Shows → Shows → Type 0
 StaysOrIsLeft error s t = OweNothing s.tables → (home : Home) (m : LogMap) → Holds home s m []
     → Holds home t m [] ⊎ ((error ≡ errors.Failed) × IsLeftAt home t.pipes.disk m [])
@@ -41,12 +42,12 @@ pub record CopiesEntries (group gate : ℕ) (s t : Shows) : Type 0 where
   pub advances : Advances group (length entries) s.tables t.tables
   pub holds : StaysHeld s t
 
--- so it was, or there was nothing to be copied, and nothing was done
+-- the group's entries up to the gate were copied; or there was nothing to be copied, and nothing was done
 abbrev pub CopiesIfAny : ℕ → ℕ → Bool → Shows → Shows → Type 0
 CopiesIfAny group gate true s t = CopiesEntries group gate s t
 CopiesIfAny group gate false s t = (t ≡ s) × AreNext gate (s.tables group) []
 
--- It was refused, and why: all that shows of the tables shows as it did.
+-- The group's entries weren't copied, and why: all that shows of the tables shows as it did.
 pub record FailsToCopyEntries (error : Error) (s t : Shows) : Type 0 where
   pub same : t ≡ record s { pipes = t.pipes; cache = t.cache }
   pub tells : has_failed s ≡ false → IsTrue (has_failed t) ↔ (error ≡ errors.Failed)

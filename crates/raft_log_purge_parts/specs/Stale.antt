@@ -33,7 +33,8 @@ pub record TurnsAndLoses (queue : LogQueue) (m : MemTables) (count : ℕ) (s t :
   pub keeps : (home : Home) (log : LogMap) → HoldsSettled home s log
       → MayLoseFiles (which_of queue) s.tables → HoldsSettled home t log
 
--- it was refused, and why: whatever the log was, it is so; and where the engine has failed, its log is held
+-- a queue didn't go on and lose files, and why: whatever the log was, it is so; and where the engine has
+-- failed, its log is held
 pub record FailsToTurn (queue : LogQueue) (error : Error) (s t : Shows) : Type 0 where
   pub tells : has_failed s ≡ false → IsTrue (has_failed t) ↔ (error ≡ errors.Failed)
   pub later : IsLater s.pipes.disk t.pipes.disk

@@ -24,7 +24,7 @@ BeginsParts g number es count part v old w new = (m : MemTables)
     → es ≡ rewritten_entries ((shows v m old).tables g)
     → HasParts g number count (part ∷ []) (shows v m old) (shows w m new)
 
--- it wasn't
+-- an atomic group wasn't begun for a group's rewritten entries, which aren't restated
 abbrev pub FailsToBeginGroup : ℕ → List EntryIndex → Error → LogPipes → BlockCache → LogPipes → BlockCache → Type 0
 FailsToBeginGroup g es error v old w new = (m : MemTables)
     → es ≡ rewritten_entries ((shows v m old).tables g) → FailsToRestate error (shows v m old) (shows w m new)
@@ -36,14 +36,15 @@ GoesOnInGroup g number es before after old_parts new_parts v old w new = (m : Me
     → es ≡ rewritten_entries (s.tables g) → HasParts g number before old_parts s (shows v m old)
     → HasParts g number after new_parts s (shows w m new)
 
--- it doesn't, and is given up
+-- an atomic group that stood open with these parts doesn't go on, and is given up
 abbrev pub GivesUp : ℕ → ℕ → List EntryIndex → ℕ → List RestatedPart → Error → LogPipes → BlockCache → LogPipes
     → BlockCache → Type 0
 GivesUp g number es before parts error v old w new = (m : MemTables) (s : Shows)
     → es ≡ rewritten_entries (s.tables g) → HasParts g number before parts s (shows v m old)
     → FailsToRestate error s (shows w m new)
 
--- it doesn't end, and is given up, where these are the keys that the group has in Rewrite
+-- an atomic group that stood open with these parts doesn't end, and is given up, where these are the keys
+-- that the group has in Rewrite
 abbrev pub GivesUpLast : ℕ → ℕ → List EntryIndex → ℕ → List RestatedPart → List (List ℕ × List ℕ) → Error
     → LogPipes → BlockCache → BlockCache → Type 0
 GivesUpLast g number es done parts pairs error v old new = (m : MemTables) (s : Shows)

@@ -23,16 +23,17 @@ abbrev pub SyncsIfDue : ℕ → ℕ → LogPipes → LogPipes → Type 0
 SyncsIfDue old new v w = ((old < max_unsynced) × (new ≡ old) × (w ≡ v))
     ⊎ ((max_unsynced ≤ old) × (new ≡ 0) × SyncsQueue InRewrite v w)
 
--- how many of them are left behind that
+-- how many bytes written to Rewrite since it was synced are left behind a sync that is due
 abbrev pub left_unsynced : ℕ → ℕ
 left_unsynced old = if nat_lt old max_unsynced then old else 0
 
--- and with the record of a batch behind them
+-- how many bytes written to Rewrite since it was synced there are with the record of a batch behind those
+-- left
 abbrev pub CountsRecord : Batch → ℕ → ℕ → Type 0
 CountsRecord b old new = (len : ℕ) × IsReadyForEach len b.items b.entries
     × (new ≡ min (left_unsynced old + len) (2 ^ 64 - 1))
 
--- so it is with copies, where there are some
+-- how many bytes written to Rewrite since it was synced there are with copies, where there are some
 abbrev pub CountsCopies : Batch → ℕ → ℕ → Type 0
 CountsCopies b old new = ((b.items ≡ []) × (new ≡ old))
     ⊎ ((b.items ≡ [] → ⊥) × CountsRecord b old new)

@@ -43,7 +43,7 @@ pub record WritesLast (parts : List RestatedPart) (b : Batch) (block : FileBlock
       → MovedParts None (ps ++ record { block = block; batch = b } ∷ []) old new
   pub stay : GroupsStay old new
 
--- it wasn't: all that shows of the tables shows as it did
+-- the last record wasn't written: all that shows of the tables shows as it did
 pub record FailsToWriteLast (b : Batch) (error : Error) (v : LogPipes) (old : MemTables) (w : LogPipes)
     (new : MemTables) : Type 0 where
   pub fails : FailsToWriteRecord b error v w
@@ -62,7 +62,7 @@ EndsParts g parts b v old w new = (cache : BlockCache) (s : Shows) (number done 
     → IsLastPart g number done pairs b s → ListsAll (rewritten_values (s.tables g)) pairs
     → RestatesOne g s (shows w new cache)
 
--- it doesn't end, and is given up
+-- an atomic group that stood open with these parts doesn't end, and is given up
 abbrev pub FailsToEnd : ℕ → List RestatedPart → Batch → Error → LogPipes → MemTables → LogPipes → MemTables
     → Type 0
 FailsToEnd g parts b error v old w new = (cache : BlockCache) (s : Shows) (number done : ℕ)
@@ -79,6 +79,6 @@ pub record StandsInRewrite (g : ℕ) (es : List EntryIndex) (pairs : List (List 
 abbrev pub RestatesThese : ℕ → List EntryIndex → List (List ℕ × List ℕ) → Shows → Shows → Type 0
 RestatesThese g es pairs s t = StandsInRewrite g es pairs s → RestatesOne g s t
 
--- it wasn't
+-- a group that has these entries and keys in Rewrite wasn't restated
 abbrev pub FailsToRestateThese : ℕ → List EntryIndex → List (List ℕ × List ℕ) → Error → Shows → Shows → Type 0
 FailsToRestateThese g es pairs error s t = StandsInRewrite g es pairs s → FailsToRestate error s t

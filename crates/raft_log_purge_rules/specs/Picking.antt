@@ -18,7 +18,7 @@ abbrev pub asks_in : Watermarks → Option Raw → Bool
 asks_in marks None = false
 asks_in marks (Some t) = asks marks t
 
--- it is rewritten, if it was asked in so many purges in a row before
+-- a group with this table, if it has one, is rewritten, if it was asked in so many purges in a row before
 abbrev pub rewrites_in : Watermarks → ℕ → Option Raw → Bool
 rewrites_in marks rounds None = false
 rewrites_in marks rounds (Some t) = rewrites marks rounds t
@@ -27,11 +27,11 @@ rewrites_in marks rounds (Some t) = rewrites marks rounds t
 abbrev pub asks_at : Watermarks → MemTables → ℕ → Bool
 asks_at marks m g = asks_in marks (raw_of m g)
 
--- it is rewritten
+-- a group is rewritten
 abbrev pub rewrites_at : Watermarks → (ℕ → ℕ) → MemTables → ℕ → Bool
 rewrites_at marks counts m g = rewrites_in marks (counts g) (raw_of m g)
 
--- so it is where Append is purged up to watermarks
+-- a group with this table is asked to be compacted, where Append is purged up to watermarks
 abbrev pub asks_by : Option Watermarks → Raw → Bool
 asks_by None t = false
 asks_by (Some marks) t = asks marks t
@@ -42,6 +42,6 @@ abbrev pub answers_in : Option Watermarks → Bool → Option Raw → Bool
 answers_in marks restated None = false
 answers_in marks restated (Some t) = asks_by marks t || (restated && nat_lt 32 (shown t).rewritten)
 
--- it is answered
+-- a group is answered
 abbrev pub answers_at : Option Watermarks → Bool → MemTables → ℕ → Bool
 answers_at marks restated m g = answers_in marks restated (raw_of m g)

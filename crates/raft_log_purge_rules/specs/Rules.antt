@@ -16,16 +16,16 @@ is_below file (Some least) = nat_lt least file
 abbrev pub is_old : Watermarks → Raw → Bool
 is_old marks t = is_below marks.compact (min_file Append t) || nat_lt 0 (shown t).rewritten
 
--- it has 32 entries or more up to the watermark of rewriting, those in Rewrite among them
+-- the group has 32 entries or more up to the watermark of rewriting, those in Rewrite among them
 abbrev pub is_heavy : Watermarks → Raw → Bool
 is_heavy marks t = has_before (shown t) (record { queue = Append; seq = marks.rewrite }) 32
 
--- it has fewer than 32 entries in Append up to there
+-- the group has fewer than 32 entries in Append up to the watermark of rewriting
 abbrev pub is_light : Watermarks → Raw → Bool
 is_light marks t = not (has_before (shown t) (record { queue = Append; seq = marks.rewrite })
     (min ((shown t).rewritten + 32) (2 ^ 64 - 1)))
 
--- something of it lies in Append up to there
+-- something of the group lies in Append up to the watermark of rewriting
 abbrev pub has_to_rewrite : Watermarks → Raw → Bool
 has_to_rewrite marks t = is_below (marks.rewrite + 1) (min_file Append t)
 

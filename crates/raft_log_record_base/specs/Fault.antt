@@ -49,7 +49,7 @@ abbrev pub ReadsOrMemory :
 ReadsOrMemory (Ok x) old new reading = reading ≡ Ok (x, new)
 ReadsOrMemory (Err e) old new reading = FailsOrMemory e reading × (new ≡ old)
 
--- The same of a decoder that takes all of its bytes.
+-- What a decoder that takes all of its bytes answered is what the reading gives, unless memory ran out.
 abbrev pub GivesOrMemory : {X : Type 0} → Result X Error → Result X Fault → Type 0
 GivesOrMemory (Ok x) reading = reading ≡ Ok x
 GivesOrMemory (Err e) reading = FailsOrMemory e reading
@@ -62,7 +62,8 @@ pub record DecodesOrMemory {X : Type 0} (P : List ℕ → X → Type 0)
   pub only : (text rest : List ℕ) (x : X) → P text x → old ≡ text ++ rest
       → MatchResult result (λ y. (y ≡ x) × (new ≡ rest)) (λ e. e ≡ errors.Memory)
 
--- The same of a decoder that answers a vector.
+-- What a decoder that answers a vector answered and left is what the reading of the bytes gives, unless
+-- memory ran out. A refusal leaves all.
 abbrev pub ReadsItemsOrMemory :
     {X : Type 0} → Result (Vec X) Error → List ℕ → List ℕ → Result (List X × List ℕ) Fault → Type 0
 ReadsItemsOrMemory (Ok x) old new reading = reading ≡ Ok (x.items, new)

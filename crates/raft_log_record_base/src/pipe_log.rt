@@ -26,9 +26,9 @@ pub type FileSeq = u64;
 /// rewrite queue.
 #[derive(Clone, Copy, Debug, PartialEq, Eq, Hash)]
 pub struct FileId {
-    /// The queue that it is in.
+    /// The queue that the file is in.
     pub queue: LogQueue,
-    /// Its number there.
+    /// The file's number in its queue.
     pub seq: FileSeq,
 }
 

@@ -36,7 +36,7 @@ pub struct ReadableSize(pub u64);
 /// Why a text is no size.
 #[derive(Clone, Copy, Debug, PartialEq, Eq)]
 pub enum ParseSizeError {
-    /// It doesn't begin with a digit.
+    /// The text doesn't begin with a digit.
     NoNumber,
     /// What stands after the digits is no unit.
     UnknownUnit,

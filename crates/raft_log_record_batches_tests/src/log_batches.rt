@@ -217,7 +217,7 @@ pub(crate) fn merged(alloc: Global) -> Result<LogBatch>
     Ok(batch)
 }
 
-/// Its record.
+/// The record of the first of these with the second merged into it.
 pub(crate) fn merged_record(alloc: Global) -> Result<Vec<u8>> {
     let mut batch = merged(alloc)?;
     record(alloc, &mut batch, Version::V2)

@@ -7,7 +7,7 @@ pub(crate) const CLEAN_UNSIGNED: [u8; 24] = [
     0, 0, 0, 0, 0, 0, 0x18, 0, 0, 0, 0, 0, 0, 0, 0, 0x10, 1, 1, 2, 1, 0x5a, 0x80, 0x0b, 0xdd,
 ];
 
-/// The same in file 1 of a format with signatures.
+/// One `Clean` of group 1, in file 1 of a format with signatures.
 pub(crate) const CLEAN_SIGNED: [u8; 24] = [
     0, 0, 0, 0, 0, 0, 0x18, 0, 0, 0, 0, 0, 0, 0, 0, 0x10, 1, 1, 2, 1, 0x5b, 0x80, 0x0b, 0xdd,
 ];

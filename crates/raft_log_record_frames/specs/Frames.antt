@@ -37,7 +37,8 @@ OneFrameAtAPlace =
     → IsFrame t b others other
     → a ++ x ≡ b ++ y → (a ≡ b) × (items ≡ others) × (block ≡ other)
 
--- The same of records and their entries.
+-- Where two records begin at one place, they are the same bytes with the same items and entries: no record
+-- begins another.
 abbrev pub OneRecordAtAPlace : Type 0
 OneRecordAtAPlace =
     (s t : Option ℕ) (a b x y entries more : List ℕ) (items others : List LogItem)
@@ -69,7 +70,8 @@ FooterIsRead =
     (signature : Option ℕ) (len : ℕ) (bytes : List ℕ) (items : List LogItem)
     → ((footer_of signature len bytes ≡ Ok items) ↔ IsFooterOf signature len bytes items)
 
--- The same of a footer with its places.
+-- A footer is read with its places exactly where it is one whose entries fill the block, and its items with
+-- their places are what is read.
 abbrev pub PlacedFooterIsRead : Type 0
 PlacedFooterIsRead =
     (signature : Option ℕ) (block : FileBlockHandle) (bytes : List ℕ) (there : List LogItem)
@@ -85,7 +87,8 @@ FrameIsRead =
     → ((frame_at signature input ≡ Ok front)
     ↔ ((front.len ≤ length input) × IsFrame signature (take front.len input) front.items front.bytes))
 
--- The same of a record and its entries' bytes.
+-- A record begins at the front exactly if it is read there: the reading tells all of it, and its entries'
+-- bytes.
 abbrev pub RecordIsRead : Type 0
 RecordIsRead =
     (signature : Option ℕ) (input : List ℕ) (front : Front)
@@ -99,7 +102,7 @@ FramesAreReadBack =
     → IsFrame signature bytes items block
     → frame_at signature (bytes ++ rest) ≡ Ok (record { len = length bytes; items = items; bytes = block })
 
--- The same of a record and its entries' bytes.
+-- What is a record is read with its entries' bytes, whatever stands behind it.
 abbrev pub RecordsAreReadBack : Type 0
 RecordsAreReadBack =
     (signature : Option ℕ) (bytes entries rest : List ℕ) (items : List LogItem)

@@ -178,7 +178,7 @@ abbrev pub GivesSlice : Result (Bor (List ℕ)) Error → Result (List ℕ) Faul
 GivesSlice (Ok x) reading = reading ≡ Ok x.now
 GivesSlice (Err e) reading = FailsOrMemory e reading
 
--- the same of a decoder that answers a vector
+-- what a decoder of a vector answered is what the reading gives, unless memory ran out
 abbrev pub GivesItems : {X : Type 0} → Result (Vec X) Error → Result (List X) Fault → Type 0
 GivesItems (Ok x) reading = reading ≡ Ok x.items
 GivesItems (Err e) reading = FailsOrMemory e reading

@@ -93,8 +93,9 @@ pub fn decode_footer(
     Ok(items)
 }
 
-/// The same of a footer whose entries lie in the block at this place: each entry has its offset in the block
-/// and the block's place, and each key its file. The items get their places as they are read.
+/// The items of a whole footer that was signed with this, whose entries lie in the block at this place: each
+/// entry has its offset in the block and the block's place, and each key its file. The items get their places
+/// as they are read. Refuses as `decode_footer` does.
 #[tactic(auto, unfolding(crate::specs::Record::footer_of, crate::specs::Record::whole_items, crate::specs::Record::placed_footer_of))]
 pub fn decode_placed_footer(
     alloc: Global,

@@ -48,7 +48,7 @@ pub(crate) fn is_refused(
     Ok(told(alloc, items)?.as_str() == refusal(want))
 }
 
-/// The same, of a row that has the length of the block and the signature too.
+/// Whether a row that has the length of the block and the signature too is refused with its text.
 pub(crate) fn holds(alloc: Global, row: &str) -> Result<bool, Fail> {
     let (block_len, row) = cell(row);
     let (signature, row) = cell(row);

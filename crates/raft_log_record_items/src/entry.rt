@@ -8,7 +8,7 @@ use raft_log_record_base::FileBlockHandle;
 /// One entry of a group: its index, and where its bytes lie.
 #[derive(Clone, Copy, Debug, PartialEq, Eq)]
 pub struct EntryIndex {
-    /// Its number in the group's log.
+    /// The entry's number in the group's log.
     pub index: u64,
     /// The entry block that holds the entry, once it is written.
     pub entries: Option<FileBlockHandle>,

@@ -88,7 +88,7 @@ abbrev pub puts_mark_key : OpType → List ℕ → Bool
 puts_mark_key Put key = bytes_eq key mark_key
 puts_mark_key Del key = false
 
--- the same of a content
+-- whether a content gives the key of marks a value
 abbrev pub content_has_mark_key : LogItemContent → Bool
 content_has_mark_key (contents.EntryIndexes es) = false
 content_has_mark_key (contents.Command c) = false

@@ -64,7 +64,7 @@ pub record MergesOne (old new : MemTables) (group : ℕ) (append : GroupTable) :
   pub counting : counts new group ≡ append.counts || (counts old group && not (shown append.table).cleaned)
   pub others : (g : ℕ) → (group == g) ≡ false → SameAt old new g
 
--- it did in each group
+-- in each group what was read of Append came over what was read of Rewrite
 abbrev pub MergesAll : MemTables → MemTables → MemTables → Type 0
 MergesAll old append new = (g : ℕ) → MergesAt old append new g
 
@@ -72,7 +72,8 @@ MergesAll old append new = (g : ℕ) → MergesAt old append new g
 abbrev pub UnmarkedAt : MemTables → MemTables → ℕ → Type 0
 UnmarkedAt old new g = (shown_of new g ≡ unmarked (shown_of old g)) × (counts new g ≡ counts old g)
 
--- it did in some groups, and the others lost their marks alone
+-- in some groups what was read of Append came over what was read of Rewrite, and the others lost their marks
+-- alone
 abbrev pub MergesSome : MemTables → MemTables → MemTables → Type 0
 MergesSome old append new = (g : ℕ) → UnmarkedAt old new g ⊎ MergesAt old append new g
 

@@ -39,7 +39,7 @@ pub record ViewGrows {E : Type 0} (at : Located → E) (n : ℕ) (v : ℕ → Sh
   pub grows : GrowsTo y n (view_of v m) (view_of (all_shown n v xs) (taken m (y ∷ [])))
   pub meant : AreMeant at (all_shown n v xs) (taken m (y ∷ []))
 
--- so it is of a record that says of entries what the items say of their places
+-- the view goes on by a record that says of entries what the items say of their places, where they may follow
 abbrev pub BatchGrowsTheView : Type 0 → Type 0
 BatchGrowsTheView E = (at : Located → E) (n : ℕ) (v : ℕ → Shown) (m : Map E (List ℕ))
     (xs : List (Tagged Place (List ℕ))) (y : Record E (List ℕ)) → AreMeant at v m → MayFollowAll v xs
@@ -52,14 +52,14 @@ pub record ViewCarries {E : Type 0} (at : Located → E) (n : ℕ) (v u : ℕ �
   pub carries : CarriesTo xs n (view_of v m) (view_of u m)
   pub meant : AreMeant at u m
 
--- so it is of copies that may be made in each group, in files up to that one
+-- the view goes on by copies that may be made in each group, in files up to that one
 abbrev pub CopiesCarryTheView : Type 0 → Type 0
 CopiesCarryTheView E = (at : Located → E) (n : ℕ) (v : ℕ → Shown) (m : Map E (List ℕ)) (moves : ℕ → List Move)
     (xs : List (Tagged E (List ℕ))) → AreMeant at v m → ((g : ℕ) → CanAllMove at (v g) (moves g))
     → ((g : ℕ) → AreUpTo n (moves g)) → ((g : ℕ) → of_group g xs ≡ copies_of at (v g) (moves g))
     → ViewCarries at n v (λ g. all_moved (v g) (moves g)) m xs
 
--- and of the marks that the groups owe, each of them once
+-- the view goes on by the marks that the groups owe, each of them once
 abbrev pub MarksCarryTheView : Type 0 → Type 0
 MarksCarryTheView E = (at : Located → E) (n : ℕ) (v : ℕ → Shown) (m : Map E (List ℕ))
     (keys : ℕ → List (List ℕ)) (xs : List (Tagged E (List ℕ))) → AreMeant at v m
@@ -88,7 +88,7 @@ pub record MayEndIn {E : Type 0} (at : Located → E) (e : GroupEnd) (v : ℕ �
   pub least : IsLeastInRewrite (all_moved (v g) (e.moves g)) (e.least g)
   pub taken_as : IsJoined (of_group g items) (copies_of at (v g) (e.moves g))
 
--- so they may in each of these; of no other group has it items
+-- the copies may be made in each group that the end is about; of no other group has it items
 pub record MayEnd {E : Type 0} (at : Located → E) (e : GroupEnd) (v : ℕ → Shown)
     (items : List (Tagged E (List ℕ))) : Type 0 where
   pub about : (g : ℕ) → e.about g ≡ true → MayEndIn at e v items g
@@ -101,7 +101,8 @@ pub record ViewEnds {E : Type 0} (at : Located → E) (n : ℕ) (v u : ℕ → S
   pub ends : EndsGroupTo first more xs n (view_of v m) (view_of u m)
   pub meant : AreMeant at u m
 
--- so it is of an atomic group of copies that begins in the first of its files and ends with these items
+-- the view goes on by the end of an atomic group of copies that begins in the first of its files and ends
+-- with these items
 abbrev pub GroupEndsTheView : Type 0 → Type 0
 GroupEndsTheView E = (at : Located → E) (e : GroupEnd) (v : ℕ → Shown) (m : Map E (List ℕ))
     (first : List (Tagged E (List ℕ))) (more : List (List (Tagged E (List ℕ)))) (xs : List (Tagged E (List ℕ)))

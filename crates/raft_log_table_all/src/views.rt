@@ -26,12 +26,14 @@ pub fn copies_carry_the_view<E>()
     ensures { CopiesCarryTheView E }
 {}
 
-/// So are the marks that are owed, of which none is owed then.
+/// The marks that are owed are a record by which the view goes on, and the map stays; none of them is owed
+/// then.
 pub fn marks_carry_the_view<E>()
     ensures { MarksCarryTheView E }
 {}
 
-/// So is an atomic group of copies at its end: its files are noted, from the one with its begin on.
+/// An atomic group of copies is at its end what the view goes on by, and the map stays: its files are noted,
+/// from the one with its begin on.
 pub fn group_ends_the_view<E>()
     ensures { GroupEndsTheView E }
 {}

@@ -135,7 +135,7 @@ NotesCover rs g noted =
     (s : Slot) (c : Content Located KeyValue) → says s (counted g rs) ≡ Some (Some c)
     → CountsFrom rs g (start_of (file_in c) noted) s
 
--- so it is of each raft group whose records are in order
+-- the noted groups of each raft group whose records are in order cover what stands by the records
 abbrev pub AreNotedRead : List ReadRecord → (ℕ → Replayed) → Type 0
 AreNotedRead rs z =
     AreWhereRead rs → Tidy (records_of rs) → (g : ℕ) → AreHealthy (counted g rs)

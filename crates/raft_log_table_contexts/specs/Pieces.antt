@@ -27,11 +27,11 @@ use Rattle.raft_log_table_contexts.specs.Records.{in_file, said_in, ReadItem, Re
 abbrev pub Reading : Type 0
 Reading = ℕ → List ReadItem → List ReadItem
 
--- its items as they are
+-- the items of a record as they are
 abbrev pub as_said : Reading
 as_said n xs = xs
 
--- its file alone, as the only item
+-- the file of a record alone, as the only item
 abbrev pub as_file : Reading
 as_file n xs = record { group = 0; item = Compact n } ∷ []
 
@@ -76,7 +76,8 @@ head_of φ (code.GoesOn ps) = GoesOn (parts_seen φ ps.items)
 head_of φ (code.Ends ps) = Ends (parts_seen φ ps.items)
 head_of φ code.BeginsAnew = BeginsAnew
 
--- the same, where a segment without a record of the group goes on with nothing
+-- what a segment does with the group that may be open before it: without a record of the group it goes on
+-- with nothing
 abbrev pub head_in : Reading → Option GroupHead → Head Located KeyValue
 head_in φ None = GoesOn []
 head_in φ (Some h) = head_of φ h

@@ -10,9 +10,9 @@ use std::alloc::AllocError;
 /// What a segment does with the group of a number that may be open before it.
 #[derive(Drop)]
 pub(crate) enum GroupHead {
-    /// It goes on with these records, and neither ends nor begins anew.
+    /// The group goes on with these records, and neither ends nor begins anew.
     GoesOn(Vec<GroupPart>),
-    /// It ends, with these records up to its end.
+    /// The group ends, with these records up to its end.
     Ends(Vec<GroupPart>),
     /// A group of its number begins first: what was open is cut short.
     BeginsAnew,

@@ -32,9 +32,9 @@ use std::mem;
 /// An atomic group that has begun and not ended.
 #[derive(Drop)]
 pub(crate) struct OpenGroup {
-    /// Its number.
+    /// The group's number.
     pub(crate) number: u64,
-    /// Its records so far.
+    /// The group's records so far.
     pub(crate) parts: Vec<GroupPart>,
 }
 

@@ -19,9 +19,9 @@ pub enum Said {
     Clean(u64),
     /// The record begins the atomic group of this number.
     Begin(u64),
-    /// It goes on with it.
+    /// The record goes on with the atomic group of this number.
     Middle(u64),
-    /// It ends it.
+    /// The record ends the atomic group of this number.
     End(u64),
 }
 

@@ -96,7 +96,7 @@ with_later ks k (Some h) = with_value ks k (Some (value_of h))
 abbrev pub with_slot : Keys → List ℕ → KeySlot → Keys
 with_slot ks k slot = with_later (if slot.deleted then with_mark ks k else ks) k slot.held
 
--- the same with later slots, one after another
+-- what is known of keys, with later slots of them, one after another
 abbrev pub with_slots : Keys → List (List ℕ × KeySlot) → Keys
 with_slots ks [] = ks
 with_slots ks (e ∷ es) = with_slots (with_slot ks e.0 e.1) es

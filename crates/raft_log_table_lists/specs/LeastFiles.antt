@@ -25,8 +25,8 @@ least_over appended least (s ∷ ss) = least_over appended (lesser least (file_o
 abbrev pub least_value : Bool → List (List ℕ × KeySlot) → Option ℕ
 least_value appended slots = least_over appended None (map (λ e. e.1) slots)
 
--- It is the least file of the values that stand in that queue, Append or else Rewrite: none of them lies in
--- an earlier file, and one lies in it; there is no such file where none stands there
+-- This is the least file of the values that stand in that queue, Append or else Rewrite: none of them lies in
+-- an earlier file, and one lies in it; there is no such file where none stands there.
 abbrev pub IsLeastValue : Bool → (List ℕ → Option KeyValue) → Option ℕ → Type 0
 IsLeastValue appended held None =
     (k : List ℕ) (h : KeyValue) → held k ≡ Some h → h.appended ≡ appended → ⊥

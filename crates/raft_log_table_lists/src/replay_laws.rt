@@ -79,8 +79,8 @@ pub fn merged_table_is_recovered<E>()
         → IsReplayed false rewrite r → IsReplayed true append z → IsOrderly (merged r.table z) }
 {}
 
-/// So it is of a group that stands in one queue alone: of Rewrite the table without its marks, of Append the
-/// table as it is.
+/// What was read of a group that stands in one queue alone is the directory's table: of Rewrite without its
+/// marks, of Append as it is.
 pub fn one_queue_is_recovered<E>()
     ensures rewrite_means { (at : Located → E) (rewrite : List (Item Located KeyValue)) (r : Replayed)
         → IsReplayed false rewrite r

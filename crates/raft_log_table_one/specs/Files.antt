@@ -29,13 +29,13 @@ abbrev pub min_file : LogQueue → Raw → Option ℕ
 min_file Append t = lesser (first_place Append t) (least_value true t.keys)
 min_file Rewrite t = option_map (λ n. start_of n t.noted) (least_rewritten t)
 
--- it is the least file of Rewrite that has something, where this shows and files don't fall along the
+-- this is the least file of Rewrite that has something, where this shows and files don't fall along the
 -- entries: that of the first entry, or the least of a value
 abbrev pub IsLeastRewritten : Shown → Option ℕ → Type 0
 IsLeastRewritten v least =
     (value : Option ℕ) × IsLeastValue false v.held value × (least ≡ lesser (first_file Rewrite v) value)
 
--- it is the least file of a queue in use, where this shows: of Rewrite, where noted groups may reach to it,
+-- this is the least file of a queue in use, where this shows: of Rewrite, where noted groups may reach to it,
 -- the first of theirs
 abbrev pub IsMinFile : LogQueue → Shown → Option ℕ → Type 0
 IsMinFile Append v file =

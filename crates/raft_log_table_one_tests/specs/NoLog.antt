@@ -3,7 +3,7 @@ use Rattle.std.specs.Prelude.{◌≡◌, ℕ, [], ◌∷◌}
 use Rattle.raft_log_directory_laws.specs.Images.{Readings, empty_file}
 use Rattle.raft_log_directory_laws.specs.Model.{Files, no_files}
 
--- it is its own only image, and of each queue an empty file 1 is read
+-- a file system that is its own only image, and of each queue an empty file 1 is read
 abbrev pub no_log : {D : Type 0} → Readings D ℕ ℕ
 no_log = record {
   leaves = λ d e. e ≡ d;

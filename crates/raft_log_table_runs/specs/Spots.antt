@@ -4,7 +4,7 @@ use Rattle.raft_log_table_runs.specs.declared.run.Run.{Run}
 use Rattle.raft_log_table_runs.specs.declared.spot.Spot.{Spot}
 use Rattle.raft_log_table_runs.specs.Runs.{counts, width, widths}
 
--- it is where the entry at this position of runs with these starts is
+-- this is where the entry at this position of runs with these starts is
 pub record IsSpot (rs : List Run) (starts : List ℕ) (position : ℕ) (s : Spot) : Type 0 where
   pub there : s.at < length rs
   pub run_is : s.run ≡ slice_index_or rs s.at s.run

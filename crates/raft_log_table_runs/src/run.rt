@@ -79,7 +79,7 @@ impl Run {
         run
     }
 
-    /// The same entries under other numbers.
+    /// This run's entries under other numbers.
     pub(crate) fn numbered(&self, first: usize, at: usize) -> Run
         ensures { result ≡ record self.now { first = first; at = at } }
     {

@@ -12,12 +12,13 @@ abbrev pub cause_of : Error → Cause
 cause_of errors.Memory = Memory
 cause_of error = FileSystem
 
--- so it is of an open, and of voters that weren't read
+-- why an open was refused, or voters weren't read: want of memory as such, and all else as the file system
 abbrev pub unread_cause : Unread → Cause
 unread_cause (unread.Engine error) = cause_of error
 unread_cause (unread.Foreign group) = FileSystem
 unread_cause unread.Memory = Memory
 
--- and of a purge of a store that hadn't failed
+-- why a purge was refused: as the store had failed before; else want of memory as such, and all else as the
+-- file system
 abbrev pub purge_cause : Bool → Error → Cause
 purge_cause failed error = if failed then Failed else cause_of error

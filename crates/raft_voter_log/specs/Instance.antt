@@ -61,7 +61,7 @@ log_upkeep files shows = record {
   arms = λ fault old new. ArmsStore fault (files old) (files new) (shows old) (shows new);
 }
 
--- Its files.
+-- The files of a store.
 
 -- these settings say the same
 abbrev pub AreSame : Config → Config → Type 0
@@ -77,7 +77,8 @@ OpensFiles tells files workers s os =
     (settings : Config) × HasWorkers files.config workers settings
     × OpensVoters disk_of tells settings files.files s os
 
--- it was refused, for this cause, and leaves these; for want of memory it may not have begun
+-- an open of these files was refused, for this cause, and leaves others; for want of memory it may not have
+-- begun
 abbrev pub RefusesFiles : (MemoryFileSystem → List ℕ → ℕ → Type 0) → LogFiles → ℕ → Cause → MemoryFileSystem → Type 0
 RefusesFiles tells files workers cause back = ((cause ≡ Memory) × (back ≡ files.files))
     ⊎ ((settings : Config) × HasWorkers files.config workers settings

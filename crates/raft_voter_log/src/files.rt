@@ -53,7 +53,7 @@ impl LogFiles {
     }
 }
 
-/// The same settings once more.
+/// A copy of the settings.
 fn copy_settings(config: &Config) -> Result<Config, Memory>
     ensures { IfOk result (λ copy. AreSame copy config.now) }
 {

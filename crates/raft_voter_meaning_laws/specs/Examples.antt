@@ -42,6 +42,6 @@ abbrev pub old_group : Group
 old_group s =
     holds s (Run 3 (stored_entry 3 (2, []) ∷ []) ∷ Put voter_key (1 ∷ head_text 2 (vote_text None) 2 2) ∷ [])
 
--- its voter, whose commit stands at the base
+-- the voter of a group that was written before there was a commit: its commit stands at the base
 abbrev pub old_voter : State
 old_voter = record { term = 2; vote = None; base_index = 2; base_term = 2; commit = 2; log = of_terms (2 ∷ []) }

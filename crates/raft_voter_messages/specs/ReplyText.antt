@@ -26,7 +26,7 @@ unfoldable pub entry_word : Entry → List ℕ
 entry_word entry =
     decimal entry.index ++ codes ":" ++ decimal entry.term ++ codes ":" ++ encode_lower entry.bytes
 
--- the same behind a space
+-- an entry, `index:term:hex`, behind a space
 abbrev pub spaced_entry : Entry → List ℕ
 spaced_entry entry = codes " " ++ entry_word entry
 

@@ -60,7 +60,7 @@ pub record LeavesVoters (config : Config) (old new : Disk) : Type 0 where
       → LogRestsOn (log_in (home_of config)) new m
   pub bare : IsBare config old → IsBare config new
 
--- so it is wherever a copy ends, answered or refused
+-- wherever a copy ends, answered or refused, it leaves the voters of its source
 abbrev pub ForksLeaveVoters : Type 0
 ForksLeaveVoters = (config : Config) (target : List ℕ) (old new : Disk) → IsSound old
     → EndsFork config target old new → LeavesVoters config old new

@@ -43,7 +43,8 @@ CrashedVotersAreFound {F} disk tells = (home : Home) → 0 < length home.append 
     → (W : World) × MayFollow cut W
     × ForAllNaming home (λ config. FindsVoters disk tells config old W (λ X. X ≡ W))
 
--- And so it is opened in place; refused, what was left is left.
+-- A log that was left, closed or failed, is opened in place as voters that a stop may leave: the same by any
+-- settings that name its directories, whatever number of workers; refused, what was left is left.
 abbrev pub LeftVotersAreFound : {F : Type 0} → (F → Disk) → (F → List ℕ → ℕ → Type 0) → Type 0
 LeftVotersAreFound {F} disk tells = (home : Home) → 0 < length home.append → 0 < length home.rewrite → (old : F)
     (cut : CutRound) (left : IsLeftAmong home (disk old) (MayFollow cut)) → IsSound (disk old)

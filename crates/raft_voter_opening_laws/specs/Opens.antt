@@ -17,7 +17,7 @@ abbrev pub ServesFound : {F : Type 0} → (F → Disk) → (F → List ℕ → �
 ServesFound disk tells config old W = (t : Shows) (os : ℕ → State) → OpensVoters disk tells config old t os
     → Keeps (home_of config) t W × AreOutlines os W
 
--- it is never refused for a group that holds what is no voter's
+-- an open is never refused for a group that holds what is no voter's
 abbrev pub FindsNoForeign : {F : Type 0} → (F → Disk) → (F → List ℕ → ℕ → Type 0) → Config → F → Type 0
 FindsNoForeign {F} disk tells config old = (group : ℕ) (back : F)
     → FailsToOpenVoters disk tells config (causes.Foreign group) old back → ⊥

@@ -27,7 +27,8 @@ pub fn crashed_voters_are_found<F: FileSystem>()
     ensures { CrashedVotersAreFound F.disk F.tells_space }
 {}
 
-/// And so it is without a crash; refused, what was left is left.
+/// A log that a store left, closed or failed, is opened without a crash as voters that a stop may leave, the
+/// same by any number of workers; refused, what was left is left.
 pub fn left_voters_are_found<F: FileSystem>()
     ensures { LeftVotersAreFound F.disk F.tells_space }
 {}

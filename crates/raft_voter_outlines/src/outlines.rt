@@ -89,7 +89,7 @@ fn decide_by(outline: &Outline, request: &Request) -> Decision
     ensures decides { Decides outline.now.voter request.now result }
     ensures own { without_bytes outline.now.voter ≡ outline.now.voter }
 {
-    // its state tells that it is the outline of a voter: itself
+    // the outline's state tells that it is the outline of a voter: itself
     let _state = outline.state();
     outline.decide(request)
 }

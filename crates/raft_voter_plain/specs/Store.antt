@@ -33,7 +33,7 @@ pub record StandsBehind (bytes : List ℕ) (cut : CutRound) : Type 0 where
   pub alone : (X : World) → StandsFor bytes X → X ≡ world
   pub follows : MayFollow cut world
 
--- so do those of a file that a crash leaves, and those that a read gives
+-- what a crash leaves of a file, and what a read gives, stands for voters that may stand behind this round
 pub record FileStandsBehind (file : PlainContent) (cut : CutRound) : Type 0 where
   pub synced : StandsBehind file.synced cut
   pub read : StandsBehind (whole file) cut
@@ -55,8 +55,9 @@ FileIsRefusedFor file Memory = 0 < length (whole file)
 FileIsRefusedFor file FileSystem = StandsForNothing (whole file)
 FileIsRefusedFor file cause = ⊥
 
--- Their file: an open syncs it, refused it stays as it is, and so it does at a close; a crash leaves what was
--- synced, and is never refused. Its records have no checksum, so nothing passes by chance.
+-- The file of the plain voters: an open syncs it, refused it stays as it is, and so it does at a close; a
+-- crash leaves what was synced, and is never refused. Its records have no checksum, so nothing passes by
+-- chance.
 abbrev pub plain_files : Files PlainVoters PlainContent
 plain_files = record {
   leaves = FileStandsBehind;

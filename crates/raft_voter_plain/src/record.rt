@@ -14,7 +14,7 @@ use thiserror::Error;
 /// Why a file couldn't be opened.
 #[derive(Clone, Copy, Debug, PartialEq, Eq, Error)]
 pub enum OpenFault {
-    /// Its bytes aren't those of records.
+    /// The file's bytes aren't those of records.
     #[error("damaged file")]
     Damaged,
     /// An allocation was refused.

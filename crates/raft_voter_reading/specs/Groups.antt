@@ -21,14 +21,15 @@ abbrev pub PairsTell : Option VoterState → List (List ℕ × List ℕ) → Typ
 PairsTell None es = es ≡ []
 PairsTell (Some s) es = (bytes : List ℕ) × (es ≡ (voter_key, bytes) ∷ []) × IsState bytes s
 
--- they are no voter's: one that is another key, or the one key with bytes that are no state, or more than one
+-- these keys are no voter's: one that is another key, or the one key with bytes that are no state, or more
+-- than one
 abbrev pub ArePairsForeign : List (List ℕ × List ℕ) → Type 0
 ArePairsForeign es =
     ((k bytes : List ℕ) × (es ≡ (k, bytes) ∷ []) × (voter_key ≡ k → ⊥))
     ⊎ (((bytes : List ℕ) × (fault : StoredFault) × (es ≡ (voter_key, bytes) ∷ []) × StateFault fault bytes)
     ⊎ (2 ≤ length es))
 
--- and so the group is told to be foreign
+-- a group is told to be foreign, as these keys are no voter's
 abbrev pub ForeignPairs : ℕ → List (List ℕ × List ℕ) → Unread → Type 0
 ForeignPairs g es cause = (cause ≡ causes.Foreign g) × ArePairsForeign es
 
@@ -37,7 +38,7 @@ pub record HasOneKey (grp : Group) (bytes : List ℕ) : Type 0 where
   pub head : grp (Key voter_key) ≡ Some (Value bytes)
   pub keys : (k : List ℕ) → (voter_key ≡ k → ⊥) → grp (Key k) ≡ None
 
--- it has no key
+-- a group has no key
 abbrev pub HasNoKey : Group → Type 0
 HasNoKey grp = (k : List ℕ) → grp (Key k) ≡ None
 
@@ -47,7 +48,7 @@ pub record ReadsState (e : Shows) (g : ℕ) (s : VoterState) : Type 0 where
   pub state : IsState bytes s
   pub tells : Tells e (λ m. HasOneKey (m g) bytes)
 
--- its keys were read: there is none, or this is the state
+-- a group's keys were read: there is none, or this is the state
 abbrev pub ReadsKey : Shows → ℕ → Option VoterState → Type 0
 ReadsKey e g None = Tells e (λ m. HasNoKey (m g))
 ReadsKey e g (Some s) = ReadsState e g s

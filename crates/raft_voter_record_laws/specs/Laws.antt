@@ -17,7 +17,7 @@ ChangesAreSaid = (old new : Batch) (g : ℕ) (c : Change) (q : Request) (v : Sta
     → Becomes (with_change old g c q) new
     → record_of (entry_bytes new.entries) new.items ≡ Some (record_in g (decided_items c q))
 
--- Its record has less than two mebibytes.
+-- The record of a batch to which a change was added, and nothing before, has less than two mebibytes.
 abbrev pub ChangesAreShort : Type 0
 ChangesAreShort = (old new : Batch) (g : ℕ) (c : Change) (q : Request) (v : State) → IsFresh old → IsChangeOf v q c
     → Becomes (with_change old g c q) new → record_len new.items new.entries < 2 ^ 21

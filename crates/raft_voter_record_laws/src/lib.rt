@@ -3,13 +3,13 @@
 
 ghost use Rattle.raft_voter_record_laws.specs.Laws.{ChangesAreSaid, ChangesAreShort};
 
-/// It says what was decided of its group: the record that leads from the voters before the change to those after
-/// it.
+/// A batch that was filled with a change says what was decided of its group: the record that leads from the
+/// voters before the change to those after it.
 pub fn changes_are_said()
     ensures { ChangesAreSaid }
 {}
 
-/// Its record has less than two mebibytes, as a request in range brings at most one of entries.
+/// The record of a change has less than two mebibytes, as a request in range brings at most one of entries.
 pub fn changes_are_short()
     ensures { ChangesAreShort }
 {}

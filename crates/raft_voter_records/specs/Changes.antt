@@ -46,6 +46,6 @@ with_change b group c q = with_state (with_write b group c.write (sent_of q)) gr
 abbrev pub IsFresh : Batch → Type 0
 IsFresh b = b ≡ empty_batch b.capacity b.buffer
 
--- so it is again, with no less room for items
+-- the batch is being filled again, and nothing was added yet, with no less room for items
 abbrev pub StaysFresh : Batch → Batch → Type 0
 StaysFresh old new = IsFresh new × (old.capacity ≤ new.capacity)

@@ -21,7 +21,7 @@ pub data Part : Type 0 where
   settings : List ℕ → Part
   round : List (ℕ × Request) → Part
 
--- the same, as the code keeps it
+-- what lines have begun and not ended, of what the code keeps of it
 abbrev pub open_part : Begun → Part
 open_part Nothing = nothing
 open_part (Settings text) = settings (string_bytes text)

@@ -99,15 +99,15 @@ session_text settings events = lines_text (session_lines settings events)
 abbrev pub is_number : ℕ → Bool
 is_number n = nat_lt n (2 ^ 64)
 
--- an entry's term is such a number, and its data are bytes
+-- an entry's term is a number of eight bytes, and its data are bytes
 abbrev pub is_sent : ℕ × List ℕ → Bool
 is_sent e = is_number e.0 && list_all (λ b. nat_lt b 256) e.1
 
--- so is each number of a request, and each of its entries is one
+-- each number of a request is one of eight bytes, as is each entry's term, and the entries' data are bytes
 abbrev pub is_asked : ℕ × Request → Bool
 is_asked q = list_all is_number (request_numbers q.0 q.1) && list_all is_sent (request_entries q.1)
 
--- such a number that is at least 1
+-- a number of eight bytes that is at least 1
 abbrev pub is_count : ℕ → Bool
 is_count n = nat_lt 0 n && is_number n
 

@@ -21,7 +21,8 @@ abbrev pub untaken : List Round → List ℕ
 untaken [] = []
 untaken (r ∷ rounds) = own_cut r.outcome 0 ++ untaken rounds
 
--- the same, but for the first, which was taken up to a place
+-- the cuts of rounds of which the first was taken up to a place, and the others that were cut off weren't
+-- taken at all
 abbrev pub first_taken : ℕ → List Round → List ℕ
 first_taken place [] = []
 first_taken place (r ∷ rounds) = own_cut r.outcome place ++ untaken rounds
@@ -51,11 +52,11 @@ Openings W (s ∷ ss) X =
     IsLegal W s.journal × (is_last s.failure s.journal ≡ true)
     × ((Y : World) × TookUpTo (standing W s.journal s.failure) Y s.place × Openings Y ss X)
 
--- their journals, joined
+-- the journals of openings, joined
 abbrev pub all_rounds : List Session → List Round
 all_rounds ss = flat_map (λ s. s.journal) ss
 
--- the cuts of these
+-- the cuts of the journals of openings
 abbrev pub all_cuts : List Session → List ℕ
 all_cuts ss = flat_map (λ s. cuts_at s.journal s.failure s.place) ss
 

@@ -4,7 +4,7 @@ ghost use Rattle.std.specs.Prelude.{◌≡◌, IfOk};
 use raft_voter::{Entry, Items, Memory, Reply, Request};
 use std::alloc::Global;
 
-/// The same requests, each with its group.
+/// A copy of the requests, each with its group.
 pub fn copy_requests(
     alloc: Global,
     requests: &[(u64, Request)],
@@ -19,7 +19,7 @@ pub fn copy_requests(
     Ok(Items::from_vec(copy))
 }
 
-/// The same replies.
+/// A copy of the replies.
 pub fn copy_replies(alloc: Global, replies: &[Reply]) -> Result<Items<Reply>, Memory>
     ensures { IfOk result (λ copy. copy ≡ replies.now) }
 {
@@ -31,7 +31,7 @@ pub fn copy_replies(alloc: Global, replies: &[Reply]) -> Result<Items<Reply>, Me
     Ok(Items::from_vec(copy))
 }
 
-/// The same request.
+/// A copy of the request.
 fn copy_request(alloc: Global, request: &Request) -> Result<Request, Memory>
     ensures { IfOk result (λ copy. copy ≡ request.now) }
 {
@@ -80,7 +80,7 @@ fn copy_request(alloc: Global, request: &Request) -> Result<Request, Memory>
     Ok(copy)
 }
 
-/// The same entries of an `Append`.
+/// A copy of the entries of an `Append`.
 fn copy_sent(alloc: Global, entries: &[(u64, Items<u8>)]) -> Result<Items<(u64, Items<u8>)>, Memory>
     ensures { IfOk result (λ copy. copy ≡ entries.now) }
 {
@@ -91,7 +91,7 @@ fn copy_sent(alloc: Global, entries: &[(u64, Items<u8>)]) -> Result<Items<(u64, 
     Ok(Items::from_vec(copy))
 }
 
-/// The same reply.
+/// A copy of the reply.
 fn copy_reply(alloc: Global, reply: &Reply) -> Result<Reply, Memory>
     ensures { IfOk result (λ copy. copy ≡ reply.now) }
 {
@@ -112,7 +112,7 @@ fn copy_reply(alloc: Global, reply: &Reply) -> Result<Reply, Memory>
     Ok(copy)
 }
 
-/// The same entries that were read.
+/// A copy of the entries that were read.
 fn copy_read(alloc: Global, entries: &[Entry]) -> Result<Items<Entry>, Memory>
     ensures { IfOk result (λ copy. copy ≡ entries.now) }
 {

@@ -14,8 +14,8 @@ use Rattle.raft_voter_opening_laws.specs.Opens.{FindsVoters}
 use Rattle.raft_voter_store.specs.Service.{LeavesAt}
 use Rattle.raft_voter_log.specs.Instance.{ClosesStore}
 
--- Whatever a crash leaves of a log that is left so is opened as voters that may stand behind the round, the same by
--- any settings that name its directories, unless something passes by chance;
+-- Whatever a crash leaves of a log that is left so is opened as voters that may stand behind the round, the
+-- same by any settings that name its directories, unless something passes by chance.
 abbrev pub GoesOnBehindACrash :
     {F : Type 0} → (F → Disk) → (F → List ℕ → ℕ → Type 0) → (home : Home) (d : Disk) (cut : CutRound)
     → IsLeftAmong home d (MayFollow cut) → Type 0
@@ -23,7 +23,8 @@ GoesOnBehindACrash {F} disk tells home d cut left = (old : F) → IsSound (disk 
     → IsCrashOf home left.left.1.lies.state d (disk old)
     → (W : World) × MayFollow cut W × ForAllNaming home (λ config. FindsVoters disk tells config old W (λ X. X ≡ W))
 
--- and so it is in place.
+-- A log that is left so is opened in place as voters that may stand behind the round, the same by any
+-- settings that name its directories, unless something passes by chance.
 abbrev pub GoesOnInPlace :
     {F : Type 0} (disk : F → Disk) → (F → List ℕ → ℕ → Type 0) → (home : Home) (closed : F) (cut : CutRound)
     → IsLeftAmong home (disk closed) (MayFollow cut) → Type 0

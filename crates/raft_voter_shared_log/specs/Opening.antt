@@ -9,7 +9,7 @@ use Rattle.raft_voter_reading.specs.declared.unread.Unread.{Unread}
 use Rattle.raft_voter_reading.specs.declared.unread.Unread.TheVariants.{Memory}
 use Rattle.raft_voter_store.specs.Opening.{FailsToOpenVoters, OpensVoters}
 
--- It was opened, by settings that say the same.
+-- A store was opened, by settings that say the same.
 abbrev pub OpensStore :
     {F : Type 0} → (F → Disk) → (F → List ℕ → ℕ → Type 0) → Config → F → Shows → (ℕ → State) → Type 0
 OpensStore disk tells config old t os =

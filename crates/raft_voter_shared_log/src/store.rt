@@ -63,7 +63,7 @@ impl<F: FileSystem + Sync> LogStore<F> {
     }
 }
 
-/// The same settings once more.
+/// A copy of the settings.
 fn copy_settings(config: &Config) -> Result<Config, AllocError>
     ensures { IfOk result (λ copy. settings_of copy ≡ settings_of config.now) }
 {

@@ -20,7 +20,7 @@ use std::thread::Threads;
 pub enum Play {
     /// All is handed in.
     All,
-    /// The same, with the two threads' parts swapped.
+    /// All is handed in, with the two threads' parts swapped.
     Swapped,
     /// The replies of a receipt are taken away.
     Changed,
@@ -153,7 +153,7 @@ fn split_often<L: Opening + Send + Sync, R>(
     20
 }
 
-/// The same, of a store.
+/// How often the first seat of this store over a ledger of 1,024 parts can be split.
 pub fn splits<R>(rt: &R, alloc: Global, store: PlainVoters) -> usize {
     split_often::<Brand, R>(alloc, store, Blank::new(1024), rt)
 }

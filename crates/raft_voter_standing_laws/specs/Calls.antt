@@ -17,8 +17,8 @@ abbrev pub KeepsMap : Shows → Shows → Type 0
 KeepsMap s t = (home : Home) (m : LogMap) (pending : List Said) → Holds home s m pending
     → Holds home t (taken m pending) []
 
--- it was refused: so it is; or the engine has failed, and its log is left with the batches on the map, or
--- pending as they were
+-- a purge was refused: the map stays, with the batches on it; or the engine has failed, and its log is left
+-- with the batches on the map, or pending as they were
 abbrev pub KeepsOrLeavesMap : Error → Shows → Shows → Type 0
 KeepsOrLeavesMap error s t = (home : Home) (m : LogMap) (pending : List Said) → Holds home s m pending
     → Holds home t (taken m pending) []

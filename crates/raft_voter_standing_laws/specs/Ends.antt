@@ -32,8 +32,8 @@ pub record Went (qs : List (ℕ × Request)) (told : List Reply) (wrote : Bool) 
   pub tells : (home : Home) (m : LogMap) (W : World) → Holds home s m [] → Means m W → AreOutlines os W
       → AreTold W qs told
 
--- It was answered: the engine goes on and keeps the voters behind what was taken, these are their outlines, and
--- the replies are theirs.
+-- A round was answered: the engine goes on and keeps the voters behind what was taken, these are their
+-- outlines, and the replies are theirs.
 pub record Answered (home : Home) (V : World) (qs : List (ℕ × Request)) (told : List Reply) (s t : Shows)
     (us : ℕ → State) : Type 0 where
   pub alive : has_failed t ≡ false
@@ -42,8 +42,8 @@ pub record Answered (home : Home) (V : World) (qs : List (ℕ × Request)) (told
   pub outlines : AreOutlines us (after V (took qs told))
   pub tells : AreTold V qs told
 
--- It was given up at a request at which the engine failed: the replies so far are the voters', and what is left means
--- voters behind some first requests, that one perhaps among them.
+-- A round was given up at a request at which the engine failed: the replies so far are the voters', and what
+-- is left means voters behind some first requests, that one perhaps among them.
 pub record GaveUp (home : Home) (V : World) (qs : List (ℕ × Request)) (told : List Reply) (s t : Shows)
     : Type 0 where
   pub failed : has_failed t ≡ true
@@ -51,7 +51,7 @@ pub record GaveUp (home : Home) (V : World) (qs : List (ℕ × Request)) (told :
   pub tells : AreTold V qs told
   pub left : IsLeftAmong home t.pipes.disk (IsPassedOrOneMore V qs told)
 
--- Its sync was refused: what is left means voters behind some first requests.
+-- A round's sync was refused: what is left means voters behind some first requests.
 pub record Unsynced (home : Home) (V : World) (qs : List (ℕ × Request)) (told : List Reply) (s t : Shows)
     : Type 0 where
   pub failed : has_failed t ≡ true

@@ -51,7 +51,7 @@ WrittenRequestsAreServed = (q : ℕ × Request) (a : Reply) (c : Change) (b : Ba
     → ChangesEach (os q.0) q.1 c → SaysChange q.0 q.1 c b → StepsOutlines q os us
     → WritesBytes b false len s t → Served q a true s t os us
 
--- Its entries were read.
+-- The entries that a request asks for were read.
 abbrev pub ReadRequestsAreServed : Type 0
 ReadRequestsAreServed = (q : ℕ × Request) (from to : ℕ) (es : List VoterEntry) (s t : Shows) (os : ℕ → State)
     → IsReplyOfEach (os q.0) q.1 (answers.Entries from to) → LeavesEach (os q.0) q.1
@@ -89,7 +89,7 @@ abbrev pub UnmadeRequestsAreTurnedDown : Type 0
 UnmadeRequestsAreTurnedDown = (q : ℕ × Request) (s : Shows) (os : ℕ → State) → has_failed s ≡ false
     → TurnedDown q errors.Memory s s os
 
--- Its entries weren't read.
+-- The entries that a request asks for weren't read.
 abbrev pub UnreadRequestsAreTurnedDown : Type 0
 UnreadRequestsAreTurnedDown = (q : ℕ × Request) (error : Error) (s t : Shows) (os : ℕ → State)
     → ReadsNone q error s t os → TurnedDown q error s t os
@@ -109,8 +109,8 @@ pub record RoundsGoOn : Type 0 where
       → slice_get qs (length told) ≡ Some q → TurnedDown q error t u us
       → Went qs (told ++ replies.Refused ∷ []) wrote s u os us
 
--- It ends: nothing was written, and no sync is needed; or its sync was answered; or the engine failed at a
--- request; or its sync was refused.
+-- A round ends: nothing was written, and no sync is needed; or its sync was answered; or the engine failed at
+-- a request; or its sync was refused.
 pub record RoundsEnd : Type 0 where
   pub unwritten : (home : Home) (V : World) (qs : List (ℕ × Request)) (told : List Reply) (s t : Shows)
       (os us : ℕ → State) → Keeps home s V → AreOutlines os V → Went qs told false s t os us
@@ -134,7 +134,8 @@ pub record RepliesTellPlaces (V : World) (qs : List (ℕ × Request)) (told : Li
   pub told_is : told ≡ replies_from 0 (refused_from 0 told) V qs
   pub taken_is : took qs told ≡ taken_from 0 (length qs) (refused_from 0 told) qs
 
--- and so it is of every round that told all its replies
+-- the replies of every round that told all of them are the voters', and what was taken is what the refused
+-- places tell
 abbrev pub ToldRoundsAreAnswered : Type 0
 ToldRoundsAreAnswered = (V : World) (qs : List (ℕ × Request)) (told : List Reply) → AreTold V qs told
     → length told ≡ length qs → RepliesTellPlaces V qs told

@@ -31,7 +31,7 @@ pub record ReadsEntries (g from to : ℕ) (s t : Shows) (os : ℕ → State) (es
   pub exact : (home : Home) (m : LogMap) (pending : List Said) (W : World) → Holds home s m pending
       → Means (taken m pending) W → AreOutlines os W → es ≡ entries_between (W g) from to
 
--- They weren't, and this is why: nothing changed but the kept block.
+-- Entries weren't read, and this is why: nothing changed but the kept block.
 pub record ReadsNone (q : ℕ × Request) (error : Error) (s t : Shows) (os : ℕ → State) : Type 0 where
   pub alive : has_failed s ≡ false
   pub stays : StaysButBlock s t

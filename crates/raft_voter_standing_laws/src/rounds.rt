@@ -24,7 +24,8 @@ pub fn passed_voters_took_first()
     ensures { PassedVotersTookFirst }
 {}
 
-/// So what is left behind such a round means voters that took the requests below one place.
+/// What is left behind a round that was cut off means voters that took its requests below one place; what is
+/// left behind any other call means those before it.
 pub fn left_behind_rounds()
     ensures { LeftBehindRounds }
 {}

@@ -25,7 +25,7 @@ pub record OpensEngine {F : Type 0} (disk : F → Disk) (tells : F → List ℕ 
   pub none : cache.place ≡ None
   pub is : s ≡ shows pipes tables cache
 
--- Its voters were read of it, and these are their outlines: so it is a store.
+-- The voters were read of an opened engine, and these are their outlines: so it is a store.
 pub record OpensVoters {F : Type 0} (disk : F → Disk) (tells : F → List ℕ → ℕ → Type 0) (config : Config)
     (old : F) (t : Shows) (os : ℕ → State) : Type 0 where
   pub engine : Shows
@@ -33,7 +33,7 @@ pub record OpensVoters {F : Type 0} (disk : F → Disk) (tells : F → List ℕ 
   pub reads : ReadsVoters engine os
   pub stays : StaysButBlock engine t
 
--- Its voters weren't read of it, for this cause, and it was closed again.
+-- The voters weren't read of an opened engine, for this cause, and it was closed again.
 pub record ClosesUnread {F : Type 0} (disk : F → Disk) (tells : F → List ℕ → ℕ → Type 0) (config : Config)
     (cause : Unread) (old back : F) : Type 0 where
   pub engine : Shows

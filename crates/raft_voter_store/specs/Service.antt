@@ -13,7 +13,8 @@ use Rattle.raft_voter_store.specs.Rounds.{AreExcused}
 abbrev pub ServesVoters : Shows → (ℕ → State) → World → Type 0
 ServesVoters s os W = (home : Home) × Keeps home s W × AreOutlines os W
 
--- its log is left on its disk, and whatever a stop leaves of it means voters that may stand behind this round
+-- the engine's log is left on its disk, and whatever a stop leaves of it means voters that may stand behind
+-- this round
 abbrev pub LeavesBehind : Shows → CutRound → Type 0
 LeavesBehind s cut = (home : Home) × IsLeftAmong home s.pipes.disk (MayFollow cut)
 

@@ -10,6 +10,6 @@ use Rattle.raft_voter_standing_laws.specs.Calls.{KeepsOrLeaves}
 abbrev pub KeepsVoters : Shows → Shows → Type 0
 KeepsVoters s t = (home : Home) (V : World) → Keeps home s V → Keeps home t V
 
--- so it is; or it has failed, and they are left alone
+-- whichever voters the engine kept, it keeps; or it has failed, and they are left alone
 abbrev pub KeepsOrLeavesVoters : Error → Shows → Shows → Type 0
 KeepsOrLeavesVoters error s t = (home : Home) (V : World) → Keeps home s V → KeepsOrLeaves home error t V

@@ -7,7 +7,8 @@ use std::alloc::{AllocError, Global};
 pub enum Ask {
     /// A candidate without entries asks for a vote: a term, and the candidate.
     Vote(u64, u64),
-    /// So does one with entries: a term, the candidate, and the index and the term of its last entry.
+    /// A candidate with entries asks for a vote: a term, the candidate, and the index and the term of its
+    /// last entry.
     VoteBehind(u64, u64, (u64, u64)),
     /// A leader brings entries without data: its term, the index and the term right before them, the commit index, and
     /// their terms.

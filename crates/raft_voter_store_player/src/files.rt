@@ -6,13 +6,13 @@ use std::io::ErrorKind;
 /// The first file of Append in the directory `raft`.
 pub const FIRST: &str = "raft/0000000000000001.raftlog";
 
-/// Its size.
+/// The size of the first file of Append.
 pub fn first_size(files: &MemoryFileSystem) -> Result<usize, ErrorKind> {
     let handle = files.open(FIRST, Permission::ReadOnly)?;
     files.file_size(handle)
 }
 
-/// Whether it has these bytes at a place; there are at most 99.
+/// Whether the first file of Append has these bytes at a place; there are at most 99.
 pub fn first_has(files: &MemoryFileSystem, place: usize, bytes: &[u8]) -> Result<bool, ErrorKind> {
     let handle = files.open(FIRST, Permission::ReadOnly)?;
     let mut room = [0u8; 99];

@@ -14,7 +14,7 @@ fn fresh_model(alloc: Global) -> Result<PlainVoters, Stuck> {
     }
 }
 
-/// The same three times: for those that take none of a round, its first request, and two.
+/// Fresh voters in memory three times: for those that take none of a round, its first request, and two.
 pub fn fresh_models(alloc: Global) -> Result<Vec<PlainVoters>, Stuck> {
     let mut models = Vec::new(alloc);
     for _ in 0..3 {

@@ -28,34 +28,34 @@ pub const USUAL: Settings = Settings {
     recycles: true,
 };
 
-/// The same with files of 4 KiB, so that many of them are soon made.
+/// The usual settings with files of 4 KiB, so that many of them are soon made.
 pub const SMALL: Settings = Settings {
     file_size: 4 << 10,
     ..USUAL
 };
 
-/// The same with files of 1 KiB in two directories.
+/// The usual settings with files of 1 KiB in two directories.
 pub const SPILLED: Settings = Settings {
     spill_directory: Some("spill"),
     file_size: 1 << 10,
     ..USUAL
 };
 
-/// The same, and no file is used again, so that the log may be copied.
+/// Files of 1 KiB in two directories, of which none is used again, so that the log may be copied.
 pub const COPIED: Settings = Settings {
     recycles: false,
     ..SPILLED
 };
 
 impl Settings {
-    /// The same, for so many workers.
+    /// These settings, for so many workers.
     pub fn opened_by(&self, workers: usize) -> Settings {
         let mut settings = *self;
         settings.workers = workers;
         settings
     }
 
-    /// They, as an open takes them.
+    /// These settings, as an open takes them.
     pub fn config(&self, alloc: Global) -> Result<Config, AllocError> {
         let mut config = Config::default(alloc);
         config.dir = String::from_str(alloc, self.directory)?;

@@ -15,14 +15,15 @@ pub enum Step {
     Reopen(usize),
     /// A crash keeps what was synced, and the store is opened by so many workers.
     Crash(usize),
-    /// A crash keeps all that was written, and so on.
+    /// A crash keeps all that was written, and the store is opened by so many workers.
     CrashKeeping(usize),
     /// A crash keeps the first so many of the changes that weren't synced and so many bytes of the next one, and one
     /// worker opens the store.
     CrashFirst(usize, usize),
     /// The changing call of this number from now on is refused.
     Refuse(u64),
-    /// The same, but a write there has written so many of its bytes.
+    /// The changing call of this number from now on is refused, but a write there has written so many of its
+    /// bytes.
     RefuseInPart(u64, usize),
     /// The file system stops at the changing call of this number from now on.
     Stop(u64),
@@ -33,11 +34,11 @@ pub enum Step {
     Fork(&'static str),
     /// The numbers of the first and the last file of Append are asked for.
     Span,
-    /// The size of Append's first file is.
+    /// The size of Append's first file is asked for.
     Size,
-    /// So is whether that file has these bytes at a place.
+    /// Whether Append's first file has these bytes at a place is asked for.
     Bytes(usize, &'static [u8]),
-    /// So is whether there is such a file.
+    /// Whether there is such a file is asked for.
     File(&'static str),
 }
 

@@ -193,11 +193,11 @@ fn play_armed<S: Store, R: Threads + Log + Sync>(
 /// What happens at a changing call.
 #[derive(Clone, Copy)]
 pub enum Failing {
-    /// It is refused.
+    /// The call is refused.
     Refused,
-    /// The file system stops at it.
+    /// The file system stops at the call.
     Stops,
-    /// The file system stops behind it.
+    /// The file system stops behind the call.
     StopsBehind,
 }
 

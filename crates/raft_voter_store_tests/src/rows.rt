@@ -152,7 +152,7 @@ const UNWRITTEN: [(Step, &str); 3] = [
     (THIRD, "Granted 5"),
 ];
 
-/// So does one of which all 73 bytes were written: they are cut off again.
+/// A refused write of which all 73 bytes were written refuses its place: they are cut off again.
 const WRITTEN_AND_CUT: [(Step, &str); 4] = [
     (RefuseInPart(2, 73), "armed"),
     (SECOND, "Refused"),
@@ -160,7 +160,7 @@ const WRITTEN_AND_CUT: [(Step, &str); 4] = [
     (THIRD, "Granted 5"),
 ];
 
-/// And where it can't be cut off, the round is.
+/// Where what was written can't be cut off, the round is.
 const UNCUT: [(Step, &str); 4] = [
     (Refuse(2), "armed"),
     (Refuse(3), "armed"),

@@ -17,7 +17,7 @@ use std::thread::Threads;
 /// A voter store whose files are in memory, with its contracts.
 type Inner = VoterStore<MemoryFileSystem>;
 
-/// The same without them.
+/// A voter store whose files are in memory, without its contracts.
 #[derive(Drop)]
 pub struct MemoryStore {
     alloc: Global,
@@ -37,7 +37,7 @@ pub fn open<R: Threads + Log + Sync>(
     }
 }
 
-/// The same by scoped threads.
+/// Opens the store whose log these settings name, over these files, by scoped threads.
 pub fn open_scoped<R: Threads + Log + Sync>(
     rt: &R,
     alloc: Global,

@@ -25,7 +25,7 @@ waiting (Some u) = u.round ∷ u.rounds.items
 abbrev pub all_rounds : Notes → List Round
 all_rounds n = n.rounds.items ++ waiting n.unsettled
 
--- their cuts, where that of the first is this place
+-- the cuts of the rounds that wait for the next open, where that of the first is this place
 abbrev pub waiting_cuts : ℕ → Option Unsettled → List ℕ
 waiting_cuts place None = []
 waiting_cuts place (Some u) = place ∷ u.cuts.items

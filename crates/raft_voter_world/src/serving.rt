@@ -8,11 +8,11 @@ use std::alloc::Global;
 /// How a round was served.
 #[derive(Drop)]
 pub enum Served {
-    /// It was answered.
+    /// The round was answered.
     Answered(Round),
-    /// It was cut off as the file system failed, and may have been taken up to some place.
+    /// The round was cut off as the file system failed, and may have been taken up to some place.
     TookSome(Round),
-    /// It was cut off, and nothing of it was taken.
+    /// The round was cut off, and nothing of it was taken.
     TookNone(Round),
 }
 

@@ -130,7 +130,7 @@ fn append_each(out: &mut Vec<u8>, entries: &[&[u8]]) -> Result<(), AllocError>
     Ok(())
 }
 
-/// The same, and a refusal changes no byte.
+/// Appends each entry's bytes, and a refusal changes no byte.
 fn append_entries(out: &mut Vec<u8>, entries: &[&[u8]]) -> Result<(), AllocError>
     ensures ok { OnOk result (out.new.items ≡ out.old.items ++ joined (slices_bytes entries.now)) }
     ensures grows { vec_capacity out.old ≤ vec_capacity out.new }

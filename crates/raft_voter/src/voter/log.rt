@@ -39,7 +39,7 @@ pub fn write(
     }
 }
 
-/// The same entries once more.
+/// A copy of the entries.
 fn copied(alloc: Global, entries: &[(u64, Items<u8>)]) -> Result<Vec<(u64, Items<u8>)>, Memory>
     ensures { IfOk result (λ copy. copy.items ≡ entries.now) }
 {
@@ -50,7 +50,7 @@ fn copied(alloc: Global, entries: &[(u64, Items<u8>)]) -> Result<Vec<(u64, Items
     Ok(copy)
 }
 
-/// The same entries with their indexes, the first at `from`.
+/// A copy of the entries with their indexes, the first at `from`.
 pub fn numbered(
     alloc: Global,
     from: u64,

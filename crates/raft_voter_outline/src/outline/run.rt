@@ -4,8 +4,8 @@
 /// before, or behind the base.
 #[derive(Clone, Copy, Debug)]
 pub struct Run {
-    /// The index of the last of them.
+    /// The index of the last of the entries.
     pub last: u64,
-    /// Their term.
+    /// The entries' term.
     pub term: u64,
 }

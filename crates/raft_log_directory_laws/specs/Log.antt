@@ -57,7 +57,7 @@ pub record IsAt {E V : Type 0} (may_be : Files E V → Type 0) (v : View E V) (m
   pub stands : Stands v files m pending
   pub there : may_be files
 
--- an engine's view of a log of these batches, of which some first ones are synced, the others pending
+-- the view is of this map and these batches, of which some first ones are synced, the others pending
 pub record ViewEndsAt {E V : Type 0} (may_be : Files E V → Type 0) (v : View E V) (m : Map E V)
     (pending : List (Record E V)) : Type 0 where
   pub done : List (Record E V)
@@ -65,7 +65,7 @@ pub record ViewEndsAt {E V : Type 0} (may_be : Files E V → Type 0) (v : View E
   pub splits : done ++ rest ≡ pending
   pub at : IsAt may_be v (taken m done) rest
 
--- a log of these batches that has no engine: some first ones of them are synced, the others pending
+-- a log is this map with these batches, of which some first ones are synced, the others pending
 pub record LogEnds {E V : Type 0} (may_be : Files E V → Type 0) (m : Map E V) (pending : List (Record E V))
     : Type 0 where
   pub done : List (Record E V)

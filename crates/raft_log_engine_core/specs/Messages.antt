@@ -30,8 +30,8 @@ VisitsMessages {F} {M} reading called f (e ∷ es) =
     ⊎ ((message : M) × (reading e.1 ≡ Some message) × (more : Bool) × (next : F)
     × called f e.0 message more next × (more ≡ true → VisitsMessages reading called next es))
 
--- the messages among all values of a group whose keys are asked for are visited, in the order of the keys or
--- backwards
+-- Calls at all keys of a group that are asked for and whose value is read as a message, in their order or
+-- backwards, up to the first that answers false.
 abbrev pub ScansMessages : {F M : Type 0} → (List ℕ → Option M) → (F → List ℕ → M → Bool → F → Type 0) → F
     → Shows → ℕ → Option (List ℕ) → Option (List ℕ) → Bool → Type 0
 ScansMessages reading called callback s g start end backwards = (es : List (List ℕ × List ℕ))

@@ -48,14 +48,14 @@ pub record RunsAs (home : Home) (v : LogPipes) (m : LogMap) (pending : List Said
   pub runs : RunsOn (sense home) v state
   pub at : IsAt (Ties (log_in home) state) view m pending
 
--- pipes run over the log of these batches, of which some first ones are synced, the others pending
+-- pipes run over this map and these batches, of which some first ones are synced, the others pending
 pub record RunsEnding (home : Home) (v : LogPipes) (m : LogMap) (pending : List Said) : Type 0 where
   pub done : List Said
   pub rest : List Said
   pub splits : done ++ rest ≡ pending
   pub runs : RunsAs home v (taken m done) rest
 
--- an engine holds the log of these batches, of which some first ones are synced, the others pending
+-- an engine holds this map and these batches, of which some first ones are synced, the others pending
 pub record EndsAt (home : Home) (e : Shows) (m : LogMap) (pending : List Said) : Type 0 where
   pub done : List Said
   pub rest : List Said

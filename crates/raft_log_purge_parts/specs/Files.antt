@@ -65,8 +65,8 @@ IsNoLimit queue limit (errors.Other fault) s =
     IsInSpan limit (pipe_at (which_of queue) (files_of s.pipes)) → ⊥
 IsNoLimit queue limit _ s = ⊥
 
--- Files of a queue below a limit don't go, and why: whatever the log was, nothing was done, or the engine has
--- failed, and its log is held.
+-- Files of a queue below a limit don't go, and why: whatever the log was, with nothing pending, it is so; or
+-- the engine has failed, and its log is held.
 pub record FailsToLoseFiles (queue : LogQueue) (limit : ℕ) (error : Error) (s t : Shows) : Type 0 where
   pub tells : has_failed s ≡ false → IsTrue (has_failed t) ↔ (error ≡ errors.Failed)
   pub later : IsLater s.pipes.disk t.pipes.disk

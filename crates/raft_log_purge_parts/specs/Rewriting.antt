@@ -42,7 +42,8 @@ pub record CopiesEntries (group gate : ℕ) (s t : Shows) : Type 0 where
   pub advances : Advances group (length entries) s.tables t.tables
   pub holds : StaysHeld s t
 
--- the group's entries up to the gate were copied; or there was nothing to be copied, and nothing was done
+-- the group's first entries in Append were copied, some and all in files up to the gate; or there were none,
+-- and nothing was done
 abbrev pub CopiesIfAny : ℕ → ℕ → Bool → Shows → Shows → Type 0
 CopiesIfAny group gate true s t = CopiesEntries group gate s t
 CopiesIfAny group gate false s t = (t ≡ s) × AreNext gate (s.tables group) []

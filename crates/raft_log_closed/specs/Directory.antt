@@ -36,8 +36,8 @@ pub record ChecksDirectory (path : List ℕ) (findings : List (ℕ × ℕ)) (old
   pub usual : settings_of config ≡ checked_settings path
   pub checks : ChecksLog config findings old new
 
--- Why it wasn't: nothing has the path, and that is told; it isn't known, or memory ran out for the settings;
--- nothing is done then. Else as a check of the log is refused.
+-- Why a log wasn't checked: nothing has the path, and that is told; it isn't known, or memory ran out for the
+-- settings; nothing is done then. Else as a check of the log is refused.
 pub data FailsToCheckDirectory (path : List ℕ) (error : Error) (old new : Disk) : Type 0 where
   absent : IsFreePath path old → TellsAbsence path error → new ≡ old → FailsToCheckDirectory path error old new
   unknown : FailsToLook old error → new ≡ old → FailsToCheckDirectory path error old new

@@ -55,7 +55,7 @@ pub record IsFree (s : Settings) (target : List ℕ) (d : Disk) : Type 0 where
   pub outside : LiesInOne (directories_of s) target → ⊥
   pub empty : HoldsLogFile target d → ⊥
 
--- and the settings are sound
+-- nothing stands against a copy, and the settings are sound
 abbrev pub AllowsFork : Settings → List ℕ → Disk → Type 0
 AllowsFork s target d = IsFree s target d × HasNoFault s
 

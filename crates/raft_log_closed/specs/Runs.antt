@@ -34,7 +34,7 @@ run_of_item group item = if item.raft_group_id == group then run_of_content item
 abbrev pub runs_in : ℕ → List LogItem → List Run
 runs_in group items = flat_map (run_of_item group) items
 
--- and in batches
+-- the runs of a group in the items of batches, in order
 abbrev pub runs_of : ℕ → List Batch → List Run
 runs_of group batches = flat_map (λ batch. runs_in group batch.items) batches
 
@@ -54,7 +54,8 @@ HasNoHole [] = Unit {0}
 HasNoHole (run ∷ []) = Unit {0}
 HasNoHole (run ∷ next ∷ runs) = (next.first ≤ run.last + 1) × HasNoHole (next ∷ runs)
 
--- one does, the first of all, and this is the end of the run before it
+-- a run starts past the end + 1 of the one before it, the first of all that do, and this is the end of that
+-- one
 pub record IsFirstHole (runs : List Run) (end : ℕ) : Type 0 where
   pub before : List Run
   pub run : Run

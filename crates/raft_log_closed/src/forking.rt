@@ -94,7 +94,7 @@ fn find_sources<F: FileSystem>(
     Ok(files)
 }
 
-/// Those of a kind.
+/// The files of a kind that are to be copied, open.
 fn sources_of<F: FileSystem>(
     alloc: Global,
     file_system: &F,

@@ -19,7 +19,8 @@ WrongCreate path d error = ((error ≡ AlreadyExists) × IsTaken path d)
 abbrev pub WrongName : List ℕ → Disk → ErrorKind → Type 0
 WrongName path d error = (error ≡ NotFound) × (d.names path ≡ None)
 
--- and, for the new name, `IsADirectory` for a directory's path, `NotFound` where no directory is there for it
+-- `NotFound` where no file has the name; for the new one, `IsADirectory` for a directory's path, `NotFound`
+-- where no directory is there for it
 abbrev pub WrongRename : List ℕ → List ℕ → Disk → ErrorKind → Type 0
 WrongRename from to d error = WrongName from d error ⊎ (((error ≡ IsADirectory) × (d.directories to ≡ true))
     ⊎ ((error ≡ NotFound) × (HasDirectory to d → ⊥)))
@@ -32,7 +33,7 @@ WrongDirectory path d error = (error ≡ AlreadyExists) × IsTaken path d
 abbrev pub WrongHandle : Handle → Disk → ErrorKind → Type 0
 WrongHandle handle d error = (error ≡ NotFound) × (d.files handle.file ≡ None)
 
--- and `PermissionDenied` where the handle may only read
+-- `NotFound` where the handle's file is gone, and `PermissionDenied` where the handle may only read
 abbrev pub WrongWriter : Handle → Disk → ErrorKind → Type 0
 WrongWriter handle d error =
     WrongHandle handle d error ⊎ ((error ≡ PermissionDenied) × (handle.permission ≡ ReadOnly))

@@ -60,7 +60,7 @@ FailsWithoutChange error old new = RefusedWhole (LeavesAll old) (λ kind. ⊥) e
 abbrev pub Writes : Handle → ℕ → List ℕ → Disk → Disk → Type 0
 Writes handle offset bytes old new = Changes handle.file (after_change (Wrote offset bytes)) old new
 
--- why they weren't, and what stands then: the handle is wrong, or some may have been written
+-- why bytes weren't written, and what stands then: the handle is wrong, or some may have been written
 abbrev pub FailsToWrite : Handle → ℕ → List ℕ → ErrorKind → Disk → Disk → Type 0
 FailsToWrite handle offset bytes error old new =
     RefusedChange handle.file (Wrote offset bytes) (WrongWriter handle old) error old new
@@ -69,7 +69,7 @@ FailsToWrite handle offset bytes error old new =
 abbrev pub Shortens : Handle → ℕ → Disk → Disk → Type 0
 Shortens handle size old new = Changes handle.file (after_change (ShortenedTo size)) old new
 
--- why it wasn't, and what stands then: the handle is wrong, or it may have been shortened
+-- why a file wasn't shortened, and what stands then: the handle is wrong, or it may have been shortened
 abbrev pub FailsToShorten : Handle → ℕ → ErrorKind → Disk → Disk → Type 0
 FailsToShorten handle size error old new =
     RefusedChange handle.file (ShortenedTo size) (WrongWriter handle old) error old new
@@ -78,7 +78,8 @@ FailsToShorten handle size error old new =
 abbrev pub Grows : Handle → ℕ → Disk → Disk → Type 0
 Grows handle size old new = Changes handle.file (after_change (GrewTo size)) old new
 
--- why it wasn't, and what stands then: the handle is wrong, or it may have grown by some of the zeros
+-- why a file wasn't grown, and what stands then: the handle is wrong, or it may have grown by some of the
+-- zeros
 abbrev pub FailsToGrow : Handle → ℕ → ErrorKind → Disk → Disk → Type 0
 FailsToGrow handle size error old new =
     RefusedChange handle.file (GrewTo size) (WrongWriter handle old) error old new
@@ -87,7 +88,7 @@ FailsToGrow handle size error old new =
 abbrev pub Syncs : Handle → Disk → Disk → Type 0
 Syncs handle old new = Changes handle.file flushed old new
 
--- why they weren't, and what stands then
+-- why a file's bytes weren't made durable, and what stands then: the handle is wrong, or they may be durable
 abbrev pub FailsToSync : Handle → ErrorKind → Disk → Disk → Type 0
 FailsToSync handle error old new =
     RefusedWhole (Changes handle.file flushed old) (WrongHandle handle old) error old new

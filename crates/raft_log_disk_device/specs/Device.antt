@@ -123,7 +123,8 @@ MayBeMade call old new = (new ≡ old) ⊎ (new ≡ noted call old)
 abbrev pub Does : (Disk → Disk) → Trace → Trace → Type 0
 Does next old new = (d : Disk) → held_by old ≡ settled d → held_by new ≡ settled (next d)
 
--- One of them was refused: a crash finds what it would have found before, or all done.
+-- Calls that do this to a disk were made, and one of them was refused: a crash finds what it would have found
+-- before, or all done.
 abbrev pub MayDo : (Disk → Disk) → Trace → Trace → Type 0
 MayDo next old new = (d : Disk) → held_by old ≡ settled d
     → ((held_by new).kept ≡ d) ⊎ ((held_by new).kept ≡ next d)

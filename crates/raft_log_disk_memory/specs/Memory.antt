@@ -30,7 +30,7 @@ pub record HasDenied (marks : List (ℕ × ℕ)) (id start count : ℕ) : Type 0
   pub below : place < start + count
   pub denied : is_denied marks id place ≡ true
 
--- none of them is such
+-- none of so many places from a first one on is one that can't be read
 abbrev pub HasNoDenied : List (ℕ × ℕ) → ℕ → ℕ → ℕ → Type 0
 HasNoDenied marks id start count =
     (place : ℕ) → start ≤ place → place < start + count → is_denied marks id place ≡ false
@@ -44,7 +44,7 @@ pub record Kept : Type 0 where
   pub disk : Disk
   pub unsynced : List (ℕ × Change)
 
--- what it holds now
+-- what a file system in memory holds now
 abbrev pub kept : MemoryFileSystem → Kept
 kept system = record { disk = disk_of system; unsynced = unsynced system }
 
@@ -61,7 +61,7 @@ abbrev pub without_named : Option ℕ → List (ℕ × Change) → List (ℕ × 
 without_named None changes = changes
 without_named (Some id) changes = without_file id changes
 
--- and where the first file gets a name that the second one had
+-- the changes that are left where the first file gets a name that the second one had
 abbrev pub with_moved : Option ℕ → Option ℕ → List (ℕ × Change) → List (ℕ × Change)
 with_moved None replaced changes = changes
 with_moved (Some id) replaced changes = without_replaced id replaced changes

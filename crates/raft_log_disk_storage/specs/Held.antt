@@ -66,11 +66,13 @@ IfHeld files id P = (file : Held) → held_of files id ≡ Some file → P file
 abbrev pub SameHeld : List (Option Stored) → List (Option Stored) → Type 0
 SameHeld old new = (q : ℕ) → held_of new q ≡ held_of old q
 
--- and but for one node number, at which the file is another one, or none
+-- of each node number but one the one files have what the others have; at that the file is another one, or
+-- none
 abbrev pub PutsHeld : ℕ → Option Held → List (Option Stored) → List (Option Stored) → Type 0
 PutsHeld id file old new = (q : ℕ) → held_of new q ≡ update nat_eq (held_of old) id file q
 
--- and but for one node number, at which the file, if there is one, has become another one
+-- of each node number but one the one files have what the others have; at that the file, if there is one, has
+-- become another one
 abbrev pub ChangesHeld : ℕ → (Held → Held) → List (Option Stored) → List (Option Stored) → Type 0
 ChangesHeld id becomes old new = PutsHeld id (option_map becomes (held_of old id)) old new
 
@@ -112,7 +114,7 @@ file_of file = record { content = file.content; synced = file.synced; changes = 
 abbrev pub ReadsNumber : List (Option Stored) → ℕ → ℕ → ℕ → ℕ → Type 0
 ReadsNumber files id at room count = IfHeld files id (λ file. count ≡ min room (length file.content - at))
 
--- and these bytes of the file stand at the front of the room
+-- the room has so many bytes of the file at its front, and behind them what it had
 abbrev pub ReadsFront : List (Option Stored) → ℕ → ℕ → ℕ → List ℕ → List ℕ → Type 0
 ReadsFront files id at count before after =
     IfHeld files id (λ file. after ≡ take count (drop at file.content) ++ drop count before)

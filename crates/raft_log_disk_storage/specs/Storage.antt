@@ -36,7 +36,7 @@ node_at storage path = get_by_text storage.paths path
 abbrev pub SameNodes : Storage → Storage → Type 0
 SameNodes old new = (path : List ℕ) → node_at new path ≡ node_at old path
 
--- and but for one path, which names this, or nothing
+-- each path but one names what it did; that one names this, or nothing
 abbrev pub PutsNode : List ℕ → Option Node → Storage → Storage → Type 0
 PutsNode path node old new = (q : List ℕ) → node_at new q ≡ update bytes_eq (node_at old) path node q
 

@@ -28,7 +28,7 @@ pub record IsPurgedBy (config : Config) (thresholds : Thresholds) (rounds : Roun
   pub sizes : thresholds ≡ thresholds_of (sanitized (settings_of config))
   pub unasked : (g : ℕ) → count_of rounds g ≡ 0
 
--- why they don't all go: the engine had failed; or it hadn't, and a part of the purge was refused
+-- why not all stale files go: the engine had failed; or it hadn't, and a part of the purge was refused
 abbrev pub StopsPurging : Shows → Shows → Error → Type 0
 StopsPurging s t error = HadFailed s t error ⊎ (Lives s × FailsToPurgeAll error s t)
 
@@ -51,10 +51,10 @@ pub record CountsBrought (config : Config) (d : Disk) (counts : PurgeCounts) : T
 abbrev pub StopsCountingIfPast : Thresholds → Shows → MemTables → PurgeCounts → PurgeCounts → Type 0
 StopsCountingIfPast thresholds s m old new = (new ≡ old) ⊎ CountsIfPast thresholds s.pipes m old new
 
--- where Rewrite wasn't rewritten: nothing, or what stood there before, and after that no round
+-- what is counted where Rewrite wasn't rewritten: nothing, or what stood there before, and behind it no round
 abbrev pub StopsCounting : MemTables → PurgeCounts → PurgeCounts → Type 0
 StopsCounting m old new = (new ≡ old) ⊎ CountsAndKeeps m old new
 
--- or just what stood there before
+-- what is counted where Append wasn't rewritten: nothing, or what stood in Rewrite before
 abbrev pub MayCountStanding : MemTables → PurgeCounts → PurgeCounts → Type 0
 MayCountStanding m old new = (new ≡ old) ⊎ CountsStanding m old new

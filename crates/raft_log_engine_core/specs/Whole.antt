@@ -38,7 +38,8 @@ abbrev pub TellsMessage : {M : Type 0} → (List ℕ → Option M) → Shows →
 TellsMessage reading s g key message =
     (value : Option (List ℕ)) × ReadsValue s g key value × IsMessageOf reading value message
 
--- why it isn't: the engine has failed; or it hasn't, and memory ran out, or the value is no message
+-- why a value isn't told as a message: the engine has failed; or it hasn't, and memory ran out, or the value
+-- is no message
 abbrev pub IsMessageUntold : {M : Type 0} → (List ℕ → Option M) → Shows → ℕ → List ℕ → Error → Type 0
 IsMessageUntold {M} reading s g key error = IsUncopied s error
     ⊎ (Lives s × ((value : List ℕ) × ReadsValue s g key (Some value)

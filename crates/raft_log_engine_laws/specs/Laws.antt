@@ -35,7 +35,7 @@ BatchesAreWritten = (home : Home) (e t : Shows) (b : Batch) (block : FileBlockHa
     → t.tables ≡ all_shown block.id.seq e.tables (items_at block b) → KeepsOrForgets e t
     → EndsAt home t m (pending ++ said_of b ∷ [])
 
--- one that the pipes refused
+-- a batch that the pipes refused
 abbrev pub RefusalsLeaveNoTrace : Type 0
 RefusalsLeaveNoTrace = (home : Home) (e t : Shows) (b : Batch) (m : LogMap) (pending : List Said)
     (error : Error) → Holds home e m pending → MayBeWritten e b → t.tables ≡ e.tables → KeepsOrForgets e t
@@ -47,7 +47,7 @@ SyncsAreHeld = (home : Home) (e t : Shows) (m : LogMap) (pending : List Said) �
     → t.tables ≡ e.tables → KeepsOrForgets e t → SyncsQueue InAppend e.pipes t.pipes
     → Holds home t (taken m pending) []
 
--- one that failed
+-- a sync that failed
 abbrev pub FailuresLeaveLogs : Type 0
 FailuresLeaveLogs = (home : Home) (v w : LogPipes) (m : LogMap) (pending : List Said)
     → RunsAs home v m pending → FailsToSyncQueue InAppend v w

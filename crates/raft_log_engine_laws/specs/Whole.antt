@@ -39,12 +39,12 @@ parts_moved gate g [] v = v
 parts_moved gate g (p ∷ ps) v =
     parts_moved gate g ps (all_rewritten gate p.block.id.seq v (of_group g (items_at p.block p.batch)))
 
--- what they say in Rewrite, where these are the bytes at each place
+-- what filed items say in Rewrite, where these are the bytes at each place
 abbrev pub filed_copies : {E : Type 0} → (Located → E) → List Filed → List (Item E (List ℕ))
 filed_copies at [] = []
 filed_copies at (x ∷ xs) = renamed (λ p. at (in_queue false p)) x.item ∷ filed_copies at xs
 
--- the copies that they are
+-- the copies that filed items are
 abbrev pub filed_moves : List Filed → List Move
 filed_moves [] = []
 filed_moves (x ∷ xs) = moves_of x.file (x.item ∷ []) ++ filed_moves xs

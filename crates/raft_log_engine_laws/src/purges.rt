@@ -35,7 +35,7 @@ pub fn rotations_keep_the_map()
     ensures { RotationsKeepTheMap }
 {}
 
-/// One that is refused leaves the log as it was.
+/// A rotation that is refused leaves the log as it was.
 pub fn refused_rotations_keep_the_map()
     ensures { RefusedRotationsKeepTheMap }
 {}

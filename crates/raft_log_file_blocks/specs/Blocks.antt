@@ -82,7 +82,7 @@ ReadsEntries reading v (e ∷ es) old new [] = ⊥
 ReadsEntries reading v (e ∷ es) old new (m ∷ ms) =
     (next : BlockCache) × ReadsEntry reading v e old next m × ReadsEntries reading v es next new ms
 
--- why they aren't: memory ran out behind some of them; or one isn't read, and those before it were
+-- why entries aren't read: memory ran out behind some of them; or one isn't read, and those before it were
 abbrev pub AreUnread : {M : Type 0} → (List ℕ → Option M) → LogPipes → List EntryIndex → BlockCache → BlockCache
     → Error → Type 0
 AreUnread reading v [] old new error = (error ≡ errors.Memory) × (new ≡ old)

@@ -148,7 +148,8 @@ KeepsQueue {R} F q d = (image : Disk) → IsImage d image → NoChanceInLast F q
     → (found : List (Found R)) → ReadsFrom F image s found → (count : ℕ) × (count ≤ length q.pending)
     × (found ≡ found_from s q count)
 
--- And the queue ends in one place, from whatever number on it is read: with the same first pending records.
+-- Whatever a stop leaves of the disk, if no checksum is met by chance in the last file, the queue ends in one
+-- place, from whatever number on it is read: with the same first pending records.
 abbrev pub EndsInOnePlace : {R : Type 0} → Format R → LogFiles R → Disk → Type 0
 EndsInOnePlace {R} F q d = (image : Disk) → IsImage d image → NoChanceInLast F q d image
     → (count : ℕ) × (count ≤ length q.pending)
@@ -159,7 +160,7 @@ EndsInOnePlace {R} F q d = (image : Disk) → IsImage d image → NoChanceInLast
 abbrev pub HasNoGap : {R : Type 0} → Format R → Disk → ℕ → Type 0
 HasNoGap F d s = (n m : ℕ) → s ≤ n → n ≤ m → m < F.limit → IsThere F m d → IsThere F n d
 
--- and where none is missing there is such a reading
+-- whatever a stop leaves of the disk, the queue can be read from each number on from which no file is missing
 abbrev pub IsReadable : {R : Type 0} → Format R → LogFiles R → Disk → Type 0
 IsReadable {R} F q d = (image : Disk) → IsImage d image → (s : ℕ) → s ≤ q.last → HasNoGap F image s
     → (found : List (Found R)) × ReadsFrom F image s found

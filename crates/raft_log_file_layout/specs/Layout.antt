@@ -32,7 +32,7 @@ log_format queue directories = record {
   limit = 10 ^ 16;
 }
 
--- and the path of each file
+-- the directories of a queue's files, and the path of each file
 abbrev pub log_paths : LogQueue → List (List ℕ) → FilePaths
 log_paths queue directories = record {
   directories = directories;

@@ -258,7 +258,7 @@ reserved_apart Rewrite directories m n path at kept =
     (λ e. omega (arith, e)) (subst (λ (b : List ℕ). EndsWith (codes ".rewrite") b) same at.named.1)
     kept.named.1
 
--- and with its directories they are a layout of files
+-- the files of a queue, as they are written and lie in its directories, are laid out lawfully
 pub is_layout : (queue : LogQueue) (directories : List (List ℕ)) → 0 < length directories
     → IsLayout (log_format queue directories) (IsOwnPath queue directories) (log_paths queue directories)
 is_layout queue directories some = record {

@@ -30,8 +30,8 @@ abbrev pub ListsFile : LogQueue → ℕ → ActiveFiles → ActiveFiles → Type
 ListsFile Append seq old new = IsNext old seq × (new ≡ with_file old seq)
 ListsFile Rewrite seq old new = new ≡ old
 
--- why it wasn't: it leaves a hole behind those that are listed, it has the greatest number that there is, or for
--- want of memory
+-- why a file wasn't listed: it leaves a hole behind those that are listed, it has the greatest number that
+-- there is, or for want of memory
 abbrev pub IsListingRefusal : LogQueue → ℕ → ActiveFiles → Error → Type 0
 IsListingRefusal Append seq h errors.Hole = IsNext h seq → ⊥
 IsListingRefusal Append seq h errors.NumberRange = suc seq ≡ 2 ^ 64
@@ -82,7 +82,7 @@ abbrev pub DropsFiles : LogQueue → ℕ → ActiveFiles → ActiveFiles → Typ
 DropsFiles Append seq old new = (seq < old.first + length old.waiting) × (new ≡ files_behind seq old)
 DropsFiles Rewrite seq old new = new ≡ old
 
--- or the number is none below the end of those that are listed
+-- why files up to a number stay listed: the number is none below the end of those that are listed
 abbrev pub IsDropRefusal : LogQueue → ℕ → ActiveFiles → Error → Type 0
 IsDropRefusal Append seq h error = (error ≡ errors.Hole) × (h.first + length h.waiting ≤ seq)
 IsDropRefusal Rewrite seq h error = ⊥

@@ -9,7 +9,7 @@ use raft_log_record_base::{FileBlockHandle, FileId, FileSeq, LogQueue};
 /// neither the pipes nor the tables. By default it does nothing when it is told; what it holds back it has to
 /// say.
 pub trait EventListener: Send + Drop {
-    /// What it holds back of a queue: nothing, or the files from a number on.
+    /// What the listener holds back of a queue: nothing, or the files from a number on.
     ghost holds_back: { Self → LogQueue → Option ℕ → Type 0 } = { λ listener queue held. held ≡ None };
 
     /// A file was begun, or found at an open.

@@ -8,7 +8,8 @@ pub fn waiting_files_are_held()
     ensures { WaitingFilesAreHeld }
 {}
 
-/// Nor is one that couldn't be listed.
+/// A file that couldn't be listed isn't purged: what the hook says isn't ready is that file, or one before
+/// it.
 pub fn missing_files_are_held()
     ensures { MissingFilesAreHeld }
 {}

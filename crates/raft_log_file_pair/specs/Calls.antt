@@ -76,7 +76,7 @@ SyncsQueue which v w = (log : LogSense) (s : State) → RunsOn log v s
     → RunsOn log w (next_log which s (synced (spanned_at which s).files) w.disk)
     × Syncs (Ties (queues log)) which s (next_log which s (synced (spanned_at which s).files) w.disk)
 
--- one that is refused, as a file call failed: the log lies on the disk as it was, and may be opened
+-- a sync that is refused, as a file call failed: the log lies on the disk as it was, and may be opened
 abbrev pub FailsToSyncQueue : Which → LogPipes → LogPipes → Type 0
 FailsToSyncQueue which v w = (log : LogSense) (s : State) → RunsOn log v s
     → Fails v.disk w.disk

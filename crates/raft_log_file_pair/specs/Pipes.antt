@@ -27,7 +27,7 @@ pub record OnePipe : Type 0 where
   pub files : PipeFiles
   pub failed : Bool
 
--- how its files are written, and where they lie
+-- how a pipe's files are written, and where they lie
 abbrev pub layout_of : OnePipe → QueueLayout LogRecord
 layout_of pipe = log_layout pipe.queue pipe.directories
 
@@ -37,7 +37,7 @@ pub record LogPipes : Type 0 where
   pub rewrite : OnePipe
   pub disk : Disk
 
--- one of them
+-- one of both pipes
 abbrev pub one_at : Which → LogPipes → OnePipe
 one_at InAppend v = v.append
 one_at InRewrite v = v.rewrite

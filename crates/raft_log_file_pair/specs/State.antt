@@ -25,7 +25,7 @@ pub record LogOnDisk (R : Type 0) : Type 0 where
   pub rewrite : Spanned R
   pub disk : Disk
 
--- one of its queues
+-- one of the log's queues
 abbrev pub spanned_at : {R : Type 0} → Which → LogOnDisk R → Spanned R
 spanned_at InAppend s = s.append
 spanned_at InRewrite s = s.rewrite
@@ -40,7 +40,7 @@ pub record Pipes : Type 0 where
   pub append : PipeFiles
   pub rewrite : PipeFiles
 
--- those of one of them
+-- the files that one of both pipes has open
 abbrev pub pipe_at : Which → Pipes → PipeFiles
 pipe_at InAppend p = p.append
 pipe_at InRewrite p = p.rewrite

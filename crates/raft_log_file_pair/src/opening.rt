@@ -17,11 +17,11 @@ use std::alloc::Global;
 /// there.
 #[derive(Drop)]
 pub struct FoundPipe {
-    /// Where they lie.
+    /// Where the queue's files lie.
     pub layout: LogLayout,
-    /// How they are to be written.
+    /// How the queue's files are to be written.
     pub settings: PipeSettings,
-    /// Which are there.
+    /// Which files are there.
     pub found: FoundFiles,
 }
 

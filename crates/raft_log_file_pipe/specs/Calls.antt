@@ -21,7 +21,7 @@ TurnsBy paths header (f ∷ fs) writer next after old new = IsOpened (path_of pa
     × RotatesBy writer header (λ handle. Renames (path_of paths f) (path_of paths next)) next.handle after
     old new
 
--- One that was refused: one of these calls was, and none was made behind it; or no call was made, as the
+-- A rotation that was refused: one of its calls was, and none was made behind it; or no call was made, as the
 -- oldest of the files kept for use wasn't opened.
 abbrev pub TurnsNot : FilePaths → List ℕ → List Listed → LogFileWriter → ℕ → Disk → Disk → Type 0
 TurnsNot paths header [] writer number old new = (directory : ℕ) × (error : ErrorKind)

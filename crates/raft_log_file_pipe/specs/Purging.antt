@@ -27,7 +27,7 @@ staying room [] = []
 staying room (f ∷ fs) = if is_signed f.format.version && nat_lt 0 room then f ∷ staying (room - 1) fs
     else staying room fs
 
--- and those that go
+-- of files that leave the span those that go
 abbrev pub going : ℕ → List Listed → List Listed
 going room [] = []
 going room (f ∷ fs) = if is_signed f.format.version && nat_lt 0 room then going (room - 1) fs
@@ -68,7 +68,8 @@ DropsTo {R} F own paths gone count old new = (base : Disk) (files : PipeFiles) (
 abbrev pub LosesFirst : List (List ℕ) → Disk → Disk → Type 0
 LosesFirst gone old new = (count : ℕ) × (new.names ≡ without (take count gone) old.names)
 
--- one of them wasn't: a file call failed, the records are held, and the span is there, as are those behind it
+-- one of these files wasn't dropped: a file call failed, the records are held, and the span is there, as are
+-- the files behind that one
 abbrev pub FailsToDropAll : {R : Type 0} → Format R → (List ℕ → Type 0) → FilePaths → List (List ℕ) → Disk
     → Disk → Type 0
 FailsToDropAll {R} F own paths gone old new = (base : Disk) (files : PipeFiles) (q : LogFiles R)
@@ -100,8 +101,8 @@ Purges {R} F own paths capacity seq before after old new = (base : Disk) (q : Lo
     × (new.names ≡ without (paths_going paths capacity seq before) old.names)
     × DropsBy (paths_going paths capacity seq before) old new
 
--- one of them didn't: a file call failed, the records are held, the span is there, and of the files that were
--- to go only some first ones went
+-- one of the files that go didn't: a file call failed, the records are held, the span is there, and of the
+-- files that were to go only some first ones went
 abbrev pub FailsToPurge : {R : Type 0} → Format R → (List ℕ → Type 0) → FilePaths → ℕ → ℕ → PipeFiles
     → PipeFiles → Disk → Disk → Type 0
 FailsToPurge {R} F own paths capacity seq before after old new = (base : Disk) (q : LogFiles R)

@@ -28,7 +28,7 @@ abbrev pub IsReadAt : PipeFiles → FileBlockHandle → List ℕ → Disk → Ty
 IsReadAt files block bytes d = (id : ℕ) × IsListed block.id.seq files id
     × HasFile id (AreBytesAt block.offset block.len bytes) d
 
--- why they weren't read: no file has the number, or the file system refused, or memory ran out
+-- why bytes weren't read at a place: no file has the number, or the file system refused, or memory ran out
 abbrev pub IsReadRefused : PipeFiles → FileBlockHandle → Disk → Error → Type 0
 IsReadRefused files block d error = IsNotTold block.id.seq files error
     ⊎ ((handle : Handle) × IsListed block.id.seq files handle.file

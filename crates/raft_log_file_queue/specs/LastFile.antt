@@ -19,7 +19,7 @@ pub record IsFrontTo {R : Type 0} (F : Format R) (capacity : ℕ) (q : LogFiles 
   pub front : IsFront F q more file
   pub ends : length file.content ≤ capacity
 
--- once it is cut behind them
+-- a file that was cut behind its records after a refused write ends there at the latest
 pub record IsCutTo {R : Type 0} (F : Format R) (capacity : ℕ) (q : LogFiles R) (more : List (Written R))
     (file : File) : Type 0 where
   pub cut : IsCut F q more file

@@ -70,7 +70,7 @@ RotatesToNew {R} F own header to before after handle old new = (base : Disk) (q 
     → CanRotate F q header to → IsOpen F own base before q path N old
     → QueueGoesOnInNext F own base after q header [] to (update bytes_eq N to (Some handle.file)) old new
 
--- one that was refused
+-- a rotation into a file that is made was refused
 abbrev pub FailsToRotateToNew : {R : Type 0} → Format R → (List ℕ → Type 0) → List ℕ → List ℕ
     → LogFileWriter → Disk → Disk → Type 0
 FailsToRotateToNew {R} F own header to before old new = (base : Disk) (q : LogFiles R) (path : List ℕ)
@@ -88,7 +88,7 @@ RotatesOver {R} F own header handle from to before after old new = (base : Disk)
     → QueueGoesOnInNext F own base after q header stale to
     (update bytes_eq (update bytes_eq N from None) to (Some handle.file)) old new
 
--- one that was refused
+-- a rotation into a file that was kept was refused
 abbrev pub FailsToRotateOver : {R : Type 0} → Format R → (List ℕ → Type 0) → List ℕ → Handle → List ℕ
     → List ℕ → LogFileWriter → Disk → Disk → Type 0
 FailsToRotateOver {R} F own header handle from to before old new = (base : Disk) (q : LogFiles R)

@@ -28,7 +28,7 @@ pub record IsFront {R : Type 0} (F : Format R) (q : LogFiles R) (more : List (Wr
   pub headed : HeaderStands q.header file
   pub front : take (length (whole q)) file.content ≡ whole q
 
--- once it is cut behind its records: they stand, and nothing behind them
+-- after a refused write, once the file is cut behind its records: they stand, and nothing behind them
 pub record IsCut {R : Type 0} (F : Format R) (q : LogFiles R) (more : List (Written R))
     (file : File) : Type 0 where
   pub chain : HoldsMore F q more file
@@ -40,7 +40,7 @@ pub record IsNew {R : Type 0} (F : Format R) (q : LogFiles R) (file : File) : Ty
   pub chain : HoldsChain (F.IsFrame q.last q.header) (length q.header) q.stale [] [] file
   pub is : file.content ≡ q.stale
 
--- and once its header is written, before it is synced
+-- a file that has the number and its header, before that is synced: behind it stands what it held before
 pub record IsHeaded {R : Type 0} (F : Format R) (q : LogFiles R) (file : File) : Type 0 where
   pub chain : HoldsChain (F.IsFrame q.last q.header) (length q.header) q.stale [] [] file
   pub is : file.content ≡ q.header ++ drop (length q.header) q.stale

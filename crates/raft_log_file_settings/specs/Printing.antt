@@ -85,7 +85,7 @@ rows_of s =
 abbrev pub with_row : Row → (List ℕ → Option Data) → List ℕ → Option Data
 with_row row at k = cond (bytes_eq row.0 k) (option_or row.1 (at k)) (at k)
 
--- and once some are, one after another
+-- what each key has once rows are put into a table, one after another
 abbrev pub with_rows : List Row → (List ℕ → Option Data) → List ℕ → Option Data
 with_rows [] at = at
 with_rows (row ∷ rows) at = with_rows rows (with_row row at)

@@ -22,7 +22,7 @@ pub data Finds (path : List ℕ) (create : Bool) (handle : Handle) (old new : Di
   was_there : create ≡ false → IsOpened path ReadWrite handle old → new ≡ old
       → Finds path create handle old new
 
--- why it wasn't made, or opened
+-- why a file wasn't made, or opened
 abbrev pub FailsToFind : List ℕ → Bool → Error → Disk → Disk → Type 0
 FailsToFind path true (errors.Io kind) old new = FailsToCreate path kind old new
 FailsToFind path true _ old new = ⊥

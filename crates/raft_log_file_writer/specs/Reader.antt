@@ -22,7 +22,7 @@ abbrev pub IsReadRefusal : Handle → ℕ → ℕ → Disk → Error → Type 0
 IsReadRefusal handle at count d (errors.Io kind) = IsUnread handle at count d kind
 IsReadRefusal handle at count d _ = ⊥
 
--- why they weren't read into a buffer of their own: for want of memory too
+-- why so many bytes weren't read into a buffer of their own: the file system refused, or for want of memory
 abbrev pub IsBlockRefusal : Handle → ℕ → ℕ → Disk → Error → Type 0
 IsBlockRefusal handle at count d errors.Memory = Unit {0}
 IsBlockRefusal handle at count d error = IsReadRefusal handle at count d error

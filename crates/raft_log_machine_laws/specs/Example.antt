@@ -48,7 +48,8 @@ purged_twice = record {
   append = record { gone = []; live = entries ∷ compaction ∷ []; pending = [] };
 }
 
--- and the group's whereabouts: entry 3 and the key stand in Append again, and a mark is owed again
+-- the group's whereabouts in the directory after two purges and the open: entry 3 and the key stand in Append
+-- again, and a mark is owed again
 abbrev pub read_again : Whereabouts
 read_again = record {
   first = 3;

@@ -48,7 +48,7 @@ pub fn tables_tell_the_whereabouts<E, V>()
         → IsRecovered m append u }
 {}
 
-/// What it read leaves an open no choice: any two whereabouts that it may make have the same entries in
+/// What an open read leaves it no choice: any two whereabouts that it may make have the same entries in
 /// Rewrite and in Append, and the same keys. Free are the number of a group without entries, marks beside a
 /// Clean, and a Compact more.
 pub fn an_open_has_no_choice<E, V>()

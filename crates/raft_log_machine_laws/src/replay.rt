@@ -20,8 +20,8 @@ pub fn each_step_replays<E, V>()
     ensures { (e : Event E V) (w v : Machine E V) → Step e w v → IsKept w → IsReplayable w → IsReplayable v }
 {}
 
-/// Where it is kept, each start of each queue and each beginning of its unsynced records can be read: no hole
-/// in Append, none in Rewrite, and no atomic group broken.
+/// Where what replay asks is kept, each start of each queue and each beginning of its unsynced records can be
+/// read: no hole in Append, none in Rewrite, and no atomic group broken.
 pub fn kept_machine_replays<E, V>()
     ensures { (w : Machine E V) → IsKept w → IsReplayable w → ReadsThrough w.store }
 {}

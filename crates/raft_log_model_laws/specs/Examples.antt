@@ -101,7 +101,7 @@ four_and_five = None ∷ None ∷ None ∷ None ∷ Some (Entry 4) ∷ Some (Ent
 abbrev pub six : List (Item ℕ ℕ)
 six = Run 6 (6 ∷ []) ∷ []
 
--- and in Append's files that are still there entries 8 to 11, then 7 in their place
+-- in that directory's files of Append that are still there: entries 8 to 11, then 7 in their place
 abbrev pub eight_then_seven : List (Item ℕ ℕ)
 eight_then_seven = Run 8 (upward 8 4) ∷ Run 7 (7 ∷ []) ∷ []
 

@@ -57,7 +57,7 @@ pub record SyncsLog (b : DualPipesBuilder) (old new : Disk) : Type 0 where
   pub rewrite : SyncsEach (rewrite_files b) between behind
   pub reserved : SyncsEach b.reserved.items behind new
 
--- one of them wasn't; those before it are
+-- a file of the log wasn't synced; those before it are
 pub data FailsToSyncLog (b : DualPipesBuilder) (kind : ErrorKind) (old new : Disk) : Type 0 where
   append_unsynced : FailsToSyncEach (append_files b) kind old new → FailsToSyncLog b kind old new
   rewrite_unsynced : (between : Disk) → SyncsEach (append_files b) old between

@@ -35,7 +35,8 @@ module _ {F : Type 0} (disk : F → Disk) (tells : F → List ℕ → ℕ → Ty
     pub all_is : all ≡ files ++ made
     pub makes : MakesEach disk tells paths (piece size) size (next_number files) made full old new
 
-  -- Then those past what is kept were deleted, from the newest on.
+  -- Files were made until there were as many as are wanted; then those past what is kept were deleted, from
+  -- the newest on.
   pub record Readies (paths : FilePaths) (size wanted : ℕ) (files kept : List File) (old new : F)
       : Type 0 where
     pub all : List File
@@ -45,12 +46,12 @@ module _ {F : Type 0} (disk : F → Disk) (tells : F → List ℕ → ℕ → Ty
     pub kept_is : kept ≡ take (kept_of full wanted) all
     pub drops : DropsEach paths (reverse (drop (kept_of full wanted) all)) (disk between) (disk new)
 
-  -- one wasn't made; those before it are there, under their names
+  -- one of the files that are wanted wasn't made; those before it are there, under their names
   abbrev pub FailsToMakeMissing : FilePaths → ℕ → ℕ → List File → Error → F → F → Type 0
   FailsToMakeMissing paths size wanted files error old new = FailsToMakeEach disk tells paths (piece size)
       size (next_number files) (wanted - length files) error old new
 
-  -- all were made, and there was no name for one that was to be deleted
+  -- all files that are wanted were made, and there was no name for one that was to be deleted
   pub record FailsToDropSurplus (paths : FilePaths) (size wanted : ℕ) (files : List File) (error : Error)
       (old new : F) : Type 0 where
     pub all : List File

@@ -31,7 +31,7 @@ recovery_of config queue workers = record {
 abbrev pub append_files : DualPipesBuilder → List File
 append_files b = b.append.files.items
 
--- those of Rewrite
+-- the files of Rewrite that were found
 abbrev pub rewrite_files : DualPipesBuilder → List File
 rewrite_files b = b.rewrite.files.items
 
@@ -40,12 +40,12 @@ abbrev pub all_workers : DualPipesBuilder → ℕ
 all_workers b = min (settings_of b.config).recovery_threads
     (length (append_files b) + length (rewrite_files b))
 
--- how those of Append are read, by their share of the workers
+-- how the files of Append are read, by their share of the workers
 abbrev pub append_config : DualPipesBuilder → RecoveryConfig
 append_config b = recovery_of b.config Append
     (append_share (all_workers b) (length (append_files b)) (length (rewrite_files b)))
 
--- and those of Rewrite
+-- how the files of Rewrite are read, by their share of the workers
 abbrev pub rewrite_config : DualPipesBuilder → RecoveryConfig
 rewrite_config b = recovery_of b.config Rewrite
     (rewrite_share (all_workers b) (length (append_files b)) (length (rewrite_files b)))
@@ -59,7 +59,7 @@ pub record HasReadBoth {M : Type 0} (reads : LogQueue → List Batch → M → T
   pub append_unaligned : AreUnaligned append_endings
   pub rewrite_unaligned : AreUnaligned rewrite_endings
 
--- both were read, and then their damaged files were cut, Append's first
+-- both queues were read, and then their damaged files were cut, Append's first
 pub record RecoversLog {M : Type 0} (reads : LogQueue → List Batch → M → Type 0) (append rewrite : M)
     (b after : DualPipesBuilder) (old new : Disk) : Type 0 where
   pub read : HasReadBoth reads b old append rewrite after.append.endings.items after.rewrite.endings.items
@@ -69,8 +69,8 @@ pub record RecoversLog {M : Type 0} (reads : LogQueue → List Batch → M → T
   pub same : (after.config ≡ b.config) × (after.append.files ≡ b.append.files)
       × (after.rewrite.files ≡ b.rewrite.files) × (after.reserved ≡ b.reserved)
 
--- Why they weren't recovered: a queue wasn't read, or one of the files that were read has an alignment, and
--- nothing is cut then; or a damaged file wasn't cut.
+-- Why the queues weren't recovered: a queue wasn't read, or one of the files that were read has an alignment,
+-- and nothing is cut then; or a damaged file wasn't cut.
 pub data FailsToRecoverLog {M : Type 0} (reads : LogQueue → List Batch → M → Type 0)
     (declines : LogQueue → List Batch → Error → Type 0) (b : DualPipesBuilder) (error : Error)
     (old new : Disk) : Type 0 where

@@ -24,8 +24,8 @@ pub record RecoversFiles {M : Type 0} (reads : LogQueue → List Batch → M →
   pub cut : CutsEach q.files.items after.endings.items old new
   pub same : after.files ≡ q.files
 
--- Why it wasn't recovered: it wasn't read, or one of the files has an alignment, and nothing is cut then; or
--- a damaged file wasn't cut.
+-- Why a queue wasn't recovered: it wasn't read, or one of the files has an alignment, and nothing is cut
+-- then; or a damaged file wasn't cut.
 pub data FailsToRecoverFiles {M : Type 0} (reads : LogQueue → List Batch → M → Type 0)
     (declines : LogQueue → List Batch → Error → Type 0) (config : RecoveryConfig) (q : RecoveredQueue)
     (error : Error) (old new : Disk) : Type 0 where

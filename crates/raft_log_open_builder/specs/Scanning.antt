@@ -27,8 +27,8 @@ pub record ScansLog (b after : DualPipesBuilder) (old new : Disk) : Type 0 where
   pub has : HasFound after found
   pub same : after.config ≡ b.config
 
--- Why they weren't: memory ran out, and nothing was done; or as the scan itself is refused; or memory ran out
--- behind it. No file changed.
+-- Why the directories weren't scanned: memory ran out, and nothing was done; or as the scan itself is
+-- refused; or memory ran out behind it. No file changed.
 pub data FailsToScanLog (b : DualPipesBuilder) (error : Error) (old new : Disk) : Type 0 where
   unready : error ≡ errors.Memory → new ≡ old → FailsToScanLog b error old new
   unscanned : FailsToScan (paths_of b.config) error old new → FailsToScanLog b error old new

@@ -5,13 +5,13 @@ use Rattle.raft_log_disk.specs.Disk.{Disk}
 use Rattle.raft_log_disk.specs.Exits.{FailsToSync, Syncs}
 use Rattle.raft_log_file_queue.specs.declared.format.File.{File}
 
--- each of these was synced
+-- each of these files was synced
 abbrev pub SyncsEach : List File → Disk → Disk → Type 0
 SyncsEach [] old new = new ≡ old
 SyncsEach (file ∷ files) old new =
     (mid : Disk) × Syncs file.handle old mid × SyncsEach files mid new
 
--- one of them wasn't; those before it are
+-- one of these files wasn't synced; those before it are
 pub record FailsToSyncEach (files : List File) (kind : ErrorKind) (old new : Disk) : Type 0 where
   pub before : List File
   pub file : File

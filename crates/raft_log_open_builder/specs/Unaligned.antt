@@ -10,7 +10,7 @@ abbrev pub AreUnaligned : List FileEnding → Type 0
 AreUnaligned [] = Unit {0}
 AreUnaligned (ending ∷ endings) = (ending.format.alignment ≡ 0) × AreUnaligned endings
 
--- how it is told that one of them has
+-- how it is told that a file has an alignment
 abbrev pub told_aligned : List ℕ
 told_aligned = codes "a file of the log has an alignment, which this log doesn't take"
 

@@ -19,7 +19,7 @@ pub(crate) fn are_unaligned(endings: &[FileEnding]) -> bool
     true
 }
 
-/// How it is told that a file has one.
+/// How it is told that a file has an alignment.
 pub(crate) fn aligned(alloc: Global) -> Error
     ensures { TellsAligned result }
 {

@@ -12,7 +12,8 @@ pub record IsBegun (config : Config) (b : DualPipesBuilder) : Type 0 where
   pub sound : HasNoFault (settings_of config)
   pub whole : settings_of b.config ≡ sanitized (settings_of config)
 
--- and then the log's directories were scanned: the builder has the files that were found
+-- the settings have no fault, and the log's directories were scanned: the builder has the files that were
+-- found
 pub record FindsLog (config : Config) (b : DualPipesBuilder) (old new : Disk) : Type 0 where
   pub begun : DualPipesBuilder
   pub begins : IsBegun config begun

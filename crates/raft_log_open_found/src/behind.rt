@@ -31,9 +31,9 @@ pub(crate) struct Behind {
 /// The last record that was read.
 #[derive(Clone, Copy)]
 pub(crate) struct LastRecord {
-    /// Where the one before it ends, or the header.
+    /// Where the record before that one ends, or the header.
     pub(crate) start: usize,
-    /// Where its entry block lies.
+    /// Where that record's entry block lies.
     pub(crate) block: FileBlockHandle,
 }
 

@@ -7,9 +7,9 @@ use raft_log_record_items::LogItem;
 /// What a log file reads as, from its front on up to its end, or to what is wrong with it.
 #[derive(Drop, Debug)]
 pub struct FileRecords {
-    /// What its header says; the format of a file without a header, where it has none.
+    /// What the file's header says; the format of a file without a header, where it has none.
     pub format: LogFileFormat,
-    /// The items of its good records, in order, with the places of their entries.
+    /// The items of the file's good records, in order, with the places of their entries.
     pub batches: Vec<Vec<LogItem>>,
     /// Where the last good record ends, in bytes from the front on, or the header; `None` where it has no
     /// header.

@@ -36,7 +36,7 @@ ScannedFilesAreAll = (queue : LogQueue) (directories : List (List ℕ)) → AreD
     → (files : List Listed) → IsQueueIn (kind_of queue) directories d mode files
     → AreAllFound queue directories q.last d files
 
--- And where no number has a file, it answers none.
+-- Where no number has a file, a scan of a queue answers none.
 abbrev pub NoFilesAreScanned : Type 0
 NoFilesAreScanned = (queue : LogQueue) (directories : List (List ℕ)) (mode : RecoveryMode) (d : Disk)
     → ((m : ℕ) → m < (log_format queue directories).limit → IsAbsent (log_format queue directories) m d)

@@ -108,7 +108,8 @@ pub data StopsUncut (config : Config) (d new : Disk) : Type 0 where
       → StopsUncut config d new
   unread : (found : DualPipesBuilder) → FindsLog config found d new → StopsUncut config d new
 
--- Then the log is left as it was, whatever its bytes are, with the batches that were pending.
+-- An open that cut nothing of the log leaves it as it was, whatever its bytes are, with the batches that were
+-- pending.
 abbrev pub UncutLogsStay : Type 0
 UncutLogsStay = (config : Config) (d : Disk) (m : LogMap) (pending : List Said)
     → IsLeftAt (home_of config) d m pending → (new : Disk) → StopsUncut config d new

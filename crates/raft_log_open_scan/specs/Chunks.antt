@@ -8,7 +8,8 @@ append_share all zero rewrite = all
 append_share all (suc append) zero = all
 append_share all (suc append) (suc rewrite) = max 1 (all * suc append / (suc append + suc rewrite))
 
--- and how many Rewrite gets: what is left of them, and one at least, where both queues have files; else all
+-- How many of these workers Rewrite gets: what Append leaves of them, and one at least, where both queues
+-- have files; else all.
 abbrev pub rewrite_share : ℕ → ℕ → ℕ → ℕ
 rewrite_share all zero rewrite = all
 rewrite_share all (suc append) zero = all

@@ -46,7 +46,7 @@ pub record HasDirectories (directories : List (List ℕ)) (old new : Disk) : Typ
   pub others : (path : List ℕ) → (Contains directories path → ⊥) → new.directories path ≡ old.directories path
   pub rest : new ≡ record old { directories = new.directories }
 
--- those before one are there, and why that one isn't
+-- the directories before one are there, and why that one isn't
 pub record FailsToHaveAll (directories : List (List ℕ)) (error : Error) (old new : Disk) : Type 0 where
   pub before : List (List ℕ)
   pub path : List ℕ

@@ -6,9 +6,9 @@ ghost use Rattle.raft_log_open_scan.specs.Chunks.{append_share, rewrite_share};
 /// How many workers read the files of each queue.
 #[derive(Clone, Copy, Debug, PartialEq, Eq)]
 pub struct Workers {
-    /// Those of Append.
+    /// How many read Append's files.
     pub append: usize,
-    /// Those of Rewrite.
+    /// How many read Rewrite's files.
     pub rewrite: usize,
 }
 

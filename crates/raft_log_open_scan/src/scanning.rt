@@ -28,11 +28,11 @@ use std::alloc::Global;
 /// The files that a log's directories hold, open.
 #[derive(Drop, Debug)]
 pub struct ScannedFiles {
-    /// Those of Append, in the order of their numbers.
+    /// Append's files, in the order of their numbers.
     pub append: Vec<File>,
-    /// Those of Rewrite.
+    /// Rewrite's files, in the order of their numbers.
     pub rewrite: Vec<File>,
-    /// Those that are kept to be used.
+    /// The files that are kept to be used.
     pub reserved: Vec<File>,
 }
 

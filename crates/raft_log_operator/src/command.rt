@@ -25,7 +25,7 @@ status: 0 done; 1 done, and a hole or a damaged file was found; 2 wrong argument
 /// What the program is asked for.
 #[derive(Debug, Drop, PartialEq, Eq)]
 pub enum Command {
-    /// How it is called is told.
+    /// How the program is called is told.
     Help,
     /// Something is done with a log.
     On(Place, Task),

@@ -57,8 +57,8 @@ pub record RewritesRewrite (m : MemTables) (s t : Shows) : Type 0 where
       → IsRestatedFrom (last_file s + 1) (s.tables g) (t.tables g)
   pub settles : (home : Home) (log : LogMap) → Holds home s log [] → HoldsSettled home t log
 
--- That was refused, and why: the map stays, with nothing pending; or the engine has failed, and its log is
--- held.
+-- A rewrite of Rewrite was refused, and why: the map stays, with nothing pending; or the engine has failed,
+-- and its log is held.
 pub record FailsToRewriteRewrite (error : Error) (s t : Shows) : Type 0 where
   pub counts : t.counts ≡ s.counts
   pub tells : has_failed s ≡ false → IsTrue (has_failed t) ↔ (error ≡ errors.Failed)

@@ -31,9 +31,9 @@ use std::alloc::{AllocError, Global};
 /// The groups that a purge of Append picks, from the least up.
 #[derive(Drop)]
 pub struct PickedGroups {
-    /// Those that it answers: it asks them to be compacted, or they have many entries in Rewrite.
+    /// The groups that the purge answers: it asks them to be compacted, or they have many entries in Rewrite.
     pub answered: Vec<u64>,
-    /// Those that it rewrites itself.
+    /// The groups that the purge rewrites itself.
     pub rewritten: Vec<u64>,
     /// In how many purges in a row each group was asked, this one among them.
     pub rounds: Rounds,

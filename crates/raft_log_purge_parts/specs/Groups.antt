@@ -49,7 +49,7 @@ pub record RewritesEntries (group gate : ℕ) (s t : Shows) : Type 0 where
 abbrev pub RewritesGroup : ℕ → ℕ → Shows → Shows → Type 0
 RewritesGroup group gate s t = Rewrites (λ g. group == g) gate s t
 
--- or not to the end
+-- rewriting one group was refused, with a part done
 abbrev pub StopsAtGroup : ℕ → ℕ → Error → Shows → Shows → Type 0
 StopsAtGroup group gate error s t = StopsRewriting (λ g. group == g) gate error s t
 
@@ -57,7 +57,7 @@ StopsAtGroup group gate error s t = StopsRewriting (λ g. group == g) gate error
 abbrev pub RewritesGroups : List ℕ → ℕ → Shows → Shows → Type 0
 RewritesGroups groups gate s t = Rewrites (λ g. list_any (λ k. k == g) groups) gate s t
 
--- or not all of them
+-- rewriting each of these groups was refused, with a part done
 abbrev pub StopsAtGroups : List ℕ → ℕ → Error → Shows → Shows → Type 0
 StopsAtGroups groups gate error s t = StopsRewriting (λ g. list_any (λ k. k == g) groups) gate error s t
 

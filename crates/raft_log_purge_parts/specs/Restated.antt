@@ -24,9 +24,9 @@ abbrev pub IsNotedFrom : ℕ → Option GroupFiles → Type 0
 IsNotedFrom n None = Unit {0}
 IsNotedFrom n (Some files) = n ≤ files.from
 
--- All that the group has in Rewrite lies in files from that one on: its entries and its values there; what
--- is noted begins no earlier than it began before, or there; and where it began past an earlier file, or
--- ended at or before that, it does so still.
+-- All that the group has in Rewrite lies in files from this one on: its entries and its values there; what is
+-- noted begins no earlier than it began before, or there; and where it began past an earlier file, or ended
+-- at or before that, it does so still.
 pub record IsRestatedFrom (n : ℕ) (v w : Shown) : Type 0 where
   pub entries : LieFrom n (take w.rewritten w.places)
   pub values : (k : List ℕ) (h : KeyValue) → w.held k ≡ Some h → h.appended ≡ false → n ≤ h.file
@@ -74,7 +74,7 @@ pub record FailsToRestate (error : Error) (s t : Shows) : Type 0 where
 abbrev pub RestatesEach : List ℕ → Shows → Shows → Type 0
 RestatesEach groups s t = Restates (λ g. list_any (λ k. k == g) groups) s t
 
--- or not all of them, and why
+-- not all of these groups were restated, and why
 pub record StopsRestating (groups : List ℕ) (error : Error) (s t : Shows) : Type 0 where
   pub others : (g : ℕ) → list_any (λ k. k == g) groups ≡ false → t.tables g ≡ s.tables g
   pub counts : t.counts ≡ s.counts

@@ -59,8 +59,8 @@ pub record PurgesAllStale (m : MemTables) (s t : Shows) : Type 0 where
   pub settles : (home : Home) (log : LogMap) (pending : List Said) → Holds home s log pending
       → HoldsSettled home t (taken log pending)
 
--- That was refused, and why: the map stays, and where the engine has failed, its log is held, with the batches
--- on the map, or pending as they were.
+-- A purge of all stale files was refused, and why: the map stays, and where the engine has failed, its log is
+-- held, with the batches on the map, or pending as they were.
 pub record FailsToPurgeAll (error : Error) (s t : Shows) : Type 0 where
   pub tells : has_failed s ≡ false → IsTrue (has_failed t) ↔ (error ≡ errors.Failed)
   pub later : IsLater s.pipes.disk t.pipes.disk

@@ -14,7 +14,7 @@ pub struct Thresholds {
     pub append: u64,
     /// Rewrite is written again where it is larger than this; without it, never.
     pub rewrite: Option<u64>,
-    /// And where more than so many thousandths of what was written to Rewrite stand no more.
+    /// Rewrite is written again where more than so many thousandths of what was written to it stand no more.
     pub garbage_ratio: u64,
 }
 

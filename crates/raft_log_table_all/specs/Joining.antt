@@ -39,7 +39,7 @@ TableRefused v z error = ((error ≡ errors.Hole) × LeavesHole v z) ⊎ (error 
 abbrev pub JoinsAll : MemTables → MemTables → MemTables → Type 0
 JoinsAll old newer new = (g : ℕ) → JoinsAt old newer new g
 
--- those of some groups are, and the others stay
+-- the segments of some groups are one, and the others stay
 abbrev pub JoinsSome : MemTables → MemTables → MemTables → Type 0
 JoinsSome old newer new = (g : ℕ) → StaysAt old new g ⊎ JoinsAt old newer new g
 

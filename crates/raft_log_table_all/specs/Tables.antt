@@ -14,7 +14,7 @@ abbrev pub shown_in : Option GroupTable → Shown
 shown_in None = nothing_shown
 shown_in (Some t) = shown t.table
 
--- what its table promised
+-- what the table of a group promised, if it has one
 abbrev pub promise_in : Option GroupTable → Promise
 promise_in None = no_promise
 promise_in (Some t) = promise t.table

@@ -11,7 +11,7 @@ pub struct GlobalStats {
     pub live_append_entries: u64,
     /// Entries that were written to Rewrite, since the counters were reset.
     pub rewrite_entries: u64,
-    /// Those of them that stand no more.
+    /// Entries that were written to Rewrite since then, and stand no more.
     pub deleted_rewrite_entries: u64,
 }
 

@@ -21,7 +21,7 @@ TakesBatch reads file items old new =
     (before : List Batch) → reads file.queue before old
     → reads file.queue (before ++ batch_in file items ∷ []) new
 
--- why it doesn't take the batch behind those that it has read
+-- why a machine doesn't take a batch behind those that it has read
 abbrev pub DeclinesBatch : {M : Type 0} → (LogQueue → List Batch → M → Type 0)
     → (LogQueue → List Batch → Error → Type 0) → FileId → List LogItem → M → Error → Type 0
 DeclinesBatch reads declines file items machine error =
@@ -34,7 +34,7 @@ abbrev pub JoinsLater : {M : Type 0} → (List Batch → M → Type 0) → M →
 JoinsLater reads old later new =
     (xs ys : List Batch) → reads xs old → reads ys later → reads (xs ++ ys) new
 
--- why they aren't put together
+-- why a machine and the next one aren't put together
 abbrev pub DeclinesLater : {M : Type 0} → (List Batch → M → Type 0) → (List Batch → Error → Type 0) → M → M
     → Error → Type 0
 DeclinesLater reads declines old later error =

@@ -13,7 +13,8 @@ use std::thread::{Threads, map_indices};
 /// Which threads read the chunks of a queue. What is read is the same by either.
 #[derive(Clone, Copy, Debug, PartialEq, Eq)]
 pub enum ReplayThreads {
-    /// Those of `rayon`: as many as it makes for the processors that there are, each for some of the chunks.
+    /// The threads of `rayon`: as many as it makes for the processors that there are, each for some of the
+    /// chunks.
     Rayon,
     /// A scoped thread for each chunk, however many processors there are.
     Scoped,

@@ -7,14 +7,14 @@ use Rattle.raft_voter_session.specs.Text.{round_text}
 use Rattle.raft_voter.specs.Service.{AnswersRound, CutsOff, Service}
 use Rattle.raft_voter.specs.declared.service.Cause.{Cause}
 
--- These are the lines of a round that was answered, with the replies of the voters,
+-- These are the lines of a round that was answered, with the replies of the voters.
 pub record TellsReplies {S : Type 0} (service : Service S) (number : ℕ) (requests : List (ℕ × Request))
     (lines : List ℕ) (old new : S) : Type 0 where
   pub replies : List Reply
   pub told : lines ≡ round_text number (record { requests = requests; refused = []; outcome = Answered replies })
   pub answers : AnswersRound service requests replies old new
 
--- or of one that was cut off.
+-- These are the lines of a round that was cut off.
 pub record TellsCut {S : Type 0} (service : Service S) (number : ℕ) (requests : List (ℕ × Request))
     (lines : List ℕ) (old new : S) : Type 0 where
   pub cause : Cause

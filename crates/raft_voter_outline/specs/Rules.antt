@@ -110,7 +110,7 @@ reply_in_range v (Read from to) =
 reply_in_range v Status = StatusReply (state_of v)
 reply_in_range v Retire = Retired
 
--- what it makes of the voter
+-- what a request in range makes of the voter
 abbrev pub next_in_range : State → Request → State
 next_in_range v (Vote term candidate index last) =
     if grants v term candidate index last then record (adopt_term v term) { vote = Some candidate }
@@ -132,7 +132,7 @@ next_in_range v Retire = fresh
 abbrev pub reply : State → Request → Reply
 reply v q = if in_range q then reply_in_range v q else Refused
 
--- what it makes of the voter: one out of range changes nothing
+-- what any request makes of the voter: one out of range changes nothing
 abbrev pub next : State → Request → State
 next v q = if in_range q then next_in_range v q else v
 

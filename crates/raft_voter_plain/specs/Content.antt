@@ -18,6 +18,6 @@ after_crash file = record { synced = file.synced; unsynced = [] }
 abbrev pub whole : PlainContent → List ℕ
 whole file = file.synced ++ file.unsynced
 
--- all that was written is synced
+-- the content, once all that was written is synced
 abbrev pub all_synced : PlainContent → PlainContent
 all_synced file = record { synced = whole file; unsynced = [] }

@@ -24,7 +24,7 @@ TellsDamage P Memory = Unit {0}
 abbrev pub HasNoEntry : ℕ → List ℕ → Type 0
 HasNoEntry index bytes = (e : Entry) (rest : List ℕ) → ¬ BeginsWithEntry bytes index e rest
 
--- nor do so many entries, of which the first stands at this index
+-- so many entries, of which the first stands at this index, don't come first
 abbrev pub LacksEntries : ℕ → ℕ → List ℕ → Type 0
 LacksEntries first count bytes =
     (es : List Entry) (rest : List ℕ) → ¬ BeginsWithEntries bytes first count es rest

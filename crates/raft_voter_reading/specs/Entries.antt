@@ -42,13 +42,13 @@ pub record ReadsRun (e : Shows) (g first : ℕ) (es : List VoterEntry) : Type 0 
   pub read : AreReadAs first texts es
   pub stand : Tells e (λ m. StandFrom (m g) first texts)
 
--- some were, at least one and all below an end
+-- some entries of a group were read from an index on, at least one and all below an end
 pub record ReadsPiece (e : Shows) (g first end : ℕ) (es : List VoterEntry) : Type 0 where
   pub run : ReadsRun e g first es
   pub some : 0 < length es
   pub within : first + length es ≤ end
 
--- all were that stand behind a base and below an index
+-- all entries of a group were read that stand behind a base and below an index
 pub record ReadsBelow (e : Shows) (g base next : ℕ) (es : List VoterEntry) : Type 0 where
   pub run : ReadsRun e g (base + 1) es
   pub count : base + 1 + length es ≡ next

@@ -33,7 +33,7 @@ with_write b group (Entries skipped index) sent = with_stored b group index (dro
 with_write b group (CompactTo index) sent = with_item b (command_item group (commands.Compact (index + 1)))
 with_write b group Clean sent = with_item b (command_item group commands.Clean)
 
--- and then the new state under the key, unless all of the group goes
+-- A batch to which is added a group's new state under the key, unless all of the group goes.
 abbrev pub with_state : Batch → ℕ → Write → VoterState → Batch
 with_state b group Clean state = b
 with_state b group _ state = with_item b (put_item group voter_key (state_text state))

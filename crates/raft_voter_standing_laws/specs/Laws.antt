@@ -70,7 +70,7 @@ FetchedEntriesAreRead M = (text : M → List ℕ) (reading : List ℕ → Option
     → FetchesTo reading q.0 from to None s t [] messages count → AreReadAs from (map text messages) es
     → ReadsEntries q.0 from to s t os es
 
--- Those that weren't aren't, and this is why.
+-- Entries that weren't fetched aren't read, and this is why.
 abbrev pub UnfetchedEntriesAreUnread : Type 0 → Type 0
 UnfetchedEntriesAreUnread M = (text : M → List ℕ) (reading : List ℕ → Option M) (q : ℕ × Request)
     (from to : ℕ) (error : Error) (s t : Shows) (os : ℕ → State) → IsRaw text reading

@@ -23,7 +23,7 @@ AreTold W (q ∷ qs) (a ∷ told) =
 abbrev pub IsPassed : World → List (ℕ × Request) → List Reply → World → Type 0
 IsPassed V qs told X = (cut : ℕ) × (cut ≤ length told) × (X ≡ after V (took qs (take cut told)))
 
--- or once the next request was taken too, of which no reply tells
+-- the voters once some first ones of these requests were taken, or the next one too, of which no reply tells
 abbrev pub IsPassedOrOneMore : World → List (ℕ × Request) → List Reply → World → Type 0
 IsPassedOrOneMore V qs told X = IsPassed V qs told X
     ⊎ ((q : ℕ × Request) × (slice_get qs (length told) ≡ Some q) × (X ≡ after_one (after V (took qs told)) q))

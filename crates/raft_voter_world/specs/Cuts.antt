@@ -57,7 +57,8 @@ lost_at event [] = []
 lost_at event (opened workers store voters None now ∷ ms) = event ∷ lost_at event ms
 lost_at event (m ∷ ms) = lost_at event ms
 
--- those of these events, of which the first has this number
+-- these events, each once for each open of it that shows voters which no place fits; the first has this
+-- number
 abbrev pub lost_from : {S F : Type 0} → ℕ → List (List (Moment S F)) → List ℕ
 lost_from event [] = []
 lost_from event (ms ∷ mss) = lost_at event ms ++ lost_from (event + 1) mss

@@ -52,7 +52,7 @@ pub enum Event {
 pub enum Left {
     /// Nothing: what was synced last stands.
     Last,
-    /// All of it.
+    /// All that wasn't synced.
     All,
     /// The first pieces that weren't synced, in the order of the calls over all files, so many bytes of the next
     /// one, if it is a write, and nothing else.

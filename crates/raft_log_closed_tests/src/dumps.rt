@@ -95,7 +95,7 @@ const HOLDS: [&str; 6] = [
     "a file system that has stopped gives nothing",
 ];
 
-/// Whether it holds.
+/// Whether what has this number in the list holds.
 fn holds(alloc: Global, number: usize) -> Result<bool> {
     match number {
         0 => gives(alloc, "d", 117),

@@ -24,7 +24,7 @@ pub enum DirectoryFault {
     Refused {
         /// Of which path.
         path: String,
-        /// What it told.
+        /// What the operating system told.
         error: io::Error,
     },
     /// Memory is short.
@@ -48,7 +48,7 @@ impl DirectoryFault {
         }
     }
 
-    /// What it told when the files of a directory were to be read.
+    /// What the operating system told when the files of a directory were to be read.
     pub(crate) fn of_files(alloc: Global, path: &str, error: io::Error) -> DirectoryFault {
         match String::from_str(alloc, path) {
             Ok(path) if error.kind() != ErrorKind::OutOfMemory => {

@@ -36,9 +36,9 @@ pub struct Stamped {
     pub stamp: u64,
     /// What is changed.
     pub change: Change,
-    /// How many bytes it wrote. They stand in the content after it.
+    /// How many bytes the change wrote. They stand in the content after it.
     pub length: usize,
-    /// What it replaced.
+    /// What the change replaced.
     pub former: Former,
 }
 

@@ -4,9 +4,9 @@
 /// files that still have a name.
 #[derive(Debug, Drop)]
 pub enum Remainder {
-    /// None of them: each file as it was synced.
+    /// No change: each file as it was synced.
     LastSync,
-    /// All of them.
+    /// All changes.
     AllWritten,
     /// The first changes whole; of the next one, where it is a write, its first bytes; the rest is lost.
     First {
@@ -22,7 +22,7 @@ pub enum Remainder {
 /// What a crash leaves of one change.
 #[derive(Debug, Drop)]
 pub enum Piece {
-    /// All of it.
+    /// All of the change.
     Keep,
     /// Nothing.
     Lose,

@@ -32,7 +32,7 @@ pub record TakesWhole (gate : Option ℕ) (ps : List WrittenPart) (v : ℕ → S
   pub lowest : (g : ℕ) → about g ≡ true → IsLeastInRewrite (parts_moved gate g ps (v g)) (least g)
   pub others : (g : ℕ) → about g ≡ false → filed_items g ps ≡ []
 
--- what the tables take of a whole group is an end of a group of copies, in these files
+-- the end of a group of copies that the tables take as a whole, in these files
 abbrev pub whole_end : {E : Type 0} {at : Located → E} {gate : Option ℕ} {ps : List WrittenPart}
     {v : ℕ → Shown} → GroupFiles → TakesWhole gate ps v
     → ((g : ℕ) → IsWholeCopy at gate (v g) (filed_items g ps))

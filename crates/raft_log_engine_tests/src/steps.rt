@@ -51,7 +51,7 @@ pub enum End {
     So,
     /// The step is answered otherwise.
     Otherwise,
-    /// The step is refused, by the error of this name.
+    /// The step is refused, by this error.
     Hole,
     Io,
     Failed,
@@ -140,7 +140,7 @@ fn end_both<L: Log, P: PipeLog>(
     count(rt, store, first) == first.len() && count(rt, store, steps) == steps.len()
 }
 
-/// Whether they do on a log that begins.
+/// Whether some steps end so, and others behind them, on a log that begins.
 pub fn ends_behind(
     rt: &HostRuntime,
     first: &[(Step, End)],

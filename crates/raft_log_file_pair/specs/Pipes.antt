@@ -37,7 +37,7 @@ pub record LogPipes : Type 0 where
   pub rewrite : OnePipe
   pub disk : Disk
 
--- one of both pipes
+-- one of the two pipes
 abbrev pub one_at : Which → LogPipes → OnePipe
 one_at InAppend v = v.append
 one_at InRewrite v = v.rewrite

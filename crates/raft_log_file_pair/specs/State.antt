@@ -40,7 +40,7 @@ pub record Pipes : Type 0 where
   pub append : PipeFiles
   pub rewrite : PipeFiles
 
--- the files that one of both pipes has open
+-- the files that one of the two pipes has open
 abbrev pub pipe_at : Which → Pipes → PipeFiles
 pipe_at InAppend p = p.append
 pipe_at InRewrite p = p.rewrite

@@ -27,7 +27,7 @@ staying room [] = []
 staying room (f ∷ fs) = if is_signed f.format.version && nat_lt 0 room then f ∷ staying (room - 1) fs
     else staying room fs
 
--- of files that leave the span those that go
+-- of files that leave the span those that don't stay for use
 abbrev pub going : ℕ → List Listed → List Listed
 going room [] = []
 going room (f ∷ fs) = if is_signed f.format.version && nat_lt 0 room then going (room - 1) fs

@@ -36,9 +36,9 @@ pub struct SinglePipe<G> {
 /// How a pipe writes its files.
 #[derive(Drop, Debug)]
 pub struct PipeSettings {
-    /// Which queue it is.
+    /// Which queue the files are of.
     pub queue: LogQueue,
-    /// How its files are begun.
+    /// How the pipe's files are begun.
     pub new_files: NewFiles,
     /// How many files it may have, those of its span and those kept for use, before a purge deletes some.
     pub capacity: usize,
@@ -67,7 +67,7 @@ impl<G: PipeFormat> SinglePipe<G> {
         }
     }
 
-    /// Where its files lie, and how they are written.
+    /// Where the pipe's files lie, and how they are written.
     pub fn layout(&self) -> &G
         ensures { result.now ≡ self.now.layout }
     {

@@ -125,7 +125,7 @@ impl Queue {
         count.is_ok() && bytes.iter().take(len).all(|byte| *byte == 7) && bytes.get(len) == Some(&0)
     }
 
-    // Whether it is as the look says.
+    // Whether the queue is as the look says.
     fn look(&self, step: &Step) -> bool {
         match step {
             Size(path, len) => size(&self.system, path) == *len,
@@ -243,7 +243,7 @@ const REOPENED: [(Option<usize>, u64, bool, usize); 9] = [
     (None, 6, true, 69),
 ];
 
-// Whether it was taken up where a call is refused, and the file's size.
+// Whether a queue was taken up where a call is refused, and the file's size.
 fn reopens(rt: &HostRuntime, end: Option<usize>, n: u64) -> Result<(bool, usize), Fail> {
     let mut queue = Queue::begun(rt)?;
     queue.play(rt, &Append);

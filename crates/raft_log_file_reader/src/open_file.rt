@@ -9,8 +9,8 @@ use raft_log_record_base::FileId;
 pub struct OpenFile {
     /// Which file it is.
     pub id: FileId,
-    /// Where its bytes are read from.
+    /// Where the file's bytes are read from.
     pub source: Source,
-    /// What its header says.
+    /// What the file's header says.
     pub format: LogFileFormat,
 }

@@ -80,7 +80,7 @@ const HOLDS: [&str; 10] = [
     "blocks of 65,536 bytes change no answer",
 ];
 
-/// Whether it holds.
+/// Whether what has this number in the list holds.
 fn holds(alloc: Global, number: usize) -> Result<bool> {
     match number {
         0 => is_read_at_0_and_at_69(alloc),

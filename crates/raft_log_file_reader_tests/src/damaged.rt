@@ -117,7 +117,7 @@ const HOLDS: [&str; 4] = [
     "a broken header is refused, and no file is open",
 ];
 
-/// Whether it holds.
+/// Whether what has this number in the list holds.
 fn holds(alloc: Global, number: usize) -> Result<bool> {
     match number {
         0 => is_past_the_end(alloc),

@@ -109,8 +109,9 @@ fn gives_nothing(alloc: Global) -> Result<bool> {
     Ok(matches!(words(alloc, &system), Err(Error::Io(_))))
 }
 
-/// Whether it holds: to 3, the rows of files that aren't opened; to 12, of those that aren't read; then a
-/// directory that isn't listed, a file system that has stopped, and how often files are read.
+/// Whether what has this number holds: to 3, the rows of files that aren't opened; to 12, of those that
+/// aren't read; then a directory that isn't listed, a file system that has stopped, and how often files are
+/// read.
 fn holds(alloc: Global, number: usize) -> Result<bool> {
     match number {
         0..=3 => is_passed_over(alloc, number),

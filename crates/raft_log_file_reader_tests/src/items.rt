@@ -93,7 +93,7 @@ const HOLDS: [&str; 2] = [
     "after a refusal the next file follows",
 ];
 
-/// Whether it holds.
+/// Whether what has this number in the list holds.
 fn holds(alloc: Global, number: usize) -> Result<bool> {
     match number {
         0 => gives(alloc, &MIXED, &[1, 2, 3, 5]),

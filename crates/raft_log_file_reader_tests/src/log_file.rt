@@ -203,7 +203,7 @@ fn are_odd(alloc: Global) -> Result<bool> {
     Ok(empty.is_empty() & refused & (all.as_slice() == [REFUSED].as_slice()))
 }
 
-/// Whether it holds: to 3, of the three files; then of the odd ones.
+/// Whether what has this number holds: to 3, of the three files; then of the odd ones.
 fn holds(alloc: Global, number: usize) -> Result<bool> {
     match number {
         0..=2 => is_read(alloc, number),

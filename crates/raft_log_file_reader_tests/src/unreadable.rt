@@ -81,8 +81,8 @@ fn is_told_where_checked(alloc: Global) -> Result<bool> {
     Ok(both_ends(alloc, bytes.as_slice(), 66_000)? == (bytes.len(), true))
 }
 
-/// Whether it holds: to 16, the rows of places; to 19, those of a damaged file; the file's length; an entry
-/// block.
+/// Whether what has this number holds: to 16, the rows of places; to 19, those of a damaged file; the file's
+/// length; an entry block.
 fn holds(alloc: Global, number: usize) -> Result<bool> {
     match number {
         0..=16 => ends_as_told(alloc, number),

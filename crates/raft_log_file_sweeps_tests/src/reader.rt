@@ -24,7 +24,7 @@ pub struct Read {
     pub first: u64,
     /// The number of the last file.
     pub last: u64,
-    /// Where its records end; nothing where it has no header.
+    /// Where the last file's records end; nothing where it has no header.
     pub end: Option<usize>,
     /// The records of the files from there on.
     pub places: Vec<Place>,

@@ -157,7 +157,7 @@ impl Run {
         ways.iter().all(|what| read_left(alloc, system, self.queue, &self.known, what).is_some())
     }
 
-    /// Whether it may be read, and goes on where it is opened again.
+    /// Whether what is left may be read, and goes on where it is opened again.
     pub fn restarts(
         &self,
         rt: &HostRuntime,

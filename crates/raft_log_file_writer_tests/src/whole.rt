@@ -79,7 +79,7 @@ pub fn live(rt: &HostRuntime, system: &mut MemoryFileSystem) -> Result<(usize, u
     Ok((writer.offset(), opened, again.offset()))
 }
 
-/// Where it is cut and opened: behind 69, 65 and 600 bytes, and behind 5,000 more.
+/// Where the file is cut and opened: behind 69, 65 and 600 bytes, and behind 5,000 more.
 pub const OFFSETS: (usize, usize, usize) = (734, 734, SIZE);
 
 /// The bytes that the file has to hold.

@@ -90,7 +90,7 @@ pub fn entry(alloc: Global, group: u64, index: u64, data: &[u8]) -> Result<Vec<u
     Ok(bytes)
 }
 
-/// Those of a group from an index on, below another one.
+/// The entries of a group from an index on, below another one.
 fn entries(alloc: Global, group: u64, begin: u64, end: u64, data: &[u8]) -> Result<Vec<Vec<u8>>> {
     let mut entries = Vec::new(alloc);
     for index in begin..end {

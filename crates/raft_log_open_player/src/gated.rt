@@ -38,7 +38,7 @@ fn number_of(handle: Handle) -> u64 {
 }
 
 impl<F: FileSystem> Gated<F> {
-    /// One that has these files, of which none is open.
+    /// A file system that has these files, of which none is open.
     pub fn new(files: F) -> Gated<F> {
         Gated {
             files,

@@ -6,9 +6,9 @@ use std::alloc::Global;
 /// The settings of a log, and how many bytes each entry has that steps append.
 #[derive(Clone, Copy)]
 pub struct Settings {
-    /// Where it is.
+    /// Where the log is.
     pub directory: &'static str,
-    /// Where more of it is.
+    /// Where more of the log is.
     pub spill_directory: Option<&'static str>,
     /// Which damage is tolerated.
     pub mode: RecoveryMode,

@@ -111,7 +111,7 @@ fn play_list<L: Log, P: PipeLog>(rt: &L, store: &mut Store<P>, steps: &[Step]) -
     Ok(true)
 }
 
-/// Whether those of these lists are.
+/// Whether the steps of these lists are answered so.
 pub fn play<L: Log, P: PipeLog>(rt: &L, store: &mut Store<P>, lists: &[&[Step]]) -> Result<bool> {
     for steps in lists.iter() {
         if !play_list(rt, store, steps)? {

@@ -198,7 +198,7 @@ impl<P: PipeLog> Store<P> {
         Ok(self.engine.purge_expired_files(rt)?.as_slice() == want)
     }
 
-    /// Whether it does, and takes files of Append, or none.
+    /// Whether a purge asks that these groups be compacted, and takes files of Append, or none.
     pub fn purges<L: Log>(&mut self, rt: &L, want: &[u64], gone: bool) -> Result<bool> {
         let (before, _) = self.span(LogQueue::Append)?;
         let asks = self.asks(rt, want)?;
@@ -301,7 +301,7 @@ impl<P: PipeLog> Store<P> {
         Ok(self.engine.raft_groups()?.len() == want)
     }
 
-    /// Whether there is none.
+    /// Whether there is no group.
     pub fn is_empty(&self) -> Result<bool> {
         self.engine.is_empty()
     }

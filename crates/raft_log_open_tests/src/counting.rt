@@ -13,7 +13,7 @@ pub const A_READ: u64 = 1_000_000;
 pub struct Counting<F: FileSystem> {
     /// The file system that has the files.
     pub files: F,
-    /// What its reads come to.
+    /// What the reads of the file system come to.
     pub count: Arc<AtomicU64>,
 }
 

@@ -18,7 +18,7 @@ const STRICT: Settings = Settings {
     ..USUAL
 };
 
-/// Those with which all is.
+/// The settings of a log of which all damage is tolerated, with two workers.
 const TOLERANT: Settings = Settings {
     mode: RecoveryMode::TolerateAnyCorruption,
     ..STRICT
@@ -156,10 +156,10 @@ fn damage_is_refused_and_the_files_are_handed_back(rt: HostRuntime) {
     assert!(rt; opens_to(&rt, rt.alloc(), &torn(), &DAMAGED));
 }
 
-/// Where none is tolerated a log with zeros behind its records isn't opened.
+/// Where no damage is tolerated a log with zeros behind its records isn't opened.
 const WITH_ZEROS: [Act; 1] = [Refuses(STRICT, Cause::Corruption)];
 
-/// One that was closed is.
+/// Where no damage is tolerated a log that was closed is opened.
 const WITHOUT_ZEROS: [Act; 2] = [Uses(BY_ONE, &[&[SYNCED]]), Uses(STRICT, &[])];
 
 #[test]

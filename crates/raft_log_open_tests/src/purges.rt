@@ -27,7 +27,7 @@ fn stands<R: Threads + Log + Sync, F: FileSystem + Sync + Drop>(
     Ok(made & first & second)
 }
 
-/// Whether they do on a log that begins.
+/// Whether steps end so on a log that begins.
 fn stands_behind<R: Threads + Log + Sync>(
     rt: &R,
     alloc: Global,
@@ -38,7 +38,8 @@ fn stands_behind<R: Threads + Log + Sync>(
     matches!(stands(rt, alloc, files, steps, end), Ok(true))
 }
 
-/// Whether they do with Append rewritten between two of the steps or behind the last, wherever and however far.
+/// Whether steps end so with Append rewritten between two of them or behind the last, wherever and however
+/// far.
 fn stands_wherever_cut<R: Threads + Log + Sync>(
     rt: &R,
     alloc: Global,

@@ -54,7 +54,7 @@ fn recovers<R: Threads + Log + Sync>(
     }
 }
 
-/// Whether they are as scoped threads open an engine.
+/// Whether files are read side by side as scoped threads open an engine.
 fn opens<R: Threads + Log + Sync>(rt: &R, alloc: Global) -> Result<bool> {
     let files = written(rt, alloc)?;
     match LogEngine::open_scoped(rt, alloc, SMALL.config(alloc)?, files, Nobody) {

@@ -50,7 +50,7 @@ pub(crate) fn marked_record(alloc: Global) -> Result<Vec<u8>> {
 /// The footer's bytes of a mark: one item, which puts a key of group 0.
 const MARK: [u8; 18] = [1, 0, 3, 1, 3, 0x5f, 0x5f, 1, 9, 0, 0, 0, 0, 0, 0, 1, 2, 0];
 
-/// Whether those bytes stand behind the header of the record.
+/// Whether the bytes of a mark stand behind the header of the record.
 fn has_mark(alloc: Global) -> Result<bool> {
     Ok(marked_record(alloc)?.get(16..34) == Some(MARK.as_slice()))
 }
@@ -114,8 +114,9 @@ fn told_twice(alloc: Global) -> std::result::Result<(Marking, Marking), AllocErr
     Ok((first, Marking::parse_all(batch.as_slice())))
 }
 
-/// Whether it holds: 0, a group is marked; 1, it is ended; 2, a mark is a key of group 0; 3, items without a
-/// value are no marks; 4, two marks are broken; from 5 on the rows of items, the fifth of them first.
+/// Whether what has this number holds: 0, a group is marked; 1, it is ended; 2, a mark is a key of group 0;
+/// 3, items without a value are no marks; 4, two marks are broken; from 5 on the rows of items, the fifth of
+/// them first.
 fn holds(alloc: Global, number: usize) -> Result<bool> {
     match number {
         0 => is_marked(alloc),

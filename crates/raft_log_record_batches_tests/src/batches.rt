@@ -20,14 +20,15 @@ fn gone_back(alloc: Global) -> raft_log_record_items::Result<LogBatch>
     Ok(batch)
 }
 
-/// Whether it has its item, and its record is made anew, of the length that is told.
+/// Whether the batch that has gone back has its item, and its record is made anew, of the length that is
+/// told.
 pub(crate) fn is_made_anew(alloc: Global) -> raft_log_record_items::Result<bool> {
     let mut batch = gone_back(alloc)?;
     let len = batch.finish_populate()?;
     Ok(len == batch.encoded_len() && (batch.len(), batch.items().len()) == (1, 1))
 }
 
-/// Whether it has no item once it is emptied.
+/// Whether the batch that has gone back has no item once it is emptied.
 pub(crate) fn is_emptied(alloc: Global) -> raft_log_record_items::Result<bool> {
     let mut batch = gone_back(alloc)?;
     batch.clear();

@@ -192,7 +192,7 @@ const HOLDS: [&str; 11] = [
     "a block that is too short is refused",
 ];
 
-/// Whether it holds.
+/// Whether what has this number in the list holds.
 fn holds(alloc: Global, number: usize) -> Result<bool> {
     match number {
         0 => is_encoded(alloc),

@@ -185,7 +185,7 @@ pub(crate) fn message_record(alloc: Global) -> Result<Vec<u8>> {
     record(alloc, &mut batch, Version::V2)
 }
 
-/// Whether their bytes stand behind the header, and the second lies there.
+/// Whether the messages' bytes stand behind the header, and the second lies there.
 fn are_entries(alloc: Global) -> Result<bool> {
     let bytes = message_record(alloc)?;
     let entries = drained(alloc, &mut with_messages(alloc)?)?;
@@ -303,9 +303,9 @@ const HOLDS: [&str; 12] = [
     "a batch is emptied",
 ];
 
-/// Whether it holds. A message that is a value needs a header, one item of 14 bytes, and the footer's count
-/// and checksum; an entry of 2 MiB a header, the block, and a footer of a count, an item of eight bytes and
-/// a checksum.
+/// Whether what has this number in the list holds. A message that is a value needs a header, one item of 14
+/// bytes, and the footer's count and checksum; an entry of 2 MiB a header, the block, and a footer of a
+/// count, an item of eight bytes and a checksum.
 fn holds(alloc: Global, number: usize) -> Result<bool> {
     match number {
         0 => tells_size(alloc),

@@ -25,7 +25,7 @@ fn some_entry(alloc: Global) -> Result<TestEntry> {
     })
 }
 
-/// Whether it is written behind what is there, read back, and told its index.
+/// Whether an entry is written behind what is there, read back, and told its index.
 fn is_written(alloc: Global) -> Result<bool> {
     let entry = some_entry(alloc)?;
     let mut out = vec![in alloc; 7u8]?;
@@ -49,7 +49,7 @@ fn bare_index(alloc: Global) -> Result<u64> {
 /// The footer's bytes of a key of group 2 that gets the entry 258.
 const PUT: [u8; 17] = [1, 2, 3, 1, 1, b'k', 10, 0, 0, 0, 0, 0, 0, 1, 2, b'a', b'b'];
 
-/// Whether they are encoded.
+/// Whether a key that gets a message is encoded as these bytes.
 fn put_is_encoded(alloc: Global) -> Result<bool> {
     let entry = some_entry(alloc)?;
     let mut batch = LogItemBatch::default(alloc);
@@ -67,7 +67,7 @@ const HOLDS: [&str; 4] = [
     "a message is put",
 ];
 
-/// Whether it holds.
+/// Whether what has this number in the list holds.
 fn holds(alloc: Global, number: usize) -> Result<bool> {
     match number {
         0 => is_written(alloc),

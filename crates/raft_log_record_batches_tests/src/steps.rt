@@ -142,7 +142,7 @@ fn is_refused(alloc: Global, row: usize) -> Result<bool> {
     is_told(alloc, step, want)
 }
 
-/// Whether it holds: to 3, rows of records; to 8, of lengths; behind that, of refusals.
+/// Whether what has this number holds: to 3, rows of records; to 8, of lengths; behind that, of refusals.
 fn holds(alloc: Global, number: usize) -> Result<bool> {
     match number {
         0..=3 => is_recorded(alloc, number),

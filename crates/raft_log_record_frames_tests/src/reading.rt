@@ -29,7 +29,7 @@ fn is_read_in(alloc: Global, file: &(u64, bool)) -> bool {
     decode_footer(alloc, &CLEAN_SIGNED[16..], 0, signature).is_ok() == accepted
 }
 
-/// Whether it is refused in a file without signatures.
+/// Whether a footer that is signed is refused in a file without signatures.
 fn is_refused_unsigned(alloc: Global) -> bool {
     decode_footer(alloc, &CLEAN_SIGNED[16..], 0, None).is_err()
 }
@@ -76,8 +76,8 @@ fn is_block(alloc: Global, number: usize) -> bool {
     is_block_of(alloc, bytes, want)
 }
 
-/// Whether it holds: 0, a record of one `Clean` is read; 1, one that is signed is refused where nothing is;
-/// from 2, 6 and 8 on the rows of files, headers and blocks.
+/// Whether what has this number holds: 0, a record of one `Clean` is read; 1, one that is signed is refused
+/// where nothing is; from 2, 6 and 8 on the rows of files, headers and blocks.
 fn is_read(alloc: Global, number: usize) -> Result<bool> {
     match number {
         0 => is_clean_read(alloc),

@@ -63,7 +63,7 @@ fn is_refused(alloc: Global, bytes: &[u8], signature: Option<u32>) -> bool {
     }
 }
 
-/// Whether it is refused with any one bit of the byte at this place flipped.
+/// Whether a record of two entries is refused with any one bit of the byte at this place flipped.
 fn are_refused(alloc: Global, at: usize) -> bool {
     for bit in 0..8u32 {
         let mut bytes = TWO_ENTRIES;
@@ -105,7 +105,7 @@ const HOLDS: [&str; 9] = [
     "a record is refused in a file without signatures",
 ];
 
-/// Whether it holds.
+/// Whether what has this number in the list holds.
 fn holds(alloc: Global, number: usize) -> Result<bool> {
     match number {
         0 => is_past_the_end(alloc),

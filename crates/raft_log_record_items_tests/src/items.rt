@@ -175,7 +175,7 @@ const HOLDS: [&str; 9] = [
     "items get their places as they are read",
 ];
 
-/// Whether it holds.
+/// Whether what has this number in the list holds.
 fn holds(alloc: Global, number: usize) -> Result<bool> {
     match number {
         0 => Ok(unknown_command_is_left(alloc)),

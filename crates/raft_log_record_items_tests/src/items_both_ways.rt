@@ -48,7 +48,7 @@ fn are_written(alloc: Global) -> Result<bool> {
     Ok(out.as_slice() == ITEMS.as_slice())
 }
 
-/// Whether they are read of these bytes, and none of these is left.
+/// Whether some items are read of these bytes, and none of these is left.
 fn are_read(alloc: Global) -> Result<bool> {
     let mut rest = ITEMS.as_slice();
     let (read, items) = (decode_items(alloc, &mut rest)?, some_items(alloc)?);
@@ -114,7 +114,7 @@ const PARTS: [&str; 7] = [
     "two entries",
 ];
 
-/// Whether it is.
+/// Whether what has this number in the list is kept.
 fn holds(alloc: Global, number: usize) -> Result<bool> {
     match number {
         0 => is_kept(alloc, 0, &ITEMS[1..6]),

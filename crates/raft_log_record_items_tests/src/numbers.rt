@@ -34,7 +34,7 @@ const ORDER_BYTES: [u8; 24] = [
     0, 0,
 ];
 
-/// Whether they are written.
+/// Whether numbers of a variable length are written.
 fn variable_numbers_are_written(alloc: Global) -> bool {
     let mut out = Vec::new(alloc);
     for number in VARIABLE.iter() {
@@ -45,7 +45,7 @@ fn variable_numbers_are_written(alloc: Global) -> bool {
     out.as_slice() == VARIABLE_BYTES.as_slice()
 }
 
-/// Whether they are read, and nothing is left.
+/// Whether numbers of a variable length are read, and nothing is left.
 fn variable_numbers_are_read() -> bool {
     let mut source = VARIABLE_BYTES.as_slice();
     for number in VARIABLE.iter() {
@@ -56,7 +56,7 @@ fn variable_numbers_are_read() -> bool {
     source.is_empty()
 }
 
-/// Whether they are written.
+/// Whether numbers of a variable length with a sign are written.
 fn signed_variable_numbers_are_written(alloc: Global) -> bool {
     let mut out = Vec::new(alloc);
     for number in SIGNED.iter() {
@@ -67,7 +67,7 @@ fn signed_variable_numbers_are_written(alloc: Global) -> bool {
     out.as_slice() == SIGNED_BYTES.as_slice()
 }
 
-/// Whether they are read.
+/// Whether numbers of a variable length with a sign are read.
 fn signed_variable_numbers_are_read() -> bool {
     let mut source = SIGNED_BYTES.as_slice();
     for number in SIGNED.iter() {
@@ -88,7 +88,7 @@ fn fixed_numbers_are_written(alloc: Global) -> bool {
     written && out.as_slice() == FIXED_BYTES.as_slice()
 }
 
-/// Whether they are read.
+/// Whether numbers of eight, four and two bytes are read, and one whose order is turned.
 fn fixed_numbers_are_read() -> bool {
     let mut source = FIXED_BYTES.as_slice();
     (decode_u64(&mut source) == Ok(0x0102030405060708))
@@ -108,7 +108,7 @@ fn the_lowest_byte_is_written_first(alloc: Global) -> bool {
     written && out.as_slice() == LOWEST_FIRST_BYTES.as_slice()
 }
 
-/// Whether they are read.
+/// Whether numbers are read with their lowest byte first.
 fn the_lowest_byte_is_read_first() -> bool {
     let mut source = LOWEST_FIRST_BYTES.as_slice();
     (decode_u64_le(&mut source) == Ok(0x0102030405060708))
@@ -127,7 +127,7 @@ fn numbers_in_order_are_written(alloc: Global) -> bool {
     written && out.as_slice() == ORDER_BYTES.as_slice()
 }
 
-/// Whether they are read.
+/// Whether numbers are read of bytes whose order is theirs.
 fn numbers_in_order_are_read() -> bool {
     let mut source = ORDER_BYTES.as_slice();
     (decode_i64(&mut source) == Ok(-1))
@@ -144,7 +144,7 @@ fn longer_spellings_are_read() -> bool {
 /// A number of a variable length, one with its lowest byte first, and one of eight bytes.
 const ADDED: [u8; 14] = [0xAC, 2, 1, 0, 0, 0, 0, 0, 0, 0, 0, 0, 0, 2];
 
-/// Whether they are added to a buffer.
+/// Whether such numbers are added to a buffer.
 fn numbers_are_added_to_a_buffer(alloc: Global) -> bool {
     let mut out = Vec::new(alloc);
     let added = append_var_u64(&mut out, 300).is_ok()
@@ -177,7 +177,7 @@ const HOLDS: [&str; 13] = [
     "laws are called",
 ];
 
-/// Whether it holds.
+/// Whether what has this number in the list holds.
 fn holds(alloc: Global, number: usize) -> bool {
     match number {
         0 => variable_numbers_are_written(alloc),

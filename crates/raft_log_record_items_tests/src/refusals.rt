@@ -9,7 +9,7 @@ use std::io::{ErrorKind, Write};
 /// Nine bytes that go on, and a tenth above 1.
 const TOO_LONG: [u8; 10] = [0x80, 0x80, 0x80, 0x80, 0x80, 0x80, 0x80, 0x80, 0x80, 2];
 
-/// Whether it is refused, and nothing is read.
+/// Whether a tenth byte above 1 is refused, and nothing is read.
 fn tenth_byte_above_one_is_refused() -> bool {
     let mut source = TOO_LONG.as_slice();
     (decode_var_u64(&mut source) == Err(Error::Io(ErrorKind::InvalidData)))
@@ -90,7 +90,7 @@ const HOLDS: [&str; 6] = [
     "refusals have texts",
 ];
 
-/// Whether it holds.
+/// Whether what has this number in the list holds.
 fn holds(alloc: Global, number: usize) -> Result<bool, AllocError> {
     match number {
         0 => Ok(tenth_byte_above_one_is_refused()),

@@ -101,7 +101,7 @@ fn sizes_are_reckoned_with() -> bool {
 /// The text of a size with an unknown unit, as a refusal.
 const UNKNOWN_UNIT: &str = "Invalid Argument: the unit of a size is B, KiB, MiB, GiB, TiB or PiB";
 
-/// Whether it is.
+/// Whether a size with an unknown unit is refused with that text.
 fn refusals_have_texts(alloc: Global) -> Result<bool, AllocError> {
     let error = Error::invalid_size(alloc, ParseSizeError::UnknownUnit);
     Ok(error.to_string(alloc)?.as_str() == UNKNOWN_UNIT)

@@ -31,7 +31,7 @@ fn rewrite(file: u64) -> FileId {
     FileId::new(LogQueue::Rewrite, file)
 }
 
-/// Whether it is so, or the set-up was refused.
+/// Whether what was told is so, or the set-up was refused.
 fn held(told: Result<bool>) -> bool {
     match told {
         Ok(held) => held,

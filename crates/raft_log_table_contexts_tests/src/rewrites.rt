@@ -16,7 +16,7 @@ use std::test::Fail;
 pub struct Made {
     /// The part: a begin, a middle or an end.
     pub part: Option<Said>,
-    /// What it says.
+    /// What the record says beside its part.
     pub said: Said,
 }
 

@@ -13,7 +13,7 @@ struct Slow {
     entries: Vec<(u64, u64)>,
     /// The file of the key.
     key: Option<u64>,
-    /// Whether it took something since it was cleaned last.
+    /// Whether the group took something since it was cleaned last.
     counts: bool,
 }
 

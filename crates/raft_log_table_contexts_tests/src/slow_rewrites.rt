@@ -20,7 +20,7 @@ struct Slow {
     entries: Vec<(u64, Lies)>,
     /// The value.
     key: Option<Lies>,
-    /// Whether it took something since it was cleaned last.
+    /// Whether the group took something since it was cleaned last.
     counts: bool,
 }
 

@@ -33,7 +33,7 @@ use std::marker::Model;
 pub struct HeldValue {
     /// The value.
     pub bytes: Bytes,
-    /// Whether it stands in Append; if not, in Rewrite.
+    /// Whether the value stands in Append; if not, in Rewrite.
     pub appended: bool,
     /// The file there that has it.
     pub file: FileSeq,

@@ -4,7 +4,7 @@ use crate::Items;
 /// An entry of a log.
 #[derive(Debug, PartialEq, Drop)]
 pub struct Entry {
-    /// Where it stands, counted from 1.
+    /// Where the entry stands, counted from 1.
     pub index: u64,
     /// The term in which its leader made it.
     pub term: u64,

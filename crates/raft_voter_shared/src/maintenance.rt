@@ -9,7 +9,7 @@ pub trait Maintenance<R>: RoundService<R> {
     /// Why a purge is refused.
     type Refusal;
 
-    /// Whether it failed: then it serves nothing until it is opened again.
+    /// Whether the store failed: then it serves nothing until it is opened again.
     fn is_failed(&self) -> bool
         ensures { result ≡ Self.service.is_failed self.now };
 

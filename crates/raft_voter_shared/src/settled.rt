@@ -11,9 +11,9 @@ use raft_voter::{Round, RoundService};
 pub struct Settled<S> {
     /// The store.
     pub store: S,
-    /// The rounds that it was asked to serve, in order, with what came of them.
+    /// The rounds that the store was asked to serve, in order, with what came of them.
     pub journal: Vec<Round>,
-    /// How it came to fail while it was shared, if it did.
+    /// How the store came to fail while it was shared, if it did.
     pub failure: Option<Failure>,
 }
 

@@ -24,7 +24,7 @@ fn records(outcome: Outcome) -> usize {
     }
 }
 
-/// Why it isn't settled, with how many seats and receipts were handed back.
+/// Why a shared store isn't settled, with how many seats and receipts were handed back.
 fn refusal(outcome: Outcome) -> Option<(SettleCause, usize, usize)> {
     match outcome {
         Some(Err(refused)) => Some(refused),

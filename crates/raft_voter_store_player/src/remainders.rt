@@ -48,7 +48,8 @@ fn stands<S: Store, R: Threads + Log + Sync>(
     Ok(so)
 }
 
-/// Whether they are so, whatever first changes the crash leaves, with a part of the next one or without.
+/// Whether the voters are a model's, whatever first changes the crash leaves, with a part of the next one or
+/// without.
 fn begun_stand<S: Store, R: Threads + Log + Sync>(
     rt: &R,
     alloc: Global,
@@ -65,8 +66,8 @@ fn begun_stand<S: Store, R: Threads + Log + Sync>(
     Ok(so)
 }
 
-/// Whether they are so, whatever the crash leaves: of these scripts there are never more than three changes that aren't
-/// synced.
+/// Whether the voters are a model's, whatever the crash leaves: of these scripts there are never more than
+/// three changes that aren't synced.
 pub fn all_stand<S: Store, R: Threads + Log + Sync>(
     rt: &R,
     alloc: Global,

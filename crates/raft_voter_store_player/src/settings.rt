@@ -7,9 +7,9 @@ use std::string::String;
 /// The settings of a log.
 #[derive(Clone, Copy)]
 pub struct Settings {
-    /// Where it is.
+    /// Where the log is.
     pub directory: &'static str,
-    /// Where more of it is.
+    /// Where more of the log is.
     pub spill_directory: Option<&'static str>,
     /// From how many bytes on a file is full.
     pub file_size: u64,

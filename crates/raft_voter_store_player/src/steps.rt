@@ -38,7 +38,7 @@ pub enum Step {
     Size,
     /// Whether Append's first file has these bytes at a place is asked for.
     Bytes(usize, &'static [u8]),
-    /// Whether there is such a file is asked for.
+    /// Whether there is a file of this name is asked for.
     File(&'static str),
 }
 

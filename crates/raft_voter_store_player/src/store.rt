@@ -48,7 +48,7 @@ pub trait Store: Sized + Drop {
     /// The numbers of the first and the last file of Append; none of a store that has failed.
     fn span(&self) -> Option<(u64, u64)>;
 
-    /// Whether it has failed.
+    /// Whether the store has failed.
     fn is_failed(&self) -> bool;
 
     /// Arms a fault, if there is memory for it.

@@ -124,7 +124,8 @@ fn are_kept<S: Store, R: Threads + Log + Sync>(
     all_stand::<S, R>(rt, alloc, files, models.as_slice())
 }
 
-/// Whether they are, behind a script that is played, and asked again where the answer wants memory.
+/// Whether a script's voters are kept behind it, whatever a crash leaves; asked again where the answer wants
+/// memory.
 pub fn survives<S: Store, R: Threads + Log + Sync>(rt: &R, alloc: Global, script: &[Step]) -> bool {
     let Ok(files) = played::<S, R>(rt, alloc, script) else {
         return false;

@@ -65,7 +65,7 @@ fn cut_off<R>(
 /// How steps ended.
 #[derive(Clone, Copy)]
 enum Ended {
-    /// All was done.
+    /// All steps were done.
     Done,
     /// Something was refused, and what came behind it was done.
     Refused,

@@ -22,11 +22,11 @@ const HEADER: &[u8] =
 const OTHER_KEY: &[u8] =
     b"\0\0\0\0\0\0\x1c\0\0\0\0\0\0\0\0\x10\x01\x01\x03\x01\x01x\x01\x31\xaa\xe0\x90\x1e";
 
-/// One that puts a value of one byte, which is no state, by the voter's key of group 7.
+/// A record that puts a value of one byte, which is no state, by the voter's key of group 7.
 const NO_STATE: &[u8] =
     b"\0\0\0\0\0\0\x20\0\0\0\0\0\0\0\0\x10\x01\x07\x03\x01\x05voter\x01\x31\x43\xaa\xe7\x14";
 
-/// One that appends an entry of one byte to group 2, and puts no key.
+/// A record that appends an entry of one byte to group 2, and puts no key.
 const NO_KEY: &[u8] =
     b"\0\0\0\0\0\0\x1f\0\0\0\0\0\0\0\0\x15\x31\xb7\xef\xdc\x83\x01\x02\x01\x01\x01\x01\xe2\x2d\x3c\xd7";
 

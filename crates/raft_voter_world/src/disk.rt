@@ -67,7 +67,7 @@ pub trait VoterDisk<R, S: VoterStorage<R>>: Sized {
         ensures stands { StaysInFiles S.service disk self.old self.new }
         ensures stopped { disk.has_stopped self.new ≡ disk.has_stopped self.old };
 
-    /// Whether they have stopped: each call that changes them is refused from then on.
+    /// Whether the files have stopped: each call that changes them is refused from then on.
     fn has_stopped(&self) -> bool
         ensures { result ≡ disk.has_stopped self.now };
 }

@@ -12,14 +12,14 @@ use std::alloc::Global;
 pub trait VoterStorage<R>: RoundService<R> {
     ghost use Rattle.raft_voter_world.specs.Stores.{Upkeep};
 
-    /// Whether the disk below it has stopped, and what purges and armed faults make of it.
+    /// Whether the disk below the store has stopped, and what purges and armed faults make of it.
     ghost upkeep: { Upkeep Self };
 
-    /// Whether it failed: then it serves nothing until it is opened again.
+    /// Whether the store failed: then it serves nothing until it is opened again.
     fn is_failed(&self) -> bool
         ensures { result ≡ Self.service.is_failed self.now };
 
-    /// Whether the disk below it has stopped: each call that changes files is refused from then on.
+    /// Whether the disk below the store has stopped: each call that changes files is refused from then on.
     fn has_stopped(&self) -> bool
         ensures { result ≡ upkeep.has_stopped self.now };
 

@@ -35,7 +35,7 @@ impl<D: Device> DirectoryFileSystem<D> {
         }
     }
 
-    /// Whether it runs, and a path is a directory's.
+    /// Whether the file system runs, and a path is a directory's.
     pub(super) fn check_directory(&self, path: &str) -> Result<(), ErrorKind>
         ensures ok { OnOk result (RunsWithDirectory D.Device path.now self.now) }
         ensures err { IfErr result (LacksDirectory path.now (disk_of D.Device self.now)) }
@@ -48,7 +48,7 @@ impl<D: Device> DirectoryFileSystem<D> {
         }
     }
 
-    /// Whether it runs, and a handle's file is there.
+    /// Whether the file system runs, and a handle's file is there.
     pub(super) fn check_handle(&self, handle: Handle) -> Result<(), ErrorKind>
         ensures ok { OnOk result (RunsWithFile D.Device handle self.now) }
         ensures err { IfErr result (LacksFile handle (disk_of D.Device self.now)) }

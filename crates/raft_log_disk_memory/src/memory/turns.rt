@@ -212,7 +212,7 @@ impl MemoryFileSystem {
         }
     }
 
-    // Whether it runs, and a path is a directory's.
+    // Whether the file system runs, and a path is a directory's.
     pub(super) fn check_directory(&self, path: &str) -> Result<(), ErrorKind>
         ensures ok { OnOk result (RunsWithDirectory path.now (disk_of self.now)) }
         ensures err { IfErr result (LacksDirectory path.now (disk_of self.now)) }
@@ -225,7 +225,7 @@ impl MemoryFileSystem {
         }
     }
 
-    // Whether it runs, and a handle's file is there.
+    // Whether the file system runs, and a handle's file is there.
     pub(super) fn check_handle(&self, handle: Handle) -> Result<(), ErrorKind>
         ensures ok { OnOk result (RunsWithFile handle (disk_of self.now)) }
         ensures err { IfErr result (LacksFile handle (disk_of self.now)) }

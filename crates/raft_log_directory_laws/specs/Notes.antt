@@ -37,16 +37,16 @@ IsAppended t (Key k) = t.appended k ≡ true
 abbrev pub AreNoted : {E V : Type 0} → (ℕ → Whereabouts) → Notes → FileQueue E V → Type 0
 AreNoted whereabouts notes q = (g : ℕ) (s : Slot) → IsAppended (whereabouts g) s → SpeaksIn q g (notes g s) s
 
--- no file of Append below that number is noted
+-- no file of Append below this number is noted
 abbrev pub AppendStandsFrom : ℕ → (ℕ → Whereabouts) → Notes → Type 0
 AppendStandsFrom n whereabouts notes = (g : ℕ) (s : Slot) → IsAppended (whereabouts g) s → n ≤ notes g s
 
--- all files have that number or a higher one
+-- all files have this number or a higher one
 abbrev pub AllFrom : {E V : Type 0} → ℕ → List (LogFile E V) → Type 0
 AllFrom n [] = Unit {0}
 AllFrom n (f ∷ fs) = (n ≤ f.number) × AllFrom n fs
 
--- all files have a lower number
+-- all files have a lower number than this
 abbrev pub AllBelow : {E V : Type 0} → ℕ → List (LogFile E V) → Type 0
 AllBelow n [] = Unit {0}
 AllBelow n (f ∷ fs) = (f.number < n) × AllBelow n fs

@@ -22,7 +22,7 @@ pub record SaysCompact (g index : ℕ) (b : Batch) : Type 0 where
   pub entries : b.entries ≡ []
   pub fills : b.state ≡ Filling
 
--- such a batch was written
+-- a batch was written that says that a group's entries below an index go
 abbrev pub WritesCompact : ℕ → ℕ → Shows → Shows → Type 0
 WritesCompact g index s t = (b : Batch) × SaysCompact g index b × Writes b false s t
 
@@ -33,7 +33,8 @@ CompactsTo g index count s t =
     ((entries_below (s.tables g) index ≡ None) × (count ≡ 0) × (has_failed s ≡ false) × (t ≡ s))
     ⊎ ((entries_below (s.tables g) index ≡ Some count) × WritesCompact g index s t)
 
--- such a batch wasn't written: memory ran out before the write; or the write was refused
+-- a batch that says that a group's entries below an index go wasn't written: memory ran out before the write;
+-- or the write was refused
 abbrev pub FailsToWriteCompact : ℕ → ℕ → Error → Shows → Shows → Type 0
 FailsToWriteCompact g index error s t =
     ((error ≡ errors.Memory) × (has_failed s ≡ false) × (t ≡ s))

@@ -34,7 +34,7 @@ pub record UnendedGroup : Type 0 where
   pub first : WrittenPart
   pub more : List WrittenPart
 
--- all its parts
+-- all parts of an atomic group that has begun and not ended
 abbrev pub parts_of : UnendedGroup → List WrittenPart
 parts_of o = o.first ∷ o.more
 

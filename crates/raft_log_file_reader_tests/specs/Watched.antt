@@ -10,7 +10,7 @@ with_mark file place stopped d = record d {
   stopped = stopped || d.stopped;
 }
 
--- neither takes anything from what makes a disk sound
+-- neither the mark nor the stop takes anything from what makes a disk sound
 pub with_mark_is_sound : (file place : ℕ) (stopped : Bool) (d : Disk)
     → IsSound d → IsSound (with_mark file place stopped d)
 with_mark_is_sound file place stopped d sound = record {

@@ -31,7 +31,7 @@ records_of (f ∷ fs) = f.records ++ records_of fs
 abbrev pub span : {E V : Type 0} → FileQueue E V → List (Record E V) → List (LogFile E V)
 span q kept = q.full ++ record { number = q.last; records = q.synced ++ kept } ∷ []
 
--- all files of the queue in such an image
+-- all files of the queue in an image that kept these of the unsynced records
 abbrev pub all_files : {E V : Type 0} → FileQueue E V → List (Record E V) → List (LogFile E V)
 all_files q kept = q.behind ++ (q.gone ++ span q kept)
 

@@ -117,12 +117,12 @@ pub data Bracketing (A : Type 0) : Type 0 where
   One : List A → Bracketing A
   Both : Bracketing A → Bracketing A → Bracketing A
 
--- all of their records
+-- all records of consecutive segments
 abbrev pub all_of : {A : Type 0} → Bracketing A → List A
 all_of (One rs) = rs
 all_of (Both s t) = all_of s ++ all_of t
 
--- each read by itself, then merged
+-- consecutive segments, each read by itself, then merged
 abbrev pub merge_all : {E V : Type 0} → Bracketing (Record E V) → Segment E V
 merge_all (One rs) = segment rs
 merge_all (Both s t) = merge (merge_all s) (merge_all t)

@@ -21,7 +21,7 @@ DropsEach paths [] old new = new ≡ old
 DropsEach paths (file ∷ files) old new =
     (mid : Disk) × DropsOrNot paths file old mid × DropsEach paths files mid new
 
--- there was no name for one of these, and why; those before it were deleted so, the others are there
+-- there was no name for one of these files, and why; those before it were deleted so, the others are there
 pub record FailsToDropEach (paths : FilePaths) (files : List File) (error : Error) (old new : Disk)
     : Type 0 where
   pub before : List File

@@ -17,7 +17,7 @@ WritesPieces handle bytes (suc count) old new = (mid : Disk) × WritesPieces han
 abbrev pub FillsFile : Handle → List ℕ → ℕ → Disk → Disk → Type 0
 FillsFile handle bytes size old new = WritesPieces handle bytes (div_ceil size (length bytes)) old new
 
--- one of these writes was refused; those before it are done
+-- one of the writes that fill a file was refused; those before it are done
 pub record FailsToFill (handle : Handle) (bytes : List ℕ) (size : ℕ) (kind : ErrorKind) (old new : Disk)
     : Type 0 where
   pub count : ℕ
@@ -26,7 +26,7 @@ pub record FailsToFill (handle : Handle) (bytes : List ℕ) (size : ℕ) (kind :
   pub written : WritesPieces handle bytes count old between
   pub fails : FailsToWrite handle (count * length bytes) bytes kind between new
 
--- there was no space for it
+-- there was no space for what was to be written
 abbrev pub HasNoSpace : ErrorKind → Type 0
 HasNoSpace StorageFull = Unit {0}
 HasNoSpace _ = ⊥

@@ -51,7 +51,7 @@ module _ {F : Type 0} (disk : F → Disk) (tells : F → List ℕ → ℕ → Ty
       × Makes paths bytes size seq file one old mid
       × MakesEach paths bytes size (suc seq) files others mid new × (full ≡ one || others)
 
-  -- one of so many wasn't made; those before it were
+  -- one of so many files wasn't made; those before it were
   pub record FailsToMakeEach (paths : FilePaths) (bytes : List ℕ) (size seq count : ℕ) (error : Error)
       (old new : F) : Type 0 where
     pub made : List File

@@ -43,8 +43,8 @@ ScannedFilesAreSpanned = (queue : LogQueue) (directories : List (List ℕ)) (mod
     → IsQueueIn (kind_of queue) directories d mode (earlier ++ last ∷ [])
     → AreSpanned queue directories earlier last d
 
--- Once the last one was read, they are what its pipe may be opened over: so what follows of a stopped pipe
--- is so of what a scan answers and a recovery reads.
+-- Once the last of these files was read, they are what the pipe of their queue may be opened over: so what
+-- follows of a stopped pipe is so of what a scan answers and a recovery reads.
 abbrev pub ReadFilesAreScanned : Type 0
 ReadFilesAreScanned = (queue : LogQueue) (directories : List (List ℕ)) (d : Disk) (earlier : List Listed)
     (last : Listed) (read : FileRecords) (kept : List Listed) → IsSound d

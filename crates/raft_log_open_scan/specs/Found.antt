@@ -62,7 +62,7 @@ pub record HasName (directories : List (List ℕ)) (d : Disk) (name : List ℕ) 
   pub plain : IsPlain name
   pub there : d.names (directory ++ 47 ∷ name) ≡ None → ⊥
 
--- none of these comes twice
+-- no element of the list comes twice
 abbrev pub AreDistinct : {X : Type 0} → List X → Type 0
 AreDistinct [] = Unit {0}
 AreDistinct (x ∷ xs) = (Contains xs x → ⊥) × AreDistinct xs

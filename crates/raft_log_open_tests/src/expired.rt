@@ -120,13 +120,13 @@ const OLD: Settings = Settings {
     ..KIBIBYTES
 };
 
-/// One of the second version, whose files aren't.
+/// A log of the second version, whose files aren't used again.
 const NEW: Settings = Settings {
     version: Version::V2,
     ..OLD
 };
 
-/// One whose files are.
+/// A log of the second version, whose files are used again.
 const RECYCLING: Settings = Settings {
     recycles: true,
     prefills: true,

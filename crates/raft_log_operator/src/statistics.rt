@@ -28,7 +28,7 @@ impl Amount {
         Amount { count: 0, bytes: 0 }
     }
 
-    /// One more, with so many bytes.
+    /// Counts one more, with so many bytes.
     fn add(&mut self, bytes: usize) {
         self.count = self.count.saturating_add(1);
         self.bytes = self.bytes.saturating_add(bytes as u64);

@@ -60,7 +60,7 @@ pub record IsLastPart (g number done : ℕ) (pairs : List (List ℕ × List ℕ)
   pub says : (home : Home) (m : LogMap) → Holds home s m []
       → AreEntryBytes m g ((s.tables g).first + done) bytes
 
--- such a batch was made
+-- a batch was made that ends an atomic group, which stands open with these parts still
 abbrev pub MakesLast : ℕ → ℕ → List EntryIndex → ℕ → List RestatedPart → List (List ℕ × List ℕ) → Batch
     → LogPipes → BlockCache → BlockCache → Type 0
 MakesLast g number es done parts pairs b v old new = (m : MemTables) (s : Shows)

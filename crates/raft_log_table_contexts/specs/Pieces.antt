@@ -125,7 +125,7 @@ groups_seen φ (ps ∷ pss) = parts_seen φ ps.items ++ groups_seen φ pss
 abbrev pub groups_items : List (Vec GroupPart) → List ReadItem
 groups_items pss = groups_seen as_said pss
 
--- all of these groups have it
+-- this holds of the records of each of these groups
 abbrev pub AllGroups : (List GroupPart → Type 0) → List (Vec GroupPart) → Type 0
 AllGroups P [] = Unit {0}
 AllGroups P (ps ∷ pss) = P ps.items × AllGroups P pss

@@ -16,7 +16,7 @@ pub record ListsAll {X : Type 0} (values : List ℕ → Option X) (es : List (Li
 abbrev pub CountsAll : {X : Type 0} → (List ℕ → Option X) → ℕ → Type 0
 CountsAll {X} values n = (es : List (List ℕ × X)) × ListsAll values es × (n ≡ min (length es) (2 ^ 64 - 1))
 
--- such pairs come behind the old ones
+-- all keys that the function has, with their values, come behind the old pairs
 abbrev pub AddsAll : {X : Type 0} → (List ℕ → Option X) → List (List ℕ × X) → List (List ℕ × X) → Type 0
 AddsAll {X} values old new = (es : List (List ℕ × X)) × ListsAll values es × (new ≡ old ++ es)
 

@@ -57,7 +57,7 @@ appended v prev commit sent =
 abbrev pub can_compact : State → ℕ → Bool
 can_compact v index = nat_lt v.base_index index && nat_le index (last_index v) && nat_le index v.commit
 
--- that entry is the base, and what follows it stays
+-- the voter once its log was compacted up to an entry: that is the base, and what follows it stays
 abbrev pub compacted : State → ℕ → State
 compacted v index =
     record v {

@@ -12,7 +12,7 @@ pub struct Told<L: Opening> {
     pub seat: Seat<L>,
     /// The receipt of the round that brought an entry.
     pub brought: Receipt,
-    /// That of the round that read it.
+    /// The receipt of the round that read the entry.
     pub read: Receipt,
 }
 

@@ -148,7 +148,7 @@ fn played<S: Store, R: Threads + Log + Sync>(
 enum Swept {
     /// A call failed, and what a crash leaves holds the voters of one of the models.
     Met,
-    /// None failed, so all was done; and so it holds them.
+    /// No call failed, so all was done; and what a crash leaves holds the voters of one of the models.
     Unmet,
     /// Anything else.
     Otherwise,

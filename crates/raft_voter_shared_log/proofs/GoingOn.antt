@@ -23,7 +23,7 @@ holding_lives home s m h =
     let other : s.pipes.rewrite.failed ≡ false = h.runs.rewrite.alive in
     rw (one, other) refl
 
-closed_is_left : (home : Home) (s : Shows) (d : OnDisk) (cut : CutRound) → LeavesAt home s cut → ClosesStore s d → IsLeftAmong home d (MayFollow cut)
+pub closed_is_left : (home : Home) (s : Shows) (d : OnDisk) (cut : CutRound) → LeavesAt home s cut → ClosesStore s d → IsLeftAmong home d (MayFollow cut)
 closed_is_left home s d cut (running W none keeps) closes =
     left_alone home d keeps.map (MayFollow cut) W (closed_engines_are_left home s keeps.map [] d keeps.holds (closes.held (holding_lives home s keeps.map keeps.holds))) (follows_none cut W none) keeps.means
 closed_is_left home s d cut (is_left failed l) closes = subst (λ (x : OnDisk). IsLeftAmong home x (MayFollow cut)) (sym (closes.failed failed)) l

@@ -1,2 +1,4 @@
 pub mod GoingOn
+pub mod Joining
 pub mod Keeping
+pub mod LogOpenings

@@ -1,2 +1,5 @@
 pub mod Opening
 pub mod GoingOn
+pub mod Joining
+pub mod Disks
+pub mod LogOpenings

@@ -45,7 +45,7 @@ class Forker:
         kind = self.random.choice(["none", "none", f"kill {self.random.randint(1, 3 * self.count)}"])
         root = self.room.root("live", {})
         ran = self.room.watched(root, [self.room.subject.fresh()], self.random, self.count, kind)
-        if self.random.random() < 0.4:
+        if self.random.random() < 0.4 or not ran.notes:
             self.counts["logs that were closed or killed"] += 1
             return read_tree(root), ran.candidates(len(ran.told))
         self.counts["logs that were cut"] += 1
@@ -96,7 +96,7 @@ class Forker:
 
     def cut(self, copied, tree, state):
         """Cuts the power behind each call of a copy: what is told is there, and the log is as it was."""
-        disk = Disk(f"{self.room.path}/live", tree)
+        disk, last = Disk(f"{self.room.path}/live", tree), len(copied.notes) - 1
         for number, note in enumerate(copied.notes):
             disk.take(note)
             if note.call in ("closed", "copied"):
@@ -104,7 +104,7 @@ class Forker:
             left = image(disk, self.random)
             self.counts["cuts"] += 1
             self.demand_same(tree, left)
-            if copied.counts[number + 1] == len(copied.told):
+            if number == last or 0 < len(copied.told) == copied.counts[number + 1]:
                 self.demand_shown(left, state)
 
     def sweep(self, kind, tree, state):

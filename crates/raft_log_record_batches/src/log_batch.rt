@@ -1,9 +1,11 @@
 //! A batch on its way to a file: it is filled, populated, signed for a file, and written.
 ghost use Rattle.std.specs.Prelude.{◌≡◌, ◌+◌, ◌≤◌, ◌==◌, if◌then◌else◌};
-ghost use Rattle.std.specs.Prelude.{false, length, vec_len, vec_capacity, IsOk, OnOk, OnErr, IfErr};
+ghost use Rattle.std.specs.Prelude.{false, ℕ, List, length, vec_len, vec_capacity, IsOk, OnOk, OnErr, IfErr};
+ghost use Rattle.raft_log_record_items.specs.Items.{put_item};
 ghost use Rattle.raft_log_record_marks.specs.Key.{is_internal};
+ghost use Rattle.raft_log_record_marks.specs.Marking.{has_mark_key};
 ghost use Rattle.raft_log_record_batches.specs.Batch.{max_entries_len, kept_buffer, roomy};
-ghost use Rattle.raft_log_record_batches.specs.Key.{IsKeyRefusal};
+ghost use Rattle.raft_log_record_batches.specs.Key.{IsKeyRefusal, IsMarkRefusal};
 
 use raft_log_record_frames::LOG_BATCH_HEADER_LEN;
 use raft_log_record_frames::record::{are_bytes, fill_record, write_checksum};
@@ -255,6 +257,43 @@ impl LogBatch {
         Ok(())
     }
 
+    /// Adds a key that gets a value as it was read of a log: the key may be one of the log's own. What would be
+    /// a mark of an atomic group is refused as an invalid argument. A refusal changes no item.
+    pub fn put_as_read(
+        &mut self,
+        alloc: Global,
+        raft_group_id: u64,
+        key: &[u8],
+        value: &[u8],
+    ) -> Result<()>
+        requires { self.old.state ≡ Filling }
+        ensures ok { OnOk result (Puts self.old self.new raft_group_id key.now value.now) }
+        ensures plain { OnOk result (has_mark_key (put_item raft_group_id key.now value.now) ≡ false) }
+        ensures err { OnErr result (Becomes self.old self.new) }
+        ensures errors { IfErr result (λ e. IsMarkRefusal e raft_group_id key.now) }
+        ensures buffer { self.new.buffer ≡ self.old.buffer }
+    {
+        check_mark(alloc, raft_group_id, key)?;
+        self.items.put(alloc, raft_group_id, key, value)?;
+        Ok(())
+    }
+
+    /// Adds a key that loses its value as it was read of a log: the key may be one of the log's own, as no mark
+    /// of an atomic group takes a value away. A refusal changes no item.
+    pub fn delete_as_read(
+        &mut self,
+        alloc: Global,
+        raft_group_id: u64,
+        key: &[u8],
+    ) -> Result<(), AllocError>
+        requires { self.old.state ≡ Filling }
+        ensures ok { OnOk result (AddsItem self.old self.new (del_item raft_group_id key.now)) }
+        ensures err { OnErr result (Becomes self.old self.new) }
+        ensures buffer { self.new.buffer ≡ self.old.buffer }
+    {
+        self.items.delete(alloc, raft_group_id, key)
+    }
+
     /// Makes the record, and answers how many bytes it has, for whatever file it will be signed. An empty
     /// batch has none, and isn't refused.
     ///
@@ -435,6 +474,20 @@ fn check_key(alloc: Global, key: &[u8]) -> Result<()>
     if is_internal(key) {
         return Err(Error::InvalidArgument(format!(in alloc;
             "key prefix `__` reserved for internal usage"
+        )?));
+    }
+    Ok(())
+}
+
+/// Refuses what would be a mark of an atomic group.
+#[tactic(auto, unfolding(raft_log_record_marks::specs::Marking::has_mark_key))]
+fn check_mark(alloc: Global, raft_group_id: u64, key: &[u8]) -> Result<()>
+    ensures ok { OnOk result ((value : List ℕ) → has_mark_key (put_item raft_group_id key.now value) ≡ false) }
+    ensures errors { IfErr result (λ e. IsMarkRefusal e raft_group_id key.now) }
+{
+    if raft_group_id == MARK_GROUP && key == MARK_KEY.as_slice() {
+        return Err(Error::InvalidArgument(format!(in alloc;
+            "a mark of an atomic group is no value"
         )?));
     }
     Ok(())

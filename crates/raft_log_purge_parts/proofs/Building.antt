@@ -6,9 +6,7 @@ use Rattle.std.specs.List.Sorted.{IsStrictlySortedBy}
 use Rattle.std.proofs.lemmas.List.{take_all, take_more}
 use Rattle.raft_log_record_items.specs.declared.item.LogItem.{LogItem}
 use Rattle.raft_log_record_items.specs.Items.{put_item}
-use Rattle.raft_log_record_marks.specs.Key.{is_internal}
 use Rattle.raft_log_record_marks.specs.Marking.{has_mark_key}
-use Rattle.raft_log_record_marks.proofs.Meanings.{no_mark_key}
 use Rattle.raft_log_record_batches.specs.declared.log_batch.BatchState.TheVariants.{Filling}
 use Rattle.raft_log_record_batches.specs.Batch.{Batch, Puts}
 use Rattle.raft_log_table_lists.specs.Listing.{AddsAll, ListsAll, rewritten_values}
@@ -39,8 +37,8 @@ map_push f (y ∷ ys) x = ap (λ l. f y ∷ l) (map_push f ys x)
 
 -- one key more
 pub key_more : (g : ℕ) (pairs : List (List ℕ × List ℕ)) (i : ℕ) (d x : List ℕ × List ℕ) (first old new : Batch) → i < length pairs → x ≡ get_or pairs i d → AddsKeys g (take i pairs) first old
-    → is_internal x.0 ≡ false → Puts old new g x.0 x.1 → AddsKeys g (take (i + 1) pairs) first new
-key_more g pairs i d x first old new lt is so_far users adds =
+    → has_mark_key (put_of g x) ≡ false → Puts old new g x.0 x.1 → AddsKeys g (take (i + 1) pairs) first new
+key_more g pairs i d x first old new lt is so_far none adds =
     let more : map (put_of g) (take (i + 1) pairs) ≡ map (put_of g) (take i pairs) ++ put_of g x ∷ [] =
     ap (map (put_of g)) (take_more pairs i d lt ∙ ap (λ (y : List ℕ × List ℕ). take i pairs ++ y ∷ []) (sym is)) ∙ map_push (put_of g) (take i pairs) x in record {
       state = ap (λ (b : Batch). b.state) adds.0 ∙ so_far.state;
@@ -50,7 +48,7 @@ key_more g pairs i d x first old new lt is so_far users adds =
           ∙ append_assoc first.items (map (put_of g) (take i pairs)) (put_of g x ∷ [])
           ∙ ap (λ (l : List LogItem). first.items ++ l) (sym more);
       entries = ap (λ (b : Batch). b.entries) adds.0 ∙ so_far.entries;
-      plain = subst AreNoMarks (sym more) (plain_push (map (put_of g) (take i pairs)) (put_of g x) so_far.plain (no_mark_key (put_of g x) users));
+      plain = subst AreNoMarks (sym more) (plain_push (map (put_of g) (take i pairs)) (put_of g x) so_far.plain none);
     }
 
 pub all_keys : (g : ℕ) (pairs : List (List ℕ × List ℕ)) (i : ℕ) (old new : Batch) → length pairs ≤ i → AddsKeys g (take i pairs) old new → AddsKeys g pairs old new

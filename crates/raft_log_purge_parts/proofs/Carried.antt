@@ -1,5 +1,5 @@
 -- The batch of the marks that are owed, mark by mark.
-use Rattle.std.proofs.Common.{◌≡◌, ℕ, ◌+◌, ◌<◌, ◌==◌, ◌&&◌, Bool, true, false, if◌then◌else◌, length, take, get_or, List, [], ◌∷◌, ◌++◌, Result, Ok, Err, OnOk, refl, sym, ap, ap₂, subst, ◌∙◌}
+use Rattle.std.proofs.Common.{◌≡◌, ℕ, ◌+◌, ◌<◌, ◌==◌, ◌&&◌, Bool, true, false, if◌then◌else◌, length, take, get_or, List, [], ◌∷◌, ◌++◌, refl, sym, ap, ap₂, subst, ◌∙◌}
 use Rattle.std.proofs.lemmas.List.{take_more}
 use Rattle.raft_log_model_laws.specs.Item.{Tagged}
 use Rattle.raft_log_model_laws.specs.Groups.{of_group}
@@ -71,10 +71,6 @@ delete_added old new x pair state is del adds =
       none = subst (λ (y : LogItem). has_mark_key y ≡ false) (sym same) (pair_counts x.raft_group_id ops.Del pair.key (record pair { op_type = ops.Del }) refl refl);
       same = ap (λ (y : LogItem). tagged {E = EntryIndex} (λ e. e) y) (sym same);
     }
-
-pub on_ok_map : {A E : Type 0} {P Q : Type 0} (r : Result A E) → (P → Q) → OnOk r P → OnOk r Q
-on_ok_map (Ok x) f p = f p
-on_ok_map (Err e) f p = tt
 
 -- Items one after another.
 

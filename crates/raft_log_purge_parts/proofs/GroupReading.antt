@@ -130,7 +130,7 @@ module _ (e : Shows) (g done count : ℕ) (es : List EntryIndex) (is : es ≡ ta
       (all_untold e g home m [] h as_bytes done ps (v.first + done) (v.first + done + length ps) e.cache new error stands_from (omega arith) (omega arith) h.cached
       (subst (λ l. AreUnread as_bytes e.pipes l e.cache new error) (is ∙ piece_entries v done count) unread)).0
 
-  pub piece_unbuilt : (pairs : List (List ℕ × List ℕ)) (error : Error) → FailsToBuildPiece es pairs e.pipes e.cache new error → IsOfLog h.state new
+  pub piece_unbuilt : (pairs : List (List ℕ × List ℕ)) (error : Error) → FailsToBuildPiece g es pairs e.pipes e.cache new error → IsOfLog h.state new
   piece_unbuilt pairs error (inl unread) = piece_unread error unread
   piece_unbuilt pairs error (inr (xs, reads, why)) = (piece_read xs reads).0
 
@@ -155,7 +155,7 @@ module _ (e : Shows) (g done count : ℕ) (es : List EntryIndex) (is : es ≡ ta
       let first = length-take v.rewritten v.places in omega (arith, parts, end, long, left, first, some)
 
   -- why there is no batch
-  pub unbuilt_reason : (pairs : List (List ℕ × List ℕ)) → AreValuesIn m g pairs → (error : Error) → FailsToBuildPiece es pairs e.pipes e.cache new error → HasReason home m error e (caching e new)
+  pub unbuilt_reason : (pairs : List (List ℕ × List ℕ)) → AreValuesIn m g pairs → (error : Error) → FailsToBuildPiece g es pairs e.pipes e.cache new error → HasReason home m error e (caching e new)
   unbuilt_reason pairs values error (inl unread) = unread_reason error unread
   unbuilt_reason pairs values error (inr (xs, reads, inl why)) =
       entries_reason home m error e (caching e new) g (v.first + done) (indexes_of es) (map (λ x. x.bytes) xs) piece_rises piece_low
@@ -163,10 +163,10 @@ module _ (e : Shows) (g done count : ℕ) (es : List EntryIndex) (is : es ≡ ta
   unbuilt_reason pairs values error (inr (xs, reads, inr why)) = keys_reason home m error e (caching e new) g pairs values why
 
 -- that isn't told as a failure
-pub unbuilt_is_none : (u : LogPipes) (es : List EntryIndex) (pairs : List (List ℕ × List ℕ)) (old new : BlockCache) (error : Error) → FailsToBuildPiece es pairs u old new error → error ≡ errors.Failed → ⊥
-unbuilt_is_none u es pairs old new error (inl unread) = unread_is_none u es old new error unread
-unbuilt_is_none u es pairs old new error (inr (xs, reads, inl why)) = unmade_is_none error (entries_unmade error 0 (indexes_of es) (map (λ x. x.bytes) xs) why)
-unbuilt_is_none u es pairs old new error (inr (xs, reads, inr why)) = unmade_is_none error (keys_unmade error pairs why)
+pub unbuilt_is_none : (g : ℕ) (u : LogPipes) (es : List EntryIndex) (pairs : List (List ℕ × List ℕ)) (old new : BlockCache) (error : Error) → FailsToBuildPiece g es pairs u old new error → error ≡ errors.Failed → ⊥
+unbuilt_is_none g u es pairs old new error (inl unread) = unread_is_none u es old new error unread
+unbuilt_is_none g u es pairs old new error (inr (xs, reads, inl why)) = unmade_is_none error (entries_unmade error 0 (indexes_of es) (map (λ x. x.bytes) xs) why)
+unbuilt_is_none g u es pairs old new error (inr (xs, reads, inr why)) = unmade_is_none error (keys_unmade error g pairs why)
 
 pub read_len : (v : Shown) (es : List EntryIndex) (reading : List ℕ → Option RawMessage) (e : Shows) (old new : BlockCache) (xs : List RawMessage) → ReadsEntries reading e.pipes es old new xs → length xs ≡ length es
 read_len v [] reading e old new xs (same, none) = ap length none

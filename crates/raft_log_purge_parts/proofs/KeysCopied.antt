@@ -1,10 +1,8 @@
 -- A group's values, copied or not.
 use Rattle.std.proofs.Common.{◌≡◌, ◌⊎◌, ℕ, zero, suc, ◌+◌, ◌<◌, ◌==◌, Bool, true, false, if◌then◌else◌, List, [], ◌∷◌, ◌++◌, length, map, take, get_or, Option, Some, None, option_map, inl, inr, refl, sym, ap, subst, ◌∙◌, arith, append-nil}
-use Rattle.std.specs.Prelude.{IsTrue, Result, Ok, IsErr}
 use Rattle.std.specs.BTreeMap.{get}
 use Rattle.std.specs.Ordering.{nat_cmp}
 use Rattle.std.specs.List.Sorted.{IsStrictlySortedBy}
-use Rattle.std.proofs.lemmas.Bool.{false≢true}
 use Rattle.std.proofs.lemmas.List.{take_more}
 use Rattle.raft_log_model_laws.specs.Item.{Item}
 use Rattle.raft_log_model_laws.specs.Groups.{of_group}
@@ -16,13 +14,11 @@ use Rattle.raft_log_record_base.specs.declared.pipe_log.FileBlockHandle.{FileBlo
 use Rattle.raft_log_record_items.specs.declared.item.LogItem.{LogItem}
 use Rattle.raft_log_record_items.specs.Items.{put_item}
 use Rattle.raft_log_record_items.specs.Placed.{written}
-use Rattle.raft_log_record_marks.specs.Key.{is_internal}
-use Rattle.raft_log_record_marks.specs.Marking.{has_mark_key}
+use Rattle.raft_log_record_marks.specs.Marking.{has_mark_key, mark_key}
 use Rattle.raft_log_record_marks.specs.Meaning.{tagged_items}
-use Rattle.raft_log_record_marks.proofs.Meanings.{no_mark_key}
 use Rattle.raft_log_record_batches.specs.declared.log_batch.BatchState.TheVariants.{Filling}
 use Rattle.raft_log_record_batches.specs.Batch.{Batch, Puts, block_place}
-use Rattle.raft_log_record_batches.specs.Key.{IsKeyRefusal}
+use Rattle.raft_log_record_batches.specs.Key.{IsMarkRefusal}
 use Rattle.raft_log_table_runs.specs.declared.place.Place.{Place}
 use Rattle.raft_log_table_runs.specs.Entries.{place_of}
 use Rattle.raft_log_table_lists.specs.Shown.{Shown}
@@ -38,7 +34,7 @@ use Rattle.raft_log_engine_laws.specs.Writing.{items_at}
 use Rattle.raft_log_engine_laws.specs.Rewriting.{HasCopies}
 use Rattle.raft_log_purge_parts.specs.Lengths.{AreOfGroup}
 use Rattle.raft_log_purge_parts.specs.Reasons.{HasReason}
-use Rattle.raft_log_purge_parts.specs.Refusals.{AreUnput, HasOwn, IsOverlong}
+use Rattle.raft_log_purge_parts.specs.Refusals.{AreUnput, HasMark, IsOverlong}
 use Rattle.raft_log_purge_parts.specs.Owed.{AreNoMarks}
 use Rattle.raft_log_purge_parts.specs.Copies.{FailsToCopy, MovesCopies, WritesCopies}
 use Rattle.raft_log_purge_parts.specs.Moving.{MovesKeys}
@@ -85,8 +81,8 @@ map_push f (y ∷ ys) x = ap (λ l. f y ∷ l) (map_push f ys x)
 
 -- one key more
 pub key_more : (g : ℕ) (pairs : List (List ℕ × List ℕ)) (i : ℕ) (d x : List ℕ × List ℕ) (old new : Batch) → i < length pairs → x ≡ get_or pairs i d → IsKeysBatch g (take i pairs) old
-    → is_internal x.0 ≡ false → Puts old new g x.0 x.1 → IsKeysBatch g (take (i + 1) pairs) new
-key_more g pairs i d x old new lt is so_far users adds =
+    → has_mark_key (put_item g x.0 x.1) ≡ false → Puts old new g x.0 x.1 → IsKeysBatch g (take (i + 1) pairs) new
+key_more g pairs i d x old new lt is so_far none adds =
     let items : new.items ≡ old.items ++ put_item g x.0 x.1 ∷ [] = ap (λ (b : Batch). b.items) adds.0 in record {
       state = ap (λ (b : Batch). b.state) adds.0 ∙ so_far.state;
       none = ap (λ (b : Batch). b.entries) adds.0 ∙ so_far.none;
@@ -95,12 +91,8 @@ key_more g pairs i d x old new lt is so_far users adds =
           ∙ ap (λ (l : List LogItem). l ++ put_item g x.0 x.1 ∷ []) so_far.items
           ∙ sym (map_push (λ (e : List ℕ × List ℕ). put_item g e.0 e.1) (take i pairs) x)
           ∙ ap (map (λ (e : List ℕ × List ℕ). put_item g e.0 e.1)) (sym (take_more pairs i d lt ∙ ap (λ (y : List ℕ × List ℕ). take i pairs ++ y ∷ []) (sym is)));
-      plain = subst AreNoMarks (sym items) (plain_push old.items (put_item g x.0 x.1) so_far.plain (no_mark_key (put_item g x.0 x.1) users));
+      plain = subst AreNoMarks (sym items) (plain_push old.items (put_item g x.0 x.1) so_far.plain none);
     }
-
--- a key that was put is a user's
-pub is_users : {A E : Type 0} (r : Result A E) (x : A) (key : List ℕ) → r ≡ Ok x → (IsTrue (is_internal key) → IsErr r) → is_internal key ≡ false
-is_users r x key is refused = at_bool (is_internal key) (λ b. (IsTrue b → IsErr r) → b ≡ false) (λ _ h. absurd (false≢true (subst IsErr is (h refl)))) (λ _ _. refl) refused
 
 -- What was copied.
 
@@ -207,10 +199,10 @@ no_memory_for_keys error s memory = record {
   cause = λ home m h. memory_reason home m error s s memory;
 }
 
-pub keys_not_written : (g gate : ℕ) (pairs : List (List ℕ × List ℕ)) (error : Error) (s : Shows) → ListsAll (appended_values gate (s.tables g)) pairs → AreUnput pairs error → FailsToCopyKeys error s s
+pub keys_not_written : (g gate : ℕ) (pairs : List (List ℕ × List ℕ)) (error : Error) (s : Shows) → ListsAll (appended_values gate (s.tables g)) pairs → AreUnput g pairs error → FailsToCopyKeys error s s
 keys_not_written g gate pairs error s lists why = record {
   same = refl;
-  tells = λ lived. tells_nothing error s.pipes lived (unmade_is_none error (keys_unmade error pairs why));
+  tells = λ lived. tells_nothing error s.pipes lived (unmade_is_none error (keys_unmade error g pairs why));
   later = same_later s.pipes.disk;
   remains = λ owes home m h. inl h;
   cause = λ home m h. keys_reason home m error s s g pairs (values_in home m s h g (Some gate) pairs lists) why;
@@ -218,14 +210,14 @@ keys_not_written g gate pairs error s lists why = record {
 
 -- Keys one after another.
 
-own_at : (pairs : List (List ℕ × List ℕ)) (i : ℕ) (d : List ℕ × List ℕ) → i < length pairs → IsTrue (is_internal (get_or pairs i d).0) → HasOwn pairs
-own_at [] i d lt own = absurd (omega (arith, lt))
-own_at (e ∷ es) zero d lt own = inl own
-own_at (e ∷ es) (suc i) d lt own = inr (own_at es i d (omega (arith, lt)) own)
+mark_at : (g : ℕ) (pairs : List (List ℕ × List ℕ)) (i : ℕ) (d : List ℕ × List ℕ) → i < length pairs → g ≡ 0 → (get_or pairs i d).0 ≡ mark_key → HasMark g pairs
+mark_at g [] i d lt here key = absurd (omega (arith, lt))
+mark_at g (e ∷ es) zero d lt here key = inl (here, key)
+mark_at g (e ∷ es) (suc i) d lt here key = inr (mark_at g es i d (omega (arith, lt)) here key)
 
 -- one of them isn't put
-pub key_unput : (pairs : List (List ℕ × List ℕ)) (i : ℕ) (d x : List ℕ × List ℕ) (key : List ℕ) (error : Error) → i < length pairs → x ≡ get_or pairs i d → key ≡ x.0 → IsKeyRefusal error key → AreUnput pairs error
-key_unput pairs i d x key errors.Memory lt is same why = tt
-key_unput pairs i d x key (errors.InvalidArgument text) lt is same why =
-    own_at pairs i d lt (subst (λ (e : List ℕ × List ℕ). IsTrue (is_internal e.0)) is (subst (λ (k : List ℕ). IsTrue (is_internal k)) same why.0))
-key_unput pairs i d x key _ lt is same why = absurd why
+pub key_unput : (g : ℕ) (pairs : List (List ℕ × List ℕ)) (i : ℕ) (d x : List ℕ × List ℕ) (key : List ℕ) (error : Error) → i < length pairs → x ≡ get_or pairs i d → key ≡ x.0 → IsMarkRefusal error g key → AreUnput g pairs error
+key_unput g pairs i d x key errors.Memory lt is same why = tt
+key_unput g pairs i d x key (errors.InvalidArgument text) lt is same why =
+    mark_at g pairs i d lt why.0 (sym (ap (λ (e : List ℕ × List ℕ). e.0) is) ∙ sym same ∙ why.1)
+key_unput g pairs i d x key _ lt is same why = absurd why

@@ -1,8 +1,5 @@
--- Why the batch of the marks that are owed isn't made: none of them is refused but a deletion of one of the log's
--- own keys.
+-- Why the batch of the marks that are owed isn't made: none of them is refused.
 use Rattle.std.proofs.Common.{◌≡◌, ◌⊎◌, ℕ, ◌<◌, zero, suc, ◌==◌, Bool, true, false, if◌then◌else◌, nat_lt, length, get_or, Option, Some, None, List, [], ◌∷◌, ◌++◌, inl, inr, refl, sym, subst, bytes_eq, arith}
-use Rattle.std.specs.Prelude.{IsTrue, Result, Ok, Err, IfErr}
-use Rattle.std.proofs.lemmas.Bool.{false≢true}
 use Rattle.raft_log_model_laws.specs.Item.{Item}
 use Rattle.raft_log_model_laws.specs.Item.Item.{Run, Clean, Compact, Put, Del}
 use Rattle.raft_log_model_laws.specs.Groups.{of_group}
@@ -21,17 +18,15 @@ use Rattle.raft_log_machine_laws.specs.Whereabouts.{top}
 use Rattle.raft_log_record_marks.specs.declared.marking.Marking.{Marking}
 use Rattle.raft_log_record_marks.specs.declared.marking.Marking.TheVariants.{Unmarked, Part, Broken}
 use Rattle.raft_log_record_marks.specs.declared.status.AtomicGroupStatus.{AtomicGroupStatus}
-use Rattle.raft_log_record_marks.specs.Key.{is_internal}
 use Rattle.raft_log_record_marks.specs.Marking.{has_mark_key, joined_marking, mark_of, marking_of, marking_of_items, part_or_broken}
 use Rattle.raft_log_record_marks.specs.Meaning.{key_meaning, meaning, tagged, tagged_items, unless_mark}
-use Rattle.raft_log_record_batches.specs.Key.{IsKeyRefusal}
 use Rattle.raft_log_table_lists.specs.Shown.{Shown}
 use Rattle.raft_log_table_lists.specs.Bridge.{AllOwed, dels}
 use Rattle.raft_log_table_all.specs.declared.mem_tables.MemTables.{MemTables}
 use Rattle.raft_log_table_all.specs.Tables.{shown_of}
 use Rattle.raft_log_table_all.specs.Owing.{AreOwed}
 use Rattle.raft_log_purge_parts.specs.Owed.{AreNoMarks}
-use Rattle.raft_log_purge_parts.specs.Refusals.{AreMarksUnmade, AreUnmarked, HasNoMark, IsNoDeletion, IsNoMark, OwesOwnKey}
+use Rattle.raft_log_purge_parts.specs.Refusals.{AreUnmarked, HasNoMark, IsNoDeletion, IsNoMark}
 
 -- Items that are no part of an atomic group.
 
@@ -57,20 +52,20 @@ no_marks (x ∷ xs) is = (let both = joined_none (marking_of x) (marking_of_item
 
 -- What such an item says.
 
--- it says a value, or entries, or deletes one of the log's own keys
+-- it says a value, or entries
 abbrev SaysNone : Item EntryIndex (List ℕ) → Type 0
 SaysNone (Run f es) = Unit {0}
 SaysNone Clean = ⊥
 SaysNone (Compact c) = ⊥
 SaysNone (Put k w) = Unit {0}
-SaysNone (Del k) = IsTrue (is_internal k)
+SaysNone (Del k) = ⊥
 
 -- one of these does
 abbrev AnySaysNone : List (Item EntryIndex (List ℕ)) → Type 0
 AnySaysNone [] = ⊥
 AnySaysNone (x ∷ xs) = SaysNone x ⊎ AnySaysNone xs
 
-key_says : (op : OpType) (key value : List ℕ) → IsNoDeletion op key → SaysNone (key_meaning op key value)
+key_says : (op : OpType) (key value : List ℕ) → IsNoDeletion op → SaysNone (key_meaning op key value)
 key_says ops.Put key value none = tt
 key_says ops.Del key value none = none
 
@@ -101,39 +96,32 @@ some_group_says (x ∷ xs) (plain, rest) (inr there) =
 
 -- The marks of a group.
 
-own_deleted : (deleted : List ℕ → Bool) (ks : List (List ℕ)) → AllOwed deleted ks → AnySaysNone (dels ks) → (k : List ℕ) × IsTrue (is_internal k) × (deleted k ≡ true)
-own_deleted deleted [] owed none = absurd none
-own_deleted deleted (k ∷ ks) (first, rest) (inl own) = (k, own, first)
-own_deleted deleted (k ∷ ks) (first, rest) (inr there) =
-    let (j, own, is) = own_deleted (λ j. if bytes_eq k j then false else deleted j) ks rest there in
-    (j, own, at_bool (bytes_eq k j) (λ b. (if b then false else deleted j) ≡ true → deleted j ≡ true) (λ _ h. absurd (false≢true h)) (λ _ h. h) is)
+none_deleted : (ks : List (List ℕ)) → AnySaysNone (dels ks) → ⊥
+none_deleted [] none = none
+none_deleted (k ∷ ks) (inl none) = none
+none_deleted (k ∷ ks) (inr there) = none_deleted ks there
 
-own_behind : (deleted : List ℕ → Bool) (index : ℕ) (b : Bool) (ks : List (List ℕ)) → AllOwed deleted ks → AnySaysNone ((if b then Compact index ∷ [] else []) ++ dels ks) → (k : List ℕ) × IsTrue (is_internal k) × (deleted k ≡ true)
-own_behind deleted index true ks owed (inl none) = absurd none
-own_behind deleted index true ks owed (inr rest) = own_deleted deleted ks owed rest
-own_behind deleted index false ks owed rest = own_deleted deleted ks owed rest
+none_behind : (index : ℕ) (b : Bool) (ks : List (List ℕ)) → AnySaysNone ((if b then Compact index ∷ [] else []) ++ dels ks) → ⊥
+none_behind index true ks (inl none) = none
+none_behind index true ks (inr rest) = none_deleted ks rest
+none_behind index false ks rest = none_deleted ks rest
 
-own_listed : (deleted : List ℕ → Bool) (index : ℕ) (a b : Bool) (ks : List (List ℕ)) → AllOwed deleted ks
-    → AnySaysNone ((if a then Clean ∷ [] else []) ++ ((if b then Compact index ∷ [] else []) ++ dels ks)) → (k : List ℕ) × IsTrue (is_internal k) × (deleted k ≡ true)
-own_listed deleted index true b ks owed (inl none) = absurd none
-own_listed deleted index true b ks owed (inr rest) = own_behind deleted index b ks owed rest
-own_listed deleted index false b ks owed rest = own_behind deleted index b ks owed rest
+none_listed : (index : ℕ) (a b : Bool) (ks : List (List ℕ)) → AnySaysNone ((if a then Clean ∷ [] else []) ++ ((if b then Compact index ∷ [] else []) ++ dels ks)) → ⊥
+none_listed index true b ks (inl none) = none
+none_listed index true b ks (inr rest) = none_behind index b ks rest
+none_listed index false b ks rest = none_behind index b ks rest
 
-own_owed : (m : MemTables) (items : List LogItem) → AreOwed m items → HasNoMark items → OwesOwnKey (shown_of m)
-own_owed m items owed none =
+none_owed : (m : MemTables) (items : List LogItem) → AreOwed m items → HasNoMark items → ⊥
+none_owed m items owed none =
     let (g, says) = some_group_says items (no_marks items owed.plain) none in
     let v = shown_of m g in
-    let (ks, lists, is) = owed.owed g in
-    let (k, own, deleted) = own_listed v.deleted (if nat_lt 0 v.rewritten then v.first else top) v.cleaned v.compacted ks lists.owed (subst AnySaysNone is says) in (g, k, own, deleted)
+    let (ks, lists, is) = owed.owed g in none_listed (if nat_lt 0 v.rewritten then v.first else top) v.cleaned v.compacted ks (subst AnySaysNone is says)
 
--- why the batch isn't made
-pub marks_unmade : (m : MemTables) (items : List LogItem) (error : Error) → AreOwed m items → AreUnmarked items error → AreMarksUnmade (shown_of m) error
-marks_unmade m items errors.Memory owed why = tt
-marks_unmade m items (errors.InvalidArgument text) owed why = own_owed m items owed why
+-- the batch isn't made for want of memory alone
+pub marks_unmade : (m : MemTables) (items : List LogItem) (error : Error) → AreOwed m items → AreUnmarked items error → error ≡ errors.Memory
+marks_unmade m items errors.Memory owed why = refl
+marks_unmade m items (errors.InvalidArgument text) owed why = absurd (none_owed m items owed why)
 marks_unmade m items _ owed why = absurd why
-
-pub none_for_memory : (v : ℕ → Shown) (error : Error) → error ≡ errors.Memory → AreMarksUnmade v error
-none_for_memory v error is = subst (AreMarksUnmade v) (sym is) tt
 
 -- One item after another.
 
@@ -155,20 +143,9 @@ item_unmarked items i d x errors.Memory lt is why = tt
 item_unmarked items i d x (errors.InvalidArgument text) lt is why = no_mark_at items i d lt (subst (λ (y : LogItem). IsNoMark y.content) is (one_of_none x why))
 item_unmarked items i d x _ lt is why = absurd why
 
--- a deletion isn't
-pub deletion_unmarked : (x : LogItem) (pair : KeyValue) (key : List ℕ) (error : Error) → x.content ≡ contents.Kv pair → pair.op_type ≡ ops.Del → key ≡ pair.key → IsKeyRefusal error key → AreUnmarked (x ∷ []) error
-deletion_unmarked x pair key errors.Memory is del same why = tt
-deletion_unmarked x pair key (errors.InvalidArgument text) is del same why =
-    inl (subst IsNoMark (sym is) (subst (λ (o : OpType). IsNoDeletion o pair.key) (sym del) (subst (λ (k : List ℕ). IsTrue (is_internal k)) same why.0)))
-deletion_unmarked x pair key _ is del same why = absurd why
-
 -- a value, or entries
 pub value_unmarked : (x : LogItem) (pair : KeyValue) → x.content ≡ contents.Kv pair → pair.op_type ≡ ops.Put → HasNoMark (x ∷ [])
-value_unmarked x pair is put = inl (subst IsNoMark (sym is) (subst (λ (o : OpType). IsNoDeletion o pair.key) (sym put) tt))
+value_unmarked x pair is put = inl (subst IsNoMark (sym is) (subst IsNoDeletion (sym put) tt))
 
 pub entries_unmarked : (x : LogItem) (es : List EntryIndex) → x.content ≡ contents.EntryIndexes es → HasNoMark (x ∷ [])
 entries_unmarked x es is = inl (subst IsNoMark (sym is) tt)
-
-pub err_map : {A E : Type 0} {P Q : E → Type 0} (r : Result A E) → ((e : E) → P e → Q e) → IfErr r P → IfErr r Q
-err_map (Ok x) f p = tt
-err_map (Err e) f p = f e p

@@ -122,7 +122,7 @@ module _ (g : ℕ) (es : List EntryIndex) (pairs : List (List ℕ × List ℕ)) 
   whole_piece = stands.entries ∙ sym (take_all (length es) (rewritten_entries (s.tables g)) (let long = ap length stands.entries in omega (arith, long)))
 
   -- the entries weren't read
-  pub once_unread : (error : Error) → FailsToBuildPiece es pairs v cache new error → FailsToRestate error s (shows v old new)
+  pub once_unread : (error : Error) → FailsToBuildPiece g es pairs v cache new error → FailsToRestate error s (shows v old new)
   once_unread error fails = begin_unread g (length es) s new es es stands.entries (sym (take_all (length es) es (omega arith))) pairs (λ home m h. values_in home m s h g None pairs stands.keys) error fails
 
   module _ (b : Batch) (built : BuildsPiece g es pairs v cache new b) where

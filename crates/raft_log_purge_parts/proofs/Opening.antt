@@ -144,9 +144,9 @@ module _ (g done count : ℕ) (s : Shows) (v : LogPipes) (old new : BlockCache) 
       → FailsToRestate error s (at_pipes s v new)
   stopped error other stays reason = record { same = refl; tells = λ lived. tells_nothing error v (alive lived) other; later = before; remains = λ home m h. inl (stays home m h); cause = reason }
 
-  pub stopped_reading : (pairs : List (List ℕ × List ℕ)) → ((home : Home) (m : LogMap) → Holds home s m [] → AreValuesIn m g pairs) → (error : Error) → FailsToBuildPiece es pairs v old new error → FailsToRestate error s (at_pipes s v new)
+  pub stopped_reading : (pairs : List (List ℕ × List ℕ)) → ((home : Home) (m : LogMap) → Holds home s m [] → AreValuesIn m g pairs) → (error : Error) → FailsToBuildPiece g es pairs v old new error → FailsToRestate error s (at_pipes s v new)
   stopped_reading pairs values error fails =
-      stopped error (unbuilt_is_none v es pairs old new error fails)
+      stopped error (unbuilt_is_none g v es pairs old new error fails)
       (λ home m h.
       let k = held home m h in held_caching home (at_pipes s v old) m new k (piece_unbuilt (at_pipes s v old) g done count es is new home m k pairs error fails))
       (λ home m h. reason_after home m error s (at_pipes s v old) (at_pipes s v new) before (unbuilt_reason (at_pipes s v old) g done count es is new home m (held home m h) pairs (values home m h) error fails))
@@ -171,7 +171,7 @@ module _ (g done count : ℕ) (s : Shows) (v : LogPipes) (old new : BlockCache) 
 -- Begun.
 
 pub begin_unread : (g count : ℕ) (s : Shows) (new : BlockCache) (all es : List EntryIndex) → all ≡ rewritten_entries (s.tables g) → es ≡ take count all → (pairs : List (List ℕ × List ℕ))
-    → ((home : Home) (m : LogMap) → Holds home s m [] → AreValuesIn m g pairs) → (error : Error) → FailsToBuildPiece es pairs s.pipes s.cache new error → FailsToRestate error s (at_pipes s s.pipes new)
+    → ((home : Home) (m : LogMap) → Holds home s m [] → AreValuesIn m g pairs) → (error : Error) → FailsToBuildPiece g es pairs s.pipes s.cache new error → FailsToRestate error s (at_pipes s s.pipes new)
 begin_unread g count s new all es is_all is pairs values error fails =
     stopped_reading g 0 count s s.pipes s.cache new es (is ∙ ap (take count) is_all) (λ home m h. h) (λ lived. lived) (same_later s.pipes.disk) pairs values error fails
 
@@ -265,7 +265,7 @@ module _ (g number done count : ℕ) (parts : List RestatedPart) (s : Shows) (v 
   held_open : (home : Home) (m : LogMap) → Holds home s m [] → Holds home (at_pipes s v old) m []
   held_open home m h = (has.stands home m h).holds
 
-  pub more_unread : (pairs : List (List ℕ × List ℕ)) → ((home : Home) (m : LogMap) → Holds home s m [] → AreValuesIn m g pairs) → (error : Error) → FailsToBuildPiece es pairs v old new error → FailsToRestate error s (at_pipes s v new)
+  pub more_unread : (pairs : List (List ℕ × List ℕ)) → ((home : Home) (m : LogMap) → Holds home s m [] → AreValuesIn m g pairs) → (error : Error) → FailsToBuildPiece g es pairs v old new error → FailsToRestate error s (at_pipes s v new)
   more_unread pairs values error fails = stopped_reading g done count s v old new es there held_open (λ lived. has.alive) has.later pairs values error fails
 
   pub more_unmarked : (error : Error) → error ≡ errors.Memory → (pairs : List (List ℕ × List ℕ)) (b : Batch) → BuildsPiece g es pairs v old new b → FailsToRestate error s (at_pipes s v new)

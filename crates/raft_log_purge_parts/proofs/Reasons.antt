@@ -32,7 +32,6 @@ use Rattle.raft_log_record_items.specs.declared.entry.EntryIndex.{EntryIndex}
 use Rattle.raft_log_record_items.specs.declared.item.LogItem.{LogItem}
 use Rattle.raft_log_record_items.specs.Message.{Parses}
 use Rattle.raft_log_record_marks.specs.declared.marking.Marking.TheVariants.{Unmarked}
-use Rattle.raft_log_record_marks.specs.Key.{is_internal}
 use Rattle.raft_log_file_pipe.specs.Purging.{IsInSpan}
 use Rattle.raft_log_file_pipe.specs.Reading.{IsReadRefused}
 use Rattle.raft_log_file_pipe.specs.declared.pipe_files.PipeFiles.{PipeFiles}
@@ -63,8 +62,8 @@ use Rattle.raft_log_record_items.specs.declared.raw_message.RawMessage.{RawMessa
 use Rattle.raft_log_purge_parts.specs.Entries.{AreEntryBytes, as_bytes}
 use Rattle.raft_log_purge_parts.specs.Lengths.{AreOfGroup, AreValuesIn, IsOneMark}
 use Rattle.raft_log_purge_parts.specs.Owed.{SaysMarks}
-use Rattle.raft_log_purge_parts.specs.Reasons.{HasFileReason, HasReason, IsOneUnread}
-use Rattle.raft_log_purge_parts.specs.Refusals.{AreMarksUnmade, AreUnput, HasOwn, IsOverlong, IsUnmade, IsUnrecorded}
+use Rattle.raft_log_purge_parts.specs.Reasons.{HasFileReason, HasMarkValue, HasReason, IsOneUnread}
+use Rattle.raft_log_purge_parts.specs.Refusals.{AreUnput, HasMark, IsOverlong, IsUnmade, IsUnrecorded}
 use Rattle.raft_log_purge_parts.proofs.KeyCopies.{EachOf, each_listed}
 
 -- What came before takes no cause away.
@@ -120,15 +119,10 @@ entries_unmade (errors.InvalidArgument text) held indexes entries why = tt
 entries_unmade errors.Full held indexes entries why = tt
 entries_unmade _ held indexes entries why = absurd why
 
-pub keys_unmade : (error : Error) (pairs : List (List ℕ × List ℕ)) → AreUnput pairs error → IsUnmade error
-keys_unmade errors.Memory pairs why = tt
-keys_unmade (errors.InvalidArgument text) pairs why = tt
-keys_unmade _ pairs why = absurd why
-
-pub marks_are_unmade : (error : Error) (v : ℕ → Shown) → AreMarksUnmade v error → IsUnmade error
-marks_are_unmade errors.Memory v why = tt
-marks_are_unmade (errors.InvalidArgument text) v why = tt
-marks_are_unmade _ v why = absurd why
+pub keys_unmade : (error : Error) (g : ℕ) (pairs : List (List ℕ × List ℕ)) → AreUnput g pairs error → IsUnmade error
+keys_unmade errors.Memory g pairs why = tt
+keys_unmade (errors.InvalidArgument text) g pairs why = tt
+keys_unmade _ g pairs why = absurd why
 
 -- a record of what a group has in the map is too long
 pub long_reason : (home : Home) (m : LogMap) (error : Error) (s t : Shows) (g first : ℕ) (bytes : List (List ℕ)) (pairs : List (List ℕ × List ℕ)) (mark : List LogItem) (b : Batch) → IsOneMark mark
@@ -142,21 +136,16 @@ pub marks_long_reason : (home : Home) (m : LogMap) (error : Error) (s t : Shows)
 marks_long_reason home m error s t b says (inl memory) = memory_reason home m error s t memory
 marks_long_reason home m error s t b says (inr (is, long)) = subst (λ (e : Error). HasReason home m e s t) (sym is) (inr (b, says, inr long))
 
--- a mark isn't made
-pub mark_reason : (home : Home) (m : LogMap) (error : Error) (s t : Shows) → AreMarksUnmade t.tables error → HasReason home m error s t
-mark_reason home m errors.Memory s t why = tt
-mark_reason home m (errors.InvalidArgument text) s t (g, k, own, deleted) = (g, k, own, inr deleted)
-mark_reason home m _ s t why = absurd why
-
 -- a key isn't put
-own_value : (m : LogMap) (g : ℕ) (pairs : List (List ℕ × List ℕ)) → AreValuesIn m g pairs → HasOwn pairs → (k : List ℕ) × IsTrue (is_internal k) × ((value : List ℕ) × (m g (Key k) ≡ Some (Value value)))
-own_value m g [] values own = absurd own
-own_value m g (e ∷ es) (value, rest) (inl own) = (e.0, own, (e.1, value))
-own_value m g (e ∷ es) (value, rest) (inr own) = own_value m g es rest own
+mark_value_of : (m : LogMap) (g : ℕ) (pairs : List (List ℕ × List ℕ)) → AreValuesIn m g pairs → HasMark g pairs → HasMarkValue m
+mark_value_of m g [] values mark = absurd mark
+mark_value_of m g (e ∷ es) (value, rest) (inl (here, key)) =
+    (e.1, subst (λ (k : List ℕ). m 0 (Key k) ≡ Some (Value e.1)) key (subst (λ (h : ℕ). m h (Key e.0) ≡ Some (Value e.1)) here value))
+mark_value_of m g (e ∷ es) (value, rest) (inr mark) = mark_value_of m g es rest mark
 
-pub keys_reason : (home : Home) (m : LogMap) (error : Error) (s t : Shows) (g : ℕ) (pairs : List (List ℕ × List ℕ)) → AreValuesIn m g pairs → AreUnput pairs error → HasReason home m error s t
+pub keys_reason : (home : Home) (m : LogMap) (error : Error) (s t : Shows) (g : ℕ) (pairs : List (List ℕ × List ℕ)) → AreValuesIn m g pairs → AreUnput g pairs error → HasReason home m error s t
 keys_reason home m errors.Memory s t g pairs values why = tt
-keys_reason home m (errors.InvalidArgument text) s t g pairs values why = (let (k, own, value) = own_value m g pairs values why in (g, k, own, inl value))
+keys_reason home m (errors.InvalidArgument text) s t g pairs values why = mark_value_of m g pairs values why
 keys_reason home m _ s t g pairs values why = absurd why
 
 pub none_twice : IsStrictlySortedBy (slice_cmp nat_cmp) []

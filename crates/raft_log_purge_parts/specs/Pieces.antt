@@ -63,11 +63,11 @@ pub record BuildsPiece (g : ℕ) (es : List EntryIndex) (pairs : List (List ℕ 
   pub keys : AddsKeys g pairs run b
 
 -- why there is no such batch: the entries aren't read; or they were, and they, or the keys, aren't put in one
-abbrev pub FailsToBuildPiece : List EntryIndex → List (List ℕ × List ℕ) → LogPipes → BlockCache → BlockCache → Error
+abbrev pub FailsToBuildPiece : ℕ → List EntryIndex → List (List ℕ × List ℕ) → LogPipes → BlockCache → BlockCache → Error
     → Type 0
-FailsToBuildPiece es pairs v old new error = AreUnread as_bytes v es old new error
+FailsToBuildPiece g es pairs v old new error = AreUnread as_bytes v es old new error
     ⊎ ((read : List RawMessage) × ReadsEntries as_bytes v es old new read
-    × (IsEntriesRefusal error 0 (indexes_of es) (map (λ e. e.bytes) read) ⊎ AreUnput pairs error))
+    × (IsEntriesRefusal error 0 (indexes_of es) (map (λ e. e.bytes) read) ⊎ AreUnput g pairs error))
 
 -- these entries make one such record: together they have no more, or there is but one
 abbrev pub MakeOnePiece : List EntryIndex → Type 0

@@ -1,16 +1,15 @@
 -- Why a part of a purge is refused, by its error.
-use Rattle.std.specs.Prelude.{◌≡◌, ◌⊎◌, IsTrue, ℕ, true, List, [], Some}
+use Rattle.std.specs.Prelude.{◌≡◌, ◌⊎◌, ℕ, List, [], Some}
 use Rattle.raft_log_model_laws.specs.Meaning.Slot.{Key}
 use Rattle.raft_log_model_laws.specs.Meaning.Content.{Value}
 use Rattle.raft_log_disk.specs.Causes.{Fails, IsLater}
 use Rattle.raft_log_record_base.specs.declared.errors.Error.{Error}
 use Rattle.raft_log_record_base.specs.declared.errors.Error.TheVariants as errors
 use Rattle.raft_log_record_base.specs.declared.pipe_log.LogQueue.TheVariants.{Rewrite}
-use Rattle.raft_log_record_marks.specs.Key.{is_internal}
+use Rattle.raft_log_record_marks.specs.Marking.{mark_key}
 use Rattle.raft_log_directory_laws.specs.Calls.{Which}
 use Rattle.raft_log_directory_laws.specs.Calls.Which.{InRewrite}
 use Rattle.raft_log_file_pipe.specs.Purging.{IsInSpan}
-use Rattle.raft_log_table_lists.specs.Shown.{Shown}
 use Rattle.raft_log_engine_laws.specs.raft_log_table_one.specs.Files.{IsMinFile}
 use Rattle.raft_log_file_pair.specs.State.{pipe_at}
 use Rattle.raft_log_file_pair.specs.Pipes.{LogPipes, files_of}
@@ -30,10 +29,9 @@ abbrev pub IsOneUnread : Home → LogMap → Shows → Error → Type 0
 IsOneUnread home m t error =
     (h : Holds home t m []) × (g : ℕ) × (i : ℕ) × IsUntold as_bytes g i t h.state m error
 
--- one of the log's own keys is a group's: it has a value in the map, or its deletion is owed
-abbrev pub HasOwnKey : LogMap → (ℕ → Shown) → Type 0
-HasOwnKey m v = (g : ℕ) × (k : List ℕ) × IsTrue (is_internal k)
-    × (((value : List ℕ) × (m g (Key k) ≡ Some (Value value))) ⊎ ((v g).deleted k ≡ true))
+-- the key of marks has a value in the group of marks, which would be a mark of an atomic group if it was written
+abbrev pub HasMarkValue : LogMap → Type 0
+HasMarkValue m = (value : List ℕ) × (m 0 (Key mark_key) ≡ Some (Value value))
 
 -- the least file of Rewrite that is in use for a group, as its table shows it, is none of the span's
 abbrev pub HasStray : Shows → Type 0
@@ -41,8 +39,8 @@ HasStray t = (g : ℕ) × (n : ℕ) × IsMinFile Rewrite (t.tables g) (Some n)
     × (IsInSpan n (pipe_at InRewrite (files_of t.pipes)) → ⊥)
 
 -- Why a part was refused, of an engine whose log is this map: a file call has failed during it, an entry isn't
--- read, a queue stands at its last number, a record would be too long, one of the log's own keys is a group's,
--- a file of Rewrite in use is none of the span's, or memory ran out. Nothing else comes.
+-- read, a queue stands at its last number, a record would be too long, a value would be a mark of an atomic
+-- group, a file of Rewrite in use is none of the span's, or memory ran out. Nothing else comes.
 abbrev pub HasReason : Home → LogMap → Error → Shows → Shows → Type 0
 HasReason home m (errors.Io kind) s t =
     Fails s.pipes.disk t.pipes.disk ⊎ IsOneUnread home m t (errors.Io kind)
@@ -51,7 +49,7 @@ HasReason home m errors.Failed s t = Fails s.pipes.disk t.pipes.disk
 HasReason home m (errors.Corruption text) s t = IsOneUnread home m t (errors.Corruption text)
 HasReason home m errors.NumberRange s t = EndsItsNumbers t.pipes
 HasReason home m errors.Full s t = HasTooMuch m t.tables
-HasReason home m (errors.InvalidArgument text) s t = HasOwnKey m t.tables
+HasReason home m (errors.InvalidArgument text) s t = HasMarkValue m
 HasReason home m (errors.Other fault) s t = HasStray t
 HasReason home m errors.Memory s t = Unit {0}
 HasReason home m _ s t = ⊥

@@ -20,8 +20,8 @@ use std::alloc::{AllocError, Global};
 /// Copies all values that a group has in Append in files up to the gate: they are written to Rewrite as one
 /// record, and stand there then. Where there are none, nothing is written.
 ///
-/// Refused is `Full`, `Memory`, `InvalidArgument` for one of the log's own keys, and what Rewrite refuses:
-/// nothing that shows is changed.
+/// Refused is `Full`, `Memory`, `InvalidArgument` for what would be a mark of an atomic group, and what Rewrite
+/// refuses: nothing that shows is changed.
 pub fn copy_keys<P: PipeLog, L: Log>(
     alloc: Global,
     rt: &L,
@@ -59,14 +59,14 @@ fn next_keys(
     Ok(pairs)
 }
 
-/// A batch that gives a group's keys these values.
+/// A batch that gives a group's keys these values, as they were read: a key may be one of the log's own.
 fn keys_batch(alloc: Global, group: u64, pairs: &[(Bytes, Bytes)]) -> Result<LogBatch>
     ensures ok { IfOk result (IsKeysBatch group pairs.now) }
-    ensures errors { IfErr result (λ error. AreUnput pairs.now error) }
+    ensures errors { IfErr result (λ error. AreUnput group pairs.now error) }
 {
     let mut batch = LogBatch::with_capacity(alloc, pairs.len())?;
     for pair in pairs {
-        batch.put(alloc, group, pair.0.as_slice(), pair.1.as_slice())?;
+        batch.put_as_read(alloc, group, pair.0.as_slice(), pair.1.as_slice())?;
     }
     Ok(batch)
 }

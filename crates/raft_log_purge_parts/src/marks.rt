@@ -2,6 +2,7 @@
 //! owed no more.
 
 ghost use Rattle.std.specs.Prelude.{◌≡◌, ◌∷◌, [], IfErr, IfOk, OnErr, OnOk};
+ghost use Rattle.raft_log_record_base.specs.declared.errors.Error.TheVariants as errors;
 ghost use Rattle.raft_log_record_marks.specs.Meaning.{tagged_items};
 ghost use Rattle.raft_log_engine_laws.specs.Shows.{shows};
 ghost use Rattle.raft_log_file_blocks.specs.declared.block_cache.BlockCache.{BlockCache};
@@ -10,7 +11,7 @@ ghost use Rattle.raft_log_table_all.specs.Tables.{shown_of, IsAtRest};
 ghost use Rattle.raft_log_purge_parts.specs.Marks.{CarriesMarks, WritesMarks};
 ghost use Rattle.raft_log_purge_parts.specs.Owed.{AddsSame, SaysMarks, SaysSame};
 ghost use Rattle.raft_log_purge_parts.specs.Parts.{PartIsRefused};
-ghost use Rattle.raft_log_purge_parts.specs.Refusals.{AreMarksUnmade, AreUnmarked};
+ghost use Rattle.raft_log_purge_parts.specs.Refusals.{AreUnmarked};
 
 use crate::record::record_of;
 use log::Log;
@@ -24,9 +25,8 @@ use std::alloc::Global;
 /// Carries the marks that are owed to Rewrite: they are written there as one record and synced, and then owed
 /// no more. Where none is owed, Rewrite is synced alone.
 ///
-/// `Memory`, `Full`, or `InvalidArgument` for a deletion of one of the log's own keys: nothing is done. `Io`,
-/// `TryAgain`, `NumberRange`, `Memory`: the record was refused. In each of these cases the marks are owed
-/// still. `Failed`: nothing is taken any more.
+/// `Memory`, `Full`: nothing is done. `Io`, `TryAgain`, `NumberRange`, `Memory`: the record was refused. In each
+/// of these cases the marks are owed still. `Failed`: nothing is taken any more.
 pub fn rewrite_marks<P: PipeLog, L: Log>(
     alloc: Global,
     rt: &L,
@@ -66,10 +66,10 @@ fn write_marks<P: PipeLog, L: Log>(
     Ok(())
 }
 
-/// A batch of the marks that are owed.
+/// A batch of the marks that are owed. It is refused for want of memory alone.
 fn marks_batch(alloc: Global, tables: &MemTables) -> Result<LogBatch>
     ensures ok { IfOk result (SaysMarks (shown_of tables.now)) }
-    ensures errors { IfErr result (λ error. AreMarksUnmade (shown_of tables.now) error) }
+    ensures errors { IfErr result (λ error. error ≡ errors.Memory) }
 {
     let marks = tables.owed_marks()?;
     let mut batch = LogBatch::with_capacity(alloc, marks.len())?;
@@ -91,7 +91,7 @@ fn add_marks(alloc: Global, batch: &mut LogBatch, items: &[LogItem]) -> Result<(
     Ok(())
 }
 
-/// Adds a mark to a batch: a command, or the deletion of a key.
+/// Adds a mark to a batch: a command, or the deletion of a key, which may be one of the log's own.
 fn add_mark(alloc: Global, batch: &mut LogBatch, item: &LogItem) -> Result<()>
     requires { batch.old.state ≡ Filling }
     ensures ok { OnOk result (AddsSame batch.old batch.new item.now) }
@@ -103,7 +103,10 @@ fn add_mark(alloc: Global, batch: &mut LogBatch, item: &LogItem) -> Result<()>
             Ok(())
         }
         LogItemContent::Kv(pair) => match pair.op_type {
-            OpType::Del => batch.delete(alloc, item.raft_group_id, pair.key.as_slice()),
+            OpType::Del => {
+                batch.delete_as_read(alloc, item.raft_group_id, pair.key.as_slice())?;
+                Ok(())
+            }
             OpType::Put => {
                 Err(Error::InvalidArgument(format!(in alloc; "a key that is put is no mark")?))
             }

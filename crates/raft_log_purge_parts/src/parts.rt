@@ -145,7 +145,8 @@ fn write_middle<P: PipeLog, L: Log>(
 
 /// A batch that ends an atomic group: it has the entries from there on, and the group's keys.
 ///
-/// Refused is what isn't read, `Full`, `Memory`, and `InvalidArgument`: the group is given up.
+/// Refused is what isn't read, `Full`, `Memory`, and `InvalidArgument` for what would be a mark of an atomic
+/// group: the group is given up.
 pub fn last_batch<P: PipeLog>(
     alloc: Global,
     pipes: &P,

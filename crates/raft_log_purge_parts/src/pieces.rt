@@ -71,7 +71,7 @@ pub fn piece_len(entries: &[EntryIndex]) -> usize
 /// A batch of entries that lie at these places, which are read through their blocks, and of keys of their
 /// group.
 ///
-/// Refused is what isn't read, `Full`, `Memory`, and `InvalidArgument`.
+/// Refused is what isn't read, `Full`, `Memory`, and `InvalidArgument` for what would be a mark of an atomic group.
 pub fn piece_of<P: PipeLog>(
     alloc: Global,
     pipes: &P,
@@ -82,7 +82,7 @@ pub fn piece_of<P: PipeLog>(
 ) -> Result<LogBatch>
     ensures ok { IfOk result (λ b. BuildsPiece group entries.now pairs.now
         (P.shown pipes.now) cache.old cache.new b) }
-    ensures err { IfErr result (λ error. FailsToBuildPiece entries.now pairs.now
+    ensures err { IfErr result (λ error. FailsToBuildPiece group entries.now pairs.now
         (P.shown pipes.now) cache.old cache.new error) }
 {
     let read: Vec<RawMessage> = cache.read_entries(alloc, pipes, entries)?;
@@ -91,14 +91,14 @@ pub fn piece_of<P: PipeLog>(
     Ok(batch)
 }
 
-/// Adds keys of a group, with their values.
+/// Adds keys of a group, with their values, as they were read: a key may be one of the log's own.
 fn add_keys(alloc: Global, batch: &mut LogBatch, group: u64, pairs: &[(Bytes, Bytes)]) -> Result<()>
     requires { batch.old.state ≡ Filling }
     ensures ok { OnOk result (AddsKeys group pairs.now batch.old batch.new) }
-    ensures errors { IfErr result (λ error. AreUnput pairs.now error) }
+    ensures errors { IfErr result (λ error. AreUnput group pairs.now error) }
 {
     for pair in pairs {
-        batch.put(alloc, group, pair.0.as_slice(), pair.1.as_slice())?;
+        batch.put_as_read(alloc, group, pair.0.as_slice(), pair.1.as_slice())?;
     }
     Ok(())
 }

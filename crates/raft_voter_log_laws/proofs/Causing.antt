@@ -3,13 +3,14 @@ use Rattle.std.proofs.Common.{◌≡◌, ◌∙◌, false, [], refl, sym, subst,
 use Rattle.std.proofs.lemmas.Bool.{false≢true}
 use Rattle.raft_log_record_base.specs.declared.errors.Error.{Error}
 use Rattle.raft_log_record_base.specs.declared.errors.Error.TheVariants as errors
+use Rattle.raft_log_record_marks.specs.Marking.{mark_key}
 use Rattle.raft_log_engine_laws.specs.Shows.{Home, LogMap, Shows, has_failed}
 use Rattle.raft_log_engine_laws.specs.Holding.{Holds}
 use Rattle.raft_log_purge.specs.Append.{FailsToRewriteAppend}
-use Rattle.raft_log_purge_parts.specs.Reasons.{HasOwnKey, HasReason}
+use Rattle.raft_log_purge_parts.specs.Reasons.{HasMarkValue, HasReason}
 use Rattle.raft_voter.specs.Rounds.{World}
 use Rattle.raft_voter_meaning_laws.specs.Voters.{Means}
-use Rattle.raft_voter_log_laws.specs.Causes.{CutRoundsHaveFailed, FailedPurgesHaveFailed, HasVotersReason, OwesOwnKey, PurgesTellCauses, StopsPurge}
+use Rattle.raft_voter_log_laws.specs.Causes.{CutRoundsHaveFailed, FailedPurgesHaveFailed, HasVotersReason, PurgesTellCauses, StopsPurge}
 use Rattle.raft_voter_log_laws.proofs.Listed.{voters_have_no_own_key}
 
 pub cut_rounds_have_failed : CutRoundsHaveFailed
@@ -37,12 +38,11 @@ failed_purges_have_failed home V s t error keeps stops failed =
     subst (λ (e : Error). HasReason home keeps.map e s t) is (f.cause home keeps.map [] h)
 
 -- a group of voters has none of the log's own keys
-owed : (m : LogMap) (V : World) (t : Shows) → Means m V → HasOwnKey m t.tables → OwesOwnKey t.tables
-owed m V t means (g, k, own, inl (value, has)) = absurd (let none = voters_have_no_own_key m V means g k own in let no : ⊥ = cc in no)
-owed m V t means (g, k, own, inr deleted) = (g, k, own, deleted)
+no_mark_value : (m : LogMap) (V : World) → Means m V → HasMarkValue m → ⊥
+no_mark_value m V means (value, has) = let none = voters_have_no_own_key m V means 0 mark_key refl in let no : ⊥ = cc in no
 
 voters_reason : (home : Home) (m : LogMap) (V : World) (error : Error) (s t : Shows) → Means m V → HasReason home m error s t → HasVotersReason home m error s t
-voters_reason home m V (errors.InvalidArgument text) s t means h = owed m V t means h
+voters_reason home m V (errors.InvalidArgument text) s t means h = no_mark_value m V means h
 voters_reason home m V error s t means h = h
 
 pub purges_tell_causes : PurgesTellCauses

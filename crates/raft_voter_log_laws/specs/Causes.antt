@@ -1,10 +1,8 @@
 -- Why rounds are cut off, and purges refused, of a store that keeps voters.
-use Rattle.std.specs.Prelude.{◌≡◌, ◌⊎◌, IsTrue, ℕ, true, List}
+use Rattle.std.specs.Prelude.{◌≡◌, ◌⊎◌, ℕ, true, List}
 use Rattle.raft_log_disk.specs.Causes.{Fails}
 use Rattle.raft_log_record_base.specs.declared.errors.Error.{Error}
 use Rattle.raft_log_record_base.specs.declared.errors.Error.TheVariants as errors
-use Rattle.raft_log_record_marks.specs.Key.{is_internal}
-use Rattle.raft_log_table_lists.specs.Shown.{Shown}
 use Rattle.raft_log_engine_laws.specs.Shows.{Home, LogMap, Shows, has_failed}
 use Rattle.raft_log_purge_parts.specs.Reasons.{HasReason}
 use Rattle.raft_log_engine_core.specs.Purging.{StopsPurgingExpired, StopsRewritingAppend}
@@ -30,13 +28,10 @@ abbrev pub FailedPurgesHaveFailed : Type 0
 FailedPurgesHaveFailed = (home : Home) (V : World) (s t : Shows) (error : Error) → Keeps home s V
     → StopsPurge s t error → has_failed t ≡ true → Fails s.pipes.disk t.pipes.disk
 
--- the deletion of one of the log's own keys is owed
-abbrev pub OwesOwnKey : (ℕ → Shown) → Type 0
-OwesOwnKey v = (g : ℕ) × (k : List ℕ) × IsTrue (is_internal k) × ((v g).deleted k ≡ true)
-
--- Why a purge is refused of a log that means voters, as it is of any log; but no group has one of the log's own keys.
+-- Why a purge is refused of a log that means voters, as it is of any log; but never for what is in it, as no group
+-- has one of the log's own keys.
 abbrev pub HasVotersReason : Home → LogMap → Error → Shows → Shows → Type 0
-HasVotersReason home m (errors.InvalidArgument text) s t = OwesOwnKey t.tables
+HasVotersReason home m (errors.InvalidArgument text) s t = ⊥
 HasVotersReason home m error s t = HasReason home m error s t
 
 -- A purge of a store tells why it was refused.

@@ -15,7 +15,7 @@ pub returns-in_err-batch-clause-err : goal.returns-in_err-batch-clause-err
 returns-in_err-batch-clause-err g c =
     let pairs = c.in_ok-pairs.pairs.items in
     let error = c.in_err-batch.field-0.0 in
-    let why = subst (λ (l : List (List ℕ × List ℕ)). AreUnput l error) c.as_slice.ensures.value c.in_err-batch.ensures.errors in
+    let why = subst (λ (l : List (List ℕ × List ℕ)). AreUnput c.args.group l error) c.as_slice.ensures.value c.in_err-batch.ensures.errors in
     let p = err_from_is_err_and c.from_residual-in_err-batch.result c.from_residual-in_err-batch.ensures.1 in
     rw (p.1, p.2) (λ cache. keys_not_written c.args.group c.args.gate pairs error (shows (g.P.PipeLog.shown c.args.pipes.now) c.args.tables.now cache) c.in_ok-pairs.ensures why)
 

@@ -5,7 +5,7 @@ use Rattle.raft_log_record_base.specs.declared.pipe_log.FileBlockHandle.{FileBlo
 use Rattle.raft_log_engine_laws.specs.Shows.{shows}
 use Rattle.raft_log_table_all.specs.Tables.{counts, shown_of}
 use Rattle.raft_log_purge_parts.proofs.PartExits.{marks_are_refused, marks_are_written, no_marks, refused_unmade}
-use Rattle.raft_log_purge_parts.proofs.Reasons.{mark_reason, marks_are_unmade, marks_long_reason, memory_or_full_unmade}
+use Rattle.raft_log_purge_parts.proofs.Reasons.{marks_long_reason, memory_or_full_unmade, memory_reason, memory_unmade}
 use Rattle.raft_log_purge_parts.proofs.marks.write_marks.Goals as goal
 
 pub returns-in_err-batch-clause-err : goal.returns-in_err-batch-clause-err
@@ -14,7 +14,7 @@ returns-in_err-batch-clause-err g c =
     rw (p.1, p.2) (λ cache.
     let s = shows (g.P.PipeLog.shown c.args.pipes.now) c.args.tables.now cache in
     let error = c.in_err-batch.field-0.0 in
-    refused_unmade error s (marks_are_unmade error s.tables c.in_err-batch.ensures.errors) (λ home m h. mark_reason home m error s s c.in_err-batch.ensures.errors))
+    refused_unmade error s (memory_unmade error c.in_err-batch.ensures.errors) (λ home m h. memory_reason home m error s s c.in_err-batch.ensures.errors))
 
 pub returns-in_err-signed-clause-err : goal.returns-in_err-signed-clause-err
 returns-in_err-signed-clause-err g c =

@@ -23,7 +23,7 @@ returns-in_err-batch-clause-err g c =
     let es = take ((c.args.done + c.args.count) - c.args.done) (drop c.args.done all) in
     let error = c.in_err-batch.field-0.0 in
     let none : c.as_slice.result.now ≡ [] = c.as_slice.ensures.value ∙ c.new-none.ensures.items in
-    let fails = subst (λ (l : List (List ℕ × List ℕ)). FailsToBuildPiece es l v c.args.cache.now c.piece_of.new.cache error) none c.in_err-batch.ensures.err in
+    let fails = subst (λ (l : List (List ℕ × List ℕ)). FailsToBuildPiece c.args.group es l v c.args.cache.now c.piece_of.new.cache error) none c.in_err-batch.ensures.err in
     let p = err_from_is_err_and c.from_residual.result c.from_residual.ensures.1 in
     λ parts.
     rw (p.1, p.2)

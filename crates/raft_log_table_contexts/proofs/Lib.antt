@@ -1,6 +1,7 @@
 pub mod Parts
 pub mod Fragments
 pub mod OpenGroups
+mod Slots
 pub mod Outcomes
 pub mod CarryOn
 pub mod Taking

@@ -1,21 +1,22 @@
 -- The open groups of a segment, as the code keeps them.
-use Rattle.std.proofs.Common.{◌≡◌, ℕ, ◌<◌, ◌==◌, ◌||◌, ◌+◌, suc, Bool, true, false, List, [], ◌∷◌, ◌++◌, map, take, drop, get_or, length, Some, None, unwrap_or, refl, sym, ap, ap₂, subst, ◌∙◌, arith}
-use Rattle.std.proofs.lemmas.List.{drop_more, map-append, set_split, take_more, take-append-drop}
-use Rattle.std.proofs.Math.ListN.{set}
+use Rattle.std.proofs.Common.{◌≡◌, ℕ, ◌==◌, Bool, true, false, if◌then◌else◌, List, [], ◌∷◌, ◌++◌, map, Option, Some, None, option_map, unwrap_or, refl, sym, ap, ap₂, subst, ◌∙◌, append_assoc, append-nil}
+use Rattle.std.proofs.lemmas.List.{map-append}
 use Rattle.raft_log_model_laws.specs.Item.{Record}
 use Rattle.raft_log_model_laws.specs.Item.Record.{Part, Plain}
 use Rattle.raft_log_model_laws.specs.Item.Mark.{End}
 use Rattle.raft_log_model_laws.specs.Groups.{counts, none_open, onto, opened}
 use Rattle.raft_log_model_laws.specs.Fragments.{head, more, next_unfinished, unfinished, without, Unfinished}
-use Rattle.raft_log_model_laws.proofs.Cases.{if_false}
+use Rattle.raft_log_model_laws.proofs.Cases.{at_bool, if_false}
 use Rattle.raft_log_model_laws.proofs.Chunks.{open_in}
 use Rattle.raft_log_table_lists.specs.Shown.{KeyValue}
 use Rattle.raft_log_table_lists.specs.Bridge.{Located}
-use Rattle.raft_log_table_contexts.specs.declared.pieces.OpenGroup.{OpenGroup}
+use Rattle.raft_log_table_contexts.specs.declared.part.GroupPart.{GroupPart}
+use Rattle.raft_log_table_contexts.specs.OpenGroups.{all_pushed, begun_at, with_part, without_begun, Begun}
 use Rattle.raft_log_table_contexts.specs.declared.pieces.GroupPieces.{GroupPieces}
 use Rattle.raft_log_table_contexts.specs.Records.{records_of, ReadItem, ReadRecord}
-use Rattle.raft_log_table_contexts.specs.Pieces.{as_said, head_at, is_among, left_open, parts_seen, seen_as, seen_by, unfinished_of, ArePieces, Reading}
-use Rattle.raft_log_table_contexts.proofs.Fragments.{counts_at_end, distinct, grown, known_where_open, more_at, more_none, open_at, unfinished_more, without_at, without_none, AreDistinct, IsKnown}
+use Rattle.raft_log_table_contexts.specs.Pieces.{as_said, head_at, left_open, part_seen, parts_seen, seen_as, seen_by, unfinished_of, ArePieces, Reading}
+use Rattle.raft_log_table_contexts.proofs.Fragments.{absent_before, absent_parts, counts_at_end, known_where_open, more_none, unfinished_more, AreDistinct, IsKnown}
+use Rattle.raft_log_table_contexts.proofs.Parts.{parts_push}
 
 pub records_append : (rs qs : List ReadRecord) → records_of (rs ++ qs) ≡ records_of rs ++ records_of qs
 records_append rs qs = map-append (λ r. r.taken) rs qs
@@ -42,110 +43,77 @@ pieces_more rs r p heads left = record {
       left φ ∙ sym (unfinished_more [] (seen_by φ rs) (seen_as φ r.file r.taken)) ∙ ap unfinished (sym (seen_append φ rs (r ∷ [])));
 }
 
--- Whether a group is open.
-among_push : (n : ℕ) (us : List OpenGroup) (u : OpenGroup) → is_among n (us ++ u ∷ []) ≡ (is_among n us || (u.number == n))
-among_push n [] u = or_false (u.number == n)
-  where
-    or_false : (b : Bool) → (b || false) ≡ b
-    or_false true = refl
-    or_false false = refl
-among_push n (v ∷ us) u = ap (λ (b : Bool). (v.number == n) || b) (among_push n us u) ∙ or_assoc (v.number == n) (is_among n us) (u.number == n)
-  where
-    or_assoc : (a b c : Bool) → (a || (b || c)) ≡ ((a || b) || c)
-    or_assoc true b c = refl
-    or_assoc false b c = refl
-
--- the first groups and one more
-pub among_more : (n : ℕ) (us : List OpenGroup) (i : ℕ) (u : OpenGroup) → i < length us → u ≡ get_or us i u → is_among n (take i us) ≡ false → (u.number == n) ≡ false
-    → is_among n (take (i + 1) us) ≡ false
-among_more n us i u lt is before apart =
-    ap (is_among n) (take_more us i u lt ∙ ap (λ (y : OpenGroup). take i us ++ y ∷ []) (sym is)) ∙ among_push n (take i us) u ∙ ap₂ (λ a b. a || b) before apart
-
-neither : (a b : Bool) → (a || b) ≡ false → (a ≡ false) × (b ≡ false)
-neither true b h = let never : ⊥ = cc in absurd never
-neither false b h = (refl, h)
-
 abbrev Us : Type 0
 Us = List (Unfinished Located KeyValue)
 
+-- Of groups of other numbers nothing goes, and none has more.
+pub others_stay : (n : ℕ) (us : List Begun) → begun_at n us ≡ None → without_begun n us ≡ us
+others_stay n [] h = refl
+others_stay n (u ∷ us) h =
+    let parts = absent_parts (u.0 == n) u (begun_at n us) h in
+    if_false (u.0 == n) (without_begun n us) (u ∷ without_begun n us) parts.0 ∙ ap (λ l. u ∷ l) (others_stay n us parts.1)
+
 module _ (φ : Reading) where
-  pub absent : (n : ℕ) (us : List OpenGroup) → is_among n us ≡ false → open_in (map (unfinished_of φ) us) n ≡ None
-  absent n [] h = refl
-  absent n (u ∷ us) h =
-      let parts = neither (u.number == n) (is_among n us) h in
-      if_false (u.number == n) (Some (parts_seen φ u.parts.items)) (open_in (map (unfinished_of φ) us) n) parts.0 ∙ absent n us parts.1
+  -- the groups' numbers and records, as they show
+  pub seen_at : (n : ℕ) (us : List Begun) → open_in (map (unfinished_of φ) us) n ≡ option_map (λ (u : Begun). parts_seen φ u.1) (begun_at n us)
+  seen_at n [] = refl
+  seen_at n (u ∷ us) =
+      at_bool (u.0 == n)
+      (λ b. (if b then Some (parts_seen φ u.1) else open_in (map (unfinished_of φ) us) n) ≡ option_map (λ (v : Begun). parts_seen φ v.1) (if b then Some u else begun_at n us))
+      (λ _. refl) (λ _. seen_at n us)
 
-  -- A group by its place.
-  parted : (us : List OpenGroup) (i : ℕ) (u : OpenGroup) → i < length us → u ≡ get_or us i u
-      → map (unfinished_of φ) us ≡ map (unfinished_of φ) (take i us) ++ (unfinished_of φ) u ∷ map (unfinished_of φ) (drop (suc i) us)
-  parted us i u lt is =
-      let next : i + 1 ≡ suc i = omega arith in
-      ap (map (unfinished_of φ)) (sym (take-append-drop i us) ∙ ap (λ (l : List OpenGroup). take i us ++ l)
-      (drop_more us i u lt ∙ ap₂ (λ (y : OpenGroup) k. y ∷ drop k us) (sym is) next))
-      ∙ map-append (unfinished_of φ) (take i us) (u ∷ drop (suc i) us)
+  pub seen_without : (n : ℕ) (us : List Begun) → map (unfinished_of φ) (without_begun n us) ≡ without n (map (unfinished_of φ) us)
+  seen_without n [] = refl
+  seen_without n (u ∷ us) =
+      at_bool (u.0 == n)
+      (λ b. map (unfinished_of φ) (if b then without_begun n us else u ∷ without_begun n us)
+      ≡ (if b then without n (map (unfinished_of φ) us) else unfinished_of φ u ∷ without n (map (unfinished_of φ) us)))
+      (λ _. seen_without n us) (λ _. ap (λ l. unfinished_of φ u ∷ l) (seen_without n us))
 
-  pub open_there : (us : List OpenGroup) (i : ℕ) (u : OpenGroup) → i < length us → u ≡ get_or us i u → AreDistinct (map (unfinished_of φ) us)
-      → open_in (map (unfinished_of φ) us) u.number ≡ Some (parts_seen φ u.parts.items)
-  open_there us i u lt is d =
-      let split = parted us i u lt is in
-      ap (λ (l : Us). open_in l u.number) split
-      ∙ open_at (map (unfinished_of φ) (take i us)) ((unfinished_of φ) u) (map (unfinished_of φ) (drop (suc i) us)) (subst AreDistinct split d)
-
-  pub removed : (us : List OpenGroup) (i : ℕ) (u : OpenGroup) → i < length us → u ≡ get_or us i u → AreDistinct (map (unfinished_of φ) us)
-      → map (unfinished_of φ) (take i us ++ drop (suc i) us) ≡ without u.number (map (unfinished_of φ) us)
-  removed us i u lt is d =
-      let split = parted us i u lt is in
-      map-append (unfinished_of φ) (take i us) (drop (suc i) us)
-      ∙ sym (without_at (map (unfinished_of φ) (take i us)) ((unfinished_of φ) u) (map (unfinished_of φ) (drop (suc i) us)) (subst AreDistinct split d))
-      ∙ ap (without u.number) (sym split)
-
-  pub replaced : (us : List OpenGroup) (i : ℕ) (u w : OpenGroup) (ys : List ReadItem) → i < length us → u ≡ get_or us i u → AreDistinct (map (unfinished_of φ) us)
-      → (unfinished_of φ) w ≡ grown true ys ((unfinished_of φ) u) → map (unfinished_of φ) (set us i w) ≡ more u.number ys (map (unfinished_of φ) us)
-  replaced us i u w ys lt is d new =
-      let split = parted us i u lt is in
-      ap (map (unfinished_of φ)) (set_split us i w lt)
-      ∙ map-append (unfinished_of φ) (take i us) (w ∷ drop (suc i) us)
-      ∙ ap (λ (v : Unfinished Located KeyValue). map (unfinished_of φ) (take i us) ++ v ∷ map (unfinished_of φ) (drop (suc i) us)) new
-      ∙ sym (more_at ys (map (unfinished_of φ) (take i us)) ((unfinished_of φ) u) (map (unfinished_of φ) (drop (suc i) us)) (subst AreDistinct split d))
-      ∙ ap (more u.number ys) (sym split)
+  pub seen_more : (n : ℕ) (p : GroupPart) (us : List Begun) → map (unfinished_of φ) (with_part n p us) ≡ more n (part_seen φ p) (map (unfinished_of φ) us)
+  seen_more n p [] = refl
+  seen_more n p (u ∷ us) = ap₂ (λ a l. a ∷ l) (one (u.0 == n)) (seen_more n p us)
+    where
+      one : (b : Bool) → unfinished_of φ (if b then (u.0, u.1 ++ p ∷ []) else u)
+          ≡ record { number = u.0; items = if b then parts_seen φ u.1 ++ part_seen φ p else parts_seen φ u.1 }
+      one true = ap (λ ys. record { number = u.0; items = ys }) (parts_push φ u.1 p)
+      one false = refl
 
   -- What counts at an end.
-  module _ (rs : List ReadRecord) (n : ℕ) (us : List OpenGroup) (all : map (unfinished_of φ) us ≡ unfinished (seen_by φ rs)) where
-    pub all_distinct : AreDistinct (map (unfinished_of φ) us)
-    all_distinct = subst AreDistinct (sym all) (distinct (seen_by φ rs))
+  module _ (rs : List ReadRecord) (n : ℕ) (us : List Begun) (all : map (unfinished_of φ) us ≡ unfinished (seen_by φ rs)) where
+    pub counts_nothing : (ys : List ReadItem) → begun_at n us ≡ None → counts (opened none_open (seen_by φ rs)) (Part (End n) ys) ≡ []
+    counts_nothing ys h =
+        counts_at_end (seen_by φ rs) n ys
+        ∙ ap (λ o. unwrap_or (onto o ys) []) (ap (λ (l : Us). open_in l n) (sym all) ∙ seen_at n us ∙ ap (option_map (λ (u : Begun). parts_seen φ u.1)) h)
 
-    pub counts_nothing : (ys : List ReadItem) → is_among n us ≡ false → counts (opened none_open (seen_by φ rs)) (Part (End n) ys) ≡ []
-    counts_nothing ys h = counts_at_end (seen_by φ rs) n ys ∙ ap (λ o. unwrap_or (onto o ys) []) (ap (λ (l : Us). open_in l n) (sym all) ∙ absent n us h)
+    pub none_more : (ys : List ReadItem) → begun_at n us ≡ None → map (unfinished_of φ) us ≡ more n ys (unfinished (seen_by φ rs))
+    none_more ys h =
+        sym (more_none n ys (map (unfinished_of φ) us) (seen_at n us ∙ ap (option_map (λ (u : Begun). parts_seen φ u.1)) h)) ∙ ap (more n ys) all
 
-    pub none_without : is_among n us ≡ false → map (unfinished_of φ) us ≡ without n (unfinished (seen_by φ rs))
-    none_without h = sym (without_none n (map (unfinished_of φ) us) (absent n us h)) ∙ ap (without n) all
-
-    pub none_more : (ys : List ReadItem) → is_among n us ≡ false → map (unfinished_of φ) us ≡ more n ys (unfinished (seen_by φ rs))
-    none_more ys h = sym (more_none n ys (map (unfinished_of φ) us) (absent n us h)) ∙ ap (more n ys) all
-
-    module _ (i : ℕ) (u : OpenGroup) (lt : i < length us) (is : u ≡ get_or us i u) (number : u.number ≡ n) where
-      there : open_in (map (unfinished_of φ) us) n ≡ Some (parts_seen φ u.parts.items)
-      there = subst (λ m. open_in (map (unfinished_of φ) us) m ≡ Some (parts_seen φ u.parts.items)) number (open_there us i u lt is all_distinct)
+    module _ (u : Begun) (found : begun_at n us ≡ Some u) where
+      there : open_in (map (unfinished_of φ) us) n ≡ Some (parts_seen φ u.1)
+      there = seen_at n us ∙ ap (option_map (λ (v : Begun). parts_seen φ v.1)) found
 
       pub known_there : IsKnown (head n [] (seen_by φ rs))
-      known_there = known_where_open (seen_by φ rs) n (parts_seen φ u.parts.items) (ap (λ (l : Us). open_in l n) (sym all) ∙ there)
+      known_there = known_where_open (seen_by φ rs) n (parts_seen φ u.1) (ap (λ (l : Us). open_in l n) (sym all) ∙ there)
 
-      pub counts_whole : (ys : List ReadItem) → counts (opened none_open (seen_by φ rs)) (Part (End n) ys) ≡ parts_seen φ u.parts.items ++ ys
+      pub counts_whole : (ys : List ReadItem) → counts (opened none_open (seen_by φ rs)) (Part (End n) ys) ≡ parts_seen φ u.1 ++ ys
       counts_whole ys = counts_at_end (seen_by φ rs) n ys ∙ ap (λ o. unwrap_or (onto o ys) []) (ap (λ (l : Us). open_in l n) (sym all) ∙ there)
 
-      pub without_there : map (unfinished_of φ) (take i us ++ drop (suc i) us) ≡ without n (unfinished (seen_by φ rs))
-      without_there =
-          subst (λ m. map (unfinished_of φ) (take i us ++ drop (suc i) us) ≡ without m (map (unfinished_of φ) us)) number (removed us i u lt is all_distinct)
-          ∙ ap (without n) all
+  -- the groups of that number are none of these
+  pub none_at : (n : ℕ) (us : List Begun) → open_in (map (unfinished_of φ) us) n ≡ None → begun_at n us ≡ None
+  none_at n us h = from_map (begun_at n us) (sym (seen_at n us) ∙ h)
+    where
+      from_map : (o : Option Begun) → option_map (λ (u : Begun). parts_seen φ u.1) o ≡ None → o ≡ None
+      from_map None e = refl
+      from_map (Some u) e = let never : ⊥ = cc in absurd never
 
-      pub more_there : (w : OpenGroup) (ys : List ReadItem) → (unfinished_of φ) w ≡ grown true ys ((unfinished_of φ) u)
-          → map (unfinished_of φ) (set us i w) ≡ more n ys (unfinished (seen_by φ rs))
-      more_there w ys new =
-          subst (λ m. map (unfinished_of φ) (set us i w) ≡ more m ys (map (unfinished_of φ) us)) number (replaced us i u w ys lt is all_distinct new)
-          ∙ ap (more n ys) all
-
-  pub removed_group : (rs : List (Record Located KeyValue)) (n : ℕ) (us : List OpenGroup) (i : ℕ) (u : OpenGroup) → i < length us → u ≡ get_or us i u → u.number ≡ n
-      → map (unfinished_of φ) us ≡ unfinished rs → map (unfinished_of φ) (take i us ++ drop (suc i) us) ≡ without n (map (unfinished_of φ) us)
-  removed_group rs n us i u lt is number all =
-      subst (λ m. map (unfinished_of φ) (take i us ++ drop (suc i) us) ≡ without m (map (unfinished_of φ) us)) number
-      (removed us i u lt is (subst AreDistinct (sym all) (distinct rs)))
+  -- groups of numbers of their own come behind the others as they are
+  pub pushed_apart : (us vs : List Begun) → AreDistinct (map (unfinished_of φ) (us ++ vs)) → all_pushed us vs ≡ us ++ vs
+  pushed_apart us [] d = sym (append-nil us)
+  pushed_apart us (v ∷ vs) d =
+      let split = map-append (unfinished_of φ) us (v ∷ vs) in
+      let apart = none_at v.0 us (absent_before (map (unfinished_of φ) us) (unfinished_of φ v) (map (unfinished_of φ) vs) (subst AreDistinct split d)) in
+      ap (λ l. all_pushed (l ++ v ∷ []) vs) (others_stay v.0 us apart)
+      ∙ pushed_apart (us ++ v ∷ []) vs (subst (λ l. AreDistinct (map (unfinished_of φ) l)) (sym (append_assoc us (v ∷ []) vs)) d)
+      ∙ append_assoc us (v ∷ []) vs

@@ -1,4 +1,5 @@
 pub mod Records
+pub mod OpenGroups
 pub mod Pieces
 pub mod Noting
 pub mod Context

@@ -1,5 +1,5 @@
 -- The pieces of atomic groups that the two ends of a segment cut.
-use Rattle.std.specs.Prelude.{◌≡◌, ℕ, ◌-◌, min, max, slice_get, ◌<◌, ◌==◌, ◌||◌, Bool, false, List, [], ◌∷◌, ◌++◌, map, length, get_or, Option, Some, None, codes}
+use Rattle.std.specs.Prelude.{◌≡◌, ℕ, ◌-◌, min, max, slice_get, ◌==◌, Bool, false, List, [], ◌∷◌, ◌++◌, map, length, Option, Some, None, codes}
 use Rattle.std.specs.String.{string_bytes}
 use Rattle.std.specs.Global.{Vec}
 use Rattle.std.specs.BTreeMap.{get}
@@ -9,7 +9,7 @@ use Rattle.raft_log_model_laws.specs.Item.Record.{Part, Plain}
 use Rattle.raft_log_model_laws.specs.Item.Item.{Compact}
 use Rattle.raft_log_model_laws.specs.Item.Mark.{End}
 use Rattle.raft_log_model_laws.specs.Groups.{counts, none_open, opened}
-use Rattle.raft_log_model_laws.specs.Fragments.{carried_on, completed, head, then_head, unfinished, without, Head, Unfinished}
+use Rattle.raft_log_model_laws.specs.Fragments.{carried_on, completed, head, then_head, unfinished, Head, Unfinished}
 use Rattle.raft_log_model_laws.specs.Fragments.Head.{GoesOn, Ends, BeginsAnew}
 use Rattle.raft_log_record_base.specs.declared.errors.Error.{Error}
 use Rattle.raft_log_record_base.specs.declared.errors.Error.TheVariants as errors
@@ -19,8 +19,9 @@ use Rattle.raft_log_table_lists.specs.Bridge.{Located}
 use Rattle.raft_log_table_contexts.specs.declared.part.GroupPart.{GroupPart}
 use Rattle.raft_log_table_contexts.specs.declared.head.GroupHead.{GroupHead}
 use Rattle.raft_log_table_contexts.specs.declared.head.GroupHead.TheVariants as code
-use Rattle.raft_log_table_contexts.specs.declared.pieces.OpenGroup.{OpenGroup}
+use Rattle.raft_log_table_contexts.specs.declared.open_groups.OpenGroup.{OpenGroup}
 use Rattle.raft_log_table_contexts.specs.declared.pieces.GroupPieces.{GroupPieces}
+use Rattle.raft_log_table_contexts.specs.OpenGroups.{Begun}
 use Rattle.raft_log_table_contexts.specs.Records.{in_file, said_in, ReadItem, ReadRecord}
 
 -- what is made of the items of a record, where it was read in that file
@@ -87,12 +88,12 @@ abbrev pub head_at : Reading → GroupPieces → ℕ → Head Located KeyValue
 head_at φ p n = head_in φ (get nat_cmp p.heads n)
 
 -- a group that has begun and not ended
-abbrev pub unfinished_of : Reading → OpenGroup → Unfinished Located KeyValue
-unfinished_of φ u = record { number = u.number; items = parts_seen φ u.parts.items }
+abbrev pub unfinished_of : Reading → Begun → Unfinished Located KeyValue
+unfinished_of φ u = record { number = u.0; items = parts_seen φ u.1 }
 
 -- the groups that have begun and not ended
 abbrev pub left_open : Reading → GroupPieces → List (Unfinished Located KeyValue)
-left_open φ p = map (unfinished_of φ) p.left_open.items
+left_open φ p = map (unfinished_of φ) p.left_open
 
 -- The pieces are those of the records: what these do with groups that are open before them, and the groups
 -- that they leave open; so it is of their items, of their files, and of whatever is made of both
@@ -189,20 +190,6 @@ PassesOn group (Some (code.Ends more)) old new =
     × ((φ : Reading)
     → parts_seen φ ps.items ≡ parts_seen φ group.parts.items ++ parts_seen φ more.items)
 PassesOn group _ old new = new ≡ old
-
--- the group of that number is cut short
-abbrev pub CutsShort : ℕ → List (Unfinished Located KeyValue) → List (Unfinished Located KeyValue) → Type 0
-CutsShort n old new = (rs : List (Record Located KeyValue)) → old ≡ unfinished rs → new ≡ without n old
-
--- whether the group of that number is among these
-abbrev pub is_among : ℕ → List OpenGroup → Bool
-is_among n [] = false
-is_among n (u ∷ us) = (u.number == n) || is_among n us
-
--- where the group of that number stands among these, if it does
-abbrev pub IsPlaceOf : ℕ → List OpenGroup → Option ℕ → Type 0
-IsPlaceOf n us None = is_among n us ≡ false
-IsPlaceOf n us (Some i) = (i < length us) × ((d : OpenGroup) → (get_or us i d).number ≡ n)
 
 -- the files of an atomic group, with one more of its records
 abbrev pub with_file : Option GroupFiles → ℕ → GroupFiles

@@ -6,6 +6,7 @@ pub mod context;
 mod head;
 pub mod laws;
 pub mod machine;
+mod open_groups;
 mod part;
 mod pieces;
 mod settle;

@@ -13,30 +13,21 @@ ghost use Rattle.raft_log_table_contexts.specs.Pieces.{
   parts_seen,
   ArePieces,
   CarriesOn,
-  CutsShort,
   EndsGroup,
   HandsOut,
-  IsPlaceOf,
   JoinsPieces,
   PassesOn,
   Reading,
   TakesRecord,
 };
+ghost use Rattle.raft_log_table_contexts.specs.OpenGroups.{all_pushed, without_begun};
 
 use crate::head::{GroupHead, joined};
+use crate::open_groups::{OpenGroup, OpenGroups};
 use crate::part::GroupPart;
 use std::alloc::{AllocError, Global};
 use std::collections::BTreeMap;
 use std::mem;
-
-/// An atomic group that has begun and not ended.
-#[derive(Drop)]
-pub(crate) struct OpenGroup {
-    /// The group's number.
-    pub(crate) number: u64,
-    /// The group's records so far.
-    pub(crate) parts: Vec<GroupPart>,
-}
 
 /// The pieces of atomic groups that the two ends of a segment cut: what the segment does with groups that
 /// are open before it, by their numbers, and the groups that it leaves open, in the order of their begins.
@@ -44,7 +35,7 @@ pub(crate) struct OpenGroup {
 pub(crate) struct GroupPieces {
     alloc: Global,
     heads: BTreeMap<u64, GroupHead>,
-    left_open: Vec<OpenGroup>,
+    left_open: OpenGroups,
 }
 
 impl GroupPieces {
@@ -55,7 +46,7 @@ impl GroupPieces {
         GroupPieces {
             alloc,
             heads: BTreeMap::new(alloc),
-            left_open: Vec::new(alloc),
+            left_open: OpenGroups::new(alloc),
         }
     }
 
@@ -65,33 +56,20 @@ impl GroupPieces {
     {
         let mut parts = Vec::new(self.alloc);
         parts.push(part)?;
-        self.cut_short(number);
         self.left_open.push(OpenGroup { number, parts })?;
         self.add_head(number, GroupHead::BeginsAnew)
-    }
-
-    /// The open group of a number goes, if there is one.
-    fn cut_short(&mut self, number: u64)
-        ensures left { (φ : Reading) → CutsShort number (left_open φ self.old) (left_open φ self.new) }
-        ensures heads { self.new.heads ≡ self.old.heads }
-    {
-        let Some(index) = self.position(number) else {
-            return;
-        };
-        self.left_open.remove(index);
     }
 
     /// A group goes on.
     pub(crate) fn go_on(&mut self, number: u64, part: GroupPart) -> Result<(), AllocError>
         ensures { OnOk result (TakesRecord (part_read (Middle number) part) self.old self.new) }
     {
-        let Some(index) = self.position(number) else {
-            let mut parts = Vec::new(self.alloc);
-            parts.push(part)?;
-            return self.add_head(number, GroupHead::GoesOn(parts));
+        let Some(part) = self.left_open.go_on(number, part)? else {
+            return Ok(());
         };
-        self.left_open[index].parts.push(part)?;
-        Ok(())
+        let mut parts = Vec::new(self.alloc);
+        parts.push(part)?;
+        self.add_head(number, GroupHead::GoesOn(parts))
     }
 
     /// A group ends: its records are handed out, if it began in this segment.
@@ -102,13 +80,12 @@ impl GroupPieces {
     ) -> Result<Option<Vec<GroupPart>>, AllocError>
         ensures { IfOk result (λ whole. EndsGroup number part self.old self.new whole) }
     {
-        let Some(index) = self.position(number) else {
+        let Some(mut group) = self.left_open.take(number) else {
             let mut parts = Vec::new(self.alloc);
             parts.push(part)?;
             self.add_head(number, GroupHead::Ends(parts))?;
             return Ok(None);
         };
-        let mut group = self.left_open.remove(index);
         group.parts.push(part)?;
         Ok(Some(group.parts))
     }
@@ -120,11 +97,11 @@ impl GroupPieces {
     {
         let GroupPieces {
             mut heads,
-            mut left_open,
+            left_open,
             ..
         } = later;
         let done = self.carry_on(&mut heads)?;
-        self.left_open.append(&mut left_open)?;
+        self.leave_open(left_open)?;
         self.add_heads(heads)?;
         Ok(done)
     }
@@ -141,9 +118,9 @@ impl GroupPieces {
             HandsOut self.old (λ φ n. head_in φ (get nat_cmp heads.old n)) done.items) }
         ensures heads { self.new.heads ≡ self.old.heads }
     {
-        let open = mem::replace(&mut self.left_open, Vec::new(self.alloc));
+        let open = mem::replace(&mut self.left_open, OpenGroups::new(self.alloc));
         let mut done = Vec::new(self.alloc);
-        for group in open {
+        for group in open.into_groups()? {
             let head = heads.remove(&group.number);
             self.pass(group, head, &mut done)?;
         }
@@ -157,7 +134,9 @@ impl GroupPieces {
         head: Option<GroupHead>,
         done: &mut Vec<Vec<GroupPart>>,
     ) -> Result<(), AllocError>
-        ensures left { OnOk result ((φ : Reading) → left_open φ self.new
+        ensures left { OnOk result ((φ : Reading)
+            → without_begun group.number self.old.left_open ≡ self.old.left_open
+            → left_open φ self.new
             ≡ left_open φ self.old
             ++ go_on group.number (parts_seen φ group.parts.items) (head_in φ head)) }
         ensures done { OnOk result (PassesOn group head done.old.items done.new.items) }
@@ -180,6 +159,17 @@ impl GroupPieces {
         Ok(())
     }
 
+    /// The next segment leaves these groups open.
+    fn leave_open(&mut self, later: OpenGroups) -> Result<(), AllocError>
+        ensures open { OnOk result (self.new.left_open ≡ all_pushed self.old.left_open later) }
+        ensures heads { self.new.heads ≡ self.old.heads }
+    {
+        for group in later.into_groups()? {
+            self.left_open.push(group)?;
+        }
+        Ok(())
+    }
+
     /// The next segment does this with groups.
     fn add_heads(&mut self, heads: BTreeMap<u64, GroupHead>) -> Result<(), AllocError>
         ensures heads { OnOk result ((φ : Reading) (n : ℕ) → head_at φ self.new n
@@ -191,18 +181,6 @@ impl GroupPieces {
             self.add_head(number, head)?;
         }
         Ok(())
-    }
-
-    /// Where the open group of a number stands.
-    fn position(&self, number: u64) -> Option<usize>
-        ensures { IsPlaceOf number self.now.left_open.items result }
-    {
-        for index in 0..self.left_open.len() {
-            if self.left_open[index].number == number {
-                return Some(index);
-            }
-        }
-        None
     }
 
     /// The segment does this with the group of a number, behind what it did so far.

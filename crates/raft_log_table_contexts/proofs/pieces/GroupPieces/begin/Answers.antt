@@ -1,14 +1,12 @@
-use Rattle.std.proofs.Common.{ap, ap₂, ◌∙◌, ◌++◌, ◌∷◌, [], map, ◌==◌, if◌then◌else◌}
+use Rattle.std.proofs.Common.{ap, ap₂, ◌∙◌, ◌++◌, ◌∷◌, [], map}
 use Rattle.std.proofs.lemmas.List.{map-append}
-use Rattle.std.specs.BTreeMap.{get}
-use Rattle.std.specs.Ordering.{nat_cmp}
-use Rattle.raft_log_model_laws.specs.Fragments.{then_head, without}
+use Rattle.raft_log_model_laws.specs.Fragments.{without}
 use Rattle.raft_log_model_laws.specs.Item.Mark.{Begin}
-use Rattle.raft_log_model_laws.specs.Fragments.Head.{BeginsAnew}
-use Rattle.raft_log_table_contexts.specs.Pieces.{head_at, head_in, part_read, part_seen, parts_seen, seen_by, unfinished_of, Reading}
+use Rattle.raft_log_table_contexts.specs.OpenGroups.{without_begun}
+use Rattle.raft_log_table_contexts.specs.Pieces.{head_at, part_read, part_seen, parts_seen, seen_by, unfinished_of, Reading}
 use Rattle.raft_log_table_contexts.proofs.Parts.{parts_one}
 use Rattle.raft_log_table_contexts.proofs.Fragments.{head_begins}
-use Rattle.raft_log_table_contexts.proofs.OpenGroups.{pieces_more}
+use Rattle.raft_log_table_contexts.proofs.OpenGroups.{pieces_more, seen_without}
 use Rattle.raft_log_table_contexts.proofs.Outcomes.{on_ok_from}
 use Rattle.raft_log_table_contexts.proofs.pieces.GroupPieces.begin.Goals as goal
 
@@ -20,9 +18,8 @@ returns c =
     on_ok_from c.add_head.result c.add_head.ensures.heads (λ heads rs p.
     pieces_more rs (part_read (Begin n) part) c.add_head.new.self
     (λ φ k. heads φ k
-    ∙ ap (λ h. if n == k then then_head h BeginsAnew else h) (ap (λ m. head_in φ (get nat_cmp m k)) c.cut_short.ensures.heads)
     ∙ head_begins k n (part_seen φ part) (head_at φ c.args.self.now k) (seen_by φ rs) (p.heads φ k))
-    (λ φ. ap (λ v. map (unfinished_of φ) v.items) c.add_head.ensures.others
-    ∙ ap (map (unfinished_of φ)) c.in_ok-push-2.ensures.items
-    ∙ map-append (unfinished_of φ) c.cut_short.new.self.left_open.items _
-    ∙ ap₂ (λ l ys. l ++ record { number = n; items = ys } ∷ []) (c.cut_short.ensures.left φ (seen_by φ rs) (p.left_open φ) ∙ ap (without n) (p.left_open φ)) (items φ)))
+    (λ φ. ap (map (unfinished_of φ)) c.add_head.ensures.others
+    ∙ ap (map (unfinished_of φ)) c.in_ok-push-2.ensures
+    ∙ map-append (unfinished_of φ) (without_begun n c.args.self.now.left_open) _
+    ∙ ap₂ (λ l ys. l ++ record { number = n; items = ys } ∷ []) (seen_without φ n c.args.self.now.left_open ∙ ap (without n) (p.left_open φ)) (items φ)))

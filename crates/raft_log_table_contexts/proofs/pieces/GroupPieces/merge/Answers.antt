@@ -1,4 +1,4 @@
-use Rattle.std.proofs.Common.{◌++◌, [], ap, ap₂, sym, ◌∙◌, map}
+use Rattle.std.proofs.Common.{◌++◌, [], ap, ap₂, sym, subst, ◌∙◌, map}
 use Rattle.std.proofs.lemmas.List.{map-append}
 use Rattle.std.specs.BTreeMap.{get}
 use Rattle.std.specs.Ordering.{nat_cmp}
@@ -7,7 +7,8 @@ use Rattle.raft_log_model_laws.proofs.Heads.{head_append}
 use Rattle.raft_log_model_laws.proofs.LeftOpen.{unfinished_append}
 use Rattle.raft_log_table_contexts.specs.Pieces.{head_at, head_in, seen_by, unfinished_of, IsCompleted, Reading}
 use Rattle.raft_log_table_contexts.proofs.CarryOn.{all_turned, same_heads}
-use Rattle.raft_log_table_contexts.proofs.OpenGroups.{seen_append}
+use Rattle.raft_log_table_contexts.proofs.Fragments.{distinct, AreDistinct}
+use Rattle.raft_log_table_contexts.proofs.OpenGroups.{pushed_apart, seen_append}
 use Rattle.raft_log_table_contexts.proofs.pieces.GroupPieces.merge.Goals as goal
 
 pub returns : goal.returns
@@ -18,18 +19,20 @@ returns c = λ xs ys p q.
         heads = λ φ n.
             let left = head_in φ (get nat_cmp c.carry_on.new.heads n) in
             c.in_ok-add_heads.ensures.heads φ n
-            ∙ ap (λ m. then_head (head_in φ (get nat_cmp m n)) left) c.in_ok-done.ensures.heads
+            ∙ ap (λ m. then_head (head_in φ (get nat_cmp m n)) left) (c.in_ok-leave_open.ensures.heads ∙ c.in_ok-done.ensures.heads)
             ∙ ap (λ h. then_head h left) (p.heads φ n)
             ∙ (carry φ).heads n
             ∙ ap (then_head (head n [] (seen_by φ xs))) (q.heads φ n)
             ∙ sym (head_append n [] (seen_by φ xs) (seen_by φ ys))
             ∙ ap (head n []) (sym (seen_append φ xs ys));
         left_open = λ φ.
-            ap (λ v. map (unfinished_of φ) v.items) c.in_ok-add_heads.ensures.others
-            ∙ ap (map (unfinished_of φ)) c.in_ok-append.ensures.items
-            ∙ map-append (unfinished_of φ) c.carry_on.new.self.left_open.items c.args.later.left_open.items
+            let kept = c.carry_on.new.self.left_open in
+            let both = map-append (unfinished_of φ) kept c.args.later.left_open
             ∙ ap₂ (λ a b. a ++ b) ((carry φ).left ∙ ap₂ carried_on (p.left_open φ) (heads φ)) (q.left_open φ)
-            ∙ sym (unfinished_append (seen_by φ xs) (seen_by φ ys))
+            ∙ sym (unfinished_append (seen_by φ xs) (seen_by φ ys)) in
+            ap (map (unfinished_of φ)) (c.in_ok-add_heads.ensures.others ∙ c.in_ok-leave_open.ensures.open
+            ∙ pushed_apart φ kept c.args.later.left_open (subst AreDistinct (sym both) (distinct (seen_by φ xs ++ seen_by φ ys))))
+            ∙ both
             ∙ ap unfinished (sym (seen_append φ xs ys));
       },
       record {

@@ -1,5 +1,5 @@
 -- Each round of a run has its cause.
-use Rattle.std.proofs.Common.{List, [], ◌∷◌, ◌++◌, sym, subst}
+use Rattle.std.proofs.Common.{List, [], ◌∷◌, ◌++◌, refl, sym, subst, inl, inr}
 use Rattle.std.specs.Prelude.{All}
 use Rattle.std.proofs.lemmas.List.Elements.{All-append, All-cons, All-nil}
 use Rattle.raft_voter_messages.specs.declared.round.Round.{Round}
@@ -15,28 +15,37 @@ use Rattle.raft_voter_world.specs.History.Moment.{opened, unread, fell, unopened
 use Rattle.raft_voter_world.specs.Run.{IsRun, moments_of}
 use Rattle.raft_voter_world.specs.Stores.{Disk, Upkeep}
 use Rattle.raft_voter_world.proofs.Joining.{happen_more}
-use Rattle.raft_voter_world_laws.specs.Causes.{EachRoundHasItsCause, HasItsCause}
-use Rattle.raft_voter_world_laws.specs.Causes.HasItsCause.{answered as was_answered, cut_off as was_cut_off, idle as was_idle}
+use Rattle.raft_voter_world_laws.specs.Causes.{EachRoundHasItsCause, HappenedTo, HasItsCause}
+use Rattle.raft_voter_world_laws.specs.Causes.HasItsCause.{was_answered, was_cut_off, was_idle}
 
--- the round of a moment has its cause
-one_has : {S F : Type 0} (v : Service S) (u : Upkeep S) (d : Disk S F) (storage : Storage S F) (m : Moment S F) → Happens v u d storage m → All (HasItsCause v) (rounds_of m)
-one_has v u d storage (opened workers store voters place now) h = All-nil (HasItsCause v)
-one_has v u d storage (unread workers store now files) h = All-nil (HasItsCause v)
-one_has v u d storage (fell workers store gone files) h = All-nil (HasItsCause v)
-one_has v u d storage (unopened workers cause files) h = All-nil (HasItsCause v)
-one_has v u d storage (crashed gone files) h = All-nil (HasItsCause v)
-one_has v u d storage (kept change now) h = All-nil (HasItsCause v)
-one_has v u d (Open store) (answered round now) h = All-cons (HasItsCause v) round [] (was_answered store now h) (All-nil (HasItsCause v))
-one_has v u d (Closed files) (answered round now) h = absurd h
-one_has v u d (Open store) (cut_off round cause now) h = All-cons (HasItsCause v) round [] (was_cut_off store now cause h) (All-nil (HasItsCause v))
-one_has v u d (Closed files) (cut_off round cause now) h = absurd h
-one_has v u d (Open store) (idle round files) h = absurd h
-one_has v u d (Closed old) (idle round files) h = All-cons (HasItsCause v) round [] (was_idle h.0) (All-nil (HasItsCause v))
+-- Rounds.
 
--- so have those of moments one behind another
-each_has : {S F : Type 0} (v : Service S) (u : Upkeep S) (d : Disk S F) (storage : Storage S F) (ms : List (Moment S F)) → Happen v u d storage ms → All (HasItsCause v) (rounds_in ms)
-each_has v u d storage [] h = All-nil (HasItsCause v)
-each_has v u d storage (m ∷ ms) h = All-append (HasItsCause v) (rounds_of m) (rounds_in ms) (one_has v u d storage m h.0) (each_has v u d (behind m) ms h.1)
+-- the round of a moment that is among some has its cause
+one_has : {S F : Type 0} (v : Service S) (u : Upkeep S) (d : Disk S F) (Among : Moment S F → Storage S F → Type 0) (storage : Storage S F) (m : Moment S F)
+    → Happens v u d storage m → Among m storage → All (HasItsCause v Among) (rounds_of m)
+one_has v u d Among storage (opened workers store voters place now) h a = All-nil (HasItsCause v Among)
+one_has v u d Among storage (unread workers store now files) h a = All-nil (HasItsCause v Among)
+one_has v u d Among storage (fell workers store gone files) h a = All-nil (HasItsCause v Among)
+one_has v u d Among storage (unopened workers cause files) h a = All-nil (HasItsCause v Among)
+one_has v u d Among storage (crashed gone files) h a = All-nil (HasItsCause v Among)
+one_has v u d Among storage (kept change now) h a = All-nil (HasItsCause v Among)
+one_has v u d Among (Open store) (answered round now) h a = All-cons (HasItsCause v Among) round [] (was_answered store now a h) (All-nil (HasItsCause v Among))
+one_has v u d Among (Closed files) (answered round now) h a = absurd h
+one_has v u d Among (Open store) (cut_off round cause now) h a = All-cons (HasItsCause v Among) round [] (was_cut_off store now cause a h) (All-nil (HasItsCause v Among))
+one_has v u d Among (Closed files) (cut_off round cause now) h a = absurd h
+one_has v u d Among (Open store) (idle round files) h a = absurd h
+one_has {S} {F} v u d Among (Closed old) (idle round files) h a =
+    All-cons (HasItsCause v Among) round [] (was_idle files (subst (λ (f : F). Among (idle round files) (Closed f)) (sym h.1) a) h.0) (All-nil (HasItsCause v Among))
+
+-- so have those of moments one behind another, of which each is among them
+each_has : {S F : Type 0} (v : Service S) (u : Upkeep S) (d : Disk S F) (Among : Moment S F → Storage S F → Type 0) (storage : Storage S F) (ms : List (Moment S F))
+    → Happen v u d storage ms → ((m : Moment S F) (at : Storage S F) → HappenedTo m at storage ms → Among m at) → All (HasItsCause v Among) (rounds_in ms)
+each_has v u d Among storage [] h among = All-nil (HasItsCause v Among)
+each_has v u d Among storage (m ∷ ms) h among =
+    All-append (HasItsCause v Among) (rounds_of m) (rounds_in ms) (one_has v u d Among storage m h.0 (among m storage (inl (refl, refl))))
+    (each_has v u d Among (behind m) ms h.1 (λ n at later. among n at (inr later)))
+
+-- Moments of a run.
 
 -- what was played happened
 played_happened : {S F : Type 0} (v : Service S) (u : Upkeep S) (d : Disk S F) (gone : Left) (storage : Storage S F) (events : List Event) (turns : List (List (Moment S F)))
@@ -54,6 +63,7 @@ run_happened v u d files events report run =
     happen_more v u d (Closed files) (moments_of run.turns) run.closing (played_happened v u d Last (Closed files) events run.turns run.played) run.closed
 
 pub each_round_has_its_cause : {S F : Type 0} (v : Service S) (u : Upkeep S) (d : Disk S F) → EachRoundHasItsCause v u d
-each_round_has_its_cause v u d files events report run =
-    subst (λ (rounds : List Round). All (HasItsCause v) rounds) (sym run.rounds)
-    (each_has v u d (Closed files) (moments_of run.turns ++ run.closing) (run_happened v u d files events report run))
+each_round_has_its_cause {S} {F} v u d files events report run =
+    let ms : List (Moment S F) = moments_of run.turns ++ run.closing in
+    subst (λ (rounds : List Round). All (HasItsCause v (λ m at. HappenedTo m at (Closed files) ms)) rounds) (sym run.rounds)
+    (each_has v u d (λ m at. HappenedTo m at (Closed files) ms) (Closed files) ms (run_happened v u d files events report run) (λ m at among. among))

@@ -1,22 +1,40 @@
 -- Why each round of a run is told as it is.
-use Rattle.std.specs.Prelude.{List, All}
+use Rattle.std.specs.Prelude.{◌≡◌, ◌⊎◌, ◌++◌, List, [], ◌∷◌, All}
 use Rattle.raft_voter_messages.specs.declared.round.Round.{Round}
 use Rattle.raft_voter.specs.Service.{Service}
 use Rattle.raft_voter.specs.declared.service.Cause.{Cause}
 use Rattle.raft_voter_world.specs.declared.event.Event.{Event}
 use Rattle.raft_voter_world.specs.declared.report.WorldReport.{WorldReport}
-use Rattle.raft_voter_world.specs.History.{IsAnswered, IsCutOff, IsIdle}
-use Rattle.raft_voter_world.specs.Run.{IsRun}
+use Rattle.raft_voter_world.specs.declared.storage.Storage.{Storage}
+use Rattle.raft_voter_world.specs.declared.storage.Storage.TheVariants.{Closed, Open}
+use Rattle.raft_voter_world.specs.History.{IsAnswered, IsCutOff, IsIdle, Moment, behind}
+use Rattle.raft_voter_world.specs.History.Moment.{answered, cut_off, idle}
+use Rattle.raft_voter_world.specs.Run.{IsRun, moments_of}
 use Rattle.raft_voter_world.specs.Stores.{Disk, Upkeep}
 
--- A store answered a round, and may refuse the places that it refused; or a store cut it off, for a cause that it had;
--- or it was cut off while no store was open.
-pub data HasItsCause {S : Type 0} (v : Service S) (round : Round) : Type 0 where
-  answered : (old new : S) → IsAnswered v old round new → HasItsCause v round
-  cut_off : (old new : S) (cause : Cause) → IsCutOff v old round cause new → HasItsCause v round
-  idle : IsIdle round → HasItsCause v round
+-- Of these moments, from a storage on, this one happened to this storage.
+abbrev pub HappenedTo : {S F : Type 0} → Moment S F → Storage S F → Storage S F → List (Moment S F) → Type 0
+HappenedTo m at storage [] = ⊥
+HappenedTo m at storage (n ∷ ms) = ((n ≡ m) × (storage ≡ at)) ⊎ HappenedTo m at (behind n) ms
+
+-- in a run, closing included, this moment happened to this storage
+abbrev pub IsOfRun :
+    {S F : Type 0} (v : Service S) (u : Upkeep S) (d : Disk S F) (files : F) (events : List Event) (report : WorldReport F)
+    → IsRun v u d files events report → Moment S F → Storage S F → Type 0
+IsOfRun v u d files events report run m at = HappenedTo m at (Closed files) (moments_of run.turns ++ run.closing)
+
+-- Of the moments that happened, one is this round: a store answered it, and may refuse the places that it refused; or
+-- a store cut it off, for a cause that it had; or it was cut off while no store was open.
+pub data HasItsCause {S F : Type 0} (v : Service S) (Happened : Moment S F → Storage S F → Type 0) (round : Round)
+    : Type 0 where
+  was_answered : (old new : S) → Happened (answered round new) (Open old) → IsAnswered v old round new
+      → HasItsCause v Happened round
+  was_cut_off : (old new : S) (cause : Cause) → Happened (cut_off round cause new) (Open old)
+      → IsCutOff v old round cause new → HasItsCause v Happened round
+  was_idle : (files : F) → Happened (idle round files) (Closed files) → IsIdle round → HasItsCause v Happened round
 
 -- So it is of each round that a run tells of.
 abbrev pub EachRoundHasItsCause : {S F : Type 0} → Service S → Upkeep S → Disk S F → Type 0
 EachRoundHasItsCause {S} {F} v u d = (files : F) (events : List Event) (report : WorldReport F)
-    → IsRun v u d files events report → All (HasItsCause v) report.transcript.rounds
+    → (run : IsRun v u d files events report)
+    → All (HasItsCause v (IsOfRun v u d files events report run)) report.transcript.rounds

@@ -29,12 +29,14 @@ MayFollow cut X = TakesFirst cut.before cut.requests cut.refused X
 -- which voters it serves, all that they took being stored,
 -- whether it failed (then it serves nothing until it is opened again),
 -- behind which round, cut off or not, stand the voters that are found once it is closed, or a crash came,
--- and which places of a round that it answers it may refuse, by what it was before the round and is after it
+-- which places of a round it may refuse, by what it was before the round and is after it, answered or failed,
+-- and that a file call failed between what it was and what it is
 pub record Service (S : Type 0) : Type 1 where
   pub serves : S → World → Type 0
   pub is_failed : S → Bool
   pub leaves : S → CutRound → Type 0
   pub may_refuse : S → S → List (ℕ × Request) → List ℕ → Type 0
+  pub fails : S → S → Type 0
 
 -- What files say of themselves that keep a service's voters while it isn't open:
 -- behind which round, cut off or not, stand the voters that the next open finds, be it after a crash,
@@ -112,11 +114,13 @@ AnswersRound v requests told old new =
 
 -- Rounds that are cut off.
 
--- The file system failed: the voters took the requests below one place, but for those at refused places, and
--- so they are left.
+-- The file system failed: a file call did in the round, whichever voters were served. They took the requests
+-- below one place, but for those at refused places, which may be refused, and so they are left.
 pub record TookSome {S : Type 0} (v : Service S) (refused : List ℕ) (requests : List (ℕ × Request))
     (old new : S) : Type 0 where
   pub rising : IsTrue (are_rising 0 (length requests) refused)
+  pub may_refuse : v.may_refuse old new requests refused
+  pub fails : (W : World) → IsOpenAt v old W → v.fails old new
   pub left : (W : World) → IsOpenAt v old W
       → v.leaves new (record { before = W; requests = requests; refused = refused })
 

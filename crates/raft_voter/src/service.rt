@@ -74,16 +74,17 @@ pub trait RoundService<R> {
     ghost use Rattle.raft_voter.specs.Service.{Service};
 
     /// Which voters it serves, whether it failed, which voters are found once it is closed or a crash came,
-    /// and which requests it may refuse.
+    /// which requests it may refuse, and that a file call failed below it.
     ghost service: { Service Self };
 
     /// The voters take the requests in order, but for those at refused places. The replies are handed out
     /// only once all that the voters changed is on the disk for good, so a crash leaves the voters that gave
     /// them.
     ///
-    /// An `Err` hands out no reply. Its cause tells whether anything was taken: where the file system failed
-    /// the requests below one place may have been, but for those at refused places, and so the voters are
-    /// found by the next open. Else the voters are as they were.
+    /// An `Err` hands out no reply. Its cause tells whether anything was taken: where the file system failed,
+    /// as a file call did in the round, the requests below one place may have been, but for those at refused
+    /// places, which it may refuse, and so the voters are found by the next open. Else the voters are as they
+    /// were.
     fn serve(&mut self, rt: &R, requests: &[(u64, Request)]) -> Result<Items<Reply>, RoundFault>
         ensures ok { IfOk result (λ told. AnswersRound service requests.now told self.old self.new) }
         ensures refused { IfOk result (λ told.

@@ -72,9 +72,11 @@ pub took_nothing : (W : World) (asked : List (ℕ × Request)) → TakesFirst W 
 took_nothing W asked = took_front W W asked (none_taken W asked)
 
 -- the file in memory couldn't grow: what was synced is as before, and behind it is written what some of the first requests made of the voters
-pub took_some : (old new : PlainVoters) (asked : List (ℕ × Request)) → AnswersNone old asked new → TookSome plain_voters [] asked old new
-took_some old new asked s = record {
+pub took_some : (old new : PlainVoters) (asked : List (ℕ × Request)) → new.failed ≡ true → AnswersNone old asked new → TookSome plain_voters [] asked old new
+took_some old new asked failed s = record {
   rising = refl;
+  may_refuse = rw failed refl;
+  fails = λ W at. (at.alive, failed);
   left = λ W at.
       let stored = at.serves.1 in
       let P : List ℕ → Type 0 = λ bytes. LeadTo (world_of old) bytes (world_of old) in

@@ -1,5 +1,5 @@
 -- The plain store: its voters in memory, and the file that holds them.
-use Rattle.std.specs.Prelude.{◌≡◌, ◌<◌, ◌≤◌, ◌⊎◌, ℕ, List, [], ◌∷◌, ◌++◌, length, take}
+use Rattle.std.specs.Prelude.{◌≡◌, ◌<◌, ◌≤◌, ◌⊎◌, ℕ, Bool, true, false, List, [], ◌∷◌, ◌++◌, length, take}
 use Rattle.raft_voter_messages.specs.declared.reply.Reply.{Reply}
 use Rattle.raft_voter_messages.specs.declared.request.Request.{Request}
 use Rattle.raft_voter.specs.Rounds.{World, after, after_one}
@@ -38,14 +38,20 @@ pub record FileStandsBehind (file : PlainContent) (cut : CutRound) : Type 0 wher
   pub synced : StandsBehind file.synced cut
   pub read : StandsBehind (whole file) cut
 
+-- the places that a round refuses: those of the requests out of range, and none where the service failed in it
+abbrev pub refused_by : Bool → List (ℕ × Request) → List ℕ
+refused_by false requests = out_of_range 0 requests
+refused_by true requests = []
+
 -- The plain voters as a service: a crash leaves what was synced, and just the requests out of range are
--- refused.
+-- refused. The file is in memory, and that memory is refused is all that fails there: the voters have failed then.
 abbrev pub plain_voters : Service PlainVoters
 plain_voters = record {
   serves = ServesVoters;
   is_failed = λ store. store.failed;
   leaves = λ store cut. FileStandsBehind store.file cut;
-  may_refuse = λ old new requests refused. refused ≡ out_of_range 0 requests;
+  may_refuse = λ old new requests refused. refused ≡ refused_by new.failed requests;
+  fails = λ old new. (old.failed ≡ false) × (new.failed ≡ true);
 }
 
 -- A file is refused for want of memory, where it isn't empty, or its bytes aren't records, and then the file

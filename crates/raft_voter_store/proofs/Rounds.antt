@@ -1,6 +1,7 @@
 -- A round: each step, and each end, is a call of one law.
 use Rattle.std.proofs.Common.{◌≡◌, ℕ, zero, suc, ◌<◌, ◌≤◌, ◌||◌, Bool, true, false, List, [], ◌∷◌, ◌++◌, length, get_or, Some, refl, sym, ap, subst, inl, inr, ◌∙◌, arith}
 use Rattle.std.specs.Prelude.{◌⊎◌, slice_get, take}
+use Rattle.raft_log_disk.specs.Causes.{IsLater}
 use Rattle.raft_log_record_base.specs.declared.errors.Error.{Error}
 use Rattle.raft_log_record_base.specs.declared.errors.Error.TheVariants as errors
 use Rattle.raft_log_engine.specs.raft_log_engine_laws.specs.Shows.{Home, Shows, has_failed}
@@ -15,6 +16,7 @@ use Rattle.raft_voter.specs.Service.{is_refused, refused_from}
 use Rattle.raft_voter_standing_laws.specs.Ends.{Answered, GaveUp, Unsynced, Went}
 use Rattle.raft_voter_standing_laws.specs.Requests.{Broke, Served, TurnedDown}
 use Rattle.raft_voter_standing_laws.specs.Standing.{AreOutlines, Keeps}
+use Rattle.raft_voter_standing_laws.proofs.Composing.{later_same, later_twice}
 use Rattle.raft_voter_standing_laws.proofs.Ending.{rounds_end}
 use Rattle.raft_voter_standing_laws.proofs.Going.{rounds_go_on}
 use Rattle.raft_voter_store.specs.Rounds.{AreExcused, CutsRoundOff, GoesOn, Passes, RoundIsAnswered, StopsAt, TurnsDown}
@@ -43,20 +45,36 @@ behind {A} (z ∷ zs) x y (suc i) is = elim (behind zs x y i is) [
 ]
 
 -- why the request at the last place is refused, if it is
-abbrev IsExcusedHere : List (ℕ × Request) → List Reply → Reply → ℕ × Request → Shows → (ℕ → State) → Type 0
-IsExcusedHere qs told a q s os = replies.Refused ≡ a → (in_range q.1 ≡ false) ⊎ TurnsDown qs told q s os
+abbrev IsExcusedHere : List (ℕ × Request) → List Reply → Reply → ℕ × Request → Shows → Shows → (ℕ → State) → Type 0
+IsExcusedHere qs told a q s t os = replies.Refused ≡ a → (in_range q.1 ≡ false) ⊎ TurnsDown qs told q s t os
 
-excused_more : (qs : List (ℕ × Request)) (told : List Reply) (a : Reply) (q : ℕ × Request) (s : Shows) (os : ℕ → State) → AreExcused qs told s os → slice_get qs (length told) ≡ Some q
-    → IsExcusedHere qs told a q s os → AreExcused qs (told ++ a ∷ []) s os
-excused_more qs told a q s os before at here place r refused is = elim (behind told a replies.Refused place refused) [
+-- a cause is one still behind what comes later
+excused_since : (qs : List (ℕ × Request)) (told : List Reply) (s t u : Shows) (os : ℕ → State) → IsLater t.pipes.disk u.pipes.disk → AreExcused qs told s t os → AreExcused qs told s u os
+excused_since qs told s t u os since before place q refused is = elim (before place q refused is) [
+  | inl outside ↦ inl outside
+  | inr turned ↦ inr (record {
+    wrote = turned.wrote;
+    mid = turned.mid;
+    next = turned.next;
+    outlines = turned.outlines;
+    error = turned.error;
+    went = turned.went;
+    turned = turned.turned;
+    later = later_twice turned.next.pipes.disk t.pipes.disk u.pipes.disk turned.later since;
+  })
+]
+
+excused_more : (qs : List (ℕ × Request)) (told : List Reply) (a : Reply) (q : ℕ × Request) (s t : Shows) (os : ℕ → State) → AreExcused qs told s t os → slice_get qs (length told) ≡ Some q
+    → IsExcusedHere qs told a q s t os → AreExcused qs (told ++ a ∷ []) s t os
+excused_more qs told a q s t os before at here place r refused is = elim (behind told a replies.Refused place refused) [
   | inl there ↦ elim (before place r there.0 is) [
     | inl outside ↦ inl outside
-    | inr turned ↦ inr (subst (λ (l : List Reply). TurnsDown qs l r s os) (sym there.1) turned)
+    | inr turned ↦ inr (subst (λ (l : List Reply). TurnsDown qs l r s t os) (sym there.1) turned)
   ]
   | inr last ↦ let same : q ≡ r = same_some q r (sym at ∙ ap (λ (n : ℕ). slice_get qs n) (sym last.0) ∙ is) in
       elim (here (sym last.1)) [
         | inl outside ↦ inl (subst (λ (x : ℕ × Request). in_range x.1 ≡ false) same outside)
-        | inr turned ↦ inr (subst (λ (x : ℕ × Request). TurnsDown qs (take place (told ++ a ∷ [])) x s os) same (subst (λ (l : List Reply). TurnsDown qs l q s os) (sym last.2) turned))
+        | inr turned ↦ inr (subst (λ (x : ℕ × Request). TurnsDown qs (take place (told ++ a ∷ [])) x s t os) same (subst (λ (l : List Reply). TurnsDown qs l q s t os) (sym last.2) turned))
       ]
 ]
 
@@ -70,15 +88,15 @@ passes_served : (qs : List (ℕ × Request)) (told : List Reply) (q : ℕ × Req
     → Passes qs told wrote s t os us → slice_get qs (length told) ≡ Some q → Served q a more t u us ws → Passes qs (told ++ a ∷ []) (wrote || more) s u os ws
 passes_served qs told q a wrote more s t u os us ws passes at served = record {
   went = rounds_go_on.served qs told q a wrote more s t u os us ws passes.went at served;
-  excused = excused_more qs told a q s os passes.excused at (λ is. inl (served.refuses (ap (λ (r : Reply). is_refused r) (sym is))));
+  excused = excused_more qs told a q s u os (excused_since qs told s t u os served.later passes.excused) at (λ is. inl (served.refuses (ap (λ (r : Reply). is_refused r) (sym is))));
 }
 
 passes_past : (qs : List (ℕ × Request)) (told : List Reply) (q : ℕ × Request) (error : Error) (wrote : Bool) (s t u : Shows) (os us : ℕ → State)
     → Passes qs told wrote s t os us → slice_get qs (length told) ≡ Some q → TurnedDown q error t u us → Passes qs (told ++ replies.Refused ∷ []) wrote s u os us
 passes_past qs told q error wrote s t u os us passes at turned = record {
   went = rounds_go_on.turned_down qs told q error wrote s t u os us passes.went at turned;
-  excused = excused_more qs told replies.Refused q s os passes.excused at
-      (λ is. inr (record { wrote = wrote; mid = t; next = u; outlines = us; error = error; went = passes.went; turned = turned }));
+  excused = excused_more qs told replies.Refused q s u os (excused_since qs told s t u os turned.later passes.excused) at
+      (λ is. inr (record { wrote = wrote; mid = t; next = u; outlines = us; error = error; went = passes.went; turned = turned; later = later_same u.pipes.disk }));
 }
 
 pub served_goes_on : (q : ℕ × Request) (a : Reply) (wrote more either : Bool) (told now : List Reply) (t u : Shows) (us ws : ℕ → State) → Served q a more t u us ws → now ≡ told ++ a ∷ [] → either ≡ (wrote || more)
@@ -132,13 +150,21 @@ answered_unwritten qs told wrote s t os us passes none home V keeps outlines =
 pub answered_synced : (qs : List (ℕ × Request)) (told : List Reply) (wrote : Bool) (s t u : Shows) (os us : ℕ → State) → Passes qs told wrote s t os us → SyncsAppend t u → RoundIsAnswered qs told s u os us
 answered_synced qs told wrote s t u os us passes synced home V keeps outlines = rounds_end.answered home V qs told wrote s t u os us keeps outlines passes.went synced
 
+-- a synced disk is later, and so is one that wasn't synced
+pub excused_synced : (qs : List (ℕ × Request)) (told : List Reply) (s t u : Shows) (os : ℕ → State) → SyncsAppend t u → AreExcused qs told s t os → AreExcused qs told s u os
+excused_synced qs told s t u os synced before = excused_since qs told s t u os synced.later before
+
+unsynced_later : (error : Error) (t u : Shows) → NotSynced error t u → IsLater t.pipes.disk u.pipes.disk
+unsynced_later error t u (is, inl had) = subst (λ (x : Shows). IsLater t.pipes.disk x.pipes.disk) (sym had.1) (later_same t.pipes.disk)
+unsynced_later error t u (is, inr fails) = fails.later
+
 pub cut_at : (qs : List (ℕ × Request)) (told : List Reply) (refused : List ℕ) (s t : Shows) (os : ℕ → State) → StopsAt qs told s t os → length told ≤ length qs → refused ≡ refused_from 0 told → CutsRoundOff qs refused s t os
 cut_at qs told refused s t os stop few places =
     record {
       told = told;
       few = few;
       places = places;
-      excused = stop.passes.excused;
+      excused = excused_since qs told s stop.mid t os stop.broke.later stop.passes.excused;
       left = λ home V keeps outlines. inl (rounds_end.gave_up home V qs told stop.request stop.wrote s stop.mid t os stop.outlines keeps outlines stop.passes.went stop.at stop.broke);
     }
 
@@ -149,7 +175,7 @@ cut_unsynced qs told refused wrote error s t u os us passes unsynced few places 
       told = told;
       few = few;
       places = places;
-      excused = passes.excused;
+      excused = excused_since qs told s t u os (unsynced_later error t u unsynced) passes.excused;
       left = λ home V keeps outlines. inr (rounds_end.unsynced home V qs told wrote error s t u os us keeps outlines passes.went unsynced);
     }
 

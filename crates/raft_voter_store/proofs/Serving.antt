@@ -16,7 +16,7 @@ use Rattle.raft_voter_standing_laws.proofs.Ending.{left_behind_rounds}
 use Rattle.raft_voter_standing_laws.proofs.Keeping.{engines_leave_logs, voters_are_left}
 use Rattle.raft_voter_standing_laws.proofs.Places.{rising, told_rounds_are_answered}
 use Rattle.raft_voter_store.specs.Rounds.{AreExcused, CutsRoundOff, RoundIsAnswered}
-use Rattle.raft_voter_store.specs.Service.{LeavesAt, LeavesBehind, MayRefuse, ServesVoters, service_in, voter_service}
+use Rattle.raft_voter_store.specs.Service.{HasFailedCall, LeavesAt, LeavesBehind, MayRefuse, ServesVoters, service_in, voter_service}
 use Rattle.raft_voter_store.specs.Service.LeavesAt.{left, running}
 
 -- what two clauses say of a refusal
@@ -54,9 +54,20 @@ module _ {S : Type 0} (shows : S → Shows) (outlines : S → ℕ → State) whe
   left_some home W qs told s t (inl gave) = left_behind_rounds.gave_up home W qs told s t gave
   left_some home W qs told s t (inr failed) = left_behind_rounds.unsynced home W qs told s t failed
 
+  -- what was refused of a round that was cut off may be
+  pub cut_may_refuse : (qs : List (ℕ × Request)) (refused : List ℕ) (old new : S) → CutsRoundOff qs refused (shows old) (shows new) (outlines old) → MayRefuse (shows old) (shows new) (outlines old) qs refused
+  cut_may_refuse qs refused old new cut = (cut.told, cut.places, cut.excused)
+
+  -- a file call failed in it
+  pub failed_some : (home : Home) (W : World) (qs : List (ℕ × Request)) (told : List Reply) (s t : Shows) → GaveUp home W qs told s t ⊎ Unsynced home W qs told s t → HasFailedCall s t
+  failed_some home W qs told s t (inl gave) = gave.fails
+  failed_some home W qs told s t (inr failed) = failed.fails
+
   took_some : (qs : List (ℕ × Request)) (refused : List ℕ) (old new : S) → CutsRoundOff qs refused (shows old) (shows new) (outlines old) → TookSome (voter_service shows outlines) refused qs old new
   took_some qs refused old new cut = record {
     rising = subst (λ (l : List ℕ). IsTrue (are_rising 0 (length qs) l)) (sym cut.places) (rising 0 0 (length qs) cut.told (omega arith) (omega (arith, cut.few)));
+    may_refuse = cut_may_refuse qs refused old new cut;
+    fails = λ W opened. failed_some opened.serves.0 W qs cut.told (shows old) (shows new) (cut.left opened.serves.0 W opened.serves.1 opened.serves.2);
     left = λ W opened.
         let (home, keeps, are) = opened.serves in (
           home,
@@ -79,8 +90,8 @@ module _ {S : Type 0} (shows : S → Shows) (outlines : S → ℕ → State) whe
   cuts_off causes.Failed qs refused old new none cut = took_none refused old new (none tt).0 (none tt).1
   cuts_off causes.TooLong qs refused old new none cut = took_none refused old new (none tt).0 (none tt).1
 
-  pub may_refuse : (qs : List (ℕ × Request)) (told : List Reply) (old : S) → AreExcused qs told (shows old) (outlines old) → MayRefuse (shows old) (outlines old) qs (refused_from 0 told)
-  may_refuse qs told old excused = (told, refl, excused)
+  pub may_refuse : (qs : List (ℕ × Request)) (told : List Reply) (old new : S) → AreExcused qs told (shows old) (shows new) (outlines old) → MayRefuse (shows old) (shows new) (outlines old) qs (refused_from 0 told)
+  may_refuse qs told old new excused = (told, refl, excused)
 
 -- where it is known in which directories the log lies
 module _ {S : Type 0} (home : S → Home) (shows : S → Shows) (outlines : S → ℕ → State) where
@@ -101,6 +112,8 @@ module _ {S : Type 0} (home : S → Home) (shows : S → Shows) (outlines : S �
       → TookSome (service_in home shows outlines) refused qs old new
   some_in qs refused old new same failed cut = record {
     rising = subst (λ (l : List ℕ). IsTrue (are_rising 0 (length qs) l)) (sym cut.places) (rising 0 0 (length qs) cut.told (omega arith) (omega (arith, cut.few)));
+    may_refuse = cut_may_refuse shows outlines qs refused old new cut;
+    fails = λ W opened. failed_some shows outlines (home old) W qs cut.told (shows old) (shows new) (cut.left (home old) W opened.serves.0 opened.serves.1);
     left = λ W opened. left failed
         (subst (λ (l : List ℕ). IsLeftAmong (home new) (shows new).pipes.disk (MayFollow (record { before = W; requests = qs; refused = l }))) (sym cut.places)
         (subst (λ (h : Home). IsLeftAmong h (shows new).pipes.disk (MayFollow (record { before = W; requests = qs; refused = refused_from 0 cut.told }))) (sym same)

@@ -1,5 +1,6 @@
 -- A round of requests, as a store's loop goes through it, and its ends.
 use Rattle.std.specs.Prelude.{◌≡◌, ◌⊎◌, ◌≤◌, ℕ, Bool, false, List, length, slice_get, Some, take}
+use Rattle.raft_log_disk.specs.Causes.{IsLater}
 use Rattle.raft_log_record_base.specs.declared.errors.Error.{Error}
 use Rattle.raft_log_engine.specs.raft_log_engine_laws.specs.Shows.{Home, Shows}
 use Rattle.raft_voter_messages.specs.declared.reply.Reply.{Reply}
@@ -13,8 +14,9 @@ use Rattle.raft_voter_standing_laws.specs.Standing.{AreOutlines, Keeps}
 use Rattle.raft_voter_standing_laws.specs.Requests.{Broke, TurnedDown}
 use Rattle.raft_voter_standing_laws.specs.Ends.{Answered, GaveUp, Unsynced, Went}
 
--- A round came so far, and the next request was turned down, for this error.
-pub record TurnsDown (qs : List (ℕ × Request)) (told : List Reply) (q : ℕ × Request) (s : Shows) (os : ℕ → State)
+-- A round came so far, and the next request was turned down, for this error. The disk behind the call is no earlier
+-- than the one behind the request: a failure that is told of the request is one that was counted in the call.
+pub record TurnsDown (qs : List (ℕ × Request)) (told : List Reply) (q : ℕ × Request) (s t : Shows) (os : ℕ → State)
     : Type 0 where
   pub wrote : Bool
   pub mid : Shows
@@ -23,17 +25,18 @@ pub record TurnsDown (qs : List (ℕ × Request)) (told : List Reply) (q : ℕ �
   pub error : Error
   pub went : Went qs told wrote s mid os outlines
   pub turned : TurnedDown q error mid next outlines
+  pub later : IsLater next.pipes.disk t.pipes.disk
 
 -- Why each place is refused: its request is out of range, or it was turned down behind those before it.
-abbrev pub AreExcused : List (ℕ × Request) → List Reply → Shows → (ℕ → State) → Type 0
-AreExcused qs told s os = (place : ℕ) (q : ℕ × Request) → slice_get told place ≡ Some Refused
-    → slice_get qs place ≡ Some q → (in_range q.1 ≡ false) ⊎ TurnsDown qs (take place told) q s os
+abbrev pub AreExcused : List (ℕ × Request) → List Reply → Shows → Shows → (ℕ → State) → Type 0
+AreExcused qs told s t os = (place : ℕ) (q : ℕ × Request) → slice_get told place ≡ Some Refused
+    → slice_get qs place ≡ Some q → (in_range q.1 ≡ false) ⊎ TurnsDown qs (take place told) q s t os
 
 -- a round came so far, and each place that is refused is so for a cause
 pub record Passes (qs : List (ℕ × Request)) (told : List Reply) (wrote : Bool) (s t : Shows) (os us : ℕ → State)
     : Type 0 where
   pub went : Went qs told wrote s t os us
-  pub excused : AreExcused qs told s os
+  pub excused : AreExcused qs told s t os
 
 -- A round went as far as one request, at which the engine failed.
 pub record StopsAt (qs : List (ℕ × Request)) (told : List Reply) (s t : Shows) (os : ℕ → State) : Type 0 where
@@ -56,7 +59,7 @@ pub record CutsRoundOff (qs : List (ℕ × Request)) (refused : List ℕ) (s t :
   pub told : List Reply
   pub few : length told ≤ length qs
   pub places : refused ≡ refused_from 0 told
-  pub excused : AreExcused qs told s os
+  pub excused : AreExcused qs told s t os
   pub left : (home : Home) (V : World) → Keeps home s V → AreOutlines os V
       → GaveUp home V qs told s t ⊎ Unsynced home V qs told s t
 

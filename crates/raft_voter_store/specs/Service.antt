@@ -1,5 +1,6 @@
 -- The store as a service of rounds, whichever directories its log lies in.
 use Rattle.std.specs.Prelude.{◌≡◌, ℕ, true, List}
+use Rattle.raft_log_disk.specs.Causes.{Fails}
 use Rattle.raft_log_engine.specs.raft_log_engine_laws.specs.Shows.{Home, Shows, has_failed}
 use Rattle.raft_voter_messages.specs.declared.reply.Reply.{Reply}
 use Rattle.raft_voter_messages.specs.declared.request.Request.{Request}
@@ -24,9 +25,14 @@ pub data LeavesAt (home : Home) (s : Shows) (cut : CutRound) : Type 0 where
   running : (W : World) → cut ≡ uncut W → Keeps home s W → LeavesAt home s cut
   left : has_failed s ≡ true → IsLeftAmong home s.pipes.disk (MayFollow cut) → LeavesAt home s cut
 
--- places of a round that may be refused: those of some replies, each for a cause
-abbrev pub MayRefuse : Shows → (ℕ → State) → List (ℕ × Request) → List ℕ → Type 0
-MayRefuse s os qs refused = (told : List Reply) × (refused ≡ refused_from 0 told) × AreExcused qs told s os
+-- places of a round that may be refused, which went from the first state to the second: those of some replies, each
+-- for a cause that it had in between
+abbrev pub MayRefuse : Shows → Shows → (ℕ → State) → List (ℕ × Request) → List ℕ → Type 0
+MayRefuse s t os qs refused = (told : List Reply) × (refused ≡ refused_from 0 told) × AreExcused qs told s t os
+
+-- a file call failed between two states of a store
+abbrev pub HasFailedCall : Shows → Shows → Type 0
+HasFailedCall s t = Fails s.pipes.disk t.pipes.disk
 
 -- a store that shows so much of its engine, and of its outlines, as a service
 abbrev pub voter_service : {S : Type 0} → (S → Shows) → (S → ℕ → State) → Service S
@@ -34,7 +40,8 @@ voter_service shows outlines = record {
   serves = λ store W. ServesVoters (shows store) (outlines store) W;
   is_failed = λ store. has_failed (shows store);
   leaves = λ store cut. LeavesBehind (shows store) cut;
-  may_refuse = λ old new requests refused. MayRefuse (shows old) (outlines old) requests refused;
+  may_refuse = λ old new requests refused. MayRefuse (shows old) (shows new) (outlines old) requests refused;
+  fails = λ old new. HasFailedCall (shows old) (shows new);
 }
 
 -- a store of which it is known in which directories its log lies, as a service
@@ -43,5 +50,6 @@ service_in home shows outlines = record {
   serves = λ store W. Keeps (home store) (shows store) W × AreOutlines (outlines store) W;
   is_failed = λ store. has_failed (shows store);
   leaves = λ store cut. LeavesAt (home store) (shows store) cut;
-  may_refuse = λ old new requests refused. MayRefuse (shows old) (outlines old) requests refused;
+  may_refuse = λ old new requests refused. MayRefuse (shows old) (shows new) (outlines old) requests refused;
+  fails = λ old new. HasFailedCall (shows old) (shows new);
 }

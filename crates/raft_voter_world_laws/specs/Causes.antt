@@ -24,7 +24,8 @@ abbrev pub IsOfRun :
 IsOfRun v u d files events report run m at = HappenedTo m at (Closed files) (moments_of run.turns ++ run.closing)
 
 -- Of the moments that happened, one is this round: a store answered it, and may refuse the places that it refused; or
--- a store cut it off, for a cause that it had; or it was cut off while no store was open.
+-- a store cut it off, for a cause that it had, which is that a file call failed where it is told so, and may refuse
+-- the places that it refused; or it was cut off while no store was open.
 pub data HasItsCause {S F : Type 0} (v : Service S) (Happened : Moment S F → Storage S F → Type 0) (round : Round)
     : Type 0 where
   was_answered : (old new : S) → Happened (answered round new) (Open old) → IsAnswered v old round new

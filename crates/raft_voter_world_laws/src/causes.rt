@@ -6,7 +6,8 @@ use raft_voter_world::{VoterDisk, VoterStorage};
 
 /// Each round of a run that tells replies was answered by a store of that run, which may refuse the places that it
 /// refused; and each that was cut off was cut off by a store of it, for a cause that the store had, or while none was
-/// open.
+/// open. Where it is told that the file system failed, a file call did in the round, and each place that the round
+/// refused the store may refuse.
 pub fn each_round_has_its_cause<R, S: VoterStorage<R>, F: VoterDisk<R, S>>()
     ensures { EachRoundHasItsCause S.service S.upkeep F.disk }
 {}

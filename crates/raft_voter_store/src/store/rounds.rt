@@ -32,7 +32,7 @@ impl<P: PipeLog> LogVoterStore<P> {
             (shows_of P.shown self.old.engine) (shows_of P.shown self.new.engine)
             (outlines_in self.old.outlines) (outlines_in self.new.outlines)) }
         ensures excused { IfOk result (λ told. AreExcused requests.now told
-            (shows_of P.shown self.old.engine) (outlines_in self.old.outlines)) }
+            (shows_of P.shown self.old.engine) (shows_of P.shown self.new.engine) (outlines_in self.old.outlines)) }
         ensures all { IfOk result (λ told. length told ≡ length requests.now) }
         ensures short { OnOk result (length requests.now ≤ 4096) }
         ensures lives { OnOk result (IsAlive (has_failed (shows_of P.shown self.old.engine))

@@ -20,7 +20,7 @@ returns-clause-refused g c = ap (refused_from 0) c.in-Ok-take_all.ensures.ok.tol
 pub returns-in_default-take_all-clause-err : goal.returns-in_default-take_all-clause-err
 returns-in_default-take_all-clause-err g c =
     let stopped = c.in_default-take_all.ensures.err in
-    rw c.new-in_default-take_all.ensures (took_some c.args.self.now (record c.take_all.new.self { failed = true }) c.args.requests.now (record { taken = stopped.taken; synced = stopped.synced; written = stopped.written }))
+    rw c.new-in_default-take_all.ensures (took_some c.args.self.now (record c.take_all.new.self { failed = true }) c.args.requests.now refl (record { taken = stopped.taken; synced = stopped.synced; written = stopped.written }))
 
 -- where no place is refused, it is told so
 told_of : (W X : World) (requests : List (ℕ × Request)) (refused : List ℕ) → refused ≡ [] → TakesFirst W requests [] X → TakesFirst W requests refused X

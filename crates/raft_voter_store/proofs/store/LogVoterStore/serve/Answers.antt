@@ -2,7 +2,7 @@ use Rattle.std.proofs.Common.{refl, ap, length, ◌∙◌}
 use Rattle.raft_log_engine_core.specs.Reads.{shows_of}
 use Rattle.raft_voter.specs.Service.{refused_from}
 use Rattle.raft_voter_outlines.specs.Kept.{outlines_in}
-use Rattle.raft_voter_store.proofs.Rounds.{answered_synced, answered_unwritten, cut_at, cut_unsynced}
+use Rattle.raft_voter_store.proofs.Rounds.{answered_synced, answered_unwritten, cut_at, cut_unsynced, excused_synced}
 use Rattle.raft_voter_store.proofs.store.LogVoterStore.serve.Goals.{then-wrote+in-Ok-sync, else-wrote}
 use Rattle.raft_voter_store.proofs.store.LogVoterStore.serve.Goals as goal
 
@@ -32,7 +32,15 @@ returns-clause-ok g c =
     ]
 
 pub returns-clause-excused : goal.returns-clause-excused
-returns-clause-excused g c = rw c.from_vec.ensures c.in-Some.ensures.went.excused
+returns-clause-excused g c =
+    let shown = g.P.PipeLog.shown in
+    let s = shows_of shown c.args.self.now.engine in
+    let t = shows_of shown c.take_all.new.self.engine in
+    let os = outlines_in c.args.self.now.outlines in
+    elim c.if-wrote.branch [
+      | then-wrote+in-Ok-sync w ↦ rw (c.from_vec.ensures, w.self-is) (excused_synced c.args.requests.now c.take_all.new.replies.items s t (shows_of shown w.sync.new.self) os w.in-Ok-sync.ensures.ok c.in-Some.ensures.went.excused)
+      | else-wrote w ↦ rw (c.from_vec.ensures, w.self-is) c.in-Some.ensures.went.excused
+    ]
 
 pub returns-clause-all : goal.returns-clause-all
 returns-clause-all g c = ap (λ told. length told) c.from_vec.ensures ∙ c.in-Some.ensures.all

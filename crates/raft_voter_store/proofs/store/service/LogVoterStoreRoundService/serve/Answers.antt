@@ -10,7 +10,7 @@ returns-clause-ok g c =
 
 pub returns-clause-refused : goal.returns-clause-refused
 returns-clause-refused g c =
-    of_answer _ _ _ _ (λ told excused all. may_refuse (λ store. shows_of g.P.PipeLog.shown store.engine) (λ store. outlines_in store.outlines) c.args.requests.now told c.args.self.now excused) c.serve.ensures.excused c.serve.ensures.all
+    of_answer _ _ _ _ (λ told excused all. may_refuse (λ store. shows_of g.P.PipeLog.shown store.engine) (λ store. outlines_in store.outlines) c.args.requests.now told c.args.self.now c.serve.new.self excused) c.serve.ensures.excused c.serve.ensures.all
 
 pub returns-clause-err : goal.returns-clause-err
 returns-clause-err g c =

@@ -12,12 +12,12 @@ use crate::entries::read_entries;
 use crate::saying::say_change;
 use log::Log;
 pub use opening::{StoreRefused, VoterStore};
-use raft_log_engine::{Error, LogEngine, PipeLog, Result};
+use raft_log_engine::{Error, LogBatch, LogEngine, PipeLog, Result};
 use raft_log_record_items::{RawEntries, RawMessage};
 use raft_voter_messages::{Reply, Request};
 use raft_voter_outline::{Answer, Change, Decision};
 use raft_voter_outlines::Outlines;
-use std::alloc::Global;
+use std::alloc::{AllocError, Global};
 
 /// The voters of many groups: the engine that keeps their log, over any pipes, and the outline of each.
 #[derive(Drop)]
@@ -25,6 +25,8 @@ pub struct LogVoterStore<P> {
     alloc: Global,
     engine: LogEngine<P>,
     outlines: Outlines,
+    /// The batch of the last change that was written, whose memory the next one takes.
+    batch: Option<LogBatch>,
 }
 
 /// A request that was served: its reply, and whether a record was written for it.
@@ -56,6 +58,7 @@ impl<P: PipeLog> LogVoterStore<P> {
             alloc,
             engine,
             outlines,
+            batch: None,
         }
     }
 
@@ -103,16 +106,27 @@ impl<P: PipeLog> LogVoterStore<P> {
             (shows_of P.shown self.old.engine) (shows_of P.shown self.new.engine)
             (outlines_in self.old.outlines) (outlines_in self.new.outlines)) }
     {
-        let mut batch = match say_change(self.alloc, &self.outlines, group, change, request) {
-            Ok(batch) => batch,
-            Err(error) => return Err(error),
+        let Ok(mut batch) = or_new(self.alloc, self.batch.take()) else {
+            return Err(Error::Memory);
         };
+        match say_change(
+            &mut batch,
+            self.alloc,
+            &self.outlines,
+            group,
+            change,
+            request,
+        ) {
+            Ok(()) => {}
+            Err(error) => return Err(error),
+        }
         let Ok(()) = self.outlines.reserve(group, change, request) else {
             return Err(Error::Memory);
         };
         match self.engine.write(rt, &mut batch, false) {
             Ok(_) => {
                 self.outlines.apply(group, change, request);
+                self.batch = Some(batch);
                 Ok(Taken { reply, wrote: true })
             }
             Err(error) => Err(error),
@@ -145,5 +159,13 @@ impl<P: PipeLog> LogVoterStore<P> {
             },
             Err(error) => Err(error),
         }
+    }
+}
+
+/// A batch that was kept, or a new one.
+fn or_new(alloc: Global, kept: Option<LogBatch>) -> Result<LogBatch, AllocError> {
+    match kept {
+        Some(batch) => Ok(batch),
+        None => LogBatch::with_capacity(alloc, 2),
     }
 }

@@ -122,6 +122,7 @@ impl<F: FileSystem + Sync, E: EventListener> LogVoterStore<EnginePipes<F, E>> {
                 alloc,
                 engine,
                 outlines,
+                batch: None,
             }),
             Err(cause) => {
                 let file_system = engine.close(rt);

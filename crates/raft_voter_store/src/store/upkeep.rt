@@ -142,6 +142,7 @@ impl<P: PipeLog> LogVoterStore<P> {
             alloc: _alloc,
             engine,
             outlines: _outlines,
+            batch: _batch,
         } = self;
         engine.close(rt)
     }

@@ -29,13 +29,18 @@ const GROWN: u64 = 6;
 
 const SYNCED: u64 = 7;
 
+/// How many zeros are kept, and written at a time where a file grows.
+pub(crate) const ZEROS: usize = 1 << 18;
+
 /// The operating system's files, as a device. Each file that has a name is open; the directories stay locked
-/// until it is dropped. A method makes one call and then notes it; only clauses read what is noted.
+/// until it is dropped. A method makes one call, of a growth one for each piece of its zeros,
+/// and then notes it; only clauses read what is noted.
 #[derive(Drop)]
 pub struct FileDevice<R> {
     rt: R,
     files: BTreeMap<usize, File>,
     locks: Vec<File>,
+    zeros: Vec<u8>,
     found: Snapshot<Storage>,
     record: Record,
 }
@@ -44,11 +49,12 @@ impl<R: Files<File = File> + Drop> FileDevice<R> {
     ghost use Rattle.raft_log_disk_directory.specs.Tracing.{IsFresh};
 
     /// The device whose files, by their numbers, are those of a model that was loaded with them; the handles
-    /// that lock the directories are kept.
+    /// that lock the directories are kept, and the zeros that files grow by.
     pub(crate) fn new(
         rt: R,
         files: BTreeMap<usize, File>,
         locks: Vec<File>,
+        zeros: Vec<u8>,
         storage: &Storage,
     ) -> FileDevice<R>
         ensures { IsFresh storage.now result }
@@ -57,6 +63,7 @@ impl<R: Files<File = File> + Drop> FileDevice<R> {
             rt,
             files,
             locks,
+            zeros,
             found: Snapshot::of(storage),
             record: Record::new(),
         }
@@ -138,9 +145,12 @@ impl<R: Files<File = File> + Drop> Device for FileDevice<R> {
         let Some(opened) = self.files.get(&file) else {
             return Err(ErrorKind::NotFound);
         };
-        let length = opened.metadata().map_err(|error| error.kind())?.len();
-        if length < size as u64 {
-            opened.set_len(size as u64).map_err(|error| error.kind())?;
+        let length = opened.metadata().map_err(|error| error.kind())?.len() as usize;
+        for offset in (length..size).step_by(ZEROS) {
+            let count = self.zeros.len().min(size.saturating_sub(offset));
+            opened
+                .write_all_at(&self.zeros[..count], offset as u64)
+                .map_err(|error| error.kind())?;
         }
         self.record.note(&[GROWN, file as u64, size as u64], &[]);
         Ok(())

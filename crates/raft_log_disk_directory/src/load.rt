@@ -1,7 +1,10 @@
 //! What lies in directories, loaded.
+ghost use Rattle.std.specs.Prelude.{◌≡◌, None};
+ghost use Rattle.raft_log_disk_storage.specs.Held.{held_of};
 ghost use Rattle.raft_log_disk_storage.specs.Storage.{IsStorageSound, IsWhole-prop};
+ghost use Rattle.raft_log_disk_directory.specs.Loading.{FillsFile};
 
-use raft_log_disk_storage::Storage;
+use raft_log_disk_storage::{Storage, Stored};
 use std::alloc::Global;
 use std::collections::BTreeMap;
 use std::fs::{File, OpenOptions};
@@ -10,8 +13,8 @@ use std::io::ErrorKind;
 use std::os::unix::fs::FileExt;
 use std::rt::Files;
 
-/// How many bytes are read at a time.
-pub(crate) const PIECE: usize = 1 << 20;
+/// How many bytes are read at a time: so few that the room for them is still in the processor's cache when they come.
+const PIECE: usize = 1 << 18;
 
 /// What lies in directories: a model of it, its files, open by the model's numbers, and the directories,
 /// locked.
@@ -53,51 +56,48 @@ impl Found {
         Ok(())
     }
 
-    // Adds an empty file, and answers its number.
-    fn add_file(&mut self, path: &str, opened: File) -> io::Result<usize> {
+    // Adds a file with its bytes, as synced ones.
+    fn add_file(&mut self, path: &str, opened: File, content: Vec<u8>) -> io::Result<()> {
         if self.storage.node(path).is_some() {
             return Err(ErrorKind::AlreadyExists.into());
         }
         let file = self.storage.files.len();
         self.storage.add_file(path)?;
+        fill(&mut self.storage, file, content);
         match self.files.insert(file, opened) {
-            Ok(_) => Ok(file),
+            Ok(_) => Ok(()),
             Err(_) => Err(ErrorKind::OutOfMemory.into()),
         }
     }
 
-    // Adds bytes to a file, as synced ones.
-    fn add_bytes(&mut self, file: usize, offset: usize, bytes: &[u8]) -> io::Result<()> {
-        if !self.storage.has(file) {
-            return Err(ErrorKind::NotFound.into());
-        }
-        if let Err(kind) = self.storage.write(file, offset, bytes, u64::MAX) {
-            return Err(kind.into());
-        }
-        if !self.storage.has(file) {
-            return Err(ErrorKind::NotFound.into());
-        }
-        self.storage.flush(file)?;
-        Ok(())
-    }
-
     /// Syncs a file and adds it, with its bytes.
-    pub fn load_file<R: Files<File = File>>(
-        &mut self,
-        rt: &R,
-        room: &mut [u8],
-        path: &str,
-    ) -> io::Result<()> {
+    pub fn load_file<R: Files<File = File>>(&mut self, rt: &R, path: &str) -> io::Result<()> {
         let opened = OpenOptions::new().read(true).write(true).open(rt, path)?;
         opened.sync_all()?;
-        let size = opened.metadata()?.len() as usize;
-        let reading = opened.try_clone()?;
-        let file = self.add_file(path, opened)?;
-        for offset in (0..size).step_by(PIECE) {
-            let count = room.len().min(size.saturating_sub(offset));
-            reading.read_exact_at(&mut room[..count], offset as u64)?;
-            self.add_bytes(file, offset, &room[..count])?;
-        }
-        Ok(())
+        let content = content_of(self.storage.alloc, &opened)?;
+        self.add_file(path, opened, content)
     }
+}
+
+/// Puts other bytes into a file that is there, as synced ones.
+fn fill(storage: &mut Storage, file: usize, content: Vec<u8>)
+    requires there { (held_of storage.old.files.items file ≡ None) → ⊥ }
+    requires whole { IsStorageSound storage.old }
+    ensures filled { FillsFile file content.items storage.old storage.new }
+    ensures whole { IsStorageSound storage.new }
+{
+    let changes = Vec::new(storage.alloc);
+    storage.files[file] = Some(Stored { content, changes });
+}
+
+/// The bytes of a file, read into room for just as many.
+fn content_of(alloc: Global, opened: &File) -> io::Result<Vec<u8>> {
+    let size = opened.metadata()?.len() as usize;
+    let mut content = Vec::with_capacity(alloc, size)?;
+    for start in (0..size).step_by(PIECE) {
+        let end = size.min(start.saturating_add(PIECE));
+        content.resize(end, 0)?;
+        opened.read_exact_at(&mut content[start..end], start as u64)?;
+    }
+    Ok(content)
 }

@@ -3,8 +3,8 @@ ghost use Rattle.std.specs.Prelude.{IfOk};
 ghost use Rattle.raft_log_disk_directory.specs.Loading.{StartsFresh};
 
 use super::fault::DirectoryFault;
-use super::file_device::FileDevice;
-use super::load::{Found, PIECE};
+use super::file_device::{FileDevice, ZEROS};
+use super::load::Found;
 use raft_log_disk::FileSystem;
 use raft_log_disk_device::DirectoryFileSystem;
 use std::fs::File;
@@ -39,7 +39,8 @@ pub fn open_directories<R: Files<File = File> + AllocGlobal + Clone + Drop>(
         files,
         locks,
     } = found;
-    let device = FileDevice::new(rt.clone()?, files, locks, &storage);
+    let zeros = vec![in rt.alloc(); 0u8; ZEROS]?;
+    let device = FileDevice::new(rt.clone()?, files, locks, zeros, &storage);
     Ok(DirectoryFileSystem::new(storage, device))
 }
 
@@ -102,12 +103,11 @@ fn load_files<R: Files<File = File> + AllocGlobal + Clone + Drop>(
     found: &mut Found,
     directory: &str,
 ) -> io::Result<()> {
-    let mut room = vec![in rt.alloc(); 0u8; PIECE]?;
     for entry in fs::read_dir(rt, directory)? {
         let entry = entry?;
         if entry.file_type()?.is_file() {
             let path = format!(in rt.alloc(); "{directory}/{}", entry.file_name())?;
-            found.load_file(rt, &mut room, path.as_str())?;
+            found.load_file(rt, path.as_str())?;
         }
     }
     File::open(rt, directory)?.sync_all()

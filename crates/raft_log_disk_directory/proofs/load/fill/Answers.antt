@@ -1,0 +1,24 @@
+use Rattle.std.proofs.Common.{refl, ap, ◌∙◌, arith, ◌≡◌, ◌<◌, ℕ, List, Some, nat_eq, length}
+use Rattle.std.specs.Map.{update}
+use Rattle.std.specs.Vec.{with_item}
+use Rattle.raft_log_disk.specs.Disk.{file_limit}
+use Rattle.raft_log_disk_storage.specs.declared.change.Stamped.{Stamped}
+use Rattle.raft_log_disk_storage.specs.declared.files.Stored.{Stored}
+use Rattle.raft_log_disk_storage.specs.declared.storage.Storage.{Storage}
+use Rattle.raft_log_disk_storage.specs.Held.{Held, held, held_of, resting, before, made_in}
+use Rattle.raft_log_disk_directory.proofs.Filling.{is_below, held_put, fills, whole_fills}
+use Rattle.raft_log_disk_directory.proofs.load.fill.Goals as goal
+
+pub returns-clause-whole : goal.returns-clause-whole
+returns-clause-whole c =
+    let old = c.args.storage.now in
+    let bytes = c.args.content.items in
+    let stored : Stored = record { content = c.args.content; changes = c.new-changes.result } in
+    let new : Storage = record old { files = with_item old.files c.args.file (Some stored) } in
+    let rests : held stored ≡ resting bytes =
+    ap (λ (us : List Stamped). let h : Held = record { content = bytes; synced = before us bytes; changes = made_in us bytes } in h) c.new-changes.ensures.items in
+    let files : (q : ℕ) → held_of new.files.items q ≡ update nat_eq (held_of old.files.items) c.args.file (Some (resting bytes)) q =
+    λ q. held_put old.files.items c.args.file stored (omega (arith, is_below old c.args.file c.requires.there, old.files.ok)) q
+    ∙ ap (λ (h : Held). update nat_eq (held_of old.files.items) c.args.file (Some h) q) rests in
+    let short : length bytes < file_limit = omega (arith, c.args.content.ok, c.args.content.small) in
+    whole_fills old new c.args.file bytes c.requires.whole c.requires.there short (fills old new c.args.file bytes refl files refl) files refl

@@ -1,6 +1,7 @@
 // The same batches as the engine's benchmark writes, given to LMDB, RocksDB, LevelDB and SQLite in a folder that
 // should lie in memory: 60,000 batches, the one of number n with n % 16 + 1 entries of 2,118 bytes of group
-// n % 100 + 1, made durable each. A line each: the store, MB/s of wall time, MB/s of processor time.
+// n % 100 + 1, made durable each (-DBATCHES, -DSIZE for others). A line each: the store, MB/s of wall time, MB/s of
+// processor time.
 // Usage: peers FOLDER STORE (lmdb, rocksdb, leveldb or sqlite); each store gets a folder of its own.
 #include <leveldb/c.h>
 #include <lmdb.h>
@@ -12,7 +13,13 @@
 #include <string.h>
 #include <time.h>
 
-enum { BATCHES = 60000, GROUPS = 100, SIZE = 2118, KEY = 16 };
+#ifndef BATCHES
+#define BATCHES 60000
+#endif
+#ifndef SIZE
+#define SIZE 2118
+#endif
+enum { GROUPS = 100, KEY = 16 };
 
 static char entry[SIZE];
 static uint64_t next_index[GROUPS];

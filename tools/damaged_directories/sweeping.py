@@ -1,0 +1,255 @@
+"""A run of steps on a log, played again and again with one fault: at each changing call, each growth of memory, each place."""
+from histories import PURGES, Wrong
+from player import shown, told_map
+from world import World, batch, spelled
+
+LEFT = ["last", "all", "first 0 20", "first 1 35", "pieces klk", "pieces lkkk", "pieces blbk", "first 2 0"]
+TRIES = 5
+
+# how many of them are tried at a time, in turn
+EACH = 3
+
+
+def script(random, count, longest=60):
+    """Steps that may come one behind another where none is refused: each its word, and what it says."""
+    steps, world = [("open",)], World()
+    for place in range(count):
+        if place in (count // 3, 2 * count // 3):
+            steps += [("close",), ("open",)] if random.random() < 0.5 else [("crash", "all"), ("open",)]
+        kind = random.choices(["write", "sync", "compact", "purge"], [10, 1, 1, 3])[0]
+        if kind == "write":
+            items = batch(random, world, longest)
+            world = world.take(items)
+            steps.append(("write", items, random.random() < 0.4))
+        elif kind == "compact":
+            group = random.choice([1, 2, 3])
+            entries = world.group(group)[0]
+            index = random.choice([max(entries, default=3), max(entries, default=3) + 1, min(entries, default=2) + 1])
+            world = world.take([("compact", group, index)])
+            steps.append(("compact", group, index))
+        elif kind == "purge":
+            steps.append(("purge", random.choice(PURGES)))
+        else:
+            steps.append(("sync",))
+    return steps + [("close",), ("open",)]
+
+
+class Run:
+    """One run, with one fault."""
+
+    def __init__(self, player, settings, fault, number):
+        self.player, self.settings, self.fault, self.number = player, settings, fault, number
+        self.worlds, self.is_open, self.met, self.refused = [World()], False, False, []
+        self.failures = 0
+        self.denied = None
+
+    def begin(self):
+        """A log without files, and the fault armed."""
+        self.ask("growth 0" if self.player.preload else "stand")
+        self.want(self.ask("new"))
+        self.want(self.ask(self.settings.line()))
+        kind, *words = self.fault
+        if kind == "growth":
+            self.want(self.ask(f"growth {words[0]}"))
+        elif kind != "deny":
+            self.want(self.ask(" ".join(["arm", kind, *map(str, words)])))
+
+    def ask(self, line):
+        return self.player.ask(line)
+
+    @staticmethod
+    def want(answer):
+        if not answer.startswith("ok"):
+            raise Wrong(f"{answer} in place of ok")
+        return answer
+
+    def play(self, steps):
+        """Plays all steps, and opens what a crash may leave at the end, and where the fault fell."""
+        self.begin()
+        for place, step in enumerate(steps):
+            before = self.met
+            self.step(place, step)
+            if self.met and not before:
+                self.compare_left()
+        self.compare_left()
+        return self.met
+
+    def stand(self):
+        """Whether the file system has stopped, and whether the engine has failed."""
+        _, failures, stopped, failed = self.ask("stand").split(" ")
+        rose, self.failures = int(failures) > self.failures, int(failures)
+        grown = self.fault[0] == "growth" and self.ask("grown") == "grown 1"
+        self.met = self.met or rose or stopped == "1" or grown
+        return rose, stopped == "1", failed == "1"
+
+    def step(self, place, step):
+        """Plays a step, and brings the log back where it is refused for good."""
+        kind = step[0]
+        if kind == "open":
+            return self.open()
+        if kind == "close":
+            self.want(self.ask("close"))
+            _, stopped, _ = self.stand()
+            self.is_open = False
+            return self.restart() if stopped else None
+        if kind == "crash":
+            return self.crash(step[1], True)
+        next_, line = self.next_of(step)
+        answer = self.ask(line)
+        rose, stopped, failed = self.stand()
+        if answer.startswith("ok"):
+            self.answered(step, answer, next_)
+        else:
+            self.refuse(step, answer, next_, rose, stopped, failed)
+        if stopped:
+            return self.restart()
+        if failed:
+            self.want(self.ask("close"))
+            self.is_open = False
+            _, stopped, _ = self.stand()
+            return self.restart() if stopped else self.open()
+        if not answer.startswith("ok"):
+            self.compare()
+        return None
+
+    def next_of(self, step):
+        """The world behind a step, and the line that plays it."""
+        world = self.worlds[-1]
+        if step[0] == "write":
+            return world.take(step[1]), f"write {int(step[2])} {spelled(step[1])}"
+        if step[0] == "compact":
+            return world.take([step]), f"compact {step[1]} {step[2]}"
+        return world, " ".join(step)
+
+    def answered(self, step, answer, next_):
+        """A step was answered."""
+        if next_ is None:
+            raise Wrong(f"{step} was answered, and leaves a hole")
+        if step[0] == "compact" and answer != f"ok {self.worlds[-1].below(*step[1:])}":
+            raise Wrong(f"{step}: {answer}")
+        if step[0] in ("write", "compact"):
+            self.worlds.append(next_)
+        if step[0] in ("sync", "purge") or step[0] == "write" and step[2]:
+            self.worlds = self.worlds[-1:]
+
+    def refuse(self, step, answer, next_, rose, stopped, failed):
+        """A step was refused: that has its cause."""
+        kind = answer.split(" ")[1]
+        self.refused.append(kind)
+        if (kind == "hole") != (next_ is None and not stopped and not failed and kind != "memory"):
+            if not (next_ is None and kind in ("failed", "io")):
+                raise Wrong(f"{step}: {answer}, and the world behind is {next_}")
+        causes = {"hole": True, "io": rose or stopped or self.is_denied(answer), "try-again": rose and self.fault[0] == "space",
+                  "failed": failed and (rose or stopped), "memory": self.fault[0] == "growth" and self.met}
+        if not causes.get(kind, False):
+            raise Wrong(f"{step}: {answer} has no cause (failures rose: {rose}, stopped: {stopped}, failed: {failed})")
+        if self.fault[0] == "space" and kind == "io":
+            raise Wrong(f"{step}: {answer}, and there was no space")
+        if step[0] in ("write", "compact") and next_ is not None and (kind == "failed" or stopped):
+            self.worlds.append(next_)
+        elif step[0] in ("write", "compact") and kind in ("io", "try-again") and not stopped and rose:
+            self.worlds = self.worlds[-1:]
+
+    def is_denied(self, answer):
+        return self.denied is not None
+
+    def open(self):
+        """Opens the log; where that is refused, again."""
+        if self.is_open:
+            return
+        for _ in range(TRIES):
+            answer = self.ask("open")
+            rose, stopped, _ = self.stand()
+            if answer.startswith("ok"):
+                self.is_open = True
+                if stopped:
+                    self.restart_now()
+                    continue
+                return self.go_on()
+            kind = answer.split(" ")[1]
+            self.refused.append(f"open: {kind}")
+            causes = {"io": rose or stopped or self.denied is not None, "memory": self.fault[0] == "growth" and self.met}
+            if not causes.get(kind, False):
+                raise Wrong(f"open: {answer} has no cause")
+            if stopped or kind == "io" and self.denied is not None:
+                self.restart_now()
+            elif self.fault[0] == "space":
+                self.want(self.ask(f"arm space {self.fault[1]} {1 << 40}"))
+        raise Wrong("the log doesn't open")
+
+    def go_on(self):
+        """Goes on from what a log holds that was opened."""
+        told = told_map(self.ask("map"))
+        fits = [world for world in self.worlds if self.is_told(world, told)]
+        if not fits:
+            raise Wrong(f"opens with {told}, none of {self.worlds}")
+        self.worlds = fits[-1:]
+
+    def is_told(self, world, told):
+        """Whether the program tells this world, but for entries in a place that can't be read."""
+        if self.denied is None:
+            return world.is_told(told)
+        read = {}
+        for group, (entries, _, keys) in told.items():
+            of = world.groups.get(group, ({}, {}))[0]
+            read[group] = [{index: shown(of[index]) if text == "!io" and index in of else text for index, text in entries.items()}, "", keys]
+        return world.is_told(read)
+
+    def restart(self):
+        self.restart_now()
+        self.open()
+
+    def restart_now(self):
+        """Goes on with what a crash leaves."""
+        self.want(self.ask(f"crash {LEFT[self.number % len(LEFT)]}"))
+        self.is_open, self.failures, self.denied = False, 0, None
+
+    def crash(self, what, lives):
+        self.want(self.ask(f"crash {what}"))
+        self.is_open, self.failures, self.denied = False, 0, None
+
+    def compare(self):
+        """Compares an engine that lives."""
+        told = told_map(self.ask("map"))
+        if not self.is_told(self.worlds[-1], told):
+            raise Wrong(f"holds {told} in place of {self.worlds[-1]}")
+
+    def compare_left(self):
+        """Opens what some crashes may leave now, by one worker or by four."""
+        if self.fault[0] == "growth":
+            self.ask("growth 0")
+        for turn in range(EACH):
+            what = LEFT[(self.number * EACH + turn) % len(LEFT)]
+            answers = []
+            for workers in ((1, 4), (4,), (1,))[turn % 3]:
+                self.want(self.ask(self.settings.but(workers=workers).line()))
+                answers.append(self.ask(f"left {what}"))
+            if len(set(answers)) > 1 or not answers[0].startswith("map"):
+                raise Wrong(f"{what}: left {answers}")
+            told = told_map(answers[0])
+            if not any(world.is_told(told) for world in self.worlds):
+                raise Wrong(f"{what}: left {told}, none of {self.worlds}")
+        self.want(self.ask(self.settings.line()))
+
+
+class DeniedRun(Run):
+    """A run in which a place of a file can't be read from a step on."""
+
+    def __init__(self, player, settings, fault, number):
+        super().__init__(player, settings, fault, number)
+        self.at, self.pick = fault[1], fault[2]
+
+    def step(self, place, step):
+        if place == self.at:
+            self.deny()
+        super().step(place, step)
+
+    def deny(self):
+        """A place can't be read: of the files that are there the one that is picked, and a place in it."""
+        files = [word.split("=") for word in self.ask("sizes").split(" ")[1:]]
+        files = sorted((path, int(size)) for path, size in files if int(size))
+        if files:
+            path, size = files[self.pick % len(files)]
+            at = (self.pick // len(files) * 7919) % size
+            self.want(self.ask(f"arm deny {path} {at}"))
+            self.denied = (path, at)

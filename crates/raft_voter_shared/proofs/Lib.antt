@@ -1,3 +1,4 @@
+pub mod Handing
 pub mod Journals
 pub mod Steps
 pub mod Requests

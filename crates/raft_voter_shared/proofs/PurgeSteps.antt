@@ -1,5 +1,5 @@
 -- What a purge makes of what is known of a store and its journal.
-use Rattle.std.proofs.Common.{◌≡◌, Bool, true, false, is_some, List, Option, None, Some, refl, sym, ap, ◌∙◌}
+use Rattle.std.proofs.Common.{◌≡◌, Bool, true, false, is_some, List, Option, None, refl, sym, ap, ◌∙◌}
 use Rattle.std.proofs.lemmas.Bool.{false≢true}
 use Rattle.raft_voter_messages.specs.declared.round.Round.{Round}
 use Rattle.raft_voter.specs.Rounds.{World}

@@ -136,5 +136,4 @@ told_of_length v (faults.Cut place FileSystem) requests old rounds new rounds' h
 told_of_length v (faults.Cut place Memory) requests old rounds new rounds' h = h.1.fails.0
 told_of_length v (faults.Cut place Failed) requests old rounds new rounds' h = h.1.fails.0
 told_of_length v (faults.Cut place TooLong) requests old rounds new rounds' h = h.1.fails.0
-told_of_length v (faults.Untold place) requests old rounds new rounds' h = h.1.1.short
 told_of_length v faults.Memory requests old rounds new rounds' h = tt

@@ -1,5 +1,6 @@
 pub mod Journal
 pub mod Standing
+pub mod Handing
 pub mod Noting
 pub mod Receipts
 pub mod Settling

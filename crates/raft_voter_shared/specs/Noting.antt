@@ -1,5 +1,6 @@
 -- A round is served, and noted behind the records of a journal.
 use Rattle.std.specs.Prelude.{◌≡◌, ◌≤◌, ◌<◌, ℕ, ◌++◌, List, [], ◌∷◌, length, take}
+use Rattle.std.specs.List.{AllZip}
 use Rattle.raft_voter_messages.specs.declared.reply.Reply.{Reply}
 use Rattle.raft_voter_messages.specs.declared.request.Request.{Request}
 use Rattle.raft_voter_messages.specs.declared.round.Outcome.TheVariants.{Answered, Cut}
@@ -7,6 +8,7 @@ use Rattle.raft_voter_messages.specs.declared.round.Round.{Round}
 use Rattle.raft_voter.specs.Service.{AnswersRound, CutsOff, FailsAs, IsAlive, Service, refused_from}
 use Rattle.raft_voter.specs.declared.service.Cause.{Cause}
 use Rattle.raft_voter.specs.declared.service.Cause.TheVariants.{TooLong}
+use Rattle.raft_voter_shared.specs.Handing.{HandsOut}
 use Rattle.raft_voter_shared.specs.declared.receipt.SharedFault.{SharedFault}
 use Rattle.raft_voter_shared.specs.declared.receipt.SharedFault.TheVariants as faults
 
@@ -22,12 +24,15 @@ answered requests replies = record {
 abbrev pub cut_off : List (ℕ × Request) → List ℕ → Round
 cut_off requests refused = record { requests = requests; refused = refused; outcome = Cut }
 
--- a store answered a round, and it is noted with its replies
+-- A store answered a round, and it is noted with the replies that are handed out: the store's own, but for reads of
+-- which there was no memory for a copy, whose places are refused.
 pub record NotesAnswered {S : Type 0} (v : Service S) (requests : List (ℕ × Request)) (replies : List Reply)
     (old : S) (rounds : List Round) (new : S) (rounds' : List Round) : Type 0 where
   pub noted : rounds' ≡ rounds ++ answered requests replies ∷ []
   pub answers : AnswersRound v requests replies old new
-  pub may_refuse : v.may_refuse old new requests (refused_from 0 replies)
+  pub told : List Reply
+  pub handed : AllZip HandsOut (take (length requests) told) replies
+  pub may_refuse : v.may_refuse old new requests (refused_from 0 told)
   pub short : length requests ≤ 4096
   pub alive : IsAlive (v.is_failed old) (v.is_failed new)
 
@@ -39,14 +44,11 @@ pub record NotesCut {S : Type 0} (v : Service S) (cause : Cause) (requests : Lis
   pub cuts : CutsOff v cause refused requests old new
   pub fails : FailsAs cause (length requests) (v.is_failed old) (v.is_failed new)
 
--- Why no receipt is given, and what is noted then: the round was cut off; or it was answered, but there was no
--- memory for a copy of its replies; or nothing was taken for want of memory.
+-- Why no receipt is given, and what is noted then: the round was cut off; or nothing was taken for want of memory.
 abbrev pub GivesNoReceipt : {S : Type 0} → Service S → SharedFault → List (ℕ × Request)
     → S → List Round → S → List Round → Type 0
 GivesNoReceipt v (faults.Cut place cause) requests old rounds new rounds' =
     (place ≡ length rounds) × NotesCut v cause requests old rounds new rounds'
-GivesNoReceipt v (faults.Untold place) requests old rounds new rounds' =
-    (place ≡ length rounds) × ((replies : List Reply) × NotesAnswered v requests replies old rounds new rounds')
 GivesNoReceipt v faults.Memory requests old rounds new rounds' = (new ≡ old) × (rounds' ≡ rounds)
 
 -- how many records a fault leaves

@@ -1,5 +1,6 @@
 //! Requests and replies once more.
-ghost use Rattle.std.specs.Prelude.{◌≡◌, IfOk};
+ghost use Rattle.std.specs.Prelude.{◌≡◌, true, IfOk, OnErr};
+ghost use Rattle.raft_voter_shared.specs.Handing.{is_read};
 
 use raft_voter::{Entry, Items, Memory, Reply, Request};
 use std::alloc::Global;
@@ -15,18 +16,6 @@ pub fn copy_requests(
     for (group, request) in requests {
         let again = copy_request(alloc, request)?;
         copy.push((*group, again))?;
-    }
-    Ok(Items::from_vec(copy))
-}
-
-/// A copy of the replies.
-pub fn copy_replies(alloc: Global, replies: &[Reply]) -> Result<Items<Reply>, Memory>
-    ensures { IfOk result (λ copy. copy ≡ replies.now) }
-{
-    let mut copy = Vec::with_capacity(alloc, replies.len())?;
-    for reply in replies {
-        let again = copy_reply(alloc, reply)?;
-        copy.push(again)?;
     }
     Ok(Items::from_vec(copy))
 }
@@ -91,9 +80,10 @@ fn copy_sent(alloc: Global, entries: &[(u64, Items<u8>)]) -> Result<Items<(u64, 
     Ok(Items::from_vec(copy))
 }
 
-/// A copy of the reply.
-fn copy_reply(alloc: Global, reply: &Reply) -> Result<Reply, Memory>
-    ensures { IfOk result (λ copy. copy ≡ reply.now) }
+/// A copy of the reply. Only one of entries that were read needs memory.
+pub fn copy_reply(alloc: Global, reply: &Reply) -> Result<Reply, Memory>
+    ensures ok { IfOk result (λ copy. copy ≡ reply.now) }
+    ensures err { OnErr result (is_read reply.now ≡ true) }
 {
     let copy = match reply {
         Reply::Granted(term) => Reply::Granted(*term),

@@ -5,7 +5,6 @@ ghost use Rattle.raft_voter.specs.Service.{IsOpenAt};
 ghost use Rattle.raft_voter_shared.specs.Journal.{IsLegal, reached};
 ghost use Rattle.raft_voter_shared.specs.Standing.{is_last, standing};
 
-use crate::copies::copy_replies;
 use crate::draft::Draft;
 use crate::failure::{Failure, failure_behind, failure_in_purge};
 use crate::maintenance::Maintenance;
@@ -70,8 +69,8 @@ impl<R, S: RoundService<R>, L: Opening> Desk<R, S, L> {
     /// The store serves a round of a seat, and the round is noted behind the others: with the replies that are
     /// handed out, or as it was cut off. The receipt tells whose round it was, and where it stands.
     ///
-    /// There is none where the round was cut off (`Cut`), or where there was no memory for a copy of the replies
-    /// (`Untold`); and nothing was taken where there was none for the record (`Memory`).
+    /// There is none where the round was cut off (`Cut`); and nothing was taken where there was no memory for the
+    /// record or the receipt (`Memory`). A read of which there is no memory for a copy is refused.
     pub fn serve(
         &mut self,
         rt: &R,
@@ -113,19 +112,15 @@ impl<R, S: RoundService<R>, L: Opening> Desk<R, S, L> {
         let (number, turn) = (seat.number(), seat.turn());
         match store.serve(rt, requests) {
             Ok(replies) => {
-                let copied = copy_replies(*alloc, replies.as_slice());
-                let (round, asked) = draft.answered(replies);
+                let (round, asked, handed) = draft.answered(replies);
                 note(journal, book, seat, round);
-                match copied {
-                    Ok(replies) => Ok(Receipt {
-                        seat: number,
-                        turn,
-                        place,
-                        requests: asked,
-                        replies,
-                    }),
-                    Err(_) => Err(SharedFault::Untold(place)),
-                }
+                Ok(Receipt {
+                    seat: number,
+                    turn,
+                    place,
+                    requests: asked,
+                    replies: handed,
+                })
             }
             Err(fault) => {
                 let RoundFault { refused, cause } = fault;

@@ -1,20 +1,27 @@
 //! What a round needs of memory before it is served.
-ghost use Rattle.std.specs.Prelude.{◌≡◌, ◌+◌, ◌≤◌, [], length, vec_capacity, vec_len, IfOk};
+ghost use Rattle.std.specs.Prelude.{◌≡◌, ◌+◌, ◌≤◌, [], length, take, vec_capacity, vec_len, IfOk};
+ghost use Rattle.std.specs.List.{AllZip};
 ghost use Rattle.raft_voter.specs.Service.{is_refused, refused_from};
+ghost use Rattle.raft_voter_shared.specs.Handing.{HandsOut};
 ghost use Rattle.raft_voter_shared.specs.Noting.{answered, cut_off};
 
-use crate::copies::copy_requests;
+use crate::copies::{copy_reply, copy_requests};
 use raft_voter::{Items, Memory, Outcome, Reply, Request, Round};
 use std::alloc::Global;
 
-/// The requests of a round for its record and for its receipt, and room for its refused places.
+/// The requests of a round for its record and for its receipt, and room for the replies of both and for the refused
+/// places.
 #[derive(Drop)]
 pub struct Draft {
+    alloc: Global,
     requests: Items<(u64, Request)>,
     asked: Items<(u64, Request)>,
+    noted: Vec<Reply>,
+    handed: Vec<Reply>,
     places: Vec<usize>,
-    ghost empty: { places.items ≡ [] },
-    ghost room: { length requests ≤ vec_capacity places },
+    ghost empty: { (noted.items ≡ []) × (handed.items ≡ []) × (places.items ≡ []) },
+    ghost room: { (length requests ≤ vec_capacity noted) × (length requests ≤ vec_capacity handed)
+        × (length requests ≤ vec_capacity places) },
 }
 
 impl Draft {
@@ -23,34 +30,47 @@ impl Draft {
         ensures requests { IfOk result (λ draft. draft.requests ≡ requests.now) }
         ensures asked { IfOk result (λ draft. draft.asked ≡ requests.now) }
     {
+        let noted = Vec::with_capacity(alloc, requests.len())?;
+        let handed = Vec::with_capacity(alloc, requests.len())?;
         let places = Vec::with_capacity(alloc, requests.len())?;
         let asked = copy_requests(alloc, requests)?;
         let requests = copy_requests(alloc, requests)?;
         Ok(Draft {
+            alloc,
             requests,
             asked,
+            noted,
+            handed,
             places,
         })
     }
 
-    /// The record of the round, once it was answered, and its requests for the receipt.
-    pub fn answered(self, replies: Items<Reply>) -> (Round, Items<(u64, Request)>)
-        ensures round { result.0 ≡ answered self.requests replies }
+    /// The record of the round, once the store answered it, and its requests and replies for the receipt. A read of
+    /// which there is no memory for a copy is refused.
+    pub fn answered(self, told: Items<Reply>) -> (Round, Items<(u64, Request)>, Items<Reply>)
+        ensures round { result.0 ≡ answered self.requests result.2 }
         ensures asked { result.1 ≡ self.asked }
+        ensures replies { AllZip HandsOut (take (length self.requests) told) result.2 }
     {
         let Draft {
+            alloc,
             requests,
             asked,
+            noted,
+            handed,
             places,
         } = self;
-        let count = requests.len().min(replies.len());
-        let refused = refused_places(&replies.as_slice()[..count], places);
+        let mut told = told.into_vec();
+        told.truncate(requests.len());
+        let (noted, handed) = hand_out(alloc, told, noted, handed);
+        let count = requests.len().min(noted.len());
+        let refused = refused_places(&noted.as_slice()[..count], places);
         let round = Round {
             requests,
             refused,
-            outcome: Outcome::Answered(replies),
+            outcome: Outcome::Answered(noted),
         };
-        (round, asked)
+        (round, asked, handed)
     }
 
     /// The record of the round, once it was cut off.
@@ -58,8 +78,11 @@ impl Draft {
         ensures { result ≡ cut_off self.requests refused }
     {
         let Draft {
+            alloc: _,
             requests,
             asked: _asked,
+            noted: _noted,
+            handed: _handed,
             places: _places,
         } = self;
         Round {
@@ -67,6 +90,38 @@ impl Draft {
             refused,
             outcome: Outcome::Cut,
         }
+    }
+}
+
+/// What is handed out of replies, twice; there is room for them.
+fn hand_out(
+    alloc: Global,
+    told: Vec<Reply>,
+    noted: Vec<Reply>,
+    handed: Vec<Reply>,
+) -> (Items<Reply>, Items<Reply>)
+    requires empty { (noted.items ≡ []) × (handed.items ≡ []) }
+    requires room { (vec_len told ≤ vec_capacity noted) × (vec_len told ≤ vec_capacity handed) }
+    ensures same { result.0 ≡ result.1 }
+    ensures replies { AllZip HandsOut told.items result.0 }
+{
+    let (mut noted, mut handed) = (noted, handed);
+    for reply in told {
+        let (reply, copy) = twice(alloc, reply);
+        noted.push_reserved(reply);
+        handed.push_reserved(copy);
+    }
+    (Items::from_vec(noted), Items::from_vec(handed))
+}
+
+/// What is handed out of a reply, twice: `Refused` in place of entries of which there is no memory for a copy.
+fn twice(alloc: Global, reply: Reply) -> (Reply, Reply)
+    ensures same { result.0 ≡ result.1 }
+    ensures handed { HandsOut reply result.0 }
+{
+    match copy_reply(alloc, &reply) {
+        Ok(copy) => (reply, copy),
+        Err(_) => (Reply::Refused, Reply::Refused),
     }
 }
 

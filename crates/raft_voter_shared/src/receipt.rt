@@ -28,11 +28,7 @@ pub enum SharedFault {
         /// Why.
         cause: Cause,
     },
-    /// The round was answered, and stands so in the journal at this place, but there was no memory for a copy of
-    /// its replies.
-    #[error("round {0} answered, but out of memory for its receipt")]
-    Untold(usize),
-    /// There was no memory for its record: nothing was taken, and nothing stands in the journal.
+    /// There was no memory for its record or for its receipt: nothing was taken, and nothing stands in the journal.
     #[error("out of memory")]
     Memory,
 }

@@ -52,8 +52,8 @@ impl<R, S: RoundService<R>, L: Opening> SharedStore<R, S, L> {
     /// Serves a round of a seat while no other thread does: the round is noted in the journal, and the receipt
     /// tells where. The seat counts it.
     ///
-    /// There is no receipt where the round was cut off (`Cut`), or where there was no memory for a copy of the
-    /// replies (`Untold`): both are noted. Nothing was taken where there was none for the record (`Memory`).
+    /// There is no receipt where the round was cut off (`Cut`), which is noted. Nothing was taken where there was no
+    /// memory for the record or the receipt (`Memory`). A read of which there is no memory for a copy is refused.
     pub fn serve(
         &self,
         rt: &R,

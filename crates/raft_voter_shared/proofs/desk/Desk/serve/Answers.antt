@@ -1,13 +1,17 @@
-use Rattle.std.proofs.Common.{◌≡◌, true, is_some, List, [], ◌∷◌, ◌++◌, length, Option, None, refl, sym, ap, subst, ◌∙◌, arith}
+use Rattle.std.proofs.Common.{◌≡◌, ℕ, true, is_some, List, [], ◌∷◌, ◌++◌, length, take, Option, None, refl, sym, ap, subst, ◌∙◌, arith}
 use Rattle.std.proofs.Math.Logic.{∥∥₁_map}
 use Rattle.std.proofs.lemmas.Bool.{false≢true}
+use Rattle.std.specs.List.{AllZip}
+use Rattle.raft_voter_messages.specs.declared.request.Request.{Request}
 use Rattle.raft_voter_messages.specs.declared.round.Round.{Round}
 use Rattle.raft_voter.specs.Rounds.{World}
 use Rattle.raft_voter.specs.Service.{IsOpenAt}
 use Rattle.raft_voter_shared.specs.declared.failure.Failure.{Failure}
+use Rattle.raft_voter_shared.specs.Handing.{HandsOut}
 use Rattle.raft_voter_shared.specs.Journal.{IsLegal, reached}
 use Rattle.raft_voter_shared.specs.Standing.{failure_behind, is_last, standing}
 use Rattle.raft_voter_shared.specs.Noting.{answered, cut_off}
+use Rattle.raft_voter_shared.proofs.Handing.{handed_round}
 use Rattle.raft_voter_shared.proofs.Steps.{answered_legal, answered_opens, cut_alive, cut_cause, cut_last, cut_leaves, cut_legal, cut_opens}
 use Rattle.raft_voter_shared.proofs.desk.Desk.serve.Goals as goal
 
@@ -19,23 +23,45 @@ invariant_of-self-in-Ok-serve g c =
     let rounds = old.journal.items in
     let asked = c.args.requests.now in
     let told = c.in-Ok-serve.replies in
+    let handed = c.answered-round.result.2 in
     let lives = c.in-Ok-serve.ensures.lives in
-    let noted : c.note.new.journal.items ≡ rounds ++ answered asked told ∷ [] =
+    let asks = c.in-Ok-new.ensures.requests in
+    let zip = subst (λ (qs : List (ℕ × Request)). AllZip HandsOut (take (length qs) told) handed) asks c.answered-round.ensures.replies in
+    let answers = handed_round v asked told handed old.store now c.in-Ok-serve.ensures.ok zip in
+    let noted : c.note.new.journal.items ≡ rounds ++ answered asked handed ∷ [] =
     c.note.ensures.journal ∙ ap (λ (rs : List Round). rs ++ c.answered-round.result.0 ∷ []) c.reserve.ensures.items
-    ∙ ap (λ (r : Round). rounds ++ r ∷ []) (c.answered-round.ensures.round ∙ ap (λ qs. answered qs told) c.in-Ok-new.ensures.requests) in
+    ∙ ap (λ (r : Round). rounds ++ r ∷ []) (c.answered-round.ensures.round ∙ ap (λ qs. answered qs handed) asks) in
     let none : old.failure ≡ None = old.alive lives.0 in
     let opens : (W : World) → g.L.Opening.served W → ∥ IsOpenAt v now (reached W c.note.new.journal.items) ∥₁ = λ W s. subst (λ (rs : List Round). ∥ IsOpenAt v now (reached W rs) ∥₁) (sym noted)
-    (answered_opens v old.store now rounds asked told c.in-Ok-serve.ensures.ok W (old.serves W s lives.0)) in
+    (answered_opens v old.store now rounds asked handed answers W (old.serves W s lives.0)) in
     record {
       counted = c.note.ensures.counted;
       legal = λ W s. subst (λ (rs : List Round). IsLegal W rs) (sym noted)
-          (answered_legal v old.store now rounds asked told c.in-Ok-serve.ensures.ok W (old.serves W s lives.0) (old.legal W s));
+          (answered_legal v old.store now rounds asked handed answers W (old.serves W s lives.0) (old.legal W s));
       serves = λ W s alive. opens W s;
       left = λ W s. subst (λ (f : Option Failure). ∥ v.leaves now (standing W c.note.new.journal.items f) ∥₁) (sym none)
           (∥∥₁_map (opens W s) (λ o. o.left));
       alive = λ alive. none;
       last = subst (λ (f : Option Failure). is_last f c.note.new.journal.items ≡ true) (sym none) refl;
       cause = λ dead lived. absurd (false≢true (sym lives.1 ∙ dead));
+    }
+
+pub returns-in-Ok-serve-clause-noted : goal.returns-in-Ok-serve-clause-noted
+returns-in-Ok-serve-clause-noted g c =
+    let told = c.in-Ok-serve.replies in
+    let handed = c.answered-round.result.2 in
+    let asks = c.in-Ok-new.ensures.requests in
+    let rounds = c.args.self.now.journal.items in
+    let zip = subst (λ (qs : List (ℕ × Request)). AllZip HandsOut (take (length qs) told) handed) asks c.answered-round.ensures.replies in
+    record {
+      noted = c.note.ensures.journal ∙ ap (λ (rs : List Round). rs ++ c.answered-round.result.0 ∷ []) c.reserve.ensures.items
+          ∙ ap (λ (r : Round). rounds ++ r ∷ []) (c.answered-round.ensures.round ∙ ap (λ qs. answered qs handed) asks);
+      answers = handed_round g.S.RoundService.service c.args.requests.now told handed c.args.self.now.store c.serve.new.self c.in-Ok-serve.ensures.ok zip;
+      told = told;
+      handed = zip;
+      may_refuse = c.in-Ok-serve.ensures.refused;
+      short = c.in-Ok-serve.ensures.short;
+      alive = c.in-Ok-serve.ensures.lives;
     }
 
 pub invariant_of-self-in-Err : goal.invariant_of-self-in-Err

@@ -12,7 +12,7 @@ class Judge:
     """Judges directories, and counts."""
 
     # how many bytes an open may take whatever the files have
-    FREE = 4 << 20
+    FREE = 8 << 20
 
     def __init__(self, player):
         self.player, self.counts, self.wrong = player, Counter(), []

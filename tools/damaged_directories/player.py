@@ -2,6 +2,13 @@
 import os
 import select
 import subprocess
+import time
+
+# a first open, which makes the threads
+FIRST = ["new", "settings d - tail 4 1024 4096 1024 600 2 1 0 512", "open", "close"]
+# how much longer an answer may take by the clock than by the processor, on a machine that is at work for others
+SLOWER = 30
+TICKS = os.sysconf("SC_CLK_TCK")
 
 
 class Silent(Exception):
@@ -9,7 +16,7 @@ class Silent(Exception):
 
 
 class Player:
-    """The running program."""
+    """The running program. An answer may take so many seconds of the processor."""
 
     def __init__(self, command, limit=20, preload=None):
         self.command, self.limit, self.preload = command, limit, preload
@@ -20,9 +27,9 @@ class Player:
         if self.preload:
             environment["LD_PRELOAD"] = self.preload
         self.process = subprocess.Popen(self.command, stdin=subprocess.PIPE, stdout=subprocess.PIPE, env=environment,
-                                        stderr=None if self.preload else subprocess.DEVNULL)
+                                        stderr=None if self.preload else subprocess.DEVNULL, start_new_session=True)
         self.held = b""
-        self.asked = 0
+        self.ask_all(FIRST)
 
     def end(self):
         self.process.kill()
@@ -35,15 +42,22 @@ class Player:
         self.end()
         self.start()
 
+    def spent(self):
+        """How many seconds of the processor the program has taken."""
+        with open(f"/proc/{self.process.pid}/stat") as stat:
+            return sum(map(int, stat.read().rsplit(")", 1)[1].split()[11:13])) / TICKS
+
     def lines(self, count):
         """So many answers."""
+        spent, asked = self.spent(), time.time()
         while self.held.count(b"\n") < count:
-            ready, _, _ = select.select([self.process.stdout], [], [], self.limit)
-            got = os.read(self.process.stdout.fileno(), 1 << 20) if ready else None
-            if not got:
-                what = "no answer in time" if got is None else f"ended with status {self.process.wait()}"
-                raise Silent(what)
+            ready, _, _ = select.select([self.process.stdout], [], [], 1)
+            got = os.read(self.process.stdout.fileno(), 1 << 20) if ready else b""
             self.held += got
+            if ready and not got:
+                raise Silent(f"ended with status {self.process.wait()}")
+            if not got and (self.spent() - spent > self.limit or time.time() - asked > self.limit * SLOWER):
+                raise Silent("no answer in time")
         *lines, self.held = self.held.split(b"\n", count)
         return [line.decode() for line in lines]
 
@@ -58,7 +72,6 @@ class Player:
             self.process.stdin.flush()
         except BrokenPipeError:
             raise Silent(f"ended with status {self.process.wait()}") from None
-        self.asked += len(lines)
         return self.lines(len(lines))
 
     def memory(self, what):

@@ -53,7 +53,7 @@ class Judge:
             meaning = self.by_workers(files, settings, told, refused)
         if uses:
             self.compare_disk(files, meaning)
-            self.use(random, meaning, settings)
+            self.use(random, meaning, settings, refused)
         return None
 
     def by_workers(self, files, settings, told, refused):
@@ -99,8 +99,8 @@ class Judge:
             if after.get(path) not in want:
                 raise Wrong(f"{path} has {after.get(path)!r} in place of {want!r}")
 
-    def use(self, random, meaning, settings):
-        """Goes on with a log that was opened, and opens it again."""
+    def use(self, random, meaning, settings, refused):
+        """Goes on with a log that was opened, and opens it again; one worker may have refused it."""
         world = World({group: (dict(of.entries), dict(of.keys)) for group, of in meaning.groups.items()})
         for _ in range(random.randrange(1, 6)):
             world = self.step(random, world)
@@ -109,6 +109,9 @@ class Judge:
             raise Wrong(f"goes on as {told}, is to be {world}")
         for line in ("close", settings.line(), "open"):
             answer = self.player.ask(line)
+            if answer.startswith("refused hole") and refused == "hole":
+                self.counts["opened by several workers alone, and not again"] += 1
+                return
             if answer != "ok":
                 raise Wrong(f"isn't opened again: {answer}")
         told = told_map(self.player.ask("map"))

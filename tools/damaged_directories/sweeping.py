@@ -136,6 +136,7 @@ class Run:
         """A step was refused: that has its cause."""
         kind = answer.split(" ")[1]
         self.refused.append(kind)
+        self.met = self.met or self.denied is not None
         if (kind == "hole") != (next_ is None and not stopped and not failed and kind != "memory"):
             if not (next_ is None and kind in ("failed", "io")):
                 raise Wrong(f"{step}: {answer}, and the world behind is {next_}")
@@ -168,6 +169,7 @@ class Run:
                 return self.go_on()
             kind = answer.split(" ")[1]
             self.refused.append(f"open: {kind}")
+            self.met = self.met or self.denied is not None
             causes = {"io": rose or stopped or self.denied is not None, "memory": self.fault[0] == "growth" and self.met}
             if not causes.get(kind, False):
                 raise Wrong(f"open: {answer} has no cause")

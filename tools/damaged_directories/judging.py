@@ -145,13 +145,12 @@ class Judge:
         return world if answer.startswith("ok") else self.refused_step(answer, world, "purge")
 
     def refused_step(self, answer, world, what):
-        """A step may be refused where a number would be too great, a purge also where an entry can't be read or a key is none that a batch takes."""
+        """A step may be refused where a number would be too great, a purge also where an entry can't be read."""
         kind = answer.split(" ")[1]
         unread = any(None in entries.values() for entries, _ in world.groups.values())
-        own = any(key.startswith(b"__") for _, keys in world.groups.values() for key in keys)
         last = self.player.ask("spans")
         may = (kind == "number-range" and "9999999999999999" in last or
-               what == "purge" and (kind == "corruption" and unread or kind == "invalid-argument" and own))
+               what == "purge" and kind == "corruption" and unread)
         if not may:
             raise Wrong(f"{what} is refused: {answer}")
         self.counts[f"{what} refused: {kind}"] += 1

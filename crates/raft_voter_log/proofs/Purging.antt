@@ -1,13 +1,16 @@
 -- Purges keep the voters of a store, or leave them where it fails.
-use Rattle.std.proofs.Common.{◌≡◌, ◌∙◌, ◌⊎◌, inl, inr, ℕ, Bool, true, false, sym, subst}
+use Rattle.std.proofs.Common.{◌≡◌, ◌∙◌, ◌⊎◌, inl, inr, ℕ, Bool, true, false, Option, sym, subst}
 use Rattle.std.proofs.lemmas.Bool.{false≢true}
 use Rattle.raft_log_record_base.specs.declared.errors.Error.{Error}
 use Rattle.raft_log_record_base.specs.declared.errors.Error.TheVariants as errors
 use Rattle.raft_log_engine_laws.specs.Fetching.{HadFailed}
+use Rattle.raft_log_engine_laws.specs.raft_log_file_pair.specs.Pipes.{LogPipes}
 use Rattle.raft_log_engine_laws.specs.Shows.{Home, Shows, has_failed}
+use Rattle.raft_log_engine_core.specs.declared.engine.LogEngine.{LogEngine}
 use Rattle.raft_log_purge.specs.Append.{FailsToRewriteAppend}
 use Rattle.raft_voter_outline.specs.State.{State}
 use Rattle.raft_voter.specs.Rounds.{World}
+use Rattle.raft_voter.specs.declared.service.Cause.{Cause}
 use Rattle.raft_voter.specs.Service.{CutRound, IsOpenAt, MayFollow, uncut}
 use Rattle.raft_voter_standing_laws.specs.Calls.{KeepsOrLeaves}
 use Rattle.raft_voter_standing_laws.specs.Standing.{AreOutlines, IsLeftAmong, Keeps}
@@ -17,10 +20,9 @@ use Rattle.raft_voter_store.specs.Service.LeavesAt.{left, running}
 use Rattle.raft_voter_store.specs.Upkeep.{KeepsOrLeavesVoters, KeepsVoters}
 use Rattle.raft_voter_store.proofs.Serving.{open_in}
 use Rattle.raft_voter_world.specs.Stores.{KeepsVoters as KeepsServed}
-use Rattle.raft_log_engine_core.specs.Purging.{StopsPurgingExpired}
 use Rattle.raft_voter_world.specs.declared.faults.Purge.{Purge}
-use Rattle.raft_voter_world.specs.declared.faults.Purge.TheVariants.{Expired}
-use Rattle.raft_voter_log.specs.Instance.{PurgesLog}
+use Rattle.raft_voter_log.specs.Causes.{purge_cause}
+use Rattle.raft_voter_log.specs.Instance.{PurgesLog, RefusesLogPurge, StopsPurgeAs}
 
 -- why a purge is refused: the engine had failed; or it hadn't, and it tells whether it has now
 abbrev pub IsPurgeRefusal : Error → Shows → Shows → Type 0
@@ -80,6 +82,11 @@ module _ {S : Type 0} (home : S → Home) (shows : S → Shows) (outlines : S �
       by_leaves cut (running W none held) = left_behind cut W none (keeps (home old) W held)
       by_leaves cut (left failed l) = absurd (is_not (has_failed (shows old)) failed alive)
 
--- a purge of expired files was refused
-pub expired_refused : (purge : Purge) (s t : Shows) (error : Error) → purge ≡ Expired → StopsPurgingExpired s t error → PurgesLog purge s t
-expired_refused purge s t error is why = subst (λ (p : Purge). PurgesLog p s t) (sym is) (inr (error, why))
+-- a purge was answered, and is told so
+pub purged_as :
+    {P : Type 0} (held : LogPipes → Option ℕ → Type 0) (purge kind : Purge) (a b : LogEngine P) (s t : Shows) → purge ≡ kind → PurgesLog held kind a b s t → PurgesLog held purge a b s t
+purged_as held purge kind a b s t is purged = subst (λ (p : Purge). PurgesLog held p a b s t) (sym is) purged
+
+-- a purge was refused, and is told so
+pub refused_as : (purge kind : Purge) (cause : Cause) (error : Error) (s t : Shows) → purge ≡ kind → cause ≡ purge_cause (has_failed s) error → StopsPurgeAs kind s t error → RefusesLogPurge purge cause s t
+refused_as purge kind cause error s t is told why = subst (λ (p : Purge). RefusesLogPurge p cause s t) (sym is) (error, told, why)

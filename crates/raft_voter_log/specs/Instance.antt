@@ -1,5 +1,5 @@
 -- A store of voters on a log, and the log's files, as the store and the disk of a world.
-use Rattle.std.specs.Prelude.{◌≡◌, ◌⊎◌, ℕ, false, true, List, None}
+use Rattle.std.specs.Prelude.{◌≡◌, ◌⊎◌, ℕ, false, true, List, Option, None}
 use Rattle.raft_log_disk.specs.Disk.{Disk as OnDisk}
 use Rattle.raft_log_disk.specs.Exits.{Arms}
 use Rattle.raft_log_disk_memory.specs.Answers.{IsLeftOf}
@@ -9,13 +9,15 @@ use Rattle.raft_log_disk_memory.specs.declared.memory.MemoryFileSystem.{MemoryFi
 use Rattle.raft_log_record_base.specs.declared.errors.Error.{Error}
 use Rattle.raft_log_file_settings.specs.Settings.{settings_of}
 use Rattle.raft_log_file_settings.specs.declared.config.Config.{Config}
-use Rattle.raft_log_engine_laws.specs.raft_log_table_all.specs.declared.mem_tables.MemTables.{MemTables}
 use Rattle.raft_log_engine_laws.specs.raft_log_file_pair.specs.ClosingCalls.{ClosesLog}
+use Rattle.raft_log_engine_laws.specs.raft_log_file_pair.specs.Pipes.{LogPipes}
 use Rattle.raft_log_engine_laws.specs.Shows.{Shows, has_failed}
 use Rattle.raft_log_purge.specs.Append.{RewritesAppend}
+use Rattle.raft_log_purge.specs.Counted.{PurgesAndCounts}
 use Rattle.raft_log_purge.specs.ExpiredFiles.{SyncsAndRewrites}
 use Rattle.raft_log_engine_core.specs.Purging.{StopsPurgingExpired, StopsRewritingAppend}
 use Rattle.raft_log_engine_core.specs.Whole.{ArmsEngine}
+use Rattle.raft_log_engine_core.specs.declared.engine.LogEngine.{LogEngine}
 use Rattle.raft_log_closed.specs.Forks.{FailsToFork, Forks}
 use Rattle.raft_log_open_laws.specs.ByCalls.{home_of}
 use Rattle.raft_voter_outline.specs.State.{State}
@@ -24,26 +26,35 @@ use Rattle.raft_voter.specs.declared.service.Cause.TheVariants.{Memory}
 use Rattle.raft_voter_reading.specs.declared.unread.Unread.{Unread}
 use Rattle.raft_voter_store.specs.Opening.{FailsToOpenVoters, OpensVoters}
 use Rattle.raft_voter_store.specs.Service.{LeavesAt}
-use Rattle.raft_voter_store.specs.Upkeep.{KeepsVoters}
 use Rattle.raft_voter_world.specs.declared.event.Left.{Left}
 use Rattle.raft_voter_world.specs.declared.faults.Fault.{Fault}
 use Rattle.raft_voter_world.specs.declared.faults.Purge.{Purge}
 use Rattle.raft_voter_world.specs.declared.faults.Purge.TheVariants.{Expired, RewriteAppend, RewriteRewrite}
 use Rattle.raft_voter_world.specs.Stores.{Disk, Upkeep}
 use Rattle.raft_voter_log.specs.declared.files.LogFiles.{LogFiles}
-use Rattle.raft_voter_log.specs.Causes.{unread_cause}
+use Rattle.raft_voter_log.specs.Causes.{purge_cause, unread_cause}
 use Rattle.raft_voter_log.specs.Faults.{fault_of, remainder_of}
 use Rattle.raft_voter_log.specs.Leaving.{FilesLeave, SparesFiles, SparesStore}
 
 -- The store.
 
--- what a purge may make of an engine, answered or refused
-abbrev pub PurgesLog : Purge → Shows → Shows → Type 0
-PurgesLog Expired s t = KeepsVoters s t ⊎ ((error : Error) × StopsPurgingExpired s t error)
-PurgesLog RewriteAppend s t =
-    ((m : MemTables) × RewritesAppend None None m s t) ⊎ ((error : Error) × StopsRewritingAppend s t error)
-PurgesLog RewriteRewrite s t =
-    ((m : MemTables) × SyncsAndRewrites m s t) ⊎ ((error : Error) × StopsPurgingExpired s t error)
+-- what a purge that was answered made of an engine, whose pipes hold back so much of Append
+abbrev pub PurgesLog :
+    {P : Type 0} → (LogPipes → Option ℕ → Type 0) → Purge → LogEngine P → LogEngine P → Shows → Shows → Type 0
+PurgesLog held Expired old new s t = (groups : List ℕ)
+    × PurgesAndCounts held old.thresholds old.tables new.tables old.counts new.counts groups s t
+PurgesLog held RewriteAppend old new s t = RewritesAppend None None new.tables s t
+PurgesLog held RewriteRewrite old new s t = SyncsAndRewrites new.tables s t
+
+-- a purge was refused, for this error, and this is why
+abbrev pub StopsPurgeAs : Purge → Shows → Shows → Error → Type 0
+StopsPurgeAs RewriteAppend s t error = StopsRewritingAppend s t error
+StopsPurgeAs purge s t error = StopsPurgingExpired s t error
+
+-- a purge was refused, and that was told as this cause
+abbrev pub RefusesLogPurge : Purge → Cause → Shows → Shows → Type 0
+RefusesLogPurge purge cause s t =
+    (error : Error) × (cause ≡ purge_cause (has_failed s) error) × StopsPurgeAs purge s t error
 
 -- a file system has armed a fault, beside what it had armed before
 abbrev pub IsArmed : Fault → MemoryFileSystem → MemoryFileSystem → Type 0
@@ -54,10 +65,13 @@ abbrev pub ArmsStore : Fault → MemoryFileSystem → MemoryFileSystem → Shows
 ArmsStore fault old new s t = (ArmsEngine (fault_of fault) s t × IsArmed fault old new)
     ⊎ ((s.pipes.disk.stopped ≡ true) × (t ≡ s))
 
-abbrev pub log_upkeep : {S : Type 0} → (S → MemoryFileSystem) → (S → Shows) → Upkeep S
-log_upkeep files shows = record {
+abbrev pub log_upkeep :
+    {S P : Type 0}
+    → (S → MemoryFileSystem) → (LogPipes → Option ℕ → Type 0) → (S → LogEngine P) → (S → Shows) → Upkeep S
+log_upkeep files held engine shows = record {
   has_stopped = λ store. (shows store).pipes.disk.stopped;
-  purges = λ purge old new. PurgesLog purge (shows old) (shows new);
+  purges = λ purge old new. PurgesLog held purge (engine old) (engine new) (shows old) (shows new);
+  refuses = λ purge cause old new. RefusesLogPurge purge cause (shows old) (shows new);
   arms = λ fault old new. ArmsStore fault (files old) (files new) (shows old) (shows new);
 }
 

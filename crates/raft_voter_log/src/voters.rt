@@ -1,7 +1,9 @@
 //! A store of voters on a log that is open.
 ghost use Rattle.std.specs.Prelude.{◌≡◌, ◌≤◌, length, IfErr, IfOk, OnOk};
 ghost use Rattle.raft_log_engine_core.specs.Reads.{shows_of};
+ghost use Rattle.raft_log_file_pair.specs.HoldingBack.{PipesHoldBack};
 ghost use Rattle.raft_log_open_laws.specs.ByCalls.{home_of};
+ghost use Rattle.raft_log_record_base.specs.declared.pipe_log.LogQueue.TheVariants.{Append};
 ghost use Rattle.raft_voter_outlines.specs.Kept.{outlines_in};
 ghost use Rattle.raft_voter_store.specs.Service.{service_in};
 ghost use Rattle.raft_voter_log.specs.Instance.{log_upkeep};
@@ -37,6 +39,9 @@ impl<R: Log> RoundService<R> for LogVoters {
 impl<R: Log> VoterStorage<R> for LogVoters {
     ghost upkeep = { log_upkeep
         (λ voters. ⟦<EnginePipes<MemoryFileSystem, Nobody> as PipeLog>⟧.files voters.store.engine.pipes)
+        (PipesHoldBack ⟦<EnginePipes<MemoryFileSystem, Nobody> as PipeLog>⟧.shown
+        ⟦<EnginePipes<MemoryFileSystem, Nobody> as PipeLog>⟧.holds_back Append)
+        (λ voters. voters.store.engine)
         (λ voters. shows_of ⟦<EnginePipes<MemoryFileSystem, Nobody> as PipeLog>⟧.shown voters.store.engine) };
 
     fn is_failed(&self) -> bool {

@@ -34,7 +34,11 @@ abbrev pub HasVotersReason : Home → LogMap → Error → Shows → Shows → T
 HasVotersReason home m (errors.InvalidArgument text) s t = ⊥
 HasVotersReason home m error s t = HasReason home m error s t
 
+-- so it is refused of the log of these voters
+abbrev pub VotersHaveReason : Home → World → Error → Shows → Shows → Type 0
+VotersHaveReason home V error s t = (m : LogMap) × Means m V × HasVotersReason home m error s t
+
 -- A purge of a store tells why it was refused.
 abbrev pub PurgesTellCauses : Type 0
 PurgesTellCauses = (home : Home) (V : World) (s t : Shows) (error : Error) → Keeps home s V → StopsPurge s t error
-    → (m : LogMap) × Means m V × HasVotersReason home m error s t
+    → VotersHaveReason home V error s t

@@ -1,19 +1,25 @@
--- A purge of a run keeps the voters, or a file call failed in it.
-use Rattle.std.proofs.Common.{◌≡◌, ◌⊎◌, true, [], inl, inr, sym, subst}
+-- A purge of a run keeps the voters, or a file call failed in it, and it tells why it is refused.
+use Rattle.std.proofs.Common.{◌≡◌, ◌⊎◌, ◌∙◌, ℕ, Bool, true, false, [], Option, inl, inr, refl, sym, ap, subst}
 use Rattle.raft_log_disk.specs.Causes.{Fails}
+use Rattle.raft_log_disk_memory.specs.declared.memory.MemoryFileSystem.{MemoryFileSystem}
 use Rattle.raft_log_record_base.specs.declared.errors.Error.{Error}
 use Rattle.raft_log_record_base.specs.declared.errors.Error.TheVariants as errors
 use Rattle.raft_log_engine_laws.specs.Settled.{HoldsSettled}
+use Rattle.raft_log_engine_laws.specs.raft_log_file_pair.specs.Pipes.{LogPipes}
 use Rattle.raft_log_engine_laws.specs.Shows.{Home, Shows, has_failed}
 use Rattle.raft_log_engine_laws.proofs.Settling.{settled_held}
+use Rattle.raft_log_engine_core.specs.declared.engine.LogEngine.{LogEngine}
 use Rattle.raft_voter.specs.Rounds.{World}
 use Rattle.raft_voter_standing_laws.specs.Calls.{KeepsOrLeaves}
 use Rattle.raft_voter_standing_laws.specs.Standing.{IsLeftWith, Keeps}
 use Rattle.raft_voter_standing_laws.proofs.Keeping.{purges_keep_voters}
+use Rattle.raft_voter_world.specs.declared.faults.Purge.{Purge}
 use Rattle.raft_voter_world.specs.declared.faults.Purge.TheVariants.{Expired, RewriteAppend, RewriteRewrite}
+use Rattle.raft_voter_log.specs.Causes.{purge_cause}
+use Rattle.raft_voter_log.specs.Instance.{PurgesLog, StopsPurgeAs, log_upkeep}
 use Rattle.raft_voter_log_laws.specs.Causes.{StopsPurge}
-use Rattle.raft_voter_log_laws.proofs.Causing.{failed_purges_have_failed}
-use Rattle.raft_voter_log_run_laws.specs.Purges.{PurgesKeepOrFail}
+use Rattle.raft_voter_log_laws.proofs.Causing.{failed_purges_have_failed, purges_tell_causes}
+use Rattle.raft_voter_log_run_laws.specs.Purges.{PurgesKeepOrFail, RefusedPurgesHaveReasons}
 
 abbrev KeepsOrFails : Home → World → Shows → Shows → Type 0
 KeepsOrFails home V s t = Keeps home t V ⊎ ((has_failed t ≡ true) × Fails s.pipes.disk t.pipes.disk × IsLeftWith home t.pipes.disk V)
@@ -32,13 +38,38 @@ stopped home V s t error keeps (inr (inr fails)) =
     ended home V s t error keeps (inr (inr fails)) (fails.1.tells fails.0).1 (purges_keep_voters.refused home V error s t keeps fails.1.remains)
 
 -- where it was answered
-settled : (home : Home) (V : World) (s t : Shows) (keeps : Keeps home s V) → HoldsSettled home t keeps.map → KeepsOrFails home V s t
-settled home V s t keeps holds = inl (record { map = keeps.map; holds = settled_held home t keeps.map holds; means = keeps.means })
+settled : (home : Home) (V : World) (s t : Shows) (keeps : Keeps home s V) → HoldsSettled home t keeps.map → Keeps home t V
+settled home V s t keeps holds = record { map = keeps.map; holds = settled_held home t keeps.map holds; means = keeps.means }
 
-pub purges_keep_or_fail : PurgesKeepOrFail
-purges_keep_or_fail home V Expired s t keeps (inl kept) = inl (kept home V keeps)
-purges_keep_or_fail home V Expired s t keeps (inr (error, stops)) = stopped home V s t error keeps (inl stops)
-purges_keep_or_fail home V RewriteAppend s t keeps (inl (m, rewrites)) = settled home V s t keeps (rewrites.settles home keeps.map [] keeps.holds)
-purges_keep_or_fail home V RewriteAppend s t keeps (inr (error, stops)) = stopped home V s t error keeps (inr stops)
-purges_keep_or_fail home V RewriteRewrite s t keeps (inl (m, rewrites)) = settled home V s t keeps (rewrites.settles home keeps.map [] keeps.holds)
-purges_keep_or_fail home V RewriteRewrite s t keeps (inr (error, stops)) = stopped home V s t error keeps (inl stops)
+answered : {P : Type 0} (held : LogPipes → Option ℕ → Type 0) (home : Home) (V : World) (purge : Purge) (old new : LogEngine P) (s t : Shows) → Keeps home s V → PurgesLog held purge old new s t → Keeps home t V
+answered held home V Expired old new s t keeps (groups, purged) = purges_keep_voters.answered home V s t keeps purged.purges.holds
+answered held home V RewriteAppend old new s t keeps rewrites = settled home V s t keeps (rewrites.settles home keeps.map [] keeps.holds)
+answered held home V RewriteRewrite old new s t keeps rewrites = settled home V s t keeps (rewrites.settles home keeps.map [] keeps.holds)
+
+-- of a refused one it is known of which kind it was
+stops_of : (purge : Purge) (s t : Shows) (error : Error) → StopsPurgeAs purge s t error → StopsPurge s t error
+stops_of Expired s t error stops = inl stops
+stops_of RewriteAppend s t error stops = inr stops
+stops_of RewriteRewrite s t error stops = inl stops
+
+-- an engine that keeps voters hasn't failed
+alive : (home : Home) (V : World) (s : Shows) → Keeps home s V → has_failed s ≡ false
+alive home V s keeps =
+    let one : s.pipes.append.failed ≡ false = keeps.holds.runs.append.alive in
+    let other : s.pipes.rewrite.failed ≡ false = keeps.holds.runs.rewrite.alive in
+    rw (one, other) refl
+
+-- so it is of a store on a log
+module _ {S P : Type 0} (files : S → MemoryFileSystem) (held : LogPipes → Option ℕ → Type 0) (engine : S → LogEngine P) (shows : S → Shows) where
+  pub purges_keep_or_fail : PurgesKeepOrFail (log_upkeep files held engine shows) shows
+  purges_keep_or_fail = record {
+    answered = λ home V purge old new keeps purged. answered held home V purge (engine old) (engine new) (shows old) (shows new) keeps purged;
+    refused = λ home V purge cause old new keeps why. stopped home V (shows old) (shows new) why.0 keeps (stops_of purge (shows old) (shows new) why.0 why.2);
+  }
+
+  pub refused_purges_have_reasons : RefusedPurgesHaveReasons (log_upkeep files held engine shows) shows
+  refused_purges_have_reasons home V purge cause old new keeps why = (
+    why.0,
+    why.1 ∙ ap (λ (b : Bool). purge_cause b why.0) (alive home V (shows old) keeps),
+    purges_tell_causes home V (shows old) (shows new) why.0 keeps (stops_of purge (shows old) (shows new) why.0 why.2),
+  )

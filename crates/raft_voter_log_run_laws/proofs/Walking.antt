@@ -54,7 +54,7 @@ module _ {S : Type 0} (tells : MemoryFileSystem → List ℕ → ℕ → Type 0)
       absurd (false≢true (goes (plain_spared f.config (disk_of f.files) cut known plain (disk_of f.files))).0)
   walk (Open store) cut known plain (answered round now ∷ ms) goes h c = walk (Open now) (cut_after cut round) goes.0 tt ms (goes.1 goes.0) h.1 c
   walk (Open store) cut known plain (cut_off round cause now ∷ ms) goes h c = walk (Open now) (cut_by cause cut round) goes.0 tt ms (goes.1 goes.0) h.1 c
-  walk (Open store) cut known plain (kept (purges purge) (Open now) ∷ ms) goes h c = walk (Open now) cut goes.0 tt ms (goes.1 goes.0) h.1 c
+  walk (Open store) cut known plain (kept (purges purge refusal) (Open now) ∷ ms) goes h c = walk (Open now) cut goes.0 tt ms (goes.1 goes.0) h.1 c
   walk (Open store) cut known plain (kept (arms fault) (Open now) ∷ ms) goes h c = walk (Open now) cut goes.0 tt ms (goes.1 goes.0) h.1 c
   walk (Open store) cut known plain (kept closes (Closed f) ∷ []) goes h c = (tt, (Closed f, cut, goes.1 goes.0))
   walk (Open store) cut known plain (crashed gone left ∷ ms) goes h c =

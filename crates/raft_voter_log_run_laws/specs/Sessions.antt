@@ -36,7 +36,7 @@ CrashesOnlyLose config shows (Closed files) (opened workers store voters place n
     CrashesOnlyLose config shows (Open now) ms
 CrashesOnlyLose config shows (Open store) (answered round now ∷ ms) = CrashesOnlyLose config shows (Open now) ms
 CrashesOnlyLose config shows (Open store) (cut_off round cause now ∷ ms) = CrashesOnlyLose config shows (Open now) ms
-CrashesOnlyLose config shows (Open store) (kept (purges purge) (Open now) ∷ ms) =
+CrashesOnlyLose config shows (Open store) (kept (purges purge refusal) (Open now) ∷ ms) =
     CrashesOnlyLose config shows (Open now) ms
 CrashesOnlyLose config shows (Open store) (kept (arms fault) (Open now) ∷ ms) =
     CrashesOnlyLose config shows (Open now) ms

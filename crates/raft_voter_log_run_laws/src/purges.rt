@@ -1,9 +1,24 @@
 //! Purges of a run.
 
-ghost use Rattle.raft_voter_log_run_laws.specs.Purges.{PurgesKeepOrFail};
+ghost use Rattle.raft_log_engine_core.specs.Reads.{shows_of};
+ghost use Rattle.raft_voter_log_run_laws.specs.Purges.{PurgesKeepOrFail, RefusedPurgesHaveReasons};
 
-/// A purge in a run, answered or refused, changes no voter; and it leaves a store failed only where a file call failed in
-/// it.
-pub fn purges_keep_or_fail()
-    ensures { PurgesKeepOrFail }
+use log::Log;
+use raft_log_engine::{EnginePipes, MemoryFileSystem, Nobody, PipeLog};
+use raft_voter_log::LogVoters;
+use raft_voter_world::VoterStorage;
+
+/// A purge in a run, answered or refused, changes no voter; and a refused one leaves a store failed only where a file call
+/// failed in it.
+pub fn purges_keep_or_fail<R: Log>()
+    ensures { PurgesKeepOrFail ⟦<LogVoters as VoterStorage<R>>⟧.upkeep
+        (λ voters. shows_of ⟦<EnginePipes<MemoryFileSystem, Nobody> as PipeLog>⟧.shown voters.store.engine) }
+{}
+
+/// A purge in a run is refused only for one of these causes: as the file system, where a file call failed, an entry wasn't
+/// read, a queue stands at the last number of a file, what a group has is too long for a record, or a file of Rewrite in
+/// use is none of its span's; or as memory, which ran out. It is never refused as an invalid argument.
+pub fn refused_purges_have_reasons<R: Log>()
+    ensures { RefusedPurgesHaveReasons ⟦<LogVoters as VoterStorage<R>>⟧.upkeep
+        (λ voters. shows_of ⟦<EnginePipes<MemoryFileSystem, Nobody> as PipeLog>⟧.shown voters.store.engine) }
 {}

@@ -33,7 +33,7 @@ opened_serves v store now voters W tells stays at = subst (λ (X : World). IsOpe
 -- a call that keeps the voters
 pub kept_serves : {S F : Type 0} (v : Service S) (u : Upkeep S) (d : Disk S F) (change : Change) (old new : Storage S F) (cut : CutRound) → Keeps v u d change old new → Serving v old cut → Serving v new cut
 kept_serves v u d closes (Open store) (Closed files) cut k s = tt
-kept_serves v u d (purges p) (Open old) (Open new) cut k s = λ alive. go (v.is_failed old) refl alive
+kept_serves v u d (purges p refusal) (Open old) (Open new) cut k s = λ alive. go (v.is_failed old) refl alive
   where
     go : (b : Bool) → v.is_failed old ≡ b → v.is_failed new ≡ false → (cut ≡ uncut cut.before) × IsOpenAt v new cut.before
     go true e alive = absurd (false≢true (sym alive ∙ k.1.failed e))
@@ -43,8 +43,8 @@ kept_serves v u d (arms f) (Closed old) (Closed new) cut k s = tt
 kept_serves v u d (copies t) (Closed old) (Closed new) cut k s = tt
 kept_serves v u d closes (Closed old) new cut k s = absurd k
 kept_serves v u d closes (Open old) (Open new) cut k s = absurd k
-kept_serves v u d (purges p) (Closed old) new cut k s = absurd k
-kept_serves v u d (purges p) (Open old) (Closed new) cut k s = absurd k
+kept_serves v u d (purges p refusal) (Closed old) new cut k s = absurd k
+kept_serves v u d (purges p refusal) (Open old) (Closed new) cut k s = absurd k
 kept_serves v u d (arms f) (Open old) (Closed new) cut k s = absurd k
 kept_serves v u d (arms f) (Closed old) (Open new) cut k s = absurd k
 kept_serves v u d (copies t) (Open old) new cut k s = absurd k
@@ -53,7 +53,7 @@ kept_serves v u d (copies t) (Closed old) (Open new) cut k s = absurd k
 -- a store that isn't alive doesn't come alive by such a call
 pub kept_dead : {S F : Type 0} (v : Service S) (u : Upkeep S) (d : Disk S F) (change : Change) (old new : Storage S F) → Keeps v u d change old new → is_alive v old ≡ false → is_alive v new ≡ false
 kept_dead v u d closes (Open store) (Closed files) k e = refl
-kept_dead v u d (purges p) (Open old) (Open new) k e = ap not (k.1.failed (not_false (v.is_failed old) e))
+kept_dead v u d (purges p refusal) (Open old) (Open new) k e = ap not (k.1.failed (not_false (v.is_failed old) e))
   where
     not_false : (b : Bool) → not b ≡ false → b ≡ true
     not_false true h = refl
@@ -63,8 +63,8 @@ kept_dead v u d (arms f) (Closed old) (Closed new) k e = refl
 kept_dead v u d (copies t) (Closed old) (Closed new) k e = refl
 kept_dead v u d closes (Closed old) new k e = absurd k
 kept_dead v u d closes (Open old) (Open new) k e = absurd k
-kept_dead v u d (purges p) (Closed old) new k e = absurd k
-kept_dead v u d (purges p) (Open old) (Closed new) k e = absurd k
+kept_dead v u d (purges p refusal) (Closed old) new k e = absurd k
+kept_dead v u d (purges p refusal) (Open old) (Closed new) k e = absurd k
 kept_dead v u d (arms f) (Open old) (Closed new) k e = absurd k
 kept_dead v u d (arms f) (Closed old) (Open new) k e = absurd k
 kept_dead v u d (copies t) (Open old) new k e = absurd k

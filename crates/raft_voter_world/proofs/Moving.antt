@@ -16,7 +16,7 @@ use Rattle.raft_voter_world.specs.History.{Change, Crashes, Either, Falls, IsCha
 use Rattle.raft_voter_world.specs.History.Change.{closes, purges, arms, copies}
 use Rattle.raft_voter_world.specs.History.Moment.{crashed, kept}
 use Rattle.raft_voter_world.specs.Steps.{Falling, Grows, IsStep, Moves, WhereAlive, event_of}
-use Rattle.raft_voter_world.specs.Storages.{KeepsIfClosed, KeepsIfOpen}
+use Rattle.raft_voter_world.specs.Storages.{KeepsIfClosed, PurgesIfOpen}
 use Rattle.raft_voter_world.specs.declared.faults.Purge.{Purge}
 use Rattle.raft_voter_world.specs.declared.faults.Purge.TheVariants.{Expired, RewriteAppend as Append, RewriteRewrite as Rewrite}
 use Rattle.raft_voter_world.specs.Stores.{Disk, Upkeep}
@@ -69,7 +69,7 @@ falls_down {S} {F} v u d event old new files stopped falls now notes left = reco
 -- where a call kept the voters, what is so where a store is alive is still so
 kept_alive : {S F : Type 0} (v : Service S) (u : Upkeep S) (d : Disk S F) (change : Change) (old new : Storage S F) (P : Type 0) → Keeps v u d change old new → WhereAlive v old P → WhereAlive v new P
 kept_alive v u d closes (Open store) (Closed files) P k a = tt
-kept_alive v u d (purges p) (Open old) (Open new) P k a = λ alive. go (v.is_failed old) refl alive
+kept_alive v u d (purges p refusal) (Open old) (Open new) P k a = λ alive. go (v.is_failed old) refl alive
   where
     go : (b : Bool) → v.is_failed old ≡ b → v.is_failed new ≡ false → P
     go true e alive = absurd (false≢true (sym alive ∙ k.1.failed e))
@@ -79,8 +79,8 @@ kept_alive v u d (arms f) (Closed old) (Closed new) P k a = tt
 kept_alive v u d (copies t) (Closed old) (Closed new) P k a = tt
 kept_alive v u d closes (Closed old) new P k a = absurd k
 kept_alive v u d closes (Open old) (Open new) P k a = absurd k
-kept_alive v u d (purges p) (Closed old) new P k a = absurd k
-kept_alive v u d (purges p) (Open old) (Closed new) P k a = absurd k
+kept_alive v u d (purges p refusal) (Closed old) new P k a = absurd k
+kept_alive v u d (purges p refusal) (Open old) (Closed new) P k a = absurd k
 kept_alive v u d (arms f) (Open old) (Closed new) P k a = absurd k
 kept_alive v u d (arms f) (Closed old) (Open new) P k a = absurd k
 kept_alive v u d (copies t) (Open old) new P k a = absurd k
@@ -105,19 +105,19 @@ kept_moves {S} {F} v u d event change old mid new ms k notes m =
 -- Events that make one call, which keeps the voters.
 
 -- where a purge is made of an open store, or of none
-pub purge_step : {S F : Type 0} (v : Service S) (u : Upkeep S) (d : Disk S F) (place : ℕ) (purge : Purge) (old mid new : World S F) (storage : Storage S F) → old.storage ≡ storage → KeepsIfOpen v u d (purges purge) storage mid.storage
+pub purge_step : {S F : Type 0} (v : Service S) (u : Upkeep S) (d : Disk S F) (place : ℕ) (purge : Purge) (old mid new : World S F) (storage : Storage S F) → old.storage ≡ storage → PurgesIfOpen v u d purge storage mid.storage
     → mid.notes ≡ old.notes → mid.left ≡ old.left → Falling v u d place mid new → IsStep v u d place (event_of purge) old new
-purge_step {S} {F} v u d place purge old mid new (Open store) is k notes left f = record {
-  moments = kept (purges purge) mid.storage ∷ f.moments;
-  turns = subst (λ (x : Storage S F). Turns u d old.left x (event_of purge) (kept (purges purge) mid.storage ∷ f.moments)) (sym is) (turned purge);
-  moves = kept_moves v u d place (purges purge) old mid new f.moments (subst (λ (x : Storage S F). Keeps v u d (purges purge) x mid.storage) (sym is) k) notes f.moves;
+purge_step {S} {F} v u d place purge old mid new (Open store) is (refusal, k) notes left f = record {
+  moments = kept (purges purge refusal) mid.storage ∷ f.moments;
+  turns = subst (λ (x : Storage S F). Turns u d old.left x (event_of purge) (kept (purges purge refusal) mid.storage ∷ f.moments)) (sym is) (turned purge);
+  moves = kept_moves v u d place (purges purge refusal) old mid new f.moments (subst (λ (x : Storage S F). Keeps v u d (purges purge refusal) x mid.storage) (sym is) k) notes f.moves;
   left = f.left ∙ left ∙ same purge;
 }
   where
     falls : Falls u d old.left mid.storage f.moments
     falls = subst (λ (g : Left). Falls u d g mid.storage f.moments) left f.falls
 
-    turned : (p : Purge) → Turns u d old.left (Open store) (event_of p) (kept (purges p) mid.storage ∷ f.moments)
+    turned : (p : Purge) → Turns u d old.left (Open store) (event_of p) (kept (purges p refusal) mid.storage ∷ f.moments)
     turned Expired = (refl, falls)
     turned Append = (refl, falls)
     turned Rewrite = (refl, falls)

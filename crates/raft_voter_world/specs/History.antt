@@ -1,5 +1,5 @@
 -- What happened to a store of voters and its disk.
-use Rattle.std.specs.Prelude.{◌≡◌, ℕ, ◌≤◌, ◌==◌, Bool, true, false, if◌then◌else◌, List, [], ◌∷◌, length, Option, map}
+use Rattle.std.specs.Prelude.{◌≡◌, ℕ, ◌≤◌, ◌==◌, Bool, true, false, if◌then◌else◌, List, [], ◌∷◌, length, Option, None, Some, map}
 use Rattle.std.specs.List.{flat_map}
 use Rattle.std.specs.String.{string_bytes}
 use Rattle.raft_voter_messages.specs.declared.reply.Reply.{Reply}
@@ -20,14 +20,15 @@ use Rattle.raft_voter_world.specs.declared.faults.Purge.TheVariants.{Expired, Re
 use Rattle.raft_voter_world.specs.declared.storage.Storage.{Storage}
 use Rattle.raft_voter_world.specs.declared.storage.Storage.TheVariants.{Closed, Open}
 use Rattle.raft_voter_world.specs.Stores.{Disk, FindsVoters, LeavesInFiles, LeavesStanding, LeavesUnder, StaysInFiles}
-use Rattle.raft_voter_world.specs.Stores.{KeepsVoters, StaysAsItWas, TellsVoters, Upkeep}
+use Rattle.raft_voter_world.specs.Stores.{KeepsVoters, RefusesPurge, StaysAsItWas, TellsVoters, Upkeep}
 
 -- Moments.
 
--- calls that keep the voters: a close, a purge, a fault that is armed, a copy into a directory
+-- calls that keep the voters: a close, a purge, answered or refused for a cause, a fault that is armed, a copy into
+-- a directory
 pub data Change : Type 0 where
   closes : Change
-  purges : Purge → Change
+  purges : Purge → Option Cause → Change
   arms : Fault → Change
   copies : List ℕ → Change
 
@@ -122,12 +123,18 @@ Crashes v d (Closed files) gone left =
 Crashes v d (Open store) gone left =
     d.crashes_under store gone left × LeavesUnder v d store left × (d.has_stopped left ≡ false)
 
+-- a purge was answered, and did what it does; or it was refused, for this cause
+abbrev pub EndsPurge : {S : Type 0} → Service S → Upkeep S → Purge → Option Cause → S → S → Type 0
+EndsPurge v u purge None old new = u.purges purge old new × IsAlive (v.is_failed old) (v.is_failed new)
+EndsPurge v u purge (Some cause) old new =
+    u.refuses purge cause old new × RefusesPurge cause (v.is_failed old) (v.is_failed new)
+
 -- a call kept the voters
 abbrev pub Keeps :
     {S F : Type 0}
     → Service S → Upkeep S → Disk S F → Change → Storage S F → Storage S F → Type 0
 Keeps v u d closes (Open store) (Closed files) = d.closes store files × LeavesInFiles v d store files
-Keeps v u d (purges purge) (Open old) (Open new) = u.purges purge old new × KeepsVoters v old new
+Keeps v u d (purges purge refusal) (Open old) (Open new) = EndsPurge v u purge refusal old new × KeepsVoters v old new
 Keeps v u d (arms fault) (Open old) (Open new) = u.arms fault old new × StaysAsItWas v old new
 Keeps v u d (arms fault) (Closed old) (Closed new) = d.arms fault old new × StaysInFiles v d old new
 Keeps v u d (copies target) (Closed old) (Closed new) = d.forks target old new × StaysInFiles v d old new
@@ -193,6 +200,11 @@ abbrev pub IsChange : {S F : Type 0} → Change → Moment S F → Type 0
 IsChange change (kept other now) = other ≡ change
 IsChange change moment = ⊥
 
+-- this purge, answered or refused
+abbrev pub IsPurge : {S F : Type 0} → Purge → Moment S F → Type 0
+IsPurge purge (kept (purges other refusal) now) = other ≡ purge
+IsPurge purge moment = ⊥
+
 -- a crash that leaves this
 abbrev pub IsCrash : {S F : Type 0} → Left → Moment S F → Type 0
 IsCrash gone (crashed other files) = other ≡ gone
@@ -222,9 +234,9 @@ Opens u d workers gone files ms =
 abbrev pub Turns :
     {S F : Type 0} → Upkeep S → Disk S F → Left → Storage S F → Event → List (Moment S F) → Type 0
 Turns u d gone storage (RoundEvent requests) ms = One u d gone (IsRoundOf requests) ms
-Turns u d gone (Open store) Maintain ms = One u d gone (IsChange (purges Expired)) ms
-Turns u d gone (Open store) RewriteAppend ms = One u d gone (IsChange (purges Append)) ms
-Turns u d gone (Open store) RewriteRewrite ms = One u d gone (IsChange (purges Rewrite)) ms
+Turns u d gone (Open store) Maintain ms = One u d gone (IsPurge Expired) ms
+Turns u d gone (Open store) RewriteAppend ms = One u d gone (IsPurge Append) ms
+Turns u d gone (Open store) RewriteRewrite ms = One u d gone (IsPurge Rewrite) ms
 Turns u d gone (Open store) (OpenEvent workers) (kept closes (Closed files) ∷ ms) = Opens u d workers gone files ms
 Turns u d gone (Open store) (OpenEvent workers) ms = ⊥
 Turns u d gone (Closed files) (OpenEvent workers) ms = Opens u d workers gone files ms

@@ -1,21 +1,23 @@
 -- What calls make of a storage.
-use Rattle.std.specs.Prelude.{◌≡◌, ℕ, List}
+use Rattle.std.specs.Prelude.{◌≡◌, ℕ, List, Option}
 use Rattle.raft_voter_messages.specs.declared.request.Request.{Request}
 use Rattle.raft_voter.specs.Service.{Service, TakesNothing}
 use Rattle.raft_voter.specs.declared.service.Cause.{Cause}
 use Rattle.raft_voter.specs.declared.service.Cause.TheVariants.{FileSystem}
+use Rattle.raft_voter_world.specs.declared.faults.Purge.{Purge}
 use Rattle.raft_voter_world.specs.declared.serving.Served.{Served}
 use Rattle.raft_voter_world.specs.declared.serving.Served.TheVariants.{Answered, TookSome, TookNone}
 use Rattle.raft_voter_world.specs.declared.storage.Storage.{Storage}
 use Rattle.raft_voter_world.specs.declared.storage.Storage.TheVariants.{Closed, Open}
 use Rattle.raft_voter_world.specs.History.{Change, IsAnswered, IsCutOff, IsIdle, Keeps}
+use Rattle.raft_voter_world.specs.History.Change.{purges}
 use Rattle.raft_voter_world.specs.Stores.{Disk, Upkeep}
 
--- where a store is open the call keeps the voters, else nothing is changed
-abbrev pub KeepsIfOpen :
-    {S F : Type 0} → Service S → Upkeep S → Disk S F → Change → Storage S F → Storage S F → Type 0
-KeepsIfOpen v u d change (Open store) new = Keeps v u d change (Open store) new
-KeepsIfOpen v u d change (Closed files) new = new ≡ Closed files
+-- where a store is open it is purged, which is answered or refused, else nothing is changed
+abbrev pub PurgesIfOpen :
+    {S F : Type 0} → Service S → Upkeep S → Disk S F → Purge → Storage S F → Storage S F → Type 0
+PurgesIfOpen v u d purge (Open store) new = (refusal : Option Cause) × Keeps v u d (purges purge refusal) (Open store) new
+PurgesIfOpen v u d purge (Closed files) new = new ≡ Closed files
 
 -- where none is the call keeps what stands in the files, else nothing is changed
 abbrev pub KeepsIfClosed :

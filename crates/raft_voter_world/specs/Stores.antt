@@ -12,11 +12,12 @@ use Rattle.raft_voter_world.specs.declared.faults.Purge.{Purge}
 
 -- Open stores.
 
--- What an open store says of its calls between rounds: whether the disk below it has stopped, what a purge may
--- make of it, answered or refused, and what it is once a fault is armed.
+-- What an open store says of its calls between rounds: whether the disk below it has stopped, what a purge makes
+-- of it that is answered, and one that is refused for a cause, and what it is once a fault is armed.
 pub record Upkeep (S : Type 0) : Type 1 where
   pub has_stopped : S → Bool
   pub purges : Purge → S → S → Type 0
+  pub refuses : Purge → Cause → S → S → Type 0
   pub arms : Fault → S → S → Type 0
 
 -- the voters that a list tells: the one that is listed for a group, and else a fresh one

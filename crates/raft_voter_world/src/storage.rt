@@ -1,8 +1,8 @@
 //! A store that is open, or the files of one that isn't.
 ghost use Rattle.std.specs.Prelude.{◌≡◌, IfOk, OnOk};
 ghost use Rattle.raft_voter_world.specs.History.{Crashes, has_stopped, IsClosedAs, Keeps};
-ghost use Rattle.raft_voter_world.specs.History.Change.{arms, copies, purges};
-ghost use Rattle.raft_voter_world.specs.Storages.{IsServed, KeepsIfClosed, KeepsIfOpen};
+ghost use Rattle.raft_voter_world.specs.History.Change.{arms, copies};
+ghost use Rattle.raft_voter_world.specs.Storages.{IsServed, KeepsIfClosed, PurgesIfOpen};
 
 use crate::disk::VoterDisk;
 use crate::event::Left;
@@ -90,7 +90,7 @@ impl<S: Drop, F: Drop> Storage<S, F> {
     where
         S: VoterStorage<R>,
         F: VoterDisk<R, S>,
-        ensures { KeepsIfOpen S.service S.upkeep F.disk (purges purge) self.old self.new }
+        ensures { PurgesIfOpen S.service S.upkeep F.disk purge self.old self.new }
     {
         let Storage::Open(store) = self else {
             return;

@@ -12,7 +12,8 @@ use std::alloc::Global;
 pub trait VoterStorage<R>: RoundService<R> {
     ghost use Rattle.raft_voter_world.specs.Stores.{Upkeep};
 
-    /// Whether the disk below the store has stopped, and what purges and armed faults make of it.
+    /// Whether the disk below the store has stopped, what purges make of it, answered and refused, and what armed
+    /// faults do.
     ghost upkeep: { Upkeep Self };
 
     /// Whether the store failed: then it serves nothing until it is opened again.
@@ -32,9 +33,10 @@ pub trait VoterStorage<R>: RoundService<R> {
         ensures errors { IfErr result IsFromOutside };
 
     /// Purges its files. No voter is changed, answered or refused; where the store failed in it what was left
-    /// is left.
+    /// is left. Refused it tells its cause.
     fn purge(&mut self, rt: &R, purge: Purge) -> Result<(), Cause>
-        ensures purges { upkeep.purges purge self.old self.new }
+        ensures purges { OnOk result (upkeep.purges purge self.old self.new) }
+        ensures refuses { IfErr result (λ cause. upkeep.refuses purge cause self.old self.new) }
         ensures keeps { KeepsVoters Self.service self.old self.new }
         ensures lives { OnOk result (IsAlive (Self.service.is_failed self.old) (Self.service.is_failed self.new)) }
         ensures errors { IfErr result (λ cause. RefusesPurge cause

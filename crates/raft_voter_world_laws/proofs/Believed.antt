@@ -40,14 +40,14 @@ same_before known noted w e =
 -- what a call keeps is still known
 kept_known : {S F : Type 0} (v : Service S) (u : Upkeep S) (d : Disk S F) (change : Change) (old new : Storage S F) (cut : CutRound) → Keeps v u d change old new → Knows v d old cut → Knows v d new cut
 kept_known v u d closes (Open store) (Closed files) cut k known = k.1 cut known
-kept_known v u d (purges p) (Open old) (Open new) cut k known = k.1.left cut known
+kept_known v u d (purges p refusal) (Open old) (Open new) cut k known = k.1.left cut known
 kept_known v u d (arms f) (Open old) (Open new) cut k known = k.1.left cut known
 kept_known v u d (arms f) (Closed old) (Closed new) cut k known = k.1 cut known
 kept_known v u d (copies t) (Closed old) (Closed new) cut k known = k.1 cut known
 kept_known v u d closes (Closed old) new cut k known = absurd k
 kept_known v u d closes (Open old) (Open new) cut k known = absurd k
-kept_known v u d (purges p) (Closed old) new cut k known = absurd k
-kept_known v u d (purges p) (Open old) (Closed new) cut k known = absurd k
+kept_known v u d (purges p refusal) (Closed old) new cut k known = absurd k
+kept_known v u d (purges p refusal) (Open old) (Closed new) cut k known = absurd k
 kept_known v u d (arms f) (Open old) (Closed new) cut k known = absurd k
 kept_known v u d (arms f) (Closed old) (Open new) cut k known = absurd k
 kept_known v u d (copies t) (Open old) new cut k known = absurd k

@@ -1,21 +1,24 @@
--- Each round of a run has its cause.
-use Rattle.std.proofs.Common.{List, [], ◌∷◌, ◌++◌, refl, sym, subst, inl, inr}
+-- Each round of a run has its cause, and so has each purge.
+use Rattle.std.proofs.Common.{List, [], ◌∷◌, ◌++◌, Option, refl, sym, subst, inl, inr}
 use Rattle.std.specs.Prelude.{All}
 use Rattle.std.proofs.lemmas.List.Elements.{All-append, All-cons, All-nil}
 use Rattle.raft_voter_messages.specs.declared.round.Round.{Round}
 use Rattle.raft_voter.specs.Service.{Service}
+use Rattle.raft_voter.specs.declared.service.Cause.{Cause}
 use Rattle.raft_voter_world.specs.declared.event.Left.{Left}
 use Rattle.raft_voter_world.specs.declared.event.Event.{Event}
+use Rattle.raft_voter_world.specs.declared.faults.Purge.{Purge}
 use Rattle.raft_voter_world.specs.declared.report.WorldReport.{WorldReport}
 use Rattle.raft_voter_world.specs.declared.storage.Storage.{Storage}
 use Rattle.raft_voter_world.specs.declared.storage.Storage.TheVariants.{Closed, Open}
 use Rattle.raft_voter_world.specs.declared.event.Left.TheVariants.{Last}
-use Rattle.raft_voter_world.specs.History.{Happen, Happens, Moment, Plays, behind, behind_all, left_from, rounds_in, rounds_of}
+use Rattle.raft_voter_world.specs.History.{Happen, Happens, Keeps, Moment, Plays, behind, behind_all, left_from, rounds_in, rounds_of}
+use Rattle.raft_voter_world.specs.History.Change.{purges}
 use Rattle.raft_voter_world.specs.History.Moment.{opened, unread, fell, unopened, crashed, kept, answered, cut_off, idle}
 use Rattle.raft_voter_world.specs.Run.{IsRun, moments_of}
 use Rattle.raft_voter_world.specs.Stores.{Disk, Upkeep}
 use Rattle.raft_voter_world.proofs.Joining.{happen_more}
-use Rattle.raft_voter_world_laws.specs.Causes.{EachRoundHasItsCause, HappenedTo, HasItsCause}
+use Rattle.raft_voter_world_laws.specs.Causes.{EachPurgeHasItsCause, EachRoundHasItsCause, HappenedTo, HasItsCause, WasPurged}
 use Rattle.raft_voter_world_laws.specs.Causes.HasItsCause.{was_answered, was_cut_off, was_idle}
 
 -- Rounds.
@@ -47,6 +50,14 @@ each_has v u d Among storage (m ∷ ms) h among =
 
 -- Moments of a run.
 
+-- what happened among several happened to what was there
+happened_to : {S F : Type 0} (v : Service S) (u : Upkeep S) (d : Disk S F) (m : Moment S F) (at storage : Storage S F) (ms : List (Moment S F))
+    → Happen v u d storage ms → HappenedTo m at storage ms → Happens v u d at m
+happened_to v u d m at storage [] h among = absurd among
+happened_to {S} {F} v u d m at storage (n ∷ ms) h (inl (is, there)) =
+    subst (λ (x : Storage S F). Happens v u d x m) there (subst (λ (x : Moment S F). Happens v u d storage x) is h.0)
+happened_to v u d m at storage (n ∷ ms) h (inr later) = happened_to v u d m at (behind n) ms h.1 later
+
 -- what was played happened
 played_happened : {S F : Type 0} (v : Service S) (u : Upkeep S) (d : Disk S F) (gone : Left) (storage : Storage S F) (events : List Event) (turns : List (List (Moment S F)))
     → Plays v u d gone storage events turns → Happen v u d storage (moments_of turns)
@@ -67,3 +78,19 @@ each_round_has_its_cause {S} {F} v u d files events report run =
     let ms : List (Moment S F) = moments_of run.turns ++ run.closing in
     subst (λ (rounds : List Round). All (HasItsCause v (λ m at. HappenedTo m at (Closed files) ms)) rounds) (sym run.rounds)
     (each_has v u d (λ m at. HappenedTo m at (Closed files) ms) (Closed files) ms (run_happened v u d files events report run) (λ m at among. among))
+
+-- Purges.
+
+was_purged : {S F : Type 0} (v : Service S) (u : Upkeep S) (d : Disk S F) (purge : Purge) (refusal : Option Cause) (at now : Storage S F) → Keeps v u d (purges purge refusal) at now → WasPurged v u purge refusal at now
+was_purged v u d purge refusal (Open old) (Open new) k = record { old = old; new = new; before = refl; behind = refl; ends = k.0; keeps = k.1 }
+was_purged v u d purge refusal (Open old) (Closed new) k = absurd k
+was_purged v u d purge refusal (Closed old) new k = absurd k
+
+kept_purged : {S F : Type 0} (v : Service S) (u : Upkeep S) (d : Disk S F) (purge : Purge) (refusal : Option Cause) (at now : Storage S F) → Happens v u d at (kept (purges purge refusal) now) → WasPurged v u purge refusal at now
+kept_purged v u d purge refusal (Open old) now h = was_purged v u d purge refusal (Open old) now h
+kept_purged v u d purge refusal (Closed old) now h = was_purged v u d purge refusal (Closed old) now h
+
+pub each_purge_has_its_cause : {S F : Type 0} (v : Service S) (u : Upkeep S) (d : Disk S F) → EachPurgeHasItsCause v u d
+each_purge_has_its_cause v u d files events report run purge refusal at now among =
+    kept_purged v u d purge refusal at now
+    (happened_to v u d (kept (purges purge refusal) now) at (Closed files) (moments_of run.turns ++ run.closing) (run_happened v u d files events report run) among)

@@ -1,16 +1,18 @@
--- Why each round of a run is told as it is.
-use Rattle.std.specs.Prelude.{◌≡◌, ◌⊎◌, ◌++◌, List, [], ◌∷◌, All}
+-- Why each round of a run is told as it is, and each purge of it was answered or refused.
+use Rattle.std.specs.Prelude.{◌≡◌, ◌⊎◌, ◌++◌, List, [], ◌∷◌, Option, All}
 use Rattle.raft_voter_messages.specs.declared.round.Round.{Round}
 use Rattle.raft_voter.specs.Service.{Service}
 use Rattle.raft_voter.specs.declared.service.Cause.{Cause}
 use Rattle.raft_voter_world.specs.declared.event.Event.{Event}
+use Rattle.raft_voter_world.specs.declared.faults.Purge.{Purge}
 use Rattle.raft_voter_world.specs.declared.report.WorldReport.{WorldReport}
 use Rattle.raft_voter_world.specs.declared.storage.Storage.{Storage}
 use Rattle.raft_voter_world.specs.declared.storage.Storage.TheVariants.{Closed, Open}
-use Rattle.raft_voter_world.specs.History.{IsAnswered, IsCutOff, IsIdle, Moment, behind}
-use Rattle.raft_voter_world.specs.History.Moment.{answered, cut_off, idle}
+use Rattle.raft_voter_world.specs.History.{EndsPurge, IsAnswered, IsCutOff, IsIdle, Moment, behind}
+use Rattle.raft_voter_world.specs.History.Change.{purges}
+use Rattle.raft_voter_world.specs.History.Moment.{answered, cut_off, idle, kept}
 use Rattle.raft_voter_world.specs.Run.{IsRun, moments_of}
-use Rattle.raft_voter_world.specs.Stores.{Disk, Upkeep}
+use Rattle.raft_voter_world.specs.Stores.{Disk, KeepsVoters, Upkeep}
 
 -- Of these moments, from a storage on, this one happened to this storage.
 abbrev pub HappenedTo : {S F : Type 0} → Moment S F → Storage S F → Storage S F → List (Moment S F) → Type 0
@@ -39,3 +41,21 @@ abbrev pub EachRoundHasItsCause : {S F : Type 0} → Service S → Upkeep S → 
 EachRoundHasItsCause {S} {F} v u d = (files : F) (events : List Event) (report : WorldReport F)
     → (run : IsRun v u d files events report)
     → All (HasItsCause v (IsOfRun v u d files events report run)) report.transcript.rounds
+
+-- An open store was purged: that was answered, and did what it does; or it was refused, for a cause that it had. The
+-- voters were kept.
+pub record WasPurged {S F : Type 0} (v : Service S) (u : Upkeep S) (purge : Purge) (refusal : Option Cause)
+    (at now : Storage S F) : Type 0 where
+  pub old : S
+  pub new : S
+  pub before : at ≡ Open old
+  pub behind : now ≡ Open new
+  pub ends : EndsPurge v u purge refusal old new
+  pub keeps : KeepsVoters v old new
+
+-- So it is of each purge of a run.
+abbrev pub EachPurgeHasItsCause : {S F : Type 0} → Service S → Upkeep S → Disk S F → Type 0
+EachPurgeHasItsCause {S} {F} v u d = (files : F) (events : List Event) (report : WorldReport F)
+    → (run : IsRun v u d files events report)
+    → (purge : Purge) (refusal : Option Cause) (at now : Storage S F)
+    → IsOfRun v u d files events report run (kept (purges purge refusal) now) at → WasPurged v u purge refusal at now

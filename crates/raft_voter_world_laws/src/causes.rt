@@ -1,6 +1,6 @@
-//! Why each round of a run is told as it is.
+//! Why each round of a run is told as it is, and each purge of it was answered or refused.
 
-ghost use Rattle.raft_voter_world_laws.specs.Causes.{EachRoundHasItsCause};
+ghost use Rattle.raft_voter_world_laws.specs.Causes.{EachPurgeHasItsCause, EachRoundHasItsCause};
 
 use raft_voter_world::{VoterDisk, VoterStorage};
 
@@ -10,4 +10,10 @@ use raft_voter_world::{VoterDisk, VoterStorage};
 /// refused the store may refuse.
 pub fn each_round_has_its_cause<R, S: VoterStorage<R>, F: VoterDisk<R, S>>()
     ensures { EachRoundHasItsCause S.service S.upkeep F.disk }
+{}
+
+/// Each purge of a run was made of an open store, and was answered, and did what it does; or it was refused, for a
+/// cause that the store had. It kept the voters, or the store failed in it.
+pub fn each_purge_has_its_cause<R, S: VoterStorage<R>, F: VoterDisk<R, S>>()
+    ensures { EachPurgeHasItsCause S.service S.upkeep F.disk }
 {}

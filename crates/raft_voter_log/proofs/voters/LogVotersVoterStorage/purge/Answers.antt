@@ -1,14 +1,16 @@
 use Rattle.std.proofs.Common.{ap, refl}
 use Rattle.raft_voter_outlines.specs.Kept.{outlines_in}
-use Rattle.raft_voter_log.proofs.Purging.{expired_refused, purged_keeps, refused_keeps}
+use Rattle.raft_voter_world.specs.declared.faults.Purge.TheVariants.{Expired}
+use Rattle.raft_voter_log.proofs.Purging.{purged_as, purged_keeps, refused_keeps}
 use Rattle.raft_voter_log.proofs.voters.LogVotersVoterStorage.purge.Goals as goal
 
 pub returns-in-Ok-clause-keeps : goal.returns-in-Ok-clause-keeps
 returns-in-Ok-clause-keeps g c =
     purged_keeps _ _ _ c.args.self.now (record c.args.self.now { store = c.maintain.new.self }) refl (ap outlines_in c.maintain.ensures.outlines) c.in-Ok.ensures.lived c.in-Ok.ensures.ok
 
-pub returns-in-Expired-clause-purges : goal.returns-in-Expired-clause-purges
-returns-in-Expired-clause-purges g c = expired_refused c.args.purge _ _ c.in-Err.error c.in-Expired.is c.in-Err.ensures.why
+pub returns-in-Ok-clause-purges : goal.returns-in-Ok-clause-purges
+returns-in-Ok-clause-purges g c =
+    purged_as _ c.args.purge Expired c.args.self.now.store.engine c.maintain.new.self.engine _ _ c.in-Expired.is (c.in-Ok.field-0.items, c.in-Ok.ensures.purges)
 
 pub returns-in-Expired-clause-keeps : goal.returns-in-Expired-clause-keeps
 returns-in-Expired-clause-keeps g c =

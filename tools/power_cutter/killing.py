@@ -50,7 +50,7 @@ class Killer:
             if ended.status != -9:
                 raise
             self.counts["kills in an opening"] += 1
-            return before
+            return subject.unheard(before)
         finally:
             timer.cancel() if running.process.poll() is not None else None
         self.opening = 0.9 * self.opening + 0.1 * (time.monotonic() - began)

@@ -16,6 +16,8 @@ class Appender:
     """What is asked of the program, and what is right."""
 
     name = "raft_log_append_lines"
+    # A refused line ends it, with status 1.
+    ends_at_a_refusal = True
 
     def __init__(self, program):
         self.program = program

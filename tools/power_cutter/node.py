@@ -41,6 +41,8 @@ class Node:
     """What is asked of the program, and what is right."""
 
     name = "raftnode"
+    # A refused round or purge is told, and it goes on.
+    ends_at_a_refusal = False
 
     def __init__(self, program):
         self.program = program

@@ -84,6 +84,7 @@ class Refuser:
         self.counts["purges refused"] += heard.refused_purges > 0
         self.counts["places refused"] += heard.refused_places > 0
         is_told = heard.is_cut or heard.refused_purges or heard.refused_places
+        is_told = is_told or self.room.subject.ends_at_a_refusal and ran.status == 1
         if not is_told and heard.answered() < len(heard.events):
             raise Fault(f"it ends behind {heard.answered()} of {len(heard.events)} events without a word, status {ran.status}")
         if not is_told:

@@ -62,7 +62,7 @@ by_key f bs w old new h = fun_ext (λ cs. ap f (h cs) ∙ moved (bytes_eq bs cs)
     moved false cs = refl
 
 -- the same where that is what was there
-as_before : {A : Type 0} (bs : List ℕ) (a : A) (old : List ℕ → A) → a ≡ old bs → ◌≡◌ {A = List ℕ → A} (λ cs. if bytes_eq bs cs then a else old cs) old
+pub as_before : {A : Type 0} (bs : List ℕ) (a : A) (old : List ℕ → A) → a ≡ old bs → ◌≡◌ {A = List ℕ → A} (λ cs. if bytes_eq bs cs then a else old cs) old
 as_before bs a old h = fun_ext (λ cs. at_bool (bytes_eq bs cs) (λ b. bytes_eq bs cs ≡ b → (if b then a else old cs) ≡ old cs)
     (λ e k. h ∙ ap old ((bytes_eq-Decides bs cs).0 k)) (λ e k. refl) refl)
 

@@ -1,5 +1,6 @@
 pub mod ByteKeys
 pub mod JoinedKeys
+pub mod Sparing
 pub mod Listing
 pub mod Settling
 pub mod LeastValues

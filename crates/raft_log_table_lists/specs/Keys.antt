@@ -79,6 +79,18 @@ emptied ks = record ks { values = λ k. None }
 abbrev pub cleared_keys : Keys → Keys
 cleared_keys ks = record ks { values = λ k. None; has = ks.deleted }
 
+-- no key has a value
+abbrev pub HasNoValue : Keys → Type 0
+HasNoValue ks = ks.values ≡ (λ k. None)
+
+-- the keys that have room are those that are marked
+abbrev pub HasMarksAlone : Keys → Type 0
+HasMarksAlone ks = ks.has ≡ ks.deleted
+
+-- where no key may have a value none has, and where none may have room without a mark none has
+abbrev pub MaySkip : Bool → Bool → Keys → Type 0
+MaySkip valued spare ks = (valued ≡ false → HasNoValue ks) × (spare ≡ false → HasMarksAlone ks)
+
 -- no key is marked
 abbrev pub unmarked_keys : Keys → Keys
 unmarked_keys ks = record ks { deleted = λ k. false }

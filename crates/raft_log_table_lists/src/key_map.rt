@@ -119,15 +119,22 @@ impl KeySlot {
 pub struct KeyMap {
     alloc: Global,
     slots: BTreeMap<Vec<u8>, KeySlot>,
+    /// Whether a key may have a value.
+    valued: bool,
+    /// Whether a key may have room that isn't marked.
+    spare: bool,
 }
 
 impl Model for KeyMap {
     ghost use Rattle.std.specs.Prelude.{List, ℕ, map};
     ghost use Rattle.raft_log_table_lists.specs.declared.key_map.KeySlot.{KeySlot};
+    ghost use Rattle.raft_log_table_lists.specs.Keys.{keys_of, MaySkip};
 
     ghost Value = { List (List ℕ × KeySlot) };
 
     ghost view = { λ m. map (λ e. (e.0.items, e.1)) m.slots.entries };
+
+    ghost invariant = { λ m. MaySkip m.valued m.spare (keys_of (map (λ e. (e.0.items, e.1)) m.slots.entries)) };
 }
 
 impl KeyMap {
@@ -138,6 +145,8 @@ impl KeyMap {
         KeyMap {
             alloc,
             slots: BTreeMap::new(alloc),
+            valued: false,
+            spare: false,
         }
     }
 
@@ -171,6 +180,7 @@ impl KeyMap {
             deleted: false,
         };
         self.slots.insert(key.to_vec(self.alloc)?, vacant)?;
+        self.spare = true;
         Ok(())
     }
 
@@ -179,6 +189,7 @@ impl KeyMap {
         requires { IsTrue ((keys_of self.old).has key.now) }
         ensures { keys_of self.new ≡ with_value (keys_of self.old) key.now (Some (value_of value)) }
     {
+        self.valued = true;
         if let Some(slot) = self.slots.get_mut(key) {
             slot.hold(Some(value));
         }
@@ -230,21 +241,31 @@ impl KeyMap {
         }
     }
 
-    /// No key has a value any more. Marks and room stay.
+    /// No key has a value any more. Marks and room stay. Where none can have one, no key is walked.
     pub fn empty(&mut self)
         ensures { keys_of self.new ≡ emptied (keys_of self.old) }
     {
+        if !self.valued {
+            return;
+        }
         self.slots.retain(|_, slot| {
             slot.hold(None);
             true
         });
+        self.valued = false;
     }
 
-    /// No key has a value any more. Marks stay, and of a key without a mark nothing is kept, nor its room.
+    /// No key has a value any more. Marks stay, and of a key without a mark nothing is kept, nor its room. Where
+    /// only marks can be there, no key is walked.
     pub fn clear(&mut self)
         ensures { keys_of self.new ≡ cleared_keys (keys_of self.old) }
     {
+        if !self.valued && !self.spare {
+            return;
+        }
         self.slots.retain(|_, slot| slot.clear());
+        self.valued = false;
+        self.spare = false;
     }
 
     /// No key is marked any more, and of one that has no value nothing is kept, nor its room.
@@ -252,6 +273,7 @@ impl KeyMap {
         ensures { keys_of self.new ≡ settled_keys (keys_of self.old) }
     {
         self.slots.retain(|_, slot| slot.settle());
+        self.spare = true;
     }
 
     /// No key is marked any more. The room stays.
@@ -262,6 +284,7 @@ impl KeyMap {
             slot.unmark();
             true
         });
+        self.spare = true;
     }
 
     /// The least file of the values in Append, or of those in Rewrite.

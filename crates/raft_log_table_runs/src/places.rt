@@ -157,11 +157,19 @@ impl Places {
         Ok(())
     }
 
+    /// Where there is much more memory than for what stands and is promised, it is given back.
+    fn give_back(&mut self)
+        ensures { self.new ≡ self.old }
+    {
+        self.runs.give_back(self.wanted + (self.moves + self.moves));
+    }
+
     /// So many fewer may get others in their stead.
     pub fn forget_moves(&mut self, count: usize)
         ensures { self.new ≡ record self.old { moves = self.old.moves - count } }
     {
         self.moves = self.moves.saturating_sub(count);
+        self.give_back();
     }
 
     /// Takes back all room that was promised.
@@ -170,6 +178,7 @@ impl Places {
     {
         self.wanted = 0;
         self.moves = 0;
+        self.give_back();
     }
 
     /// Whether no room is promised.
@@ -189,6 +198,7 @@ impl Places {
     {
         self.runs.push(entries);
         self.wanted -= entries.len();
+        self.give_back();
     }
 
     /// More places come to the end, in room that was promised for them.
@@ -238,6 +248,7 @@ impl Places {
     {
         self.runs.replace(position, entries);
         self.moves -= entries.len();
+        self.give_back();
     }
 
     /// How many places from this position on, at most so many, lie in files up to the gate, up to the first

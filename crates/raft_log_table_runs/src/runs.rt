@@ -114,9 +114,19 @@ impl Runs {
         if end.checked_add(count).is_none() {
             return Err(AllocError);
         }
-        self.runs.reserve(count)?;
-        self.starts.reserve(count)?;
-        Ok(())
+        make_room(&mut self.runs, count)?;
+        make_room(&mut self.starts, count)
+    }
+
+    /// Where there is much more room than for so many entries more, memory is given back.
+    pub(crate) fn give_back(&mut self, count: usize)
+        requires { HasRoom self.old count }
+        ensures items { places self.new ≡ places self.old }
+        ensures runs { deque_len self.new.runs ≡ deque_len self.old.runs }
+        ensures room { HasRoom self.new count }
+    {
+        shrink(&mut self.runs, count);
+        shrink(&mut self.starts, count);
     }
 
     /// The places of these entries come to the end, where there is room for them: each piece of entries that
@@ -219,6 +229,35 @@ impl Runs {
         self.front = 0;
         self.base = 0;
         self.len = 0;
+    }
+}
+
+/// Makes room for so many more. Where there is none yet, it is made for a quarter more of what is there, so that
+/// many small batches don't move all of it each time.
+fn make_room<T>(queue: &mut VecDeque<T>, count: usize) -> Result<(), AllocError>
+    ensures items { queue.new.items ≡ queue.old.items }
+    ensures len { deque_len queue.new ≡ deque_len queue.old }
+    ensures capacity { deque_capacity queue.old ≤ deque_capacity queue.new }
+    ensures ok { OnOk result (deque_len queue.new + count ≤ deque_capacity queue.new) }
+{
+    if let Some(spare) = queue.capacity().checked_sub(queue.len()) {
+        if spare >= count {
+            return Ok(());
+        }
+    }
+    queue.reserve_exact(count.max(queue.len() / 4))
+}
+
+/// Where there is more than twice the room for what is there and so many more, a quarter past that stays.
+fn shrink<T>(queue: &mut VecDeque<T>, count: usize)
+    requires { deque_len queue.old + count ≤ deque_capacity queue.old }
+    ensures items { queue.new.items ≡ queue.old.items }
+    ensures len { deque_len queue.new ≡ deque_len queue.old }
+    ensures room { deque_len queue.new + count ≤ deque_capacity queue.new }
+{
+    let needed = queue.len() + count;
+    if queue.capacity() / 2 > needed.saturating_add(needed / 4).saturating_add(4) {
+        queue.shrink_to(needed.saturating_add(needed / 4));
     }
 }
 

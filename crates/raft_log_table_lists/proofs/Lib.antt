@@ -2,6 +2,7 @@ pub mod ByteKeys
 pub mod JoinedKeys
 pub mod Sparing
 pub mod Listing
+pub mod Between
 pub mod Settling
 pub mod LeastValues
 pub mod Queues

@@ -1,5 +1,5 @@
 -- Keys without values, and keys of which only the marked ones have room: what leaves them so.
-use Rattle.std.proofs.Common.{◌≡◌, ℕ, Bool, true, false, List, None, Option, Some, refl, sym, ap, subst, ◌∙◌}
+use Rattle.std.proofs.Common.{◌≡◌, ℕ, Bool, true, false, List, None, Option, refl, sym, ap, subst, ◌∙◌}
 use Rattle.raft_log_table_lists.specs.Bridge.{rewritten_value}
 use Rattle.raft_log_table_lists.specs.declared.key_map.KeySlot.{KeySlot}
 use Rattle.raft_log_table_lists.specs.Keys.{cleared_keys, emptied, keys_of, settled_keys, unmarked_keys, with_mark, with_rewritten, with_room, with_value, HasMarksAlone, HasNoValue, Keys, MaySkip}

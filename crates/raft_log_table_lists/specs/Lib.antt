@@ -5,3 +5,4 @@ pub mod Shown
 pub mod Bridge
 pub mod Noted
 pub mod Replayed
+pub mod Bounds

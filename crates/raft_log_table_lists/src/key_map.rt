@@ -20,6 +20,7 @@ ghost use Rattle.raft_log_table_lists.specs.Keys.{
 };
 ghost use Rattle.raft_log_table_lists.specs.LeastFiles.{file_of_value, least_value, lesser, IsLeastValue};
 
+mod bounds;
 mod reads;
 
 use raft_log_record_base::FileSeq;

@@ -4,6 +4,7 @@ ghost use Rattle.std.specs.Prelude.{◌≡◌, List, None, ℕ, reverse, IfOk, O
 ghost use Rattle.raft_log_table_lists.specs.Keys.{keys_of, shown_value};
 ghost use Rattle.raft_log_table_lists.specs.Listing.{asked_bytes, bytes_within, in_direction, AddsAll, CountsAll, ListsAll, ListsMarked, Visits};
 
+use super::bounds::bounds;
 use super::{HeldValue, KeyMap, KeySlot};
 use raft_log_record_base::FileSeq;
 use raft_log_record_items::Bytes;
@@ -78,7 +79,7 @@ impl KeyMap {
             (option_copied end.entry) k ((keys_of self.now).values k)) pairs.old.items pairs.new.items) }
         ensures err { OnErr result (take (length pairs.old.items) pairs.new.items ≡ pairs.old.items) }
     {
-        for (key, slot) in self.slots.iter() {
+        for (key, slot) in self.slots.range(bounds(self.alloc, start, end)) {
             if let Some(value) = slot.within(key.as_slice(), start, end) {
                 pairs.push(self.copied_bytes(key.as_slice(), value)?)?;
             }
@@ -153,7 +154,7 @@ impl KeyMap {
             ((keys_of self.now).values k)) es
             × Visits (CalledAtTwo F.FnMut) callback es }
     {
-        for (key, slot) in self.slots.iter() {
+        for (key, slot) in self.slots.range(bounds(self.alloc, start, end)) {
             if let Some(value) = slot.within(key.as_slice(), start, end) {
                 if !callback(key.as_slice(), value) {
                     return;
@@ -175,7 +176,7 @@ impl KeyMap {
             ((keys_of self.now).values k)) es
             × Visits (CalledAtTwo F.FnMut) callback (reverse es) }
     {
-        let mut entries = self.slots.iter();
+        let mut entries = self.slots.range(bounds(self.alloc, start, end));
         while let Some((key, slot)) = entries.next_back() {
             if let Some(value) = slot.within(key.as_slice(), start, end) {
                 if !callback(key.as_slice(), value) {

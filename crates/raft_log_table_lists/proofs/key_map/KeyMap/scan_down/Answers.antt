@@ -1,9 +1,18 @@
-use Rattle.std.proofs.Common.{◌≡◌, None, Some, false, true, of_calls, option_copied, rules, ap, sym, ◌∙◌}
+use Rattle.std.proofs.Common.{◌≡◌, None, Some, false, true, of_calls, option_copied, rules, reverse, ap, subst, sym, ◌∙◌}
 use Rattle.std.specs.Fn.{CalledAtTwo}
 use Rattle.raft_log_table_lists.specs.Keys.{shown_value}
-use Rattle.raft_log_table_lists.specs.Listing.{bytes_within}
+use Rattle.raft_log_table_lists.specs.Listing.{bytes_within, Visits}
+use Rattle.raft_log_table_lists.proofs.Between.{walked_between}
 use Rattle.raft_log_table_lists.proofs.Listing.{down_end, down_last, down_more, down_none, listed, lists_within, rises, within_in}
 use Rattle.raft_log_table_lists.proofs.key_map.KeyMap.scan_down.Goals as goal
+
+pub loop-key-init : goal.loop-key-init
+loop-key-init g c = (
+  search rules,
+  subst (λ found. Visits (CalledAtTwo g.F.FnMut) c.args.callback (reverse found))
+      (walked_between (λ k. k.items) (option_copied c.args.start) (option_copied c.args.end) c.bounds.result c.bounds.ensures c.self.inside.slots.entries
+      c.range-entries.result c.args.self.now c.self.view_is (c.range-entries.ensures.between tt)),
+)
 
 pub returns-then-not-callback : goal.returns-then-not-callback
 returns-then-not-callback g c =
@@ -14,7 +23,7 @@ returns-then-not-callback g c =
     let call : CalledAtTwo g.F.FnMut c.loop-key.callback c.in-Some.key.now.items c.in-Some-within.value.now false c.callback.new.self = search rules in (
       listed w c.args.self.now,
       lists_within (option_copied c.args.start) (option_copied c.args.end) c.args.self.now
-          (rises (λ k. k.items) c.self.inside.slots.entries c.args.self.now c.self.view_is c.iter-entries.ensures.ordered),
+          (rises (λ k. k.items) c.self.inside.slots.entries c.args.self.now c.self.view_is c.range-entries.ensures.ordered),
       c.loop-key.invariant.1
           (down_last (CalledAtTwo g.F.FnMut) w (λ k. k.items) c.loop-key.callback c.callback.new.self c.in-Some.key.now c.in-Some.slot.now
           c.in-Some-within.value.now c.loop-key.entries c.next_back.new.self c.in-Some.ensures.steps found call),
@@ -50,7 +59,7 @@ returns g c =
     let w = within_in (option_copied c.args.start) (option_copied c.args.end) in (
       listed w c.args.self.now,
       lists_within (option_copied c.args.start) (option_copied c.args.end) c.args.self.now
-          (rises (λ k. k.items) c.self.inside.slots.entries c.args.self.now c.self.view_is c.iter-entries.ensures.ordered),
+          (rises (λ k. k.items) c.self.inside.slots.entries c.args.self.now c.self.view_is c.range-entries.ensures.ordered),
       c.loop-key.invariant.1
           (down_end (CalledAtTwo g.F.FnMut) w (λ k. k.items) c.loop-key.callback c.loop-key.entries c.in_default.ensures.steps.0),
     )

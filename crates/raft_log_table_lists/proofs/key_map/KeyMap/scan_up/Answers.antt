@@ -1,9 +1,18 @@
-use Rattle.std.proofs.Common.{◌≡◌, Some, false, option_copied, rules, ap, sym, ◌∙◌}
+use Rattle.std.proofs.Common.{◌≡◌, Some, false, option_copied, rules, ap, subst, sym, ◌∙◌}
 use Rattle.std.specs.Fn.{CalledAtTwo}
 use Rattle.raft_log_table_lists.specs.Keys.{shown_value}
-use Rattle.raft_log_table_lists.specs.Listing.{bytes_within}
+use Rattle.raft_log_table_lists.specs.Listing.{bytes_within, Visits}
+use Rattle.raft_log_table_lists.proofs.Between.{walked_between}
 use Rattle.raft_log_table_lists.proofs.Listing.{listed, lists_within, rises, up_end, up_last, within_in}
 use Rattle.raft_log_table_lists.proofs.key_map.KeyMap.scan_up.Goals as goal
+
+pub loop-key-init : goal.loop-key-init
+loop-key-init g c = (
+  search rules,
+  subst (Visits (CalledAtTwo g.F.FnMut) c.args.callback)
+      (walked_between (λ k. k.items) (option_copied c.args.start) (option_copied c.args.end) c.bounds.result c.bounds.ensures c.self.inside.slots.entries
+      c.into_iter-key-iterator.result c.args.self.now c.self.view_is (c.into_iter-key-iterator.ensures.into_iter_gives ∙ c.range-key-items.ensures.between tt)),
+)
 
 pub returns-then-not-callback : goal.returns-then-not-callback
 returns-then-not-callback g c =
@@ -14,7 +23,7 @@ returns-then-not-callback g c =
     let call : CalledAtTwo g.F.FnMut c.loop-key.callback c.in-Some.key.now.items c.in-Some-within.value.now false c.callback.new.self = search rules in (
       listed w c.args.self.now,
       lists_within (option_copied c.args.start) (option_copied c.args.end) c.args.self.now
-          (rises (λ k. k.items) c.self.inside.slots.entries c.args.self.now c.self.view_is c.iter-key-items.ensures.ordered),
+          (rises (λ k. k.items) c.self.inside.slots.entries c.args.self.now c.self.view_is c.range-key-items.ensures.ordered),
       c.loop-key.invariant.1
           (up_last (CalledAtTwo g.F.FnMut) w (λ k. k.items) c.loop-key.callback c.callback.new.self c.in-Some.key.now c.in-Some.slot.now
           c.in-Some-within.value.now c.loop-key.key-iterator c.next.new.self c.in-Some.ensures.steps found call),
@@ -25,7 +34,7 @@ returns g c =
     let w = within_in (option_copied c.args.start) (option_copied c.args.end) in (
       listed w c.args.self.now,
       lists_within (option_copied c.args.start) (option_copied c.args.end) c.args.self.now
-          (rises (λ k. k.items) c.self.inside.slots.entries c.args.self.now c.self.view_is c.iter-key-items.ensures.ordered),
+          (rises (λ k. k.items) c.self.inside.slots.entries c.args.self.now c.self.view_is c.range-key-items.ensures.ordered),
       c.loop-key.invariant.1
           (up_end (CalledAtTwo g.F.FnMut) w (λ k. k.items) c.loop-key.callback c.loop-key.key-iterator c.in-None.ensures.steps.0),
     )

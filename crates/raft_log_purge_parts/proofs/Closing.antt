@@ -1,5 +1,5 @@
 -- The end of an atomic group in which a group is restated.
-use Rattle.std.proofs.Common.{◌≡◌, ℕ, ◌+◌, ◌<◌, ◌≤◌, ◌==◌, true, false, List, [], ◌∷◌, ◌++◌, length, Option, Some, None, is_some, inl, inr, refl, sym, ap, subst, ◌∙◌, arith, length-append}
+use Rattle.std.proofs.Common.{◌≡◌, ℕ, ◌+◌, ◌<◌, ◌≤◌, ◌==◌, true, false, List, [], ◌∷◌, ◌++◌, length, drop, Option, Some, None, is_some, inl, inr, refl, sym, ap, subst, ◌∙◌, arith, length-append}
 use Rattle.std.specs.Prelude.{Result, Ok, Err, IfErr, OnOk}
 use Rattle.std.specs.BTreeMap.{get}
 use Rattle.std.specs.Ordering.{nat_cmp}
@@ -21,6 +21,7 @@ use Rattle.raft_log_table_lists.specs.Replayed.{Replayed}
 use Rattle.raft_log_table_lists.specs.Shown.{Shown}
 use Rattle.raft_log_table_lists.specs.Listing.{ListsAll, rewritten_values}
 use Rattle.raft_log_engine_laws.specs.raft_log_table_one.specs.Files.{NotesGroup}
+use Rattle.raft_log_engine_laws.specs.raft_log_table_one.specs.Reads.{rewritten_entries}
 use Rattle.raft_log_table_all.specs.declared.group_table.GroupTable.{GroupTable}
 use Rattle.raft_log_table_all.specs.declared.mem_tables.MemTables.{MemTables}
 use Rattle.raft_log_table_all.specs.Tables.{counts, has_table, shown_in, shown_of}
@@ -43,7 +44,7 @@ use Rattle.raft_log_purge_parts.proofs.PartExits.{later_on, same_later}
 use Rattle.raft_log_purge_parts.proofs.Reasons.{long_reason, memory_is_none, memory_reason, reason_after, tells_nothing, values_in}
 use Rattle.raft_log_purge_parts.specs.declared.parts.RestatedPart.{RestatedPart}
 use Rattle.raft_log_purge_parts.specs.GroupParts.{ArePartsKept, SayPieces, HasParts}
-use Rattle.raft_log_purge_parts.specs.Pieces.{IsPiece}
+use Rattle.raft_log_purge_parts.specs.Pieces.{IsPiece, MakeOnePiece}
 use Rattle.raft_log_purge_parts.specs.Restated.{FailsToRestate, IsRestatedFrom, RestatesOne, last_file}
 use Rattle.raft_log_purge_parts.specs.Steps.{IsLastPart}
 use Rattle.raft_log_purge_parts.specs.Taking.{EndsParts, FailsToEnd, FailsToRestateThese, FailsToWriteLast, RestatesThese, StandsInRewrite, WritesLast, first_file_of}
@@ -146,8 +147,8 @@ module _ (g number done : ℕ) (parts : List RestatedPart) (pairs : List (List �
 
   -- It was refused.
 
-  pub not_ended : (error : Error) (w : LogPipes) (new : MemTables) → FailsToWriteLast b error v old w new → FailsToRestate error s (shows w new cache)
-  not_ended error w new refused =
+  pub not_ended : MakeOnePiece (drop done (rewritten_entries (s.tables g))) → (error : Error) (w : LogPipes) (new : MemTables) → FailsToWriteLast b error v old w new → FailsToRestate error s (shows w new cache)
+  not_ended one error w new refused =
       let same = same_but_pipes v w old new cache refused.same in record {
         same = same ∙ ap (λ (x : Shows). record x { pipes = w }) has.same;
         tells = λ lived. refused.fails.tells has.alive;
@@ -163,7 +164,7 @@ module _ (g number done : ℕ) (parts : List RestatedPart) (pairs : List (List �
             reason_after home m error s e (shows w new cache) has.later
             (subst (HasReason home m error e) (sym same)
             (unwritten_reason home e m b error w stood.holds (λ r. part_speaks home o.number statuses.End b (end_part home m h r.says r.laid))
-            (long_reason home m error e (over e w) g (f + done) last.bytes pairs (mark_item number statuses.End ∷ []) b (inr (number, statuses.End, refl)) last.is.made (last.says home m h)
+            (long_reason home m error e (over e w) g (f + done) last.bytes pairs (mark_item number statuses.End ∷ []) b (inr (number, statuses.End, refl)) last.is.made (last.piece one) (last.says home m h)
             (values_in home m s h g None pairs lists) lists.rising)
             refused.fails.why)));
       }
@@ -277,10 +278,10 @@ ended_then (Ok x) g number done parts pairs b s v w old new cache has last lists
 ended_then (Err e) g number done parts pairs b s v w old new cache has last lists ends = tt
 
 pub not_ended_then : (r : Result (Unit {0}) Error) (g number done : ℕ) (parts : List RestatedPart) (pairs : List (List ℕ × List ℕ)) (b : Batch) (s : Shows) (v w : LogPipes) (old new : MemTables) (cache : BlockCache)
-    → HasParts g number done parts s (shows v old cache) → IsLastPart g number done pairs b s → ListsAll (rewritten_values (s.tables g)) pairs → IfErr r (λ error. FailsToEnd g parts b error v old w new)
+    → HasParts g number done parts s (shows v old cache) → MakeOnePiece (drop done (rewritten_entries (s.tables g))) → IsLastPart g number done pairs b s → ListsAll (rewritten_values (s.tables g)) pairs → IfErr r (λ error. FailsToEnd g parts b error v old w new)
     → IfErr r (λ error. FailsToRestate error s (shows w new cache))
-not_ended_then (Ok x) g number done parts pairs b s v w old new cache has last lists fails = tt
-not_ended_then (Err e) g number done parts pairs b s v w old new cache has last lists fails = fails cache s number done pairs has last lists
+not_ended_then (Ok x) g number done parts pairs b s v w old new cache has one last lists fails = tt
+not_ended_then (Err e) g number done parts pairs b s v w old new cache has one last lists fails = fails cache s number done pairs has one last lists
 
 -- what was said of a group with these entries and keys in Rewrite
 pub these_restated : (r : Result (Unit {0}) Error) (g : ℕ) (es : List EntryIndex) (pairs : List (List ℕ × List ℕ)) (s t : Shows) → StandsInRewrite g es pairs s → OnOk r (RestatesThese g es pairs s t) → OnOk r (RestatesOne g s t)

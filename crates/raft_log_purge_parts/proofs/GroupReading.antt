@@ -28,9 +28,9 @@ use Rattle.raft_log_purge_parts.specs.Lengths.{AreValuesIn}
 use Rattle.raft_log_purge_parts.specs.Reasons.{HasReason}
 use Rattle.raft_log_purge_parts.proofs.OneRun.{dropped_at, taken_at}
 use Rattle.raft_log_purge_parts.proofs.PartExits.{unmade_is_none}
-use Rattle.raft_log_purge_parts.proofs.Reading.{from_rises, reads_len}
+use Rattle.raft_log_purge_parts.proofs.Reading.{from_rises, read_piece, reads_len}
 use Rattle.raft_log_purge_parts.proofs.Reasons.{entries_reason, entries_unmade, keys_reason, keys_unmade, unread_is_none, untold_reason}
-use Rattle.raft_log_purge_parts.specs.Pieces.{BeginsAt, FailsToBuildPiece}
+use Rattle.raft_log_purge_parts.specs.Pieces.{BeginsAt, FailsToBuildPiece, MakeOnePiece}
 
 -- Entries of a table.
 
@@ -155,12 +155,12 @@ module _ (e : Shows) (g done count : ℕ) (es : List EntryIndex) (is : es ≡ ta
       let first = length-take v.rewritten v.places in omega (arith, parts, end, long, left, first, some)
 
   -- why there is no batch
-  pub unbuilt_reason : (pairs : List (List ℕ × List ℕ)) → AreValuesIn m g pairs → (error : Error) → FailsToBuildPiece g es pairs e.pipes e.cache new error → HasReason home m error e (caching e new)
-  unbuilt_reason pairs values error (inl unread) = unread_reason error unread
-  unbuilt_reason pairs values error (inr (xs, reads, inl why)) =
+  pub unbuilt_reason : MakeOnePiece es → (pairs : List (List ℕ × List ℕ)) → AreValuesIn m g pairs → (error : Error) → FailsToBuildPiece g es pairs e.pipes e.cache new error → HasReason home m error e (caching e new)
+  unbuilt_reason piece pairs values error (inl unread) = unread_reason error unread
+  unbuilt_reason piece pairs values error (inr (xs, reads, inl why)) =
       entries_reason home m error e (caching e new) g (v.first + done) (indexes_of es) (map (λ x. x.bytes) xs) piece_rises piece_low
-      (length-map es (λ x. x.index) ∙ sym (reads_len e.pipes es e.cache new xs reads) ∙ sym (length-map xs (λ x. x.bytes))) (piece_read xs reads).1 why
-  unbuilt_reason pairs values error (inr (xs, reads, inr why)) = keys_reason home m error e (caching e new) g pairs values why
+      (length-map es (λ x. x.index) ∙ sym (reads_len e.pipes es e.cache new xs reads) ∙ sym (length-map xs (λ x. x.bytes))) (read_piece e.pipes es e.cache new xs piece reads) (piece_read xs reads).1 why
+  unbuilt_reason piece pairs values error (inr (xs, reads, inr why)) = keys_reason home m error e (caching e new) g pairs values why
 
 -- that isn't told as a failure
 pub unbuilt_is_none : (g : ℕ) (u : LogPipes) (es : List EntryIndex) (pairs : List (List ℕ × List ℕ)) (old new : BlockCache) (error : Error) → FailsToBuildPiece g es pairs u old new error → error ≡ errors.Failed → ⊥

@@ -176,7 +176,7 @@ module _ (g gate : ℕ) (pairs : List (List ℕ × List ℕ)) (b : Batch) (is : 
     keys_made = record { indexes = []; rise = tt; are = is.items ∙ sym (append-nil (map (λ (e : List ℕ × List ℕ). put_item g e.0 e.1) pairs)); joins = is.none }
 
     keys_cause : (error : Error) (home : Home) (m : LogMap) → Holds home s m [] → IsOverlong b error ⊎ HasReason home m error s t → HasReason home m error s t
-    keys_cause error home m h (inl long) = long_reason home m error s t g 0 [] pairs [] b (inl refl) keys_made tt (values_in home m s h g (Some gate) pairs lists) lists.rising long
+    keys_cause error home m h (inl long) = long_reason home m error s t g 0 [] pairs [] b (inl refl) keys_made (inl (omega arith)) tt (values_in home m s h g (Some gate) pairs lists) lists.rising long
     keys_cause error home m h (inr reason) = reason
 
     pub keys_not_copied : (error : Error) → FailsToCopy (Some gate) b error s t → FailsToCopyKeys error s t

@@ -1,5 +1,5 @@
 -- Why the batch of the marks that are owed isn't made: none of them is refused.
-use Rattle.std.proofs.Common.{◌≡◌, ◌⊎◌, ℕ, ◌<◌, zero, suc, ◌==◌, Bool, true, false, if◌then◌else◌, nat_lt, length, get_or, Option, Some, None, List, [], ◌∷◌, ◌++◌, inl, inr, refl, sym, subst, bytes_eq, arith}
+use Rattle.std.proofs.Common.{◌≡◌, ◌⊎◌, ℕ, ◌<◌, zero, suc, ◌==◌, Bool, true, false, if◌then◌else◌, nat_lt, length, get_or, Option, Some, None, List, [], ◌∷◌, ◌++◌, inl, inr, refl, sym, subst, arith}
 use Rattle.raft_log_model_laws.specs.Item.{Item}
 use Rattle.raft_log_model_laws.specs.Item.Item.{Run, Clean, Compact, Put, Del}
 use Rattle.raft_log_model_laws.specs.Groups.{of_group}
@@ -20,8 +20,7 @@ use Rattle.raft_log_record_marks.specs.declared.marking.Marking.TheVariants.{Unm
 use Rattle.raft_log_record_marks.specs.declared.status.AtomicGroupStatus.{AtomicGroupStatus}
 use Rattle.raft_log_record_marks.specs.Marking.{has_mark_key, joined_marking, mark_of, marking_of, marking_of_items, part_or_broken}
 use Rattle.raft_log_record_marks.specs.Meaning.{key_meaning, meaning, tagged, tagged_items, unless_mark}
-use Rattle.raft_log_table_lists.specs.Shown.{Shown}
-use Rattle.raft_log_table_lists.specs.Bridge.{AllOwed, dels}
+use Rattle.raft_log_table_lists.specs.Bridge.{dels}
 use Rattle.raft_log_table_all.specs.declared.mem_tables.MemTables.{MemTables}
 use Rattle.raft_log_table_all.specs.Tables.{shown_of}
 use Rattle.raft_log_table_all.specs.Owing.{AreOwed}

@@ -47,7 +47,7 @@ use Rattle.raft_log_purge_parts.proofs.Copying.{same_but_pipes}
 use Rattle.raft_log_purge_parts.specs.Reasons.{HasReason}
 use Rattle.raft_log_purge_parts.proofs.PartExits.{same_later}
 use Rattle.raft_log_purge_parts.proofs.Reasons.{long_reason, reason_after, values_in}
-use Rattle.raft_log_purge_parts.specs.Pieces.{BuildsPiece, FailsToBuildPiece, IsPiece, put_items, run_items}
+use Rattle.raft_log_purge_parts.specs.Pieces.{BuildsPiece, FailsToBuildPiece, IsPiece, MakeOnePiece, put_items, run_items}
 use Rattle.raft_log_purge_parts.specs.Restated.{FailsToRestate, IsRestatedFrom, LieFrom, RestatesOne, last_file}
 use Rattle.raft_log_purge_parts.specs.Taking.{FailsToWriteLast, StandsInRewrite, WritesLast}
 use Rattle.raft_log_purge_parts.proofs.Holding.{IsLeft, may_sync_held, may_sync_last, over, taken_last, unwritten_left, unwritten_reason}
@@ -55,6 +55,7 @@ use Rattle.raft_log_purge_parts.proofs.GroupMoving.{LiesFrom, listed_held, resta
 use Rattle.raft_log_purge_parts.proofs.Opening.{begin_unread, built_len, built_made, built_piece, built_plain, bytes}
 use Rattle.raft_log_purge_parts.proofs.Parting.{WholeFiled, filed_both, key_bytes, no_others_filed, piece_of_group, piece_of_other, piece_places, run_piece, whole_filed}
 use Rattle.raft_log_purge_parts.proofs.GroupReading.{bytes_restate, caching, held_caching, piece_read, rewritten_len}
+use Rattle.raft_log_purge_parts.proofs.Reading.{read_piece}
 use Rattle.raft_log_purge_parts.proofs.Saying.{all_of_group}
 
 -- What one record says are copies.
@@ -122,8 +123,8 @@ module _ (g : ℕ) (es : List EntryIndex) (pairs : List (List ℕ × List ℕ)) 
   whole_piece = stands.entries ∙ sym (take_all (length es) (rewritten_entries (s.tables g)) (let long = ap length stands.entries in omega (arith, long)))
 
   -- the entries weren't read
-  pub once_unread : (error : Error) → FailsToBuildPiece g es pairs v cache new error → FailsToRestate error s (shows v old new)
-  once_unread error fails = begin_unread g (length es) s new es es stands.entries (sym (take_all (length es) es (omega arith))) pairs (λ home m h. values_in home m s h g None pairs stands.keys) error fails
+  pub once_unread : MakeOnePiece es → (error : Error) → FailsToBuildPiece g es pairs v cache new error → FailsToRestate error s (shows v old new)
+  once_unread one error fails = begin_unread g (length es) s new es es stands.entries (sym (take_all (length es) es (omega arith))) one pairs (λ home m h. values_in home m s h g None pairs stands.keys) error fails
 
   module _ (b : Batch) (built : BuildsPiece g es pairs v cache new b) where
     abbrev read : List (List ℕ)
@@ -195,8 +196,8 @@ module _ (g : ℕ) (es : List EntryIndex) (pairs : List (List ℕ × List ℕ)) 
       alone : SaysItself (signed_for b) b → IsLaidOut b → CountsAlone b
       alone says laid = record { some = some; plain = built_plain g es pairs v cache new b built; says = says; laid = laid }
 
-      pub once_refused : (error : Error) (w : LogPipes) (after : MemTables) → FailsToWriteLast b error v old w after → FailsToRestate error s (shows w after new)
-      once_refused error w after refused =
+      pub once_refused : MakeOnePiece es → (error : Error) (w : LogPipes) (after : MemTables) → FailsToWriteLast b error v old w after → FailsToRestate error s (shows w after new)
+      once_refused one error w after refused =
           let same = same_but_pipes v w old after new refused.same in
           record {
             same = same;
@@ -212,7 +213,7 @@ module _ (g : ℕ) (es : List EntryIndex) (pairs : List (List ℕ × List ℕ)) 
                 (subst (HasReason home m error (caching s new)) (sym same)
                 (unwritten_reason home (caching s new) m b error w (held home m h)
                 (λ r. (Plain (bytes_of b), says_marked home b Unmarked (Plain (bytes_of b)) some (built_plain g es pairs v cache new b built) refl r.says r.laid))
-                (long_reason home m error (caching s new) (over (caching s new) w) g ((s.tables g).first + 0) read pairs [] b (inl refl) (built_made g es pairs v cache new b built (s.tables g) 0 (length es) whole_piece) (read_there home m h).1
+                (long_reason home m error (caching s new) (over (caching s new) w) g ((s.tables g).first + 0) read pairs [] b (inl refl) (built_made g es pairs v cache new b built (s.tables g) 0 (length es) whole_piece) (read_piece v es cache new built.read one built.reads) (read_there home m h).1
                 (values_in home m s h g None pairs stands.keys) stands.keys.rising)
                 refused.fails.why));
           }

@@ -1,7 +1,7 @@
 -- Atomic groups that are begun, that go on, and that are given up.
 use Rattle.std.proofs.Common.{◌≡◌, ℕ, ◌+◌, ◌≤◌, ◌<◌, false, List, [], ◌∷◌, ◌++◌, length, map, take, drop, inl, inr, refl, sym, ap, ap₂, subst, ◌∙◌, arith, append-nil, append_assoc, length-append, length-drop}
 use Rattle.std.specs.Prelude.{Result, Ok, Err, IfErr, IfOk}
-use Rattle.std.proofs.lemmas.List.{length-map, length-take}
+use Rattle.std.proofs.lemmas.List.{length-map, length-take, take_all}
 use Rattle.raft_log_machine_laws.specs.Machine.{AllFit}
 use Rattle.raft_log_machine_laws.specs.Whereabouts.{top}
 use Rattle.raft_log_disk.specs.Causes.{IsLater}
@@ -38,10 +38,10 @@ use Rattle.raft_log_purge_parts.specs.Reasons.{GivesReason, HasReason}
 use Rattle.raft_log_purge_parts.proofs.Carried.{plain_items}
 use Rattle.raft_log_purge_parts.proofs.OneRun.{entries_count}
 use Rattle.raft_log_purge_parts.proofs.PartExits.{later_on, same_later}
-use Rattle.raft_log_purge_parts.proofs.Reading.{from_rises}
+use Rattle.raft_log_purge_parts.proofs.Reading.{from_rises, read_piece}
 use Rattle.raft_log_purge_parts.proofs.Reasons.{long_reason, memory_is_none, memory_reason, none_twice, reason_after, tells_nothing}
 use Rattle.raft_log_purge_parts.specs.declared.parts.RestatedPart.{RestatedPart}
-use Rattle.raft_log_purge_parts.specs.Pieces.{BuildsPiece, FailsToBuildPiece, IsPiece, run_items, tagged_all, put_items}
+use Rattle.raft_log_purge_parts.specs.Pieces.{BuildsPiece, FailsToBuildPiece, IsPiece, MakeOnePiece, run_items, tagged_all, put_items}
 use Rattle.raft_log_purge_parts.specs.Records.{FailsToWriteRecord, WritesToRewrite}
 use Rattle.raft_log_purge_parts.specs.Restated.{FailsToRestate}
 use Rattle.raft_log_purge_parts.specs.GroupParts.{ArePartsKept, SayPieces, HasParts, IsMarkedPiece}
@@ -144,12 +144,12 @@ module _ (g done count : ℕ) (s : Shows) (v : LogPipes) (old new : BlockCache) 
       → FailsToRestate error s (at_pipes s v new)
   stopped error other stays reason = record { same = refl; tells = λ lived. tells_nothing error v (alive lived) other; later = before; remains = λ home m h. inl (stays home m h); cause = reason }
 
-  pub stopped_reading : (pairs : List (List ℕ × List ℕ)) → ((home : Home) (m : LogMap) → Holds home s m [] → AreValuesIn m g pairs) → (error : Error) → FailsToBuildPiece g es pairs v old new error → FailsToRestate error s (at_pipes s v new)
-  stopped_reading pairs values error fails =
+  pub stopped_reading : MakeOnePiece es → (pairs : List (List ℕ × List ℕ)) → ((home : Home) (m : LogMap) → Holds home s m [] → AreValuesIn m g pairs) → (error : Error) → FailsToBuildPiece g es pairs v old new error → FailsToRestate error s (at_pipes s v new)
+  stopped_reading piece pairs values error fails =
       stopped error (unbuilt_is_none g v es pairs old new error fails)
       (λ home m h.
       let k = held home m h in held_caching home (at_pipes s v old) m new k (piece_unbuilt (at_pipes s v old) g done count es is new home m k pairs error fails))
-      (λ home m h. reason_after home m error s (at_pipes s v old) (at_pipes s v new) before (unbuilt_reason (at_pipes s v old) g done count es is new home m (held home m h) pairs (values home m h) error fails))
+      (λ home m h. reason_after home m error s (at_pipes s v old) (at_pipes s v new) before (unbuilt_reason (at_pipes s v old) g done count es is new home m (held home m h) piece pairs (values home m h) error fails))
 
   pub stopped_marking : (error : Error) → error ≡ errors.Memory → (pairs : List (List ℕ × List ℕ)) (b : Batch) → BuildsPiece g es pairs v old new b → FailsToRestate error s (at_pipes s v new)
   stopped_marking error memory pairs b built =
@@ -170,10 +170,10 @@ module _ (g done count : ℕ) (s : Shows) (v : LogPipes) (old new : BlockCache) 
 
 -- Begun.
 
-pub begin_unread : (g count : ℕ) (s : Shows) (new : BlockCache) (all es : List EntryIndex) → all ≡ rewritten_entries (s.tables g) → es ≡ take count all → (pairs : List (List ℕ × List ℕ))
+pub begin_unread : (g count : ℕ) (s : Shows) (new : BlockCache) (all es : List EntryIndex) → all ≡ rewritten_entries (s.tables g) → es ≡ take count all → MakeOnePiece es → (pairs : List (List ℕ × List ℕ))
     → ((home : Home) (m : LogMap) → Holds home s m [] → AreValuesIn m g pairs) → (error : Error) → FailsToBuildPiece g es pairs s.pipes s.cache new error → FailsToRestate error s (at_pipes s s.pipes new)
-begin_unread g count s new all es is_all is pairs values error fails =
-    stopped_reading g 0 count s s.pipes s.cache new es (is ∙ ap (take count) is_all) (λ home m h. h) (λ lived. lived) (same_later s.pipes.disk) pairs values error fails
+begin_unread g count s new all es is_all is piece pairs values error fails =
+    stopped_reading g 0 count s s.pipes s.cache new es (is ∙ ap (take count) is_all) (λ home m h. h) (λ lived. lived) (same_later s.pipes.disk) piece pairs values error fails
 
 pub begin_unmarked : (g count : ℕ) (s : Shows) (new : BlockCache) (all es : List EntryIndex) → all ≡ rewritten_entries (s.tables g) → es ≡ take count all → (error : Error) → error ≡ errors.Memory → (pairs : List (List ℕ × List ℕ)) (b : Batch)
     → BuildsPiece g es pairs s.pipes s.cache new b → FailsToRestate error s (at_pipes s s.pipes new)
@@ -201,14 +201,14 @@ module _ (g number count : ℕ) (s : Shows) (new : BlockCache) (all es : List En
   read_here : (home : Home) (m : LogMap) → (h : Holds home s m []) → IsOfLog h.state new × AreEntryBytes m g ((s.tables g).first + 0) first_bytes
   read_here home m h = piece_read s g 0 count es here new home m h built.read built.reads
 
-  pub begin_stopped : (error : Error) (w : LogPipes) → FailsToWriteRecord made error s.pipes w → FailsToRestate error s (at_pipes s w new)
-  begin_stopped error w fails =
+  pub begin_stopped : MakeOnePiece es → (error : Error) (w : LogPipes) → FailsToWriteRecord made error s.pipes w → FailsToRestate error s (at_pipes s w new)
+  begin_stopped one error w fails =
       stopped_writing g 0 count s s.pipes s.cache new es here (λ home m h. h) (λ lived. lived) (same_later s.pipes.disk) error made w
       (λ home m h.
       begin_left home (caching s new) m number made error w (held_caching home s m new h (read_here home m h).0) (λ r. part_of_group home m h r.says r.laid) fails)
       (λ home m h.
       unwritten_reason home (caching s new) m made error w (held_caching home s m new h (read_here home m h).0) (λ r. part_speaks home number statuses.Begin made (part_of_group home m h r.says r.laid))
-      (long_reason home m error (caching s new) (at_pipes s w new) g ((s.tables g).first + 0) first_bytes [] (mark_item number statuses.Begin ∷ []) made (inr (number, statuses.Begin, refl)) marked.made (read_here home m h).1 tt none_twice)
+      (long_reason home m error (caching s new) (at_pipes s w new) g ((s.tables g).first + 0) first_bytes [] (mark_item number statuses.Begin ∷ []) made (inr (number, statuses.Begin, refl)) marked.made (read_piece s.pipes es s.cache new built.read one built.reads) (read_here home m h).1 tt none_twice)
       fails.why) fails
 
   pub parts_begun : (w : LogPipes) (part : RestatedPart) → WritesToRewrite made part.block part.items.items s.pipes w → HasParts g number count (part ∷ []) s (at_pipes s w new)
@@ -265,8 +265,8 @@ module _ (g number done count : ℕ) (parts : List RestatedPart) (s : Shows) (v 
   held_open : (home : Home) (m : LogMap) → Holds home s m [] → Holds home (at_pipes s v old) m []
   held_open home m h = (has.stands home m h).holds
 
-  pub more_unread : (pairs : List (List ℕ × List ℕ)) → ((home : Home) (m : LogMap) → Holds home s m [] → AreValuesIn m g pairs) → (error : Error) → FailsToBuildPiece g es pairs v old new error → FailsToRestate error s (at_pipes s v new)
-  more_unread pairs values error fails = stopped_reading g done count s v old new es there held_open (λ lived. has.alive) has.later pairs values error fails
+  pub more_unread : MakeOnePiece es → (pairs : List (List ℕ × List ℕ)) → ((home : Home) (m : LogMap) → Holds home s m [] → AreValuesIn m g pairs) → (error : Error) → FailsToBuildPiece g es pairs v old new error → FailsToRestate error s (at_pipes s v new)
+  more_unread piece pairs values error fails = stopped_reading g done count s v old new es there held_open (λ lived. has.alive) has.later piece pairs values error fails
 
   pub more_unmarked : (error : Error) → error ≡ errors.Memory → (pairs : List (List ℕ × List ℕ)) (b : Batch) → BuildsPiece g es pairs v old new b → FailsToRestate error s (at_pipes s v new)
   more_unmarked error memory pairs b built = stopped_marking g done count s v old new es there held_open (λ lived. has.alive) has.later error memory pairs b built
@@ -292,13 +292,13 @@ module _ (g number done count : ℕ) (parts : List RestatedPart) (s : Shows) (v 
         subst (λ (n : ℕ). IsGroupPart n statuses.Middle made) (sym has.numbered)
         (part_fits home s m g done number statuses.Middle these [] made h marked (few_rewritten home s m g done (length these) all h is_all (let long = more_len [] b built in omega (arith, long, few))) says laid)
 
-    pub middle_stopped : (error : Error) (w : LogPipes) → FailsToWriteRecord made error v w → FailsToRestate error s (at_pipes s w new)
-    middle_stopped error w fails =
+    pub middle_stopped : MakeOnePiece es → (error : Error) (w : LogPipes) → FailsToWriteRecord made error v w → FailsToRestate error s (at_pipes s w new)
+    middle_stopped one error w fails =
         stopped_writing g done count s v old new es there held_open (λ lived. has.alive) has.later error made w
         (λ home m h. middle_left home (at_pipes s v new) m has.group made error w (more_read [] b built home m h).0 (λ r. middle_part home m h r.says r.laid) fails)
         (λ home m h.
         unwritten_reason home (at_pipes s v new) m made error w (more_read [] b built home m h).0.holds (λ r. part_speaks home has.group.number statuses.Middle made (middle_part home m h r.says r.laid))
-        (long_reason home m error (at_pipes s v new) (at_pipes s w new) g ((s.tables g).first + done) these [] (mark_item number statuses.Middle ∷ []) made (inr (number, statuses.Middle, refl)) marked.made (more_read [] b built home m h).1 tt none_twice)
+        (long_reason home m error (at_pipes s v new) (at_pipes s w new) g ((s.tables g).first + done) these [] (mark_item number statuses.Middle ∷ []) made (inr (number, statuses.Middle, refl)) marked.made (read_piece v es old new built.read one built.reads) (more_read [] b built home m h).1 tt none_twice)
         fails.why) fails
 
     pub parts_gone_on : (w : LogPipes) (part : RestatedPart) → WritesToRewrite made part.block part.items.items v w → HasParts g number (done + count) (parts ++ part ∷ []) s (at_pipes s w new)
@@ -337,6 +337,11 @@ err_map (Err e) f p = f e p
 
 -- The batch that ends the group.
 
+-- it has all entries that are left
+there_left : (g done count : ℕ) (s : Shows) (all es : List EntryIndex) → all ≡ rewritten_entries (s.tables g) → es ≡ take count (drop done all) → done + count ≡ length all → es ≡ drop done (rewritten_entries (s.tables g))
+there_left g done count s all es is_all is rest =
+    is ∙ take_all count (drop done all) (let left = length-drop done all in omega (arith, left, rest)) ∙ ap (drop done) is_all
+
 module _ (g number done count : ℕ) (parts : List RestatedPart) (s : Shows) (v : LogPipes) (old new : BlockCache) (has : HasParts g number done parts s (at_pipes s v old)) (all es : List EntryIndex) (is_all : all ≡ rewritten_entries (s.tables g))
     (is : es ≡ take count (drop done all)) (rest : done + count ≡ length all) (pairs : List (List ℕ × List ℕ)) (b made : Batch) (built : BuildsPiece g es pairs v old new b)
     (marked : IsMarkedPiece g ((s.tables g).first + done) number statuses.End (map (λ e. e.bytes) built.read) pairs made) where
@@ -362,6 +367,7 @@ module _ (g number done count : ℕ) (parts : List RestatedPart) (s : Shows) (v 
     record {
       bytes = map (λ e. e.bytes) built.read;
       is = marked;
+      piece = λ one. read_piece v es old new built.read (subst MakeOnePiece (sym (there_left g done count s all es is_all is rest)) one) built.reads;
       all = λ home m h.
           (let long = more_len g number done count parts s v old new has all es is_all is (omega (arith, rest)) pairs b built in
           let whole = ap length is_all ∙ rewritten_len (s.tables g) (h.meant.orderly g) in omega (arith, long, whole, rest));

@@ -1,6 +1,8 @@
 -- Entries that are read to be copied are the map's, and a batch of them has copies of them.
-use Rattle.std.proofs.Common.{◌≡◌, ◌⊎◌, ℕ, ◌+◌, ◌≤◌, List, [], ◌∷◌, ◌++◌, length, map, drop, Option, Some, option_map, unwrap_or, slice_get, inl, inr, refl, sym, ap, subst, ◌∙◌, arith, append-nil}
+use Rattle.std.proofs.Common.{◌≡◌, ◌⊎◌, ℕ, zero, suc, ◌+◌, ◌-◌, ◌≤◌, if◌then◌else◌, List, [], ◌∷◌, ◌++◌, length, map, take, drop, sum_by, Option, Some, option_map, unwrap_or, nat_le, nat_lt, slice_get, inl, inr, refl, sym, ap, subst, ◌∙◌, arith, append-nil}
 use Rattle.std.proofs.lemmas.List.{length-drop, length-map, length-take}
+use Rattle.std.proofs.lemmas.List.Sums.{sum_by-cons}
+use Rattle.raft_log_model_laws.proofs.Cases.{at_bool}
 use Rattle.raft_log_record_base.specs.declared.errors.Error.{Error}
 use Rattle.raft_log_record_base.specs.declared.errors.Error.TheVariants as errors
 use Rattle.raft_log_model_laws.specs.Meaning.Slot.{Index}
@@ -13,15 +15,17 @@ use Rattle.raft_log_record_marks.specs.declared.marking.Marking.TheVariants.{Unm
 use Rattle.raft_log_record_marks.specs.Marking.{marking_of_items}
 use Rattle.raft_log_record_batches.specs.Batch.{Batch}
 use Rattle.raft_log_machine_laws.specs.Whereabouts.{top}
-use Rattle.raft_log_record_batches.specs.Entries.{IsEntriesRefusal, RisesFrom, entries_items, entries_of, indexes_of}
+use Rattle.raft_log_record_batches.specs.Entries.{IsEntriesRefusal, RisesFrom, bytes_len, entries_items, entries_of, indexes_of}
 use Rattle.raft_log_record_lists.specs.ItemBatch.{all_entries}
 use Rattle.raft_log_record_batches.specs.Places.{entry_bytes}
 use Rattle.raft_log_table_runs.specs.declared.place.Place.{Place}
-use Rattle.raft_log_table_runs.specs.Counts.{passing}
+use Rattle.raft_log_table_runs.specs.Counts.{fitting, passing, sized}
+use Rattle.raft_log_table_runs.specs.Entries.{entry_of, queue_of}
 use Rattle.raft_log_table_lists.specs.Shown.{Shown}
 use Rattle.raft_log_engine_laws.specs.raft_log_table_one.specs.Reads.{entries_from}
 use Rattle.raft_log_file_blocks.specs.declared.block_cache.BlockCache.{BlockCache}
-use Rattle.raft_log_file_blocks.specs.Blocks.{AreUnread, IsOfLog, ReadsEntries}
+use Rattle.raft_log_file_blocks.specs.Blocks.{AreUnread, IsOfLog, ReadsEntries, ReadsEntry}
+use Rattle.raft_log_file_blocks.specs.Stored.{part}
 use Rattle.raft_log_file_pair.specs.Pipes.{LogPipes}
 use Rattle.raft_log_engine_laws.specs.Shows.{Home, LogMap, Shows}
 use Rattle.raft_log_engine_laws.specs.Holding.{Holds, IsLeftAt}
@@ -30,10 +34,11 @@ use Rattle.raft_log_engine_laws.proofs.Fetching.{all_told, all_untold}
 use Rattle.raft_log_engine_laws.specs.Rewriting.{HasCopies}
 use Rattle.raft_log_record_items.specs.declared.raw_message.RawMessage.{RawMessage}
 use Rattle.raft_log_purge_parts.specs.Parts.{Remains}
-use Rattle.raft_log_purge_parts.specs.Lengths.{AreOfGroup}
+use Rattle.raft_log_purge_parts.specs.Lengths.{AreOfGroup, AreOnePiece}
 use Rattle.raft_log_purge_parts.specs.Refusals.{IsOverlong}
 use Rattle.raft_log_purge_parts.specs.Copies.{FailsToCopy, MovesCopies, WritesCopies}
-use Rattle.raft_log_purge_parts.specs.Entries.{AreEntryBytes, AreNext, IsRunBatch, as_bytes, copied_count, next_places}
+use Rattle.raft_log_purge_parts.specs.Entries.{AreEntryBytes, AreNext, IsRunBatch, as_bytes, copied_count, max_piece, next_places}
+use Rattle.raft_log_purge_parts.specs.Pieces.{MakeOnePiece}
 use Rattle.raft_log_purge_parts.specs.Moving.{Advances}
 use Rattle.raft_log_purge_parts.specs.Reasons.{GivesReason, HasReason}
 use Rattle.raft_log_purge_parts.specs.Rewriting.{CopiesEntries, FailsToCopyEntries, OweNothing}
@@ -59,6 +64,68 @@ pub reads_len : (v : LogPipes) (es : List EntryIndex) (old new : BlockCache) (xs
 reads_len v [] old new xs (same, none) = ap length none
 reads_len v (e ∷ es) old new [] never = absurd never
 reads_len v (e ∷ es) old new (x ∷ xs) (next, one, rest) = (let more = reads_len v es next new xs rest in omega (arith, more))
+
+-- and no entry has more bytes than its place says
+read_fits : (v : LogPipes) (e : EntryIndex) (old new : BlockCache) (x : RawMessage) → ReadsEntry as_bytes v e old new x → length x.bytes ≤ e.entry_len
+read_fits v e old new x r =
+    let bytes : List ℕ = part e.entry_offset e.entry_len new.bytes.items in
+    let same : bytes ≡ x.bytes = ap (λ (o : Option RawMessage). unwrap_or (option_map (λ y. y.bytes) o) bytes) r.is in
+    let cut = length-take e.entry_len (drop e.entry_offset new.bytes.items) in
+    let long : length bytes ≡ length x.bytes = ap length same in omega (arith, cut, long)
+
+reads_fit : (v : LogPipes) (es : List EntryIndex) (old new : BlockCache) (xs : List RawMessage) → ReadsEntries as_bytes v es old new xs → bytes_len (map (λ e. e.bytes) xs) ≤ sum_by (λ e. e.entry_len) es
+reads_fit v [] old new xs (same, none) = subst (λ (l : List RawMessage). bytes_len (map (λ e. e.bytes) l) ≤ 0) (sym none) (omega arith)
+reads_fit v (e ∷ es) old new [] never = absurd never
+reads_fit v (e ∷ es) old new (x ∷ xs) (next, one, rest) =
+    let more = reads_fit v es next new xs rest in
+    let here = read_fits v e old next x one in
+    let whole = sum_by-cons (λ (l : List ℕ). length l) x.bytes (map (λ y. y.bytes) xs) in
+    let sum = sum_by-cons (λ (i : EntryIndex). i.entry_len) e es in omega (arith, more, here, whole, sum)
+
+-- what is read of entries that make one record is no more than one has
+pub read_piece : (v : LogPipes) (es : List EntryIndex) (old new : BlockCache) (xs : List RawMessage) → MakeOnePiece es → ReadsEntries as_bytes v es old new xs → AreOnePiece (map (λ e. e.bytes) xs)
+read_piece v es old new xs (inl few) reads =
+    inl (let many = reads_len v es old new xs reads in let same = length-map xs (λ (e : RawMessage). e.bytes) in omega (arith, few, many, same))
+read_piece v es old new xs (inr small) reads = inr (let fit = reads_fit v es old new xs reads in omega (arith, small, fit))
+
+-- entries that are copied at once make one record
+fitting_sum : (left : ℕ) (ps : List Place) → sum_by (λ p. p.entry_len) (take (fitting left ps) ps) ≤ left
+fitting_sum left [] = omega arith
+fitting_sum left (p ∷ ps) =
+    at_bool (nat_le p.entry_len left) (λ b. nat_le p.entry_len left ≡ b → sum_by (λ q. q.entry_len) (take (if b then suc (fitting (left - p.entry_len) ps) else 0) (p ∷ ps)) ≤ left)
+    (λ _ is.
+    let low : p.entry_len ≤ left = grind (arith, is) in
+    let rest = fitting_sum (left - p.entry_len) ps in
+    let sum = sum_by-cons (λ (q : Place). q.entry_len) p (take (fitting (left - p.entry_len) ps) ps) in omega (arith, low, rest, sum))
+    (λ _ is. omega arith) refl
+
+sized_sum : (max : ℕ) (ps : List Place) → (sized (Some max) ps ≤ 1) ⊎ (sum_by (λ p. p.entry_len) (take (sized (Some max) ps) ps) ≤ max)
+sized_sum max [] = inl (omega arith)
+sized_sum max (p ∷ ps) =
+    at_bool (nat_le p.entry_len max)
+    (λ b. nat_le p.entry_len max ≡ b → ((if b then suc (fitting (max - p.entry_len) ps) else 1) ≤ 1) ⊎ (sum_by (λ q. q.entry_len) (take (if b then suc (fitting (max - p.entry_len) ps) else 1) (p ∷ ps)) ≤ max))
+    (λ _ is.
+    inr (let low : p.entry_len ≤ max = grind (arith, is) in
+    let rest = fitting_sum (max - p.entry_len) ps in
+    let sum = sum_by-cons (λ (q : Place). q.entry_len) p (take (fitting (max - p.entry_len) ps) ps) in omega (arith, low, rest, sum)))
+    (λ _ is. inl (omega arith)) refl
+
+fewer_sum : (n k : ℕ) (ps : List Place) → n ≤ k → sum_by (λ p. p.entry_len) (take n ps) ≤ sum_by (λ p. p.entry_len) (take k ps)
+fewer_sum zero k ps low = omega arith
+fewer_sum (suc n) zero ps low = absurd (omega (arith, low))
+fewer_sum (suc n) (suc k) [] low = omega arith
+fewer_sum (suc n) (suc k) (p ∷ ps) low =
+    let rest = fewer_sum n k ps (omega (arith, low)) in
+    let one = sum_by-cons (λ (q : Place). q.entry_len) p (take n ps) in
+    let two = sum_by-cons (λ (q : Place). q.entry_len) p (take k ps) in omega (arith, rest, one, two)
+
+from_sum : (v : Shown) (k : ℕ) (ps : List Place) → sum_by (λ e. e.entry_len) (entries_from v k ps) ≡ sum_by (λ p. p.entry_len) ps
+from_sum v k [] = refl
+from_sum v k (p ∷ ps) =
+    let e : EntryIndex = entry_of (queue_of (nat_lt k v.rewritten)) (v.first + k) p in
+    let rest = from_sum v (k + 1) ps in
+    let one = sum_by-cons (λ (x : EntryIndex). x.entry_len) e (entries_from v (k + 1) ps) in
+    let two = sum_by-cons (λ (q : Place). q.entry_len) p ps in omega (arith, rest, one, two)
 
 from_len : (v : Shown) (k : ℕ) (ps : List Place) → length (entries_from v k ps) ≡ length ps
 from_len v k [] = refl
@@ -101,6 +168,18 @@ module _ (s : Shows) (g gate : ℕ) (es : List EntryIndex) (next : AreNext gate 
       untold_reason home m error s new h.state (record { state = h.state; map = h.map; runs = h.runs; stored = h.stored; rises = h.rises; noted = h.noted; meant = h.meant; cached = cached; at = h.at }) refl g (v.first + v.rewritten)
       (v.first + v.rewritten + length ps) why
 
+  -- what comes next makes one record
+  next_piece : MakeOnePiece es
+  next_piece =
+      let qs : List Place = drop v.rewritten v.places in
+      let n : ℕ = copied_count gate qs in
+      let low : n ≤ sized (Some max_piece) qs = omega arith in
+      subst MakeOnePiece (sym next)
+      (elim (sized_sum max_piece qs) [
+        | inl few ↦ inl (let long = from_len v v.rewritten ps in let cut = length-take n qs in omega (arith, few, low, long, cut))
+        | inr small ↦ inr (let sum = from_sum v v.rewritten ps in let less = fewer_sum n (sized (Some max_piece) qs) qs low in omega (arith, small, sum, less))
+      ])
+
   -- what comes next rises by one
   next_rises : RisesFrom (v.first + v.rewritten) (indexes_of es)
   next_rises = subst (λ l. RisesFrom (v.first + v.rewritten) (indexes_of l)) (sym next) (from_rises v v.rewritten ps)
@@ -123,7 +202,8 @@ module _ (s : Shows) (g gate : ℕ) (es : List EntryIndex) (next : AreNext gate 
     remains = λ owes home m h. inl (read_is_held home m h xs reads).0;
     cause = λ home m h.
         entries_reason home m error s (record s { cache = new }) g (v.first + v.rewritten) (indexes_of es) (map (λ e. e.bytes) xs) next_rises (λ some. next_low home m h)
-        (length-map es (λ e. e.index) ∙ sym (reads_len s.pipes es s.cache new xs reads) ∙ sym (length-map xs (λ e. e.bytes))) (read_is_held home m h xs reads).1 why;
+        (length-map es (λ e. e.index) ∙ sym (reads_len s.pipes es s.cache new xs reads) ∙ sym (length-map xs (λ e. e.bytes)))
+        (read_piece s.pipes es s.cache new xs next_piece reads) (read_is_held home m h xs reads).1 why;
   }
 
   -- nothing was written
@@ -243,7 +323,7 @@ module _ (s : Shows) (g gate : ℕ) (es : List EntryIndex) (next : AreNext gate 
 
   entries_cause : (home : Home) (m : LogMap) → Holds home s m [] → (error : Error) (t : Shows) → IsOverlong b error ⊎ HasReason home m error (record s { cache = new }) t → HasReason home m error s t
   entries_cause home m h error t (inl long) =
-      long_reason home m error s t g ((s.tables g).first + (s.tables g).rewritten) (map (λ e. e.bytes) xs) [] [] b (inl refl) entries_made (read_is_held s g gate es next new home m h xs reads).1 tt none_twice long
+      long_reason home m error s t g ((s.tables g).first + (s.tables g).rewritten) (map (λ e. e.bytes) xs) [] [] b (inl refl) entries_made (read_piece s.pipes es s.cache new xs (next_piece s g gate es next new) reads) (read_is_held s g gate es next new home m h xs reads).1 tt none_twice long
   entries_cause home m h error t (inr reason) = reason_on home m error t reason
 
   pub entries_not_copied : (error : Error) (t : Shows) → FailsToCopy (Some gate) b error (record s { cache = new }) t → FailsToCopyEntries error s t

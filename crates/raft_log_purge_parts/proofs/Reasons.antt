@@ -38,7 +38,7 @@ use Rattle.raft_log_file_pipe.specs.declared.pipe_files.PipeFiles.{PipeFiles}
 use Rattle.raft_log_record_batches.specs.Batch.{Batch}
 use Rattle.raft_log_record_batches.specs.Entries.{IsEntriesRefusal, IsIndexRun, RisesFrom, entries_items, joined}
 use Rattle.raft_log_record_batches.proofs.Entries.{joined-length}
-use Rattle.raft_log_table_lists.specs.Shown.{KeyValue, Shown}
+use Rattle.raft_log_table_lists.specs.Shown.{KeyValue}
 use Rattle.raft_log_table_lists.specs.Bridge.{Located, bytes_held}
 use Rattle.raft_log_table_lists.specs.Listing.{ListsAll, asked_bytes, is_asked}
 use Rattle.raft_log_file_blocks.specs.Signing.{signed_for}
@@ -60,7 +60,7 @@ use Rattle.raft_log_engine_laws.specs.Rewriting.{CountsAlone}
 use Rattle.raft_log_engine_laws.proofs.Rewriting.{bytes_of, says_marked}
 use Rattle.raft_log_record_items.specs.declared.raw_message.RawMessage.{RawMessage}
 use Rattle.raft_log_purge_parts.specs.Entries.{AreEntryBytes, as_bytes}
-use Rattle.raft_log_purge_parts.specs.Lengths.{AreOfGroup, AreValuesIn, IsOneMark}
+use Rattle.raft_log_purge_parts.specs.Lengths.{AreOfGroup, AreOnePiece, AreValuesIn, IsOneMark}
 use Rattle.raft_log_purge_parts.specs.Owed.{SaysMarks}
 use Rattle.raft_log_purge_parts.specs.Reasons.{HasFileReason, HasMarkValue, HasReason, IsOneUnread}
 use Rattle.raft_log_purge_parts.specs.Refusals.{AreUnput, HasMark, IsOverlong, IsUnmade, IsUnrecorded}
@@ -126,10 +126,10 @@ keys_unmade _ g pairs why = absurd why
 
 -- a record of what a group has in the map is too long
 pub long_reason : (home : Home) (m : LogMap) (error : Error) (s t : Shows) (g first : ℕ) (bytes : List (List ℕ)) (pairs : List (List ℕ × List ℕ)) (mark : List LogItem) (b : Batch) → IsOneMark mark
-    → AreOfGroup g first bytes pairs mark b.items b.entries → AreEntryBytes m g first bytes → AreValuesIn m g pairs → IsStrictlySortedBy (slice_cmp nat_cmp) (keys_of pairs) → IsOverlong b error → HasReason home m error s t
-long_reason home m error s t g first bytes pairs mark b one made run values once (is, long) =
+    → AreOfGroup g first bytes pairs mark b.items b.entries → AreOnePiece bytes → AreEntryBytes m g first bytes → AreValuesIn m g pairs → IsStrictlySortedBy (slice_cmp nat_cmp) (keys_of pairs) → IsOverlong b error → HasReason home m error s t
+long_reason home m error s t g first bytes pairs mark b one made piece run values once (is, long) =
     subst (λ (e : Error). HasReason home m e s t) (sym is)
-    (inl (b.items, b.entries, record { group = g; first = first; bytes = bytes; pairs = pairs; mark = mark; one = one; made = made; run = run; values = values; once = once }, inr long))
+    (inl (b.items, b.entries, record { group = g; first = first; bytes = bytes; pairs = pairs; mark = mark; one = one; made = made; piece = piece; run = run; values = values; once = once }, inr long))
 
 -- that of the marks that are owed
 pub marks_long_reason : (home : Home) (m : LogMap) (error : Error) (s t : Shows) (b : Batch) → SaysMarks t.tables b → IsUnrecorded b error → HasReason home m error s t
@@ -160,10 +160,10 @@ index_run first (i ∷ is) (same, rise) low = ((refl, subst (λ (n : ℕ). Rises
 
 -- entries aren't added
 pub entries_reason : (home : Home) (m : LogMap) (error : Error) (s t : Shows) (g first : ℕ) (indexes : List ℕ) (bytes : List (List ℕ)) → RisesFrom first indexes → (0 < length indexes → first + length indexes ≤ top) → length indexes ≡ length bytes
-    → AreEntryBytes m g first bytes → IsEntriesRefusal error 0 indexes bytes → HasReason home m error s t
-entries_reason home m errors.Memory s t g first indexes bytes rise low same run why = tt
-entries_reason home m (errors.InvalidArgument text) s t g first indexes bytes rise low same run (none, told) = absurd (none (same, index_run first indexes rise low))
-entries_reason home m errors.Full s t g first indexes bytes rise low same run (is, long) =
+    → AreOnePiece bytes → AreEntryBytes m g first bytes → IsEntriesRefusal error 0 indexes bytes → HasReason home m error s t
+entries_reason home m errors.Memory s t g first indexes bytes rise low same piece run why = tt
+entries_reason home m (errors.InvalidArgument text) s t g first indexes bytes rise low same piece run (none, told) = absurd (none (same, index_run first indexes rise low))
+entries_reason home m errors.Full s t g first indexes bytes rise low same piece run (is, long) =
     let items : List LogItem = (entries_items g 0 indexes bytes ++ []) ++ [] in
     let joins = joined-length bytes in
     inl (
@@ -177,13 +177,14 @@ entries_reason home m errors.Full s t g first indexes bytes rise low same run (i
         mark = [];
         one = inl refl;
         made = record { indexes = indexes; rise = rise; are = refl; joins = refl };
+        piece = piece;
         run = run;
         values = tt;
         once = none_twice;
       },
       inl (omega (arith, joins, long)),
     )
-entries_reason home m _ s t g first indexes bytes rise low same run why = absurd why
+entries_reason home m _ s t g first indexes bytes rise low same piece run why = absurd why
 
 -- Values of a group are those of the map.
 

@@ -1,5 +1,5 @@
 -- Records that are written to Rewrite, or refused there.
-use Rattle.std.proofs.Common.{◌≡◌, ◌+◌, ◌-◌, ◌^◌, ℕ, List, cond, inl, inr, min, ap, arith, subst, sym, ◌∙◌}
+use Rattle.std.proofs.Common.{◌≡◌, ◌+◌, ◌-◌, ◌^◌, ℕ, List, inl, inr, min, ap, arith, subst, ◌∙◌}
 use Rattle.std.specs.Prelude.{Err, Ok}
 use Rattle.std.proofs.lemmas.Bool.Decides.{nat_tests}
 use Rattle.raft_log_disk.specs.Causes.{IsLater}

@@ -13,10 +13,10 @@ use Rattle.raft_log_record_frames.specs.Record.{record_len}
 use Rattle.raft_log_record_marks.specs.declared.status.AtomicGroupStatus.{AtomicGroupStatus}
 use Rattle.raft_log_record_marks.specs.Marking.{mark_item}
 use Rattle.raft_log_record_batches.specs.Batch.{Batch, max_entries_len}
-use Rattle.raft_log_record_batches.specs.Entries.{RisesFrom, entries_items, joined}
+use Rattle.raft_log_record_batches.specs.Entries.{RisesFrom, bytes_len, entries_items, joined}
 use Rattle.raft_log_table_lists.specs.Shown.{Shown}
 use Rattle.raft_log_engine_laws.specs.Shows.{LogMap}
-use Rattle.raft_log_purge_parts.specs.Entries.{AreEntryBytes}
+use Rattle.raft_log_purge_parts.specs.Entries.{AreEntryBytes, max_piece}
 use Rattle.raft_log_purge_parts.specs.Owed.{SaysMarks}
 
 -- these are values of the group in the map
@@ -38,8 +38,13 @@ pub record AreOfGroup (g first : ℕ) (bytes : List (List ℕ)) (pairs : List (L
   pub are : items ≡ (entries_items g 0 indexes bytes ++ map (λ e. put_item g e.0 e.1) pairs) ++ mark
   pub joins : entries ≡ joined bytes
 
--- The items, and the bytes of their entries, are those of what one group has in the map: its entries there
--- from an index on, values there, no key twice, and at most one mark of an atomic group.
+-- the bytes of entries of one record: 131,072 together at most, or those of a single entry
+abbrev pub AreOnePiece : List (List ℕ) → Type 0
+AreOnePiece bytes = (length bytes ≤ 1) ⊎ (bytes_len bytes ≤ max_piece)
+
+-- The items, and the bytes of their entries, are those of one record of what one group has in the map: its
+-- entries there from an index on, no more than one record has, values there, no key twice, and at most one mark
+-- of an atomic group.
 pub record AreOfMap (m : LogMap) (items : List LogItem) (entries : List ℕ) : Type 0 where
   pub group : ℕ
   pub first : ℕ
@@ -48,6 +53,7 @@ pub record AreOfMap (m : LogMap) (items : List LogItem) (entries : List ℕ) : T
   pub mark : List LogItem
   pub one : IsOneMark mark
   pub made : AreOfGroup group first bytes pairs mark items entries
+  pub piece : AreOnePiece bytes
   pub run : AreEntryBytes m group first bytes
   pub values : AreValuesIn m group pairs
   pub once : IsStrictlySortedBy (slice_cmp nat_cmp) (keys_of pairs)
@@ -57,8 +63,15 @@ pub record AreOfMap (m : LogMap) (items : List LogItem) (entries : List ℕ) : T
 abbrev pub IsTooLong : List LogItem → List ℕ → Type 0
 IsTooLong items entries = (max_entries_len < length entries) ⊎ (2 ^ 56 ≤ record_len items entries)
 
--- a record of what one group has in the map would be too long, or that of the marks which are owed
+-- a record of what one group has in the map would be too long
+abbrev pub HasLongGroup : LogMap → Type 0
+HasLongGroup m =
+    (items : List LogItem) × (entries : List ℕ) × AreOfMap m items entries × IsTooLong items entries
+
+-- the record of the marks that are owed would be too long
+abbrev pub OwesTooMuch : (ℕ → Shown) → Type 0
+OwesTooMuch v = (b : Batch) × SaysMarks v b × IsTooLong b.items b.entries
+
+-- a record that is to be made would be too long: of what one group has, or of the marks that are owed
 abbrev pub HasTooMuch : LogMap → (ℕ → Shown) → Type 0
-HasTooMuch m v =
-    ((items : List LogItem) × (entries : List ℕ) × AreOfMap m items entries × IsTooLong items entries)
-    ⊎ ((b : Batch) × SaysMarks v b × IsTooLong b.items b.entries)
+HasTooMuch m v = HasLongGroup m ⊎ OwesTooMuch v

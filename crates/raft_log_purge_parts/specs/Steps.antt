@@ -1,5 +1,5 @@
 -- What each call makes of the parts of an atomic group.
-use Rattle.std.specs.Prelude.{◌≡◌, ◌+◌, ℕ, List, [], ◌∷◌, length}
+use Rattle.std.specs.Prelude.{◌≡◌, ◌+◌, ℕ, List, [], ◌∷◌, length, take, drop}
 use Rattle.raft_log_record_base.specs.declared.errors.Error.{Error}
 use Rattle.raft_log_record_items.specs.declared.entry.EntryIndex.{EntryIndex}
 use Rattle.raft_log_record_marks.specs.declared.status.AtomicGroupStatus.TheVariants.{End}
@@ -14,6 +14,8 @@ use Rattle.raft_log_engine_laws.specs.Holding.{Holds}
 use Rattle.raft_log_purge_parts.specs.Entries.{AreEntryBytes}
 use Rattle.raft_log_purge_parts.specs.declared.parts.RestatedPart.{RestatedPart}
 use Rattle.raft_log_purge_parts.specs.GroupParts.{HasParts, IsMarkedPiece}
+use Rattle.raft_log_purge_parts.specs.Lengths.{AreOnePiece}
+use Rattle.raft_log_purge_parts.specs.Pieces.{MakeOnePiece}
 use Rattle.raft_log_purge_parts.specs.Restated.{FailsToRestate}
 
 -- An atomic group was begun by a part that says a group's first rewritten entries, so many, whatever the
@@ -24,10 +26,13 @@ BeginsParts g number es count part v old w new = (m : MemTables)
     → es ≡ rewritten_entries ((shows v m old).tables g)
     → HasParts g number count (part ∷ []) (shows v m old) (shows w m new)
 
--- an atomic group wasn't begun for a group's rewritten entries, which aren't restated
-abbrev pub FailsToBeginGroup : ℕ → List EntryIndex → Error → LogPipes → BlockCache → LogPipes → BlockCache → Type 0
-FailsToBeginGroup g es error v old w new = (m : MemTables)
-    → es ≡ rewritten_entries ((shows v m old).tables g) → FailsToRestate error (shows v m old) (shows w m new)
+-- an atomic group wasn't begun for a group's rewritten entries, of which so many make one record: they aren't
+-- restated
+abbrev pub FailsToBeginGroup : ℕ → List EntryIndex → ℕ → Error → LogPipes → BlockCache → LogPipes → BlockCache
+    → Type 0
+FailsToBeginGroup g es count error v old w new = (m : MemTables)
+    → es ≡ rewritten_entries ((shows v m old).tables g) → MakeOnePiece (take count es)
+    → FailsToRestate error (shows v m old) (shows w m new)
 
 -- where an atomic group stood open with parts that say so many entries, it does with these, which say so many
 abbrev pub GoesOnInGroup : ℕ → ℕ → List EntryIndex → ℕ → ℕ → List RestatedPart → List RestatedPart → LogPipes
@@ -43,13 +48,14 @@ GivesUp g number es before parts error v old w new = (m : MemTables) (s : Shows)
     → es ≡ rewritten_entries (s.tables g) → HasParts g number before parts s (shows v m old)
     → FailsToRestate error s (shows w m new)
 
--- an atomic group that stood open with these parts doesn't end, and is given up, where these are the keys
--- that the group has in Rewrite
+-- an atomic group that stood open with these parts doesn't end, and is given up, where the entries that are left
+-- make one record, and these are the keys that the group has in Rewrite
 abbrev pub GivesUpLast : ℕ → ℕ → List EntryIndex → ℕ → List RestatedPart → List (List ℕ × List ℕ) → Error
     → LogPipes → BlockCache → BlockCache → Type 0
 GivesUpLast g number es done parts pairs error v old new = (m : MemTables) (s : Shows)
-    → es ≡ rewritten_entries (s.tables g) → ListsAll (rewritten_values (s.tables g)) pairs
-    → HasParts g number done parts s (shows v m old) → FailsToRestate error s (shows v m new)
+    → es ≡ rewritten_entries (s.tables g) → MakeOnePiece (drop done es)
+    → ListsAll (rewritten_values (s.tables g)) pairs → HasParts g number done parts s (shows v m old)
+    → FailsToRestate error s (shows v m new)
 
 -- The batch ends an atomic group: it says the rewritten entries of a group from there on, and all its
 -- rewritten keys with their values.
@@ -57,6 +63,7 @@ pub record IsLastPart (g number done : ℕ) (pairs : List (List ℕ × List ℕ)
   pub bytes : List (List ℕ)
   pub is : IsMarkedPiece g ((s.tables g).first + done) number End bytes pairs b
   pub all : (home : Home) (m : LogMap) → Holds home s m [] → done + length bytes ≡ (s.tables g).rewritten
+  pub piece : MakeOnePiece (drop done (rewritten_entries (s.tables g))) → AreOnePiece bytes
   pub says : (home : Home) (m : LogMap) → Holds home s m []
       → AreEntryBytes m g ((s.tables g).first + done) bytes
 

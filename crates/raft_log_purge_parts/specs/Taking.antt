@@ -1,5 +1,5 @@
 -- The last record of those that restate a group is written, and the tables take all of them.
-use Rattle.std.specs.Prelude.{◌≡◌, ℕ, List, [], ◌∷◌, ◌++◌, None}
+use Rattle.std.specs.Prelude.{◌≡◌, ℕ, List, [], ◌∷◌, ◌++◌, None, drop}
 use Rattle.raft_log_record_base.specs.declared.errors.Error.{Error}
 use Rattle.raft_log_record_base.specs.declared.pipe_log.FileBlockHandle.{FileBlockHandle}
 use Rattle.raft_log_record_items.specs.declared.entry.EntryIndex.{EntryIndex}
@@ -19,6 +19,7 @@ use Rattle.raft_log_engine_laws.specs.Parts.{WrittenPart}
 use Rattle.raft_log_engine_laws.specs.Taking.{MovedParts}
 use Rattle.raft_log_purge_parts.specs.declared.parts.RestatedPart.{RestatedPart}
 use Rattle.raft_log_purge_parts.specs.GroupParts.{ArePartsKept, HasParts, items_of_all}
+use Rattle.raft_log_purge_parts.specs.Pieces.{MakeOnePiece}
 use Rattle.raft_log_purge_parts.specs.Records.{FailsToWriteRecord, WritesToRewrite}
 use Rattle.raft_log_purge_parts.specs.Restated.{FailsToRestate, RestatesOne}
 use Rattle.raft_log_purge_parts.specs.Steps.{IsLastPart}
@@ -62,11 +63,13 @@ EndsParts g parts b v old w new = (cache : BlockCache) (s : Shows) (number done 
     → IsLastPart g number done pairs b s → ListsAll (rewritten_values (s.tables g)) pairs
     → RestatesOne g s (shows w new cache)
 
--- an atomic group that stood open with these parts doesn't end, and is given up
+-- an atomic group that stood open with these parts doesn't end, and is given up, where the entries that are left
+-- make one record
 abbrev pub FailsToEnd : ℕ → List RestatedPart → Batch → Error → LogPipes → MemTables → LogPipes → MemTables
     → Type 0
 FailsToEnd g parts b error v old w new = (cache : BlockCache) (s : Shows) (number done : ℕ)
     (pairs : List (List ℕ × List ℕ)) → HasParts g number done parts s (shows v old cache)
+    → MakeOnePiece (drop done (rewritten_entries (s.tables g)))
     → IsLastPart g number done pairs b s → ListsAll (rewritten_values (s.tables g)) pairs
     → FailsToRestate error s (shows w new cache)
 

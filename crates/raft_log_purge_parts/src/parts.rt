@@ -1,6 +1,6 @@
 //! A group is restated by an atomic group: a record that begins it, those between, and a batch that ends it.
 
-ghost use Rattle.std.specs.Prelude.{◌≡◌, ◌+◌, ◌≤◌, ◌<◌, ◌++◌, List, [], ◌∷◌, None, drop, length, IfErr, IfOk, OnOk};
+ghost use Rattle.std.specs.Prelude.{◌≡◌, ◌+◌, ◌≤◌, ◌<◌, ◌++◌, List, [], ◌∷◌, None, drop, length, take, IfErr, IfOk, OnOk};
 ghost use Rattle.raft_log_record_batches.specs.AtomicGroup.{IsGroupOpen};
 ghost use Rattle.raft_log_record_batches.specs.declared.log_batch.BatchState.TheVariants.{Filling};
 ghost use Rattle.raft_log_purge_parts.specs.Pieces.{MakeOnePiece};
@@ -47,7 +47,7 @@ pub fn begin_parts<P: PipeLog, L: Log>(
     requires unbegun { builder.old.status ≡ None }
     ensures ok { IfOk result (λ part. BeginsParts group builder.old.id entries.now count part
         (P.shown pipes.old) cache.old (P.shown pipes.new) cache.new) }
-    ensures err { IfErr result (λ error. FailsToBeginGroup group entries.now error
+    ensures err { IfErr result (λ error. FailsToBeginGroup group entries.now count error
         (P.shown pipes.old) cache.old (P.shown pipes.new) cache.new) }
     ensures begun { OnOk result (IsGroupOpen builder.new.status) }
     ensures same { OnOk result (builder.new.id ≡ builder.old.id) }
@@ -122,6 +122,7 @@ fn write_middle<P: PipeLog, L: Log>(
 ) -> Result<RestatedPart>
     requires few { done + count ≤ length entries.now }
     requires some { 0 < count }
+    requires piece { MakeOnePiece (take count (drop done entries.now)) }
     requires open { IsGroupOpen builder.old.status }
     ensures ok { (parts : List RestatedPart) → IfOk result (λ part. GoesOnInGroup group builder.old.id entries.now
         done (done + count) parts (parts ++ part ∷ []) (P.shown pipes.old) cache.old (P.shown pipes.new) cache.new) }

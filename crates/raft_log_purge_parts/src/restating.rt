@@ -1,10 +1,11 @@
 //! Groups are restated: what stands of each in Rewrite is written there again, as one record, or as an atomic
 //! group where it is more than one record may have.
 
-ghost use Rattle.std.specs.Prelude.{◌≡◌, ◌≤◌, ◌<◌, IfErr, IfOk, None, OnOk, length};
+ghost use Rattle.std.specs.Prelude.{◌≡◌, ◌≤◌, ◌<◌, IfErr, IfOk, None, OnOk, length, take};
 ghost use Rattle.raft_log_engine_laws.specs.Shows.{shows};
 ghost use Rattle.raft_log_record_batches.specs.declared.log_batch.BatchState.TheVariants.{Filling};
 ghost use Rattle.raft_log_table_all.specs.Tables.{IsAtRest};
+ghost use Rattle.raft_log_purge_parts.specs.Pieces.{MakeOnePiece};
 ghost use Rattle.raft_log_purge_parts.specs.Restated.{FailsToRestate, RestatesEach, RestatesOne, StopsRestating};
 ghost use Rattle.raft_log_purge_parts.specs.Taking.{
   EndsParts,
@@ -110,7 +111,8 @@ pub fn restate_group<P: PipeLog, L: Log>(
     )
 }
 
-/// Restates a group that has these entries and keys in Rewrite by one record, if there are any.
+/// Restates a group that has these entries and keys in Rewrite by one record, if there are any: the entries are
+/// no more than one has.
 fn restate_at_once<P: PipeLog, L: Log>(
     alloc: Global,
     rt: &L,
@@ -122,6 +124,7 @@ fn restate_at_once<P: PipeLog, L: Log>(
     pairs: &[(Bytes, Bytes)],
     unsynced: &mut u64,
 ) -> Result<()>
+    requires { MakeOnePiece entries.now }
     ensures ok { OnOk result (RestatesThese group entries.now pairs.now
         (shows (P.shown pipes.old) tables.old cache.old) (shows (P.shown pipes.new) tables.new cache.new)) }
     ensures err { IfErr result (λ error. FailsToRestateThese group entries.now pairs.now error
@@ -154,6 +157,7 @@ fn restate_in_parts<P: PipeLog, L: Log>(
 ) -> Result<()>
     requires some { 0 < count }
     requires few { count < length entries.now }
+    requires piece { MakeOnePiece (take count entries.now) }
     requires unbegun { builder.old.status ≡ None }
     ensures ok { OnOk result (RestatesThese group entries.now pairs.now
         (shows (P.shown pipes.old) tables.old cache.old) (shows (P.shown pipes.new) tables.new cache.new)) }

@@ -11,6 +11,7 @@ use Rattle.raft_log_purge_parts.specs.Reasons.{HasMarkValue, HasReason}
 use Rattle.raft_voter.specs.Rounds.{World}
 use Rattle.raft_voter_meaning_laws.specs.Voters.{Means}
 use Rattle.raft_voter_log_laws.specs.Causes.{CutRoundsHaveFailed, FailedPurgesHaveFailed, HasVotersReason, PurgesTellCauses, StopsPurge}
+use Rattle.raft_voter_log_laws.proofs.Lengths.{no_long_group}
 use Rattle.raft_voter_log_laws.proofs.Listed.{voters_have_no_own_key}
 
 pub cut_rounds_have_failed : CutRoundsHaveFailed
@@ -43,6 +44,8 @@ no_mark_value m V means (value, has) = let none = voters_have_no_own_key m V mea
 
 voters_reason : (home : Home) (m : LogMap) (V : World) (error : Error) (s t : Shows) → Means m V → HasReason home m error s t → HasVotersReason home m error s t
 voters_reason home m V (errors.InvalidArgument text) s t means h = no_mark_value m V means h
+voters_reason home m V errors.Full s t means (inl long) = absurd (no_long_group m V means long)
+voters_reason home m V errors.Full s t means (inr owed) = owed
 voters_reason home m V error s t means h = h
 
 pub purges_tell_causes : PurgesTellCauses

@@ -1,4 +1,5 @@
 pub mod Losses
 pub mod Listed
 pub mod Alike
+pub mod Lengths
 pub mod Causing

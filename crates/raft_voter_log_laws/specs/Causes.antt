@@ -4,6 +4,7 @@ use Rattle.raft_log_disk.specs.Causes.{Fails}
 use Rattle.raft_log_record_base.specs.declared.errors.Error.{Error}
 use Rattle.raft_log_record_base.specs.declared.errors.Error.TheVariants as errors
 use Rattle.raft_log_engine_laws.specs.Shows.{Home, LogMap, Shows, has_failed}
+use Rattle.raft_log_purge_parts.specs.Lengths.{OwesTooMuch}
 use Rattle.raft_log_purge_parts.specs.Reasons.{HasReason}
 use Rattle.raft_log_engine_core.specs.Purging.{StopsPurgingExpired, StopsRewritingAppend}
 use Rattle.raft_voter_messages.specs.declared.request.Request.{Request}
@@ -29,9 +30,11 @@ FailedPurgesHaveFailed = (home : Home) (V : World) (s t : Shows) (error : Error)
     → StopsPurge s t error → has_failed t ≡ true → Fails s.pipes.disk t.pipes.disk
 
 -- Why a purge is refused of a log that means voters, as it is of any log; but never for what is in it, as no group
--- has one of the log's own keys.
+-- has one of the log's own keys, nor more than a record can have: a record that is too long is that of the marks
+-- which are owed.
 abbrev pub HasVotersReason : Home → LogMap → Error → Shows → Shows → Type 0
 HasVotersReason home m (errors.InvalidArgument text) s t = ⊥
+HasVotersReason home m errors.Full s t = OwesTooMuch t.tables
 HasVotersReason home m error s t = HasReason home m error s t
 
 -- so it is refused of the log of these voters

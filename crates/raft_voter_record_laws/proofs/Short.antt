@@ -1,5 +1,6 @@
 -- The record of a change is short.
-use Rattle.std.proofs.Common.{◌≡◌, ℕ, zero, suc, ◌+◌, ◌*◌, ◌/◌, ◌%◌, ◌<◌, ◌≤◌, ◌^◌, ◌++◌, ◌∙◌, nat_lt, true, false, if◌then◌else◌, List, [], ◌∷◌, length, drop, length-drop, length-append, append-nil, refl, sym, ap, subst, arith}
+use Rattle.std.proofs.Common.{◌≡◌, ℕ, zero, suc, ◌+◌, ◌*◌, ◌/◌, ◌%◌, ◌<◌, ◌≤◌, ◌^◌, ◌++◌, ◌∙◌, nat_lt, true, false, if◌then◌else◌, List, [], ◌∷◌, flat_map, length, drop, sum_by, length-drop, length-append, append-nil, refl, sym, ap, subst, arith}
+use Rattle.std.proofs.lemmas.List.Sums.{sum_by-cons}
 use Rattle.raft_log_record_checksum.specs.Checksum.{crc32_of}
 use Rattle.raft_log_record_base.specs.Number.{u32_le_bytes, var_bytes_within, var_u64_bytes}
 use Rattle.raft_log_record_items.specs.declared.command.Command.{Command}
@@ -66,7 +67,7 @@ entries_short (e ∷ es) =
     let rest : List ℕ = lengths_bytes (e ∷ es) in
     omega (arith, length-append (count ++ first) rest, length-append count first, var_short (length (e ∷ es)), var_short e.index, lengths_short (e ∷ es))
 
-run_short : (es : List EntryIndex) → length (content_bytes (contents.EntryIndexes es)) ≤ 21 + 10 * length es
+pub run_short : (es : List EntryIndex) → length (content_bytes (contents.EntryIndexes es)) ≤ 21 + 10 * length es
 unfolding content_bytes
 run_short es = omega (arith, entries_short es)
 
@@ -75,7 +76,7 @@ unfolding content_bytes command_bytes
 command_short commands.Clean = omega arith
 command_short (commands.Compact index) = omega (arith, var_short index)
 
-put_short : (key value : List ℕ) → length (content_bytes (contents.Kv (put_of key value))) ≤ 22 + length key + length value
+pub put_short : (key value : List ℕ) → length (content_bytes (contents.Kv (put_of key value))) ≤ 22 + length key + length value
 unfolding content_bytes key_value_bytes operation_bytes
 put_short key value = omega (arith, length-append (1 ∷ bytes_bytes key) (bytes_bytes value), bytes_short key, bytes_short value)
 
@@ -84,6 +85,18 @@ put_short key value = omega (arith, length-append (1 ∷ bytes_bytes key) (bytes
 item_short : (x : LogItem) → length (item_bytes x) ≤ 10 + length (content_bytes x.content)
 unfolding item_bytes
 item_short x = omega (arith, length-append (var_u64_bytes x.raft_group_id) (content_bytes x.content), var_short x.raft_group_id)
+
+-- for so many bytes of an item there is to be room
+abbrev pub item_room : LogItem → ℕ
+item_room x = 10 + length (content_bytes x.content)
+
+each_short : (xs : List LogItem) → length (flat_map item_bytes xs) ≤ sum_by item_room xs
+each_short [] = omega arith
+each_short (x ∷ xs) = omega (arith, length-append (item_bytes x) (flat_map item_bytes xs), item_short x, each_short xs, sum_by-cons item_room x xs)
+
+pub items_short : (xs : List LogItem) → length (items_bytes xs) ≤ 10 + sum_by item_room xs
+unfolding items_bytes
+items_short xs = omega (arith, length-append (var_u64_bytes (length xs)) (flat_map item_bytes xs), var_short (length xs), each_short xs)
 
 one_short : (x : LogItem) → length (items_bytes (x ∷ [])) ≤ 20 + length (content_bytes x.content)
 unfolding items_bytes
@@ -99,7 +112,7 @@ two_short x y =
     let own = ap (λ (l : List ℕ). length l) (append-nil (item_bytes y)) in
     omega (arith, length-append count (item_bytes x ++ (item_bytes y ++ [])), length-append (item_bytes x) (item_bytes y ++ []), own, var_short (length (x ∷ y ∷ [])), item_short x, item_short y)
 
-block_short : (bytes : List ℕ) → length (block_bytes bytes) ≤ length bytes + 4
+pub block_short : (bytes : List ℕ) → length (block_bytes bytes) ≤ length bytes + 4
 unfolding block_bytes
 block_short [] = omega arith
 block_short (b ∷ bs) = omega (arith, length-append (b ∷ bs) (u32_le_bytes (crc32_of (b ∷ bs))), four_bytes (crc32_of (b ∷ bs)))
@@ -116,7 +129,7 @@ state_short g s =
     let five : length voter_key ≡ 5 = refl in
     omega (arith, put, five, length-state_text s)
 
-length-laid_run : (offset : ℕ) (es : List EntryIndex) → length (laid_run offset es) ≡ length es
+pub length-laid_run : (offset : ℕ) (es : List EntryIndex) → length (laid_run offset es) ≡ length es
 length-laid_run offset [] = refl
 length-laid_run offset (e ∷ es) = ap (λ (n : ℕ). suc n) (length-laid_run (offset + e.entry_len) es)
 

@@ -19,15 +19,15 @@ returns-in_err-batch-clause-err g c =
     let fails = subst (λ (l : List (List ℕ × List ℕ)). FailsToBuildPiece c.args.group es l v c.args.cache.now c.piece_of.new.cache error) none c.in_err-batch.ensures.err in
     let p = err_from_is_err_and c.from_residual.result c.from_residual.ensures.1 in
     rw (p.1, p.2)
-    (λ m is.
-    begin_unread c.args.group c.args.count (shows v m c.args.cache.now) c.piece_of.new.cache c.args.entries.now es is refl [] (λ home log h. tt) error fails)
+    (λ m is one.
+    begin_unread c.args.group c.args.count (shows v m c.args.cache.now) c.piece_of.new.cache c.args.entries.now es is refl one [] (λ home log h. tt) error fails)
 
 pub returns-in_err-begin-clause-err : goal.returns-in_err-begin-clause-err
 returns-in_err-begin-clause-err g c =
     let v = g.P.PipeLog.shown c.args.pipes.now in
     let p = err_from_is_err_and c.from_residual-in_err-begin.result c.from_residual-in_err-begin.ensures.1 in
     rw p.1
-    (λ m is.
+    (λ m is one.
     begin_unmarked c.args.group c.args.count (shows v m c.args.cache.now) c.piece_of.new.cache c.args.entries.now (take c.args.count c.args.entries.now) is refl p.0 p.2 c.as_slice.result.now c.in_ok-batch.batch c.in_ok-batch.ensures.ok)
 
 pub returns-clause-ok : goal.returns-clause-ok
@@ -58,10 +58,10 @@ returns-clause-err g c =
     let none : c.as_slice.result.now ≡ [] = c.as_slice.ensures.value ∙ c.new-none.ensures.items in
     let built = subst (λ (l : List (List ℕ × List ℕ)). BuildsPiece c.args.group es l v c.args.cache.now new b) none c.in_ok-batch.ensures.ok in
     err_map c.write_part.result
-    (λ error fails m is.
+    (λ error fails m is one.
     let s = shows v m c.args.cache.now in
     let marked = marked_piece c.args.group ((s.tables c.args.group).first + 0) c.args.builder.now.id Begin (bytes c.args.group es [] v c.args.cache.now new b built) [] b c.begin.new.batch c.args.builder.now c.begin.new.self
     (built_piece c.args.group es [] v c.args.cache.now new b built (s.tables c.args.group) 0 c.args.count (ap (take c.args.count) is))
     (built_made c.args.group es [] v c.args.cache.now new b built (s.tables c.args.group) 0 c.args.count (ap (take c.args.count) is)) built.keys.state refl c.in_ok-begin.ensures.ok c.in_ok-begin.ensures.part in
-    begin_stopped c.args.group c.args.builder.now.id c.args.count s new all es is refl c.requires.few c.requires.some b c.begin.new.batch built marked error (g.P.PipeLog.shown c.write_part.new.pipes) fails)
+    begin_stopped c.args.group c.args.builder.now.id c.args.count s new all es is refl c.requires.few c.requires.some b c.begin.new.batch built marked one error (g.P.PipeLog.shown c.write_part.new.pipes) fails)
     c.write_part.ensures.err

@@ -1,9 +1,16 @@
-use Rattle.std.proofs.Common.{◌+◌, ◌-◌, None, length, take, drop, refl, ap, arith}
+use Rattle.std.proofs.Common.{◌+◌, ◌-◌, ℕ, List, None, length, take, drop, refl, sym, ap, subst, arith, length-drop}
+use Rattle.std.proofs.lemmas.List.{take_all}
 use Rattle.std.proofs.lemmas.Result.{err_from_is_err_and}
 use Rattle.raft_log_record_marks.specs.declared.status.AtomicGroupStatus.TheVariants.{End}
+use Rattle.raft_log_record_items.specs.declared.entry.EntryIndex.{EntryIndex}
+use Rattle.raft_log_purge_parts.specs.Pieces.{MakeOnePiece}
 use Rattle.raft_log_purge_parts.proofs.Reasons.{values_in}
 use Rattle.raft_log_purge_parts.proofs.Opening.{at_shown, built_made, built_piece, built_plain, bytes, fails_shown, has_shown, last_made, marked_piece, more_unmarked, more_unread}
 use Rattle.raft_log_purge_parts.proofs.parts.last_batch.Goals as goal
+
+-- all that is left is handed on
+rest_piece : (done : ℕ) (all : List EntryIndex) → MakeOnePiece (drop done all) → MakeOnePiece (take (length all - done) (drop done all))
+rest_piece done all one = subst MakeOnePiece (sym (take_all (length all - done) (drop done all) (omega (arith, length-drop done all)))) one
 
 pub end-requires-clause-unmarked : goal.end-requires-clause-unmarked
 end-requires-clause-unmarked g c =
@@ -18,10 +25,10 @@ returns-in_err-batch-clause-err g c =
     let p = err_from_is_err_and c.from_residual.result c.from_residual.ensures.1 in
     λ parts.
     rw (p.1, p.2)
-    (λ m s is lists has.
+    (λ m s is one lists has.
     fails_shown c.args.group n c.args.done parts s v v m c.args.cache.now c.piece_of.new.cache has c.in_err-batch.field-0.0
     (more_unread c.args.group n c.args.done (length all - c.args.done) parts s v c.args.cache.now c.piece_of.new.cache (at_shown c.args.group n c.args.done parts s v m c.args.cache.now has) all (take (length all - c.args.done) (drop c.args.done all)) is refl
-    (omega (arith, within)) c.args.pairs.now (λ home log h. values_in home log s h c.args.group None c.args.pairs.now lists) c.in_err-batch.field-0.0 c.in_err-batch.ensures.err))
+    (omega (arith, within)) (rest_piece c.args.done all one) c.args.pairs.now (λ home log h. values_in home log s h c.args.group None c.args.pairs.now lists) c.in_err-batch.field-0.0 c.in_err-batch.ensures.err))
 
 pub returns-in_err-end-clause-err : goal.returns-in_err-end-clause-err
 returns-in_err-end-clause-err g c =
@@ -32,7 +39,7 @@ returns-in_err-end-clause-err g c =
     let p = err_from_is_err_and c.from_residual-in_err-end.result c.from_residual-in_err-end.ensures.1 in
     λ parts.
     rw p.1
-    (λ m s is lists has.
+    (λ m s is one lists has.
     fails_shown c.args.group n c.args.done parts s v v m c.args.cache.now c.piece_of.new.cache has p.0
     (more_unmarked c.args.group n c.args.done (length all - c.args.done) parts s v c.args.cache.now c.piece_of.new.cache (at_shown c.args.group n c.args.done parts s v m c.args.cache.now has) all (take (length all - c.args.done) (drop c.args.done all)) is refl
     (omega (arith, within)) p.0 p.2 c.args.pairs.now c.in_ok-batch.batch c.in_ok-batch.ensures.ok))

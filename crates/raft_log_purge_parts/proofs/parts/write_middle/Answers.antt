@@ -1,14 +1,18 @@
-use Rattle.std.proofs.Common.{◌≡◌, ◌+◌, ◌-◌, ◌∙◌, ℕ, List, [], ◌∷◌, ◌++◌, take, drop, refl, ap, subst, arith}
+use Rattle.std.proofs.Common.{◌≡◌, ◌+◌, ◌-◌, ◌∙◌, ℕ, List, [], ◌∷◌, ◌++◌, take, drop, refl, sym, ap, subst, arith}
 use Rattle.std.proofs.lemmas.Result.{err_from_is_err_and}
 use Rattle.raft_log_record_marks.specs.declared.status.AtomicGroupStatus.TheVariants.{Middle}
 use Rattle.raft_log_record_items.specs.declared.entry.EntryIndex.{EntryIndex}
-use Rattle.raft_log_purge_parts.specs.Pieces.{BuildsPiece, FailsToBuildPiece}
+use Rattle.raft_log_purge_parts.specs.Pieces.{BuildsPiece, FailsToBuildPiece, MakeOnePiece}
 use Rattle.raft_log_purge_parts.proofs.Opening.{at_shown, built_made, built_piece, built_plain, bytes, err_map, fails_shown, has_shown, marked_piece, middle_stopped, more_unmarked, more_unread, ok_map, parts_gone_on}
 use Rattle.raft_log_purge_parts.proofs.parts.write_middle.Goals as goal
 
 -- the slice of a piece
 cut : (done count : ℕ) (all : List EntryIndex) → take ((done + count) - done) (drop done all) ≡ take count (drop done all)
 cut done count all = ap (λ (n : ℕ). take n (drop done all)) (let same : (done + count) - done ≡ count = omega arith in same)
+
+-- it makes one record
+piece_cut : (done count : ℕ) (all : List EntryIndex) → MakeOnePiece (take count (drop done all)) → MakeOnePiece (take ((done + count) - done) (drop done all))
+piece_cut done count all one = subst MakeOnePiece (sym (cut done count all)) one
 
 pub add-requires-clause-unmarked : goal.add-requires-clause-unmarked
 add-requires-clause-unmarked g c =
@@ -30,7 +34,7 @@ returns-in_err-batch-clause-err g c =
     (λ m s is has.
     fails_shown c.args.group n c.args.done parts s v v m c.args.cache.now c.piece_of.new.cache has c.in_err-batch.field-0.0
     (more_unread c.args.group n c.args.done c.args.count parts s v c.args.cache.now c.piece_of.new.cache (at_shown c.args.group n c.args.done parts s v m c.args.cache.now has) all
-    es is (cut c.args.done c.args.count all) c.requires.few [] (λ home log h. tt) error fails))
+    es is (cut c.args.done c.args.count all) c.requires.few (piece_cut c.args.done c.args.count all c.requires.piece) [] (λ home log h. tt) error fails))
 
 pub returns-in_err-add-clause-err : goal.returns-in_err-add-clause-err
 returns-in_err-add-clause-err g c =
@@ -86,5 +90,5 @@ returns-clause-err g c =
     (built_piece c.args.group es [] v old new b built (s.tables c.args.group) c.args.done c.args.count (cut c.args.done c.args.count all ∙ ap (λ l. take c.args.count (drop c.args.done l)) is))
     (built_made c.args.group es [] v old new b built (s.tables c.args.group) c.args.done c.args.count (cut c.args.done c.args.count all ∙ ap (λ l. take c.args.count (drop c.args.done l)) is)) built.keys.state refl c.in_ok-add.ensures.ok c.in_ok-add.ensures.part in
     fails_shown c.args.group n c.args.done parts s v w m old new has error
-    (middle_stopped c.args.group n c.args.done c.args.count parts s v old new (at_shown c.args.group n c.args.done parts s v m old has) all es is (cut c.args.done c.args.count all) c.requires.few c.requires.some b c.add.new.batch built marked error w fails))
+    (middle_stopped c.args.group n c.args.done c.args.count parts s v old new (at_shown c.args.group n c.args.done parts s v m old has) all es is (cut c.args.done c.args.count all) c.requires.few c.requires.some b c.add.new.batch built marked (piece_cut c.args.done c.args.count all c.requires.piece) error w fails))
     c.write_part.ensures.err

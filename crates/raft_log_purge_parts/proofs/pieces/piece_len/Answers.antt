@@ -1,8 +1,7 @@
-use Rattle.std.proofs.Common.{◌≡◌, ◌+◌, ◌<◌, ◌≤◌, ℕ, List, None, arith, inr, length, refl, slice_index_or, subst, sum_by, take}
+use Rattle.std.proofs.Common.{◌≡◌, ◌+◌, ◌<◌, ℕ, List, None, arith, inr, length, refl, slice_index_or, subst, sum_by, take}
 use Rattle.std.proofs.lemmas.List.Sums.{sum_by-drop_more, sum_by-take-drop}
 use Rattle.raft_log_record_items.specs.declared.compression.CompressionType.TheVariants as types
 use Rattle.raft_log_record_items.specs.declared.entry.EntryIndex.{EntryIndex}
-use Rattle.raft_log_purge_parts.specs.Entries.{max_piece}
 use Rattle.raft_log_purge_parts.specs.Pieces.{MakeOnePiece}
 use Rattle.raft_log_purge_parts.proofs.pieces.piece_len.Goals as goal
 

@@ -7,8 +7,8 @@ pub returns-in_err-block-clause-err : goal.returns-in_err-block-clause-err
 returns-in_err-block-clause-err g c =
     let p = err_from_is_err_and c.from_residual.result c.from_residual.ensures.1 in
     rw (p.1, p.2)
-    (λ cache s number done pairs has last lists.
-    not_ended c.args.group number done c.args.parts.now pairs c.args.batch s (g.P.PipeLog.shown c.args.pipes.now) c.args.tables.now cache has last lists c.in_err-block.field-0.0 (g.P.PipeLog.shown c.write_last.new.pipes) c.write_last.new.tables c.in_err-block.ensures.err)
+    (λ cache s number done pairs has one last lists.
+    not_ended c.args.group number done c.args.parts.now pairs c.args.batch s (g.P.PipeLog.shown c.args.pipes.now) c.args.tables.now cache has last lists one c.in_err-block.field-0.0 (g.P.PipeLog.shown c.write_last.new.pipes) c.write_last.new.tables c.in_err-block.ensures.err)
 
 pub returns-clause-ok : goal.returns-clause-ok
 returns-clause-ok g c =

@@ -10,7 +10,7 @@ pub returns-in_err-batch-clause-err : goal.returns-in_err-batch-clause-err
 returns-in_err-batch-clause-err g c =
     let p = err_from_is_err_and c.from_residual.result c.from_residual.ensures.1 in
     rw (p.1, p.2)
-    (λ stands. once_unread c.args.group c.args.entries.now c.args.pairs.now (g.P.PipeLog.shown c.args.pipes.now) c.args.tables.now c.args.cache.now c.piece_of.new.cache stands c.in_err-batch.field-0.0 c.in_err-batch.ensures.err)
+    (λ stands. once_unread c.args.group c.args.entries.now c.args.pairs.now (g.P.PipeLog.shown c.args.pipes.now) c.args.tables.now c.args.cache.now c.piece_of.new.cache stands c.requires c.in_err-batch.field-0.0 c.in_err-batch.ensures.err)
 
 pub returns-then-is_empty-clause-ok : goal.returns-then-is_empty-clause-ok
 returns-then-is_empty-clause-ok g c =
@@ -23,7 +23,7 @@ returns-in_err-write_last-clause-err g c =
     rw (p.1, p.2)
     (λ stands.
     once_refused c.args.group c.args.entries.now c.args.pairs.now (g.P.PipeLog.shown c.args.pipes.now) c.args.tables.now c.args.cache.now c.piece_of.new.cache stands c.in_ok-batch.batch c.in_ok-batch.ensures.ok
-    (λ none. false≢true (sym c.if-is_empty.false ∙ c.is_empty.ensures.1 none)) c.in_err-write_last.field-0.0 (g.P.PipeLog.shown c.write_last.new.pipes) c.write_last.new.tables c.in_err-write_last.ensures.err)
+    (λ none. false≢true (sym c.if-is_empty.false ∙ c.is_empty.ensures.1 none)) c.requires c.in_err-write_last.field-0.0 (g.P.PipeLog.shown c.write_last.new.pipes) c.write_last.new.tables c.in_err-write_last.ensures.err)
 
 pub returns-clause-ok : goal.returns-clause-ok
 returns-clause-ok g c =

@@ -1,8 +1,10 @@
-use Rattle.std.proofs.Common.{List, ℕ, sym, subst, ◌∙◌}
+use Rattle.std.proofs.Common.{◌≤◌, List, ℕ, length, sym, subst, ◌∙◌, arith}
+use Rattle.std.proofs.lemmas.List.{take_all}
 use Rattle.std.proofs.lemmas.Result.{err_from_is_err_and}
 use Rattle.raft_log_table_lists.specs.Listing.{ListsAll, rewritten_values}
 use Rattle.raft_log_table_all.specs.Tables.{shown_of}
 use Rattle.raft_log_engine_laws.specs.Shows.{shows}
+use Rattle.raft_log_purge_parts.specs.Pieces.{MakeOnePiece}
 use Rattle.raft_log_purge_parts.proofs.Closing.{nothing_done, these_restated}
 use Rattle.raft_log_purge_parts.proofs.restating.restate_group.Goals as goal
 
@@ -15,6 +17,12 @@ pub returns-in_err-pairs-clause-err : goal.returns-in_err-pairs-clause-err
 returns-in_err-pairs-clause-err g c =
     let p = err_from_is_err_and c.from_residual-in_err-pairs.result c.from_residual-in_err-pairs.ensures.1 in
     rw p.1 (nothing_done p.0 (shows (g.P.PipeLog.shown c.args.pipes.now) c.args.tables.now c.args.cache.now) p.2)
+
+-- all entries make one record
+pub restate_at_once-requires : goal.restate_at_once-requires
+restate_at_once-requires g c =
+    let all : length c.as_slice-es.result.now ≤ c.piece_len-count.result = omega arith in
+    subst MakeOnePiece (take_all c.piece_len-count.result c.as_slice-es.result.now all) c.piece_len-count.ensures.piece
 
 pub returns-clause-ok : goal.returns-clause-ok
 returns-clause-ok g c =

@@ -1,8 +1,10 @@
-use Rattle.std.proofs.Common.{◌≡◌, ℕ, List, [], ◌∷◌, ◌++◌, sym, ap, subst, ◌∙◌}
+use Rattle.std.proofs.Common.{◌≡◌, ℕ, List, [], ◌∷◌, ◌++◌, drop, sym, ap, subst, ◌∙◌}
 use Rattle.std.proofs.lemmas.Result.{err_from_is_err_and}
+use Rattle.raft_log_record_items.specs.declared.entry.EntryIndex.{EntryIndex}
 use Rattle.raft_log_engine_laws.specs.Shows.{shows}
 use Rattle.raft_log_purge_parts.specs.declared.parts.RestatedPart.{RestatedPart}
 use Rattle.raft_log_purge_parts.specs.GroupParts.{HasParts}
+use Rattle.raft_log_purge_parts.specs.Pieces.{MakeOnePiece}
 use Rattle.raft_log_purge_parts.proofs.Closing.{ended_then, not_ended_then, not_restated_then, restated_then}
 use Rattle.raft_log_purge_parts.proofs.Opening.{given_up}
 use Rattle.raft_log_purge_parts.proofs.restating.restate_in_parts.Goals as goal
@@ -10,7 +12,7 @@ use Rattle.raft_log_purge_parts.proofs.restating.restate_in_parts.Goals as goal
 pub returns-in_err-first-clause-err : goal.returns-in_err-first-clause-err
 returns-in_err-first-clause-err g c =
     let p = err_from_is_err_and c.from_residual.result c.from_residual.ensures.1 in
-    rw (p.1, p.2) (λ stands. c.in_err-first.ensures.err c.args.tables.now stands.entries)
+    rw (p.1, p.2) (λ stands. c.in_err-first.ensures.err c.args.tables.now stands.entries c.requires.piece)
 
 pub returns-in_err-push-clause-err : goal.returns-in_err-push-clause-err
 returns-in_err-push-clause-err g c =
@@ -44,7 +46,7 @@ returns-in_err-batch-clause-err g c =
     let pushed : c.push.new.self.items ≡ c.in_ok-first.first ∷ [] = c.in_ok-push.ensures.items ∙ ap (λ (l : List RestatedPart). l ++ c.in_ok-first.first ∷ []) c.new-parts.ensures.items in
     rw (p.1, p.2)
     (λ stands.
-    c.in_err-batch.ensures.err c.write_middles.new.parts.items m s stands.entries stands.keys
+    c.in_err-batch.ensures.err c.write_middles.new.parts.items m s stands.entries c.in_ok-done.ensures.last stands.keys
     (subst (λ (n : ℕ). HasParts c.args.group n c.in_ok-done.done c.write_middles.new.parts.items s two) (sym c.in_ok-done.ensures.same)
     (c.in_ok-done.ensures.ok m s stands.entries
     (subst (λ (l : List RestatedPart). HasParts c.args.group c.begin_parts.new.builder.id c.args.count l s one) (sym pushed)
@@ -90,4 +92,5 @@ returns-clause-err g c =
     (subst (λ (l : List RestatedPart). HasParts c.args.group c.begin_parts.new.builder.id c.args.count l s one) (sym pushed)
     (subst (λ (n : ℕ). HasParts c.args.group n c.args.count (c.in_ok-first.first ∷ []) s one) (sym c.in_ok-first.ensures.same) (c.in_ok-first.ensures.ok m stands.entries))))) in
     not_ended_then c.end_parts.result c.args.group c.write_middles.new.builder.id c.in_ok-done.done c.as_slice.result.now c.args.pairs.now c.in_ok-batch.batch s v w m c.end_parts.new.tables c.last_batch.new.cache
-    (subst (λ (l : List RestatedPart). HasParts c.args.group c.write_middles.new.builder.id c.in_ok-done.done l s (shows v m c.last_batch.new.cache)) (sym c.as_slice.ensures.value) made.0) made.1 stands.keys c.end_parts.ensures.err)
+    (subst (λ (l : List RestatedPart). HasParts c.args.group c.write_middles.new.builder.id c.in_ok-done.done l s (shows v m c.last_batch.new.cache)) (sym c.as_slice.ensures.value) made.0)
+    (subst (λ (es : List EntryIndex). MakeOnePiece (drop c.in_ok-done.done es)) stands.entries c.in_ok-done.ensures.last) made.1 stands.keys c.end_parts.ensures.err)

@@ -1,5 +1,5 @@
 -- Rewrite is rewritten: its exits, put together of what each part told.
-use Rattle.std.proofs.Common.{◌≡◌, ℕ, suc, ◌+◌, ◌<◌, ◌≤◌, false, List, [], Option, Some, None, is_some, inl, inr, refl, sym, ap, subst, ◌∙◌, arith}
+use Rattle.std.proofs.Common.{◌≡◌, ℕ, max, suc, ◌+◌, ◌<◌, ◌≤◌, false, List, [], Option, Some, None, is_some, inl, inr, refl, sym, ap, subst, ◌∙◌, arith}
 use Rattle.std.specs.Prelude.{Result, Ok, Err, IfErr, OnErr, OnOk}
 use Rattle.std.specs.BTreeMap.{get}
 use Rattle.std.specs.Ordering.{nat_cmp}
@@ -221,12 +221,12 @@ module _ (s : Shows) (turned : LogPipes) (turns : RotatesQueue InRewrite s.pipes
           loses = gone;
           tables = tables;
           counts = counts ∙ same_counts;
-          alive = gone.alive;
+          alive = gone.alive all.alive;
           later = later_on s.pipes.disk restated.pipes.disk t.pipes.disk to_restated gone.later;
           begins = λ home log h. gone.begins home log (settled_there home log h);
           past = λ home log h.
               (let low = least_past m gone.least tabled gone.is home log h in
-              let first : first_file t ≡ gone.least = gone.begins home log (settled_there home log h) in omega (arith, low, first));
+              let first : first_file t ≡ max (first_file restated) gone.least = gone.begins home log (settled_there home log h) in omega (arith, low, first));
           from = λ home log h g. subst (λ (u : ℕ → Shown). IsRestatedFrom (last_file s + 1) (s.tables g) (u g)) (sym tables) (lies_behind home log h g);
           settles = λ home log h. gone.keeps home log (settled_there home log h) tt;
         }

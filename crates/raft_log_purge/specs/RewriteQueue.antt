@@ -1,5 +1,5 @@
 -- Rewrite is rewritten: what stands there is written again, and its old files go.
-use Rattle.std.specs.Prelude.{◌≡◌, ◌↔◌, ◌+◌, ◌-◌, ◌<◌, IsTrue, ℕ, Bool, true, false, []}
+use Rattle.std.specs.Prelude.{◌≡◌, ◌↔◌, ◌+◌, ◌-◌, ◌<◌, IsTrue, ℕ, max, Bool, true, false, []}
 use Rattle.raft_log_disk.specs.Causes.{IsLater}
 use Rattle.raft_log_record_base.specs.declared.errors.Error.{Error}
 use Rattle.raft_log_record_base.specs.declared.errors.Error.TheVariants as errors
@@ -38,8 +38,9 @@ abbrev pub first_file : Shows → ℕ
 first_file s = (pipe_at InRewrite (files_of s.pipes)).first_seq
 
 -- Rewrite was rewritten: it went on in its next file; all groups were restated, and it was synced; then the
--- files below the least that is in use left its span, which begins there, past the former last file. All that
--- each group has in Rewrite lies behind that one. The map stays, and nothing is pending in either queue.
+-- files below the least that is in use left its span, which begins at that one or as before, past the former
+-- last file. All that each group has in Rewrite lies behind that one. The map stays, and nothing is pending in
+-- either queue.
 pub record RewritesRewrite (m : MemTables) (s t : Shows) : Type 0 where
   pub turned : LogPipes
   pub turns : RotatesQueue InRewrite s.pipes turned
@@ -51,7 +52,8 @@ pub record RewritesRewrite (m : MemTables) (s t : Shows) : Type 0 where
   pub counts : t.counts ≡ s.counts
   pub alive : has_failed t ≡ false
   pub later : IsLater s.pipes.disk t.pipes.disk
-  pub begins : (home : Home) (log : LogMap) → Holds home s log [] → first_file t ≡ loses.least
+  pub begins : (home : Home) (log : LogMap) → Holds home s log []
+      → first_file t ≡ max (first_file restated) loses.least
   pub past : (home : Home) (log : LogMap) → Holds home s log [] → last_file s < first_file t
   pub from : (home : Home) (log : LogMap) → Holds home s log [] → (g : ℕ)
       → IsRestatedFrom (last_file s + 1) (s.tables g) (t.tables g)

@@ -1,5 +1,5 @@
 -- From the least file in use on a queue has all that stands in it.
-use Rattle.std.proofs.Common.{◌≡◌, ◌⊎◌, ◌+◌, ◌-◌, ◌<◌, ◌≤◌, ◌==◌, ◌||◌, ℕ, Bool, true, false, List, [], ◌∷◌, ◌++◌, length, map, take, get_or, Option, Some, None, option_map, is_some, if◌then◌else◌, bytes_eq, inl, inr, refl, sym, ap, subst, min, nat_le, ◌∙◌, arith}
+use Rattle.std.proofs.Common.{◌≡◌, ◌⊎◌, ◌+◌, ◌-◌, ◌<◌, ◌≤◌, ◌==◌, ◌||◌, ℕ, Bool, true, false, List, [], ◌∷◌, ◌++◌, length, map, take, get_or, Option, Some, None, option_map, is_some, if◌then◌else◌, bytes_eq, inl, inr, refl, sym, ap, subst, max, min, nat_le, ◌∙◌, arith}
 use Rattle.std.specs.Prelude.{Result, Ok, Err, IfErr, IfOk, OnOk}
 use Rattle.std.specs.List.{list_any}
 use Rattle.std.specs.BTreeMap.{get}
@@ -32,6 +32,7 @@ use Rattle.raft_log_file_pair.specs.Pipes.{LogPipes, RunsOn, State, files_of, wh
 use Rattle.raft_log_file_pair.specs.Calls.{FailsToPurgeQueue, PurgesQueue, TellsFailure}
 use Rattle.raft_log_file_pair.specs.Numbers.{EndsNumbersBelow}
 use Rattle.raft_log_file_blocks.specs.declared.block_cache.BlockCache.{BlockCache}
+use Rattle.raft_log_file_blocks.proofs.KeptBlocks.{none_kept}
 use Rattle.raft_log_engine_laws.specs.Shows.{Home, LogMap, Shows, sense, shows}
 use Rattle.raft_log_engine_laws.specs.Settled.{HoldsSettled}
 use Rattle.raft_log_engine_laws.specs.Raising.{MayBegin, PurgeLeavesHeld}
@@ -179,31 +180,32 @@ module _ (queue : LogQueue) (limit : ℕ) (m : MemTables) (v w : LogPipes) (old 
   begins : (home : Home) (log : LogMap) → HoldsSettled home (shows v m old) log → MayLoseFiles (which_of queue) (shown_of m) → MayBegin (which_of queue) least (shown_of m)
   begins home log h owes = queue_may_begin queue limit least m is h.meant.orderly (λ g. front_is_least h.state.append.files.last h.state.rewrite.files.last (shown_of m g) (h.rises g)) owes
 
-  begins_there : PurgesQueue (which_of queue) least v w → (home : Home) (log : LogMap) → HoldsSettled home (shows v m old) log → (pipe_at (which_of queue) (files_of w)).first_seq ≡ least
-  begins_there call home log h = span_begins queue home v w least h.state h.runs call
+  begins_there : (pipe_at (which_of queue) (files_of v)).first_seq ≤ least → PurgesQueue (which_of queue) least v w → (home : Home) (log : LogMap) → HoldsSettled home (shows v m old) log
+      → (pipe_at (which_of queue) (files_of w)).first_seq ≡ max (pipe_at (which_of queue) (files_of v)).first_seq least
+  begins_there above call home log h = (let there = span_begins queue home v w least h.state h.runs call in omega (arith, above, there))
 
-  pub loses_files : (count : ℕ) → TellsFailure (Ok count) w → PurgesQueue (which_of queue) least v w
+  pub loses_files : (count : ℕ) → TellsFailure (Ok count) w → (pipe_at (which_of queue) (files_of v)).first_seq ≤ least → PurgesQueue (which_of queue) least v w
       → count ≡ least - (pipe_at (which_of queue) (files_of v)).first_seq → LosesFiles queue limit m count (shows v m old) (shows w m new)
-  loses_files count tells call counted = record {
+  loses_files count tells above call counted = record {
     least = least;
     is = is;
     counted = counted;
-    alive = alive_ok count w tells;
+    alive = λ lived. alive_ok count w tells;
     none = none;
     later = later;
-    begins = begins_there call;
+    begins = begins_there above call;
     keeps = λ home log h owes. raised (which_of queue) home (shows v m old) (shows w m new) log least h (begins home log h owes) refl none call;
   }
 
-  pub fails_to_lose : {A : Type 0} (error : Error) → TellsFailure {A = A} (Err error) w → FailsToPurgeQueue (which_of queue) least error v w → EndsNumbersBelow (which_of queue) error v
+  pub fails_to_lose : {A : Type 0} (error : Error) → TellsFailure {A = A} (Err error) w → (pipe_at (which_of queue) (files_of v)).first_seq ≤ least → FailsToPurgeQueue (which_of queue) least error v w → EndsNumbersBelow (which_of queue) error v
       → FailsToLoseFiles queue limit error (shows v m old) (shows w m new)
-  fails_to_lose {A} error tells call ends = record {
+  fails_to_lose {A} error tells above call ends = record {
     tells = λ lived. tells_err {A = A} error w tells;
     later = later;
     remains = λ home log h owes.
         remains_settled home log (shows w m new) error
         (raise_refused (which_of queue) home (shows v m old) (shows w m new) log least error h (begins home log h owes) refl none call);
-    cause = λ home log h. lose_reason queue limit least m home error v w old new log is h call ends;
+    cause = λ home log h. lose_reason queue limit least home error (shows v m old) (shows w m new) h.state is.limited above h.runs call ends;
   }
 
 -- the least file wasn't told: memory ran out
@@ -215,16 +217,40 @@ none_told queue limit e = record {
   cause = λ home log h. inl tt;
 }
 
+-- a file in use is older than the span: none goes
+pub none_older : (queue : LogQueue) (limit : ℕ) (m : MemTables) (v : LogPipes) (old new : BlockCache) → new.place ≡ None → (least : ℕ) → IsLeastOf queue limit m least → least < (pipe_at (which_of queue) (files_of v)).first_seq
+    → LosesFiles queue limit m 0 (shows v m old) (shows v m new)
+none_older queue limit m v old new none least is low = record {
+  least = least;
+  is = is;
+  counted = omega (arith, low);
+  alive = λ lived. lived;
+  none = none;
+  later = same_later v.disk;
+  begins = λ home log h. omega (arith, low);
+  keeps = λ home log h owes. record {
+    state = h.state;
+    map = h.map;
+    runs = h.runs;
+    stored = h.stored;
+    rises = h.rises;
+    noted = h.noted;
+    meant = h.meant;
+    cached = none_kept h.state new none;
+    at = h.at;
+  };
+}
+
 -- What a purge tells, whichever way it went.
 
 pub purged : (queue : LogQueue) (limit : ℕ) (m : MemTables) (v w : LogPipes) (old new : BlockCache) → new.place ≡ None → (least : ℕ) → IsLeastOf queue limit m least → IsLater v.disk w.disk → (r : Result ℕ Error) → TellsFailure r w
     → OnOk r (PurgesQueue (which_of queue) least v w)
     → IfOk r (λ count. IsInSpan least (pipe_at (which_of queue) (files_of v)) × (count ≡ least - (pipe_at (which_of queue) (files_of v)).first_seq))
     → IfOk r (λ count. LosesFiles queue limit m count (shows v m old) (shows w m new))
-purged queue limit m v w old new none least is later (Ok count) tells call counted = loses_files queue limit m v w old new none least is later count tells call counted.1
+purged queue limit m v w old new none least is later (Ok count) tells call counted = loses_files queue limit m v w old new none least is later count tells counted.0.0 call counted.1
 purged queue limit m v w old new none least is later (Err e) tells call counted = tt
 
 pub not_purged : (queue : LogQueue) (limit : ℕ) (m : MemTables) (v w : LogPipes) (old new : BlockCache) → new.place ≡ None → (least : ℕ) → IsLeastOf queue limit m least → IsLater v.disk w.disk → (r : Result ℕ Error) → TellsFailure r w
-    → IfErr r (λ error. FailsToPurgeQueue (which_of queue) least error v w) → IfErr r (λ error. EndsNumbersBelow (which_of queue) error v) → IfErr r (λ error. FailsToLoseFiles queue limit error (shows v m old) (shows w m new))
-not_purged queue limit m v w old new none least is later (Ok count) tells call ends = tt
-not_purged queue limit m v w old new none least is later (Err e) tells call ends = fails_to_lose queue limit m v w old new none least is later {A = ℕ} e tells call ends
+    → (pipe_at (which_of queue) (files_of v)).first_seq ≤ least → IfErr r (λ error. FailsToPurgeQueue (which_of queue) least error v w) → IfErr r (λ error. EndsNumbersBelow (which_of queue) error v) → IfErr r (λ error. FailsToLoseFiles queue limit error (shows v m old) (shows w m new))
+not_purged queue limit m v w old new none least is later (Ok count) tells above call ends = tt
+not_purged queue limit m v w old new none least is later (Err e) tells above call ends = fails_to_lose queue limit m v w old new none least is later {A = ℕ} e tells above call ends

@@ -77,7 +77,6 @@ reason_after home m (errors.Corruption text) s t u later unread = unread
 reason_after home m errors.NumberRange s t u later ends = ends
 reason_after home m errors.Full s t u later long = long
 reason_after home m (errors.InvalidArgument text) s t u later reason = reason
-reason_after home m (errors.Other fault) s t u later reason = reason
 reason_after home m errors.Memory s t u later reason = reason
 reason_after home m _ s t u later never = absurd never
 
@@ -88,7 +87,6 @@ overlong_after home m b error s t u later (inr reason) = inr (reason_after home 
 pub file_reason_after : (error : Error) (s t u : Shows) → IsLater s.pipes.disk t.pipes.disk → HasFileReason error t u → HasFileReason error s u
 file_reason_after errors.Failed s t u later fails = fails_after s.pipes.disk t.pipes.disk u.pipes.disk later fails
 file_reason_after errors.NumberRange s t u later ends = ends
-file_reason_after (errors.Other fault) s t u later reason = reason
 file_reason_after errors.Memory s t u later reason = reason
 file_reason_after _ s t u later never = absurd never
 
@@ -96,7 +94,6 @@ file_reason_after _ s t u later never = absurd never
 pub reason_of_files : (home : Home) (m : LogMap) (error : Error) (s t : Shows) → HasFileReason error s t → HasReason home m error s t
 reason_of_files home m errors.Failed s t fails = fails
 reason_of_files home m errors.NumberRange s t ends = ends
-reason_of_files home m (errors.Other fault) s t stray = stray
 reason_of_files home m errors.Memory s t reason = tt
 reason_of_files home m _ s t never = absurd never
 

@@ -37,10 +37,11 @@ settled_turns Append home e t m h tables cache call = settled_rotates home e t m
 settled_turns Rewrite home e t m h tables cache call = rewrite_rotates home e t m (settled_held home e m h) (record { tables = tables; cache = inl cache }) call
 
 pub turns_and_loses : (queue : LogQueue) (m : MemTables) (count last : ℕ) (s t : Shows) (mid : LogPipes) → last ≡ written_file queue mid → RotatesQueue (which_of queue) s.pipes mid → IsLater s.pipes.disk mid.disk
-    → LosesFiles queue last m count (record s { pipes = mid }) t → TurnsAndLoses queue m count s t
-turns_and_loses queue m count last s t mid is turns later loses = record {
+    → is_failed mid ≡ false → LosesFiles queue last m count (record s { pipes = mid }) t → TurnsAndLoses queue m count s t
+turns_and_loses queue m count last s t mid is turns later lives loses = record {
   turned = mid;
   turns = turns;
+  alive = loses.alive lives;
   loses = subst (λ (n : ℕ). LosesFiles queue n m count (record s { pipes = mid }) t) is loses;
   later = later_on s.pipes.disk mid.disk t.pipes.disk later loses.later;
   keeps = λ home log h owes. loses.keeps home log (settled_turns queue home s (record s { pipes = mid }) log h refl refl turns) owes;
@@ -79,10 +80,10 @@ turned_not_lost queue last error s t mid is alive turns later fails = record {
       file_reason_after error s (record s { pipes = mid }) t later (limited_reason queue last home error (record s { pipes = mid }) t there.state there.runs is (fails.cause home log there)));
 }
 
-pub turned : (queue : LogQueue) (m : MemTables) (last : ℕ) (s t : Shows) (mid : LogPipes) → last ≡ written_file queue mid → RotatesQueue (which_of queue) s.pipes mid → IsLater s.pipes.disk mid.disk → (r : Result ℕ Error)
+pub turned : (queue : LogQueue) (m : MemTables) (last : ℕ) (s t : Shows) (mid : LogPipes) → last ≡ written_file queue mid → RotatesQueue (which_of queue) s.pipes mid → IsLater s.pipes.disk mid.disk → is_failed mid ≡ false → (r : Result ℕ Error)
     → IfOk r (λ count. LosesFiles queue last m count (record s { pipes = mid }) t) → IfOk r (λ count. TurnsAndLoses queue m count s t)
-turned queue m last s t mid is turns later (Ok count) loses = turns_and_loses queue m count last s t mid is turns later loses
-turned queue m last s t mid is turns later (Err e) loses = tt
+turned queue m last s t mid is turns later lives (Ok count) loses = turns_and_loses queue m count last s t mid is turns later lives loses
+turned queue m last s t mid is turns later lives (Err e) loses = tt
 
 pub unturned : (queue : LogQueue) (last : ℕ) (s t : Shows) (mid : LogPipes) → last ≡ written_file queue mid → is_failed mid ≡ false → RotatesQueue (which_of queue) s.pipes mid → IsLater s.pipes.disk mid.disk → (r : Result ℕ Error)
     → IfErr r (λ error. FailsToLoseFiles queue last error (record s { pipes = mid }) t) → IfErr r (λ error. FailsToTurn queue error s t)
@@ -139,7 +140,7 @@ module _ (s : Shows) (synced : LogPipes) (syncs : SyncsQueue InAppend s.pipes sy
 
       pub append_refused_then : (error : Error) (t : Shows) → FailsToTurn Append error mid t → FailsToPurgeAll error s t
       append_refused_then error t fails = record {
-        tells = λ lived. fails.tells rewrite.loses.alive;
+        tells = λ lived. fails.tells rewrite.alive;
         later = later_on s.pipes.disk mid.pipes.disk t.pipes.disk to_mid fails.later;
         remains = λ home log pending h. inl (fails.remains home (taken log pending) (settled_mid home log pending h) none_mid);
         cause = λ home log pending h.
@@ -157,7 +158,7 @@ module _ (s : Shows) (synced : LogPipes) (syncs : SyncsQueue InAppend s.pipes sy
         rewrite = rewrite;
         from_append = gone;
         append = append;
-        alive = append.loses.alive;
+        alive = append.alive;
         later = later_on s.pipes.disk mid.pipes.disk t.pipes.disk to_mid append.later;
         settles = λ home log pending h. append.keeps home (taken log pending) (settled_mid home log pending h) none_mid;
       }

@@ -1,5 +1,5 @@
 -- Files that are no longer needed go.
-use Rattle.std.specs.Prelude.{◌≡◌, ◌↔◌, ◌⊎◌, ◌≤◌, ◌-◌, IsTrue, ℕ, None, Option, Some, false, []}
+use Rattle.std.specs.Prelude.{◌≡◌, ◌↔◌, ◌⊎◌, ◌≤◌, ◌-◌, IsTrue, ℕ, max, None, Option, Some, false, []}
 use Rattle.raft_log_disk.specs.Causes.{IsLater}
 use Rattle.raft_log_record_base.specs.declared.errors.Error.{Error}
 use Rattle.raft_log_record_base.specs.declared.errors.Error.TheVariants as errors
@@ -41,16 +41,18 @@ MayLoseFiles InAppend v = (g : ℕ) → OwesNothing (whereabouts (v g))
 MayLoseFiles InRewrite v = Unit {0}
 
 -- The files of a queue below the least one that is in use, and below the limit, have left its span, which
--- begins at that one: whatever the log was, with nothing pending, it is so. No block is kept.
+-- begins at that one, but never earlier than before: whatever the log was, with nothing pending, it is so. No block
+-- is kept.
 pub record LosesFiles (queue : LogQueue) (limit : ℕ) (m : MemTables) (count : ℕ) (s t : Shows) : Type 0 where
   pub least : ℕ
   pub is : IsLeastOf queue limit m least
   pub counted : count ≡ least - (pipe_at (which_of queue) (files_of s.pipes)).first_seq
-  pub alive : has_failed t ≡ false
+  pub alive : has_failed s ≡ false → has_failed t ≡ false
   pub none : t.cache.place ≡ None
   pub later : IsLater s.pipes.disk t.pipes.disk
   pub begins : (home : Home) (log : LogMap) → HoldsSettled home s log
-      → (pipe_at (which_of queue) (files_of t.pipes)).first_seq ≡ least
+      → (pipe_at (which_of queue) (files_of t.pipes)).first_seq
+      ≡ max (pipe_at (which_of queue) (files_of s.pipes)).first_seq least
   pub keeps : (home : Home) (log : LogMap) → HoldsSettled home s log
       → MayLoseFiles (which_of queue) s.tables → HoldsSettled home t log
 

@@ -5,14 +5,9 @@ use Rattle.raft_log_model_laws.specs.Meaning.Content.{Value}
 use Rattle.raft_log_disk.specs.Causes.{Fails, IsLater}
 use Rattle.raft_log_record_base.specs.declared.errors.Error.{Error}
 use Rattle.raft_log_record_base.specs.declared.errors.Error.TheVariants as errors
-use Rattle.raft_log_record_base.specs.declared.pipe_log.LogQueue.TheVariants.{Rewrite}
 use Rattle.raft_log_record_marks.specs.Marking.{mark_key}
 use Rattle.raft_log_directory_laws.specs.Calls.{Which}
-use Rattle.raft_log_directory_laws.specs.Calls.Which.{InRewrite}
-use Rattle.raft_log_file_pipe.specs.Purging.{IsInSpan}
-use Rattle.raft_log_engine_laws.specs.raft_log_table_one.specs.Files.{IsMinFile}
-use Rattle.raft_log_file_pair.specs.State.{pipe_at}
-use Rattle.raft_log_file_pair.specs.Pipes.{LogPipes, files_of}
+use Rattle.raft_log_file_pair.specs.Pipes.{LogPipes}
 use Rattle.raft_log_file_pair.specs.Numbers.{HasLastNumber}
 use Rattle.raft_log_engine_laws.specs.Shows.{Home, LogMap, Shows}
 use Rattle.raft_log_engine_laws.specs.Holding.{Holds}
@@ -33,14 +28,9 @@ IsOneUnread home m t error =
 abbrev pub HasMarkValue : LogMap → Type 0
 HasMarkValue m = (value : List ℕ) × (m 0 (Key mark_key) ≡ Some (Value value))
 
--- the least file of Rewrite that is in use for a group, as its table shows it, is none of the span's
-abbrev pub HasStray : Shows → Type 0
-HasStray t = (g : ℕ) × (n : ℕ) × IsMinFile Rewrite (t.tables g) (Some n)
-    × (IsInSpan n (pipe_at InRewrite (files_of t.pipes)) → ⊥)
-
 -- Why a part was refused, of an engine whose log is this map: a file call has failed during it, an entry isn't
 -- read, a queue stands at its last number, a record would be too long, a value would be a mark of an atomic
--- group, a file of Rewrite in use is none of the span's, or memory ran out. Nothing else comes.
+-- group, or memory ran out. Nothing else comes.
 abbrev pub HasReason : Home → LogMap → Error → Shows → Shows → Type 0
 HasReason home m (errors.Io kind) s t =
     Fails s.pipes.disk t.pipes.disk ⊎ IsOneUnread home m t (errors.Io kind)
@@ -50,7 +40,6 @@ HasReason home m (errors.Corruption text) s t = IsOneUnread home m t (errors.Cor
 HasReason home m errors.NumberRange s t = EndsItsNumbers t.pipes
 HasReason home m errors.Full s t = HasTooMuch m t.tables
 HasReason home m (errors.InvalidArgument text) s t = HasMarkValue m
-HasReason home m (errors.Other fault) s t = HasStray t
 HasReason home m errors.Memory s t = Unit {0}
 HasReason home m _ s t = ⊥
 
@@ -58,12 +47,11 @@ HasReason home m _ s t = ⊥
 abbrev pub GivesReason : Error → Shows → Shows → Type 0
 GivesReason error s t = (home : Home) (m : LogMap) → Holds home s m [] → HasReason home m error s t
 
--- Why a queue doesn't go on, or files don't go: a file call has failed, there is no next number, a file of
--- Rewrite in use is none of the span's, or memory ran out. No record is made for it, and none read.
+-- Why a queue doesn't go on, or files don't go: a file call has failed, there is no next number, or memory ran
+-- out. No record is made for it, and none read.
 abbrev pub HasFileReason : Error → Shows → Shows → Type 0
 HasFileReason errors.Failed s t = Fails s.pipes.disk t.pipes.disk
 HasFileReason errors.NumberRange s t = EndsItsNumbers t.pipes
-HasFileReason (errors.Other fault) s t = HasStray t
 HasFileReason errors.Memory s t = Unit {0}
 HasFileReason _ s t = ⊥
 

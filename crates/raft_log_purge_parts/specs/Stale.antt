@@ -29,6 +29,7 @@ pub record TurnsAndLoses (queue : LogQueue) (m : MemTables) (count : ℕ) (s t :
   pub turned : LogPipes
   pub turns : RotatesQueue (which_of queue) s.pipes turned
   pub loses : LosesFiles queue (written_file queue turned) m count (record s { pipes = turned }) t
+  pub alive : has_failed t ≡ false
   pub later : IsLater s.pipes.disk t.pipes.disk
   pub keeps : (home : Home) (log : LogMap) → HoldsSettled home s log
       → MayLoseFiles (which_of queue) s.tables → HoldsSettled home t log

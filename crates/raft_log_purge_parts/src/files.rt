@@ -14,10 +14,9 @@ use raft_log_table_all::MemTables;
 use std::alloc::{AllocError, Global};
 
 /// Takes the files of a queue below the least one that is in use out of its span, none from the limit on, and
-/// answers how many. No block is kept.
+/// answers how many: none where one in use is older than the span. No block is kept.
 ///
-/// `Memory`, or `Other` where that file, the limit or one in use, is none of the span's: nothing is
-/// done. `Failed`: a file wasn't deleted.
+/// `Memory`, or `Other` where the limit is none of the span's: nothing is done. `Failed`: a file wasn't deleted.
 pub fn purge_stale<P: PipeLog, L: Log>(
     alloc: Global,
     rt: &L,
@@ -34,6 +33,10 @@ pub fn purge_stale<P: PipeLog, L: Log>(
 {
     let seq = least_file(tables, queue, limit)?;
     cache.clear();
+    let (first, _last) = pipes.file_span(queue);
+    if seq < first {
+        return Ok(0);
+    }
     pipes.purge_to(alloc, rt, FileId::new(queue, seq))
 }
 

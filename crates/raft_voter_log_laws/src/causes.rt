@@ -13,8 +13,8 @@ pub fn failed_purges_have_failed()
 {}
 
 /// A purge of a store is refused only for one of these causes: a file call failed, an entry wasn't read, a queue stands at
-/// the last number of a file, the marks that are owed are too long for a record, a file of Rewrite in use is none of its
-/// span's, or memory ran out. It is never refused as an invalid argument, nor as what a group has is too long.
+/// the last number of a file, the marks that are owed are too long for a record, or memory ran out. It is never refused as
+/// an invalid argument, nor as what a group has is too long, nor for a file that isn't of its queue.
 pub fn purges_tell_causes()
     ensures { PurgesTellCauses }
 {}

@@ -16,9 +16,9 @@ pub fn purges_keep_or_fail<R: Log>()
 {}
 
 /// A purge in a run is refused only for one of these causes: as the file system, where a file call failed, an entry wasn't
-/// read, a queue stands at the last number of a file, the marks that are owed are too long for a record, or a file of
-/// Rewrite in use is none of its span's; or as memory, which ran out. It is never refused as an invalid argument, nor as
-/// what a group has is too long.
+/// read, a queue stands at the last number of a file, or the marks that are owed are too long for a record; or as memory,
+/// which ran out. It is never refused as an invalid argument, nor as what a group has is too long, nor for a file that isn't
+/// of its queue.
 pub fn refused_purges_have_reasons<R: Log>()
     ensures { RefusedPurgesHaveReasons ⟦<LogVoters as VoterStorage<R>>⟧.upkeep
         (λ voters. shows_of ⟦<EnginePipes<MemoryFileSystem, Nobody> as PipeLog>⟧.shown voters.store.engine) }

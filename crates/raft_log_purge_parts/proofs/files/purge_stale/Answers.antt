@@ -1,4 +1,4 @@
-use Rattle.std.proofs.Common.{◌≡◌, ◌-◌, ℕ, ap₂, subst}
+use Rattle.std.proofs.Common.{◌≡◌, ◌-◌, ℕ, ap₂, subst, arith}
 use Rattle.std.specs.Prelude.{IfErr, IfOk, OnOk}
 use Rattle.raft_log_record_base.specs.declared.pipe_log.FileId.{FileId}
 use Rattle.raft_log_record_base.specs.declared.pipe_log.LogQueue.{LogQueue}
@@ -7,11 +7,15 @@ use Rattle.raft_log_file_pair.specs.State.{pipe_at}
 use Rattle.raft_log_file_pair.specs.Pipes.{files_of, which_of}
 use Rattle.raft_log_file_pair.specs.Calls.{FailsToPurgeQueue, PurgesQueue}
 use Rattle.raft_log_file_pair.specs.Numbers.{EndsNumbersBelow}
-use Rattle.raft_log_purge_parts.proofs.Leasts.{not_purged, purged}
+use Rattle.raft_log_purge_parts.proofs.Leasts.{none_older, not_purged, purged}
 use Rattle.raft_log_purge_parts.proofs.files.purge_stale.Goals as goal
 
 abbrev file_of : LogQueue → ℕ → FileId
 file_of q n = record { queue = q; seq = n }
+
+pub returns-then-seq-first-clause-ok : goal.returns-then-seq-first-clause-ok
+returns-then-seq-first-clause-ok g c =
+    none_older c.args.queue c.args.limit c.args.tables.now (g.P.PipeLog.shown c.args.pipes.now) c.args.cache.now c.clear.new.self c.clear.ensures c.in_ok-seq.seq c.in_ok-seq.ensures (omega (arith, c.file_span-first.ensures.first, c.if-seq-first.true))
 
 pub returns-clause-ok : goal.returns-clause-ok
 returns-clause-ok g c =
@@ -32,5 +36,6 @@ returns-clause-err g c =
     let v = g.P.PipeLog.shown c.args.pipes.now in
     let w = g.P.PipeLog.shown c.purge_to.new.self in
     not_purged c.args.queue c.args.limit c.args.tables.now v w c.args.cache.now c.clear.new.self c.clear.ensures c.in_ok-seq.seq c.in_ok-seq.ensures e.later c.purge_to.result e.fails
+    (omega (arith, c.file_span-first.ensures.first, c.if-seq-first.false))
     (subst (λ (f : FileId). IfErr c.purge_to.result (λ error. FailsToPurgeQueue (which_of f.queue) f.seq error v w)) named e.err)
     (subst (λ (f : FileId). IfErr c.purge_to.result (λ error. EndsNumbersBelow (which_of f.queue) error v)) named e.range)

@@ -18,7 +18,7 @@ returns-clause-ok g c =
     let v = g.P.PipeLog.shown c.args.pipes.now in
     let mid = g.P.PipeLog.shown c.rotate.new.self in
     let w = g.P.PipeLog.shown c.purge_stale.new.pipes in
-    turned c.args.queue c.args.tables.now _ (shows v c.args.tables.now c.args.cache.now) (shows w c.args.tables.now c.purge_stale.new.cache) mid c.file_span-first.ensures.last e.ok e.later c.purge_stale.result c.purge_stale.ensures.ok
+    turned c.args.queue c.args.tables.now _ (shows v c.args.tables.now c.args.cache.now) (shows w c.args.tables.now c.purge_stale.new.cache) mid c.file_span-first.ensures.last e.ok e.later (alive_ok c.in_ok-rotate.field-0 mid e.fails) c.purge_stale.result c.purge_stale.ensures.ok
 
 pub returns-clause-err : goal.returns-clause-err
 returns-clause-err g c =

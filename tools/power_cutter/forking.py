@@ -7,7 +7,14 @@ from image import image
 from running import Fault, Running, Watch
 from trace import fell, read_trace, told_by
 
-KINDS = [f"refuse {{}} {errno.EIO}", f"part {{}} {errno.ENOSPC}", f"made {{}} {errno.EIO}", f"gone {{}} {errno.EIO}", "short {} 0"]
+KINDS = [
+    f"refuse {{}} {errno.EIO}",
+    f"refuse {{}} {errno.ENOSPC}",
+    f"part {{}} {errno.ENOSPC}",
+    f"made {{}} {errno.EIO}",
+    f"gone {{}} {errno.EIO}",
+    "short {} 0",
+]
 DONE, REFUSED = 0, 3
 
 

@@ -70,3 +70,27 @@ fn a_missing_directory_and_a_file_are_refused(rt: HostRuntime) -> Result<(), Fai
     assert!(rt; missing & plain & !fs::exists(&rt, "absent")?);
     Ok(())
 }
+
+#[test]
+fn a_file_of_several_pieces_is_grown_and_read_whole(rt: HostRuntime) -> Result<(), Fail> {
+    let _ = fs::remove_dir_all(&rt, "pieces");
+    make_directory(&rt, "pieces")?;
+    let mut files = open_directories(&rt, "pieces", None)?;
+    let handle = save(&mut files, "pieces/a", b"abcd")?;
+    files.allocate(handle, 4, 600_000)?;
+    files.write_at(handle, 300_000, b"efgh")?;
+    files.sync(handle)?;
+    drop(files);
+    assert!(rt; fs::metadata(&rt, "pieces/a")?.len() == 600_004);
+    let files = open_directories(&rt, "pieces", None)?;
+    let mut bytes = vec![in rt.alloc(); 1u8; 600_005]?;
+    let handle = files.open("pieces/a", Permission::ReadOnly)?;
+    let count = files.read_at(handle, 0, &mut bytes)?;
+    let mut others = bytes.iter().filter(|byte| **byte != 0);
+    assert!(rt; count == 600_004);
+    for byte in b"abcdefgh\x01" {
+        assert!(rt; others.next() == Some(byte));
+    }
+    assert!(rt; others.next().is_none() & (bytes.get(300_000) == Some(&b'e')));
+    Ok(())
+}

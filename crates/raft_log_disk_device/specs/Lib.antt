@@ -1,3 +1,4 @@
 pub mod Device
 pub mod Following
 pub mod Directory
+pub mod Space

@@ -1,6 +1,7 @@
 //! A file system over a device.
 mod calls;
 mod checks;
+mod space;
 
 ghost use Rattle.raft_log_disk.proofs.Props.{IsSound-prop};
 ghost use Rattle.raft_log_disk.specs.Image.{IsSound};
@@ -10,6 +11,7 @@ ghost use Rattle.raft_log_disk_device.specs.Following.{Follows, Follows-prop};
 
 use crate::device::Device;
 use raft_log_disk_storage::Storage;
+use std::collections::BTreeMap;
 
 /// A file system over a device, whose files also lie in memory, each byte once. A change goes to the model in
 /// memory first, and then to the device, which is synced where names changed. What is read comes from memory.
@@ -17,6 +19,8 @@ use raft_log_disk_storage::Storage;
 #[derive(Drop)]
 pub struct DirectoryFileSystem<D: Device> {
     storage: Storage,
+    // How many bytes the files of a directory may have in all, for those for which it is set.
+    spaces: BTreeMap<String, u64>,
     device: D,
     failures: u64,
     stopped: bool,
@@ -26,8 +30,9 @@ pub struct DirectoryFileSystem<D: Device> {
 }
 
 impl<D: Device> DirectoryFileSystem<D> {
-    ghost use Rattle.std.specs.Prelude.{◌≡◌};
+    ghost use Rattle.std.specs.Prelude.{◌≡◌, ℕ, List, None};
     ghost use Rattle.raft_log_disk_storage.specs.Storage.{contents_of};
+    ghost use Rattle.raft_log_disk_device.specs.Space.{spaces_of};
     ghost use Rattle.raft_log_disk_device.specs.Device.{settled};
     ghost use Rattle.raft_log_disk_device.specs.Directory.{disk_of};
 
@@ -35,10 +40,13 @@ impl<D: Device> DirectoryFileSystem<D> {
     pub fn new(storage: Storage, device: D) -> DirectoryFileSystem<D>
         requires whole { IsStorageSound storage }
         requires follows { held_by (D.Device.trace device) ≡ settled (contents_of storage) }
-        ensures { disk_of D.Device result ≡ contents_of storage }
+        ensures same { disk_of D.Device result ≡ contents_of storage }
+        ensures unset { (directory : List ℕ) → spaces_of D.Device result directory ≡ None }
     {
+        let spaces = BTreeMap::new(storage.alloc);
         DirectoryFileSystem {
             storage,
+            spaces,
             device,
             failures: 0,
             stopped: false,

@@ -1,12 +1,13 @@
 //! Directories are opened: locked, synced and loaded.
-ghost use Rattle.std.specs.Prelude.{IfOk};
+ghost use Rattle.std.specs.Prelude.{◌≡◌, List, ℕ, None, IfOk};
+ghost use Rattle.raft_log_disk_device.specs.Space.{spaces_of};
 ghost use Rattle.raft_log_disk_directory.specs.Loading.{StartsFresh};
 
 use super::fault::DirectoryFault;
 use super::file_device::{FileDevice, ZEROS};
 use super::load::Found;
 use raft_log_disk::FileSystem;
-use raft_log_disk_device::DirectoryFileSystem;
+use raft_log_disk_device::{Device, DirectoryFileSystem};
 use std::fs::File;
 use std::io::ErrorKind;
 use std::path::Path;
@@ -22,8 +23,10 @@ pub fn open_directories<R: Files<File = File> + AllocGlobal + Clone + Drop>(
     directory: &str,
     spill_directory: Option<&str>,
 ) -> Result<DirectoryFileSystem<FileDevice<R>>, DirectoryFault>
-    ensures { IfOk result (λ system. StartsFresh
+    ensures fresh { IfOk result (λ system. StartsFresh
         (⟦<DirectoryFileSystem<FileDevice<R>> as FileSystem>⟧.disk system)) }
+    ensures unset { IfOk result (λ system. (directory : List ℕ)
+        → spaces_of ⟦<FileDevice<R> as Device>⟧ system directory ≡ None) }
 {
     let mut found = Found::new(rt.alloc());
     lock(rt, &mut found, directory)?;

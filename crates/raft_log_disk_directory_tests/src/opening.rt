@@ -94,3 +94,22 @@ fn a_file_of_several_pieces_is_grown_and_read_whole(rt: HostRuntime) -> Result<(
     assert!(rt; others.next().is_none() & (bytes.get(300_000) == Some(&b'e')));
     Ok(())
 }
+
+#[test]
+fn what_is_left_of_a_space_that_is_set_is_told(rt: HostRuntime) -> Result<(), Fail> {
+    let _ = fs::remove_dir_all(&rt, "narrow");
+    let _ = fs::remove_dir_all(&rt, "wide");
+    make_directory(&rt, "narrow")?;
+    make_directory(&rt, "wide")?;
+    let mut files = open_directories(&rt, "narrow", Some("wide"))?;
+    save(&mut files, "narrow/a", b"abcd")?;
+    save(&mut files, "wide/a", b"abc")?;
+    files.set_space("narrow", 10)?;
+    assert!(rt; (files.free_space("narrow")? == 6) & (files.free_space("wide")? == u64::MAX));
+    save(&mut files, "narrow/b", b"abcdefgh")?;
+    assert!(rt; files.free_space("narrow")? == 0);
+    files.set_space("narrow", 15)?;
+    files.delete("narrow/a")?;
+    assert!(rt; files.free_space("narrow")? == 7);
+    Ok(())
+}

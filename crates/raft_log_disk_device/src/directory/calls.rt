@@ -10,10 +10,11 @@ use std::io::ErrorKind;
 impl<D: Device> FileSystem for DirectoryFileSystem<D> {
     ghost use Rattle.std.specs.Prelude.{◌≡◌};
     ghost use Rattle.raft_log_disk_device.specs.Directory.{disk_of};
+    ghost use Rattle.raft_log_disk_device.specs.Space.{TellsFree};
 
     ghost disk = { disk_of D.Device };
 
-    ghost tells_space = { λ system directory space. space ≡ 18446744073709551615 };
+    ghost tells_space = { TellsFree D.Device };
 
     ghost arms = { λ fault old new. new ≡ old };
 
@@ -135,7 +136,7 @@ impl<D: Device> FileSystem for DirectoryFileSystem<D> {
 
     fn free_space(&self, directory: &str) -> Result<u64, ErrorKind> {
         self.check_directory(directory)?;
-        Ok(u64::MAX)
+        Ok(self.free_in(directory))
     }
 
     fn read_at(&self, handle: Handle, offset: usize, room: &mut [u8]) -> Result<usize, ErrorKind> {

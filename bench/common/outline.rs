@@ -4,6 +4,7 @@
 
 const BOUND: u64 = 1 << 63;
 
+#[derive(Clone)]
 pub enum Request {
     Vote { term: u64, candidate: u64, last_index: u64, last_term: u64 },
     Append { term: u64, prev_index: u64, prev_term: u64, commit: u64, entries: Vec<(u64, Vec<u8>)> },
@@ -37,6 +38,7 @@ impl Request {
     }
 }
 
+#[derive(Clone)]
 pub struct Entry {
     pub index: u64,
     pub term: u64,
@@ -54,6 +56,7 @@ pub struct VoterState {
     pub commit: u64,
 }
 
+#[derive(Clone)]
 pub enum Reply {
     Granted(u64),
     Denied(u64),

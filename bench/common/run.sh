@@ -16,13 +16,13 @@ trap 'rm -rf "$room"' EXIT
 
 # the lines of crates.txt of these crates, and of those below them
 awk -v wanted="$*" '
-    { sub(/#.*/, ""); if (split($0, part, ":") == 2) { below[part[1]] = part[2]; line[part[1]] = $0 } }
+    { sub(/#.*/, ""); if (split($0, part, ":") == 2) { name = part[1]; sub(/ .*/, "", name); below[name] = part[2]; line[name] = $0 } }
     END { count = split(wanted, todo, " ")
           for (i = 1; i <= count; i++) if (todo[i] in line && !(todo[i] in seen)) {
               seen[todo[i]] = 1; print line[todo[i]]
               more = split(below[todo[i]], dep, " "); for (k = 1; k <= more; k++) todo[++count] = dep[k] } }' "$top/crates.txt" > "$room/crates.txt"
 mkdir -p "$room/crates/$name/src"
-cut -d: -f1 "$room/crates.txt" | while read -r crate; do
+cut -d: -f1 "$room/crates.txt" | cut -d' ' -f1 | while read -r crate; do
     cp -r "$top/crates/$crate" "$room/crates/"
 done
 echo "$name: $*" >> "$room/crates.txt"

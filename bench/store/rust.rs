@@ -14,17 +14,18 @@ mod pipe;
 mod place;
 #[path = "../common/record.rs"]
 mod record;
+#[path = "../common/store.rs"]
+mod store;
 #[path = "../common/window.rs"]
 mod window;
 
-use batch::Batch;
-use outline::{Answer, Change, Decision, Outline, Reply, Request, VoterState, Write};
-use pipe::{Files, Pipe};
-use place::Place;
-use record::{read_block, CompressionType, Content, EntryIndex, Error, FileBlockHandle, FileId, Item, KeyValue, LogQueue, OpType, Result, HEADER};
-use std::collections::{BTreeMap, HashMap, VecDeque};
+use outline::{Outline, Request};
+use pipe::Files;
+use record::{read_block, CompressionType, Error, Result};
+use std::collections::{BTreeMap, HashMap};
 use std::time::Instant;
-use window::{check_block, next_batch, open, Window, MAGIC};
+use store::{append, commit, matched, refused, Store, Table, Tables};
+use window::{check_block, next_batch, open, Window};
 
 const GROUPS: u64 = 1_000;
 const APPENDS: u64 = 64_000;
@@ -34,167 +35,6 @@ const OPENED_GROUPS: u64 = 10_000;
 const OPENED_ENTRIES: u64 = 1_000_000;
 const BROUGHT: u64 = 10;
 const READ_BLOCK: usize = 16 << 10;
-
-/// Where a group's entries lie, and its state.
-#[derive(Default)]
-struct Table {
-    first: u64,
-    places: VecDeque<Place>,
-    state: Vec<u8>,
-}
-
-impl Table {
-    /// Makes room for a run that starts no later than the index after the last.
-    fn prepare(&mut self, entries: &[EntryIndex]) -> Result<()> {
-        let Some(front) = entries.first() else { return Ok(()) };
-        if !self.places.is_empty() && self.first + (self.places.len() as u64) < front.index {
-            return Err(Error::Corruption("a hole".to_string()));
-        }
-        self.places.try_reserve(entries.len()).map_err(|_| Error::Full)
-    }
-
-    fn append(&mut self, entries: &[EntryIndex], block: FileBlockHandle) {
-        let Some(front) = entries.first() else { return };
-        if self.first >= front.index || self.places.is_empty() {
-            self.first = front.index;
-        }
-        self.places.truncate((front.index - self.first) as usize);
-        self.places.extend(entries.iter().map(|entry| Place {
-            file: block.id.seq,
-            offset: block.offset,
-            len: block.len,
-            entry_offset: entry.entry_offset,
-            entry_len: entry.entry_len,
-        }));
-    }
-}
-
-type Tables = HashMap<u64, Table>;
-
-fn refused<E: std::fmt::Debug>(error: E) -> Error {
-    Error::Corruption(format!("{error:?}"))
-}
-
-/// What items say goes into the tables.
-fn commit(tables: &mut Tables, items: Vec<Item>, block: FileBlockHandle) -> Result<()> {
-    for item in items {
-        let table = tables.entry(item.group).or_default();
-        match item.content {
-            Content::Entries(entries) => {
-                table.prepare(&entries)?;
-                table.append(&entries, block);
-            }
-            Content::KeyValue(KeyValue { value: Some(value), .. }) => table.state = value,
-            _ => {}
-        }
-    }
-    Ok(())
-}
-
-struct Store {
-    files: Files,
-    pipe: Pipe,
-    tables: Tables,
-    outlines: BTreeMap<u64, Outline>,
-}
-
-fn header_of() -> Vec<u8> {
-    let mut bytes = MAGIC.to_vec();
-    bytes.extend_from_slice(&2u64.to_be_bytes());
-    bytes.extend_from_slice(&0u64.to_be_bytes());
-    bytes
-}
-
-fn state_bytes(state: &VoterState) -> Vec<u8> {
-    let mut bytes = vec![2];
-    bytes.extend_from_slice(&state.term.to_be_bytes());
-    bytes.push(u8::from(state.vote.is_some()));
-    for number in [state.vote.unwrap_or(0), state.base_index, state.base_term, state.commit] {
-        bytes.extend_from_slice(&number.to_be_bytes());
-    }
-    bytes
-}
-
-fn entry_bytes(index: u64, term: u64, own: &[u8]) -> Vec<u8> {
-    let mut bytes = Vec::with_capacity(own.len() + 17);
-    bytes.push(1);
-    bytes.extend_from_slice(&index.to_be_bytes());
-    bytes.extend_from_slice(&term.to_be_bytes());
-    bytes.extend_from_slice(own);
-    bytes
-}
-
-/// What is written of a change: the entries that go in, and the state.
-fn fill(batch: &mut Batch, group: u64, change: &Change, request: &Request) -> Result<()> {
-    if let (Write::Entries { skipped, index }, Request::Append { entries, .. }) = (change.write, request) {
-        let brought: Vec<Vec<u8>> = entries[skipped..].iter().zip(index..).map(|((term, own), at)| entry_bytes(at, *term, own)).collect();
-        let indexes = brought.iter().zip(index..).map(|(entry, at)| EntryIndex::new(at, entry.len() as u32)).collect();
-        batch.add(group, indexes, &brought)?;
-    }
-    let put = KeyValue { op_type: OpType::Put, key: b"voter".to_vec(), value: Some(state_bytes(&change.state)), file_id: None };
-    batch.items.push(Item { group, content: Content::KeyValue(put) });
-    Ok(())
-}
-
-impl Store {
-    fn new() -> Result<Store> {
-        let mut files = Files::default();
-        let pipe = Pipe::begin(&mut files, 0, header_of()).map_err(refused)?;
-        Ok(Store { files, pipe, tables: Tables::new(), outlines: BTreeMap::new() })
-    }
-
-    fn append(&mut self, batch: &mut Batch) -> Result<()> {
-        batch.populate()?;
-        for item in &batch.items {
-            if let Content::Entries(entries) = &item.content {
-                self.tables.entry(item.group).or_default().prepare(entries)?;
-            }
-        }
-        let seq = self.pipe.next_file(&mut self.files).map_err(refused)?;
-        batch.sign(Some(seq as u32));
-        let (seq, at, _) = self.pipe.append(&mut self.files, &batch.buf).map_err(refused)?;
-        let block = batch.buf.len().min(HEADER + batch.entries_len + 4) - HEADER;
-        let id = FileId { queue: LogQueue::Append, seq };
-        commit(&mut self.tables, std::mem::take(&mut batch.items), FileBlockHandle { id, offset: at + HEADER as u64, len: block })
-    }
-
-    fn take(&mut self, group: u64, request: &Request, wrote: &mut bool) -> Result<Reply> {
-        let fresh = Outline::new();
-        let Decision { answer, change } = self.outlines.get(&group).unwrap_or(&fresh).decide(request);
-        if let Some(change) = change {
-            let mut batch = Batch::new();
-            fill(&mut batch, group, &change, request)?;
-            self.outlines.entry(group).or_insert(fresh).reserve(&change, request);
-            self.append(&mut batch)?;
-            if let Some(outline) = self.outlines.get_mut(&group) {
-                outline.apply(&change, request);
-            }
-            *wrote = true;
-        }
-        match answer {
-            Answer::Told(reply) => Ok(reply),
-            Answer::Entries { .. } => Err(Error::EntryNotFound),
-        }
-    }
-
-    /// Takes a round, and syncs it where something was written.
-    fn serve(&mut self, round: &[(u64, Request)]) -> Result<Vec<Reply>> {
-        let mut replies = Vec::with_capacity(round.len());
-        let mut wrote = false;
-        for (group, request) in round {
-            replies.push(self.take(*group, request, &mut wrote)?);
-        }
-        if wrote {
-            self.pipe.sync(&mut self.files).map_err(refused)?;
-        }
-        Ok(replies)
-    }
-
-    fn close(mut self) -> Result<Files> {
-        self.pipe.writer.close(&mut self.files).map_err(refused)?;
-        Ok(self.files)
-    }
-}
 
 /// The files of a log by number, oldest first: the number, and the bytes.
 fn found(files: &Files) -> Vec<(u64, &[u8])> {
@@ -268,12 +108,6 @@ fn read_outlines(files: &Files, tables: &Tables) -> Result<BTreeMap<u64, Outline
     Ok(outlines)
 }
 
-/// An Append of term 1 behind this index, with so many entries of 16 bytes, all before it committed.
-fn append(prev_index: u64, count: u64, commit: u64) -> Request {
-    let entries = (0..count).map(|_| (1, vec![7; 16])).collect();
-    Request::Append { term: 1, prev_index, prev_term: prev_index.min(1), commit, entries }
-}
-
 /// One-entry Appends of all groups by turns.
 fn appends() -> Vec<(u64, Request)> {
     (0..APPENDS).map(|number| (number % GROUPS + 1, append(number / GROUPS, 1, number / GROUPS))).collect()
@@ -282,10 +116,6 @@ fn appends() -> Vec<(u64, Request)> {
 /// Heartbeats of all groups by turns, to logs of so many entries; some of the first ones come again behind the last.
 fn heartbeats(last: u64) -> Vec<(u64, Request)> {
     (0..GROUPS + ROUND as u64).map(|number| (number % GROUPS + 1, append(last, 0, last - 1))).collect()
-}
-
-fn matched(replies: &[Reply]) -> u64 {
-    replies.iter().map(|reply| if let Reply::Matched(index) = reply { *index } else { 0 }).sum()
 }
 
 fn report(work: &str, count: u64, start: Instant, check: u64) {

@@ -5,3 +5,4 @@ pub mod Requests
 pub mod Right
 pub mod Leading
 pub mod PurgeSteps
+pub mod Failing

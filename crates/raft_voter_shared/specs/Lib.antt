@@ -1,5 +1,6 @@
 pub mod Journal
 pub mod Standing
+pub mod Failing
 pub mod Handing
 pub mod Noting
 pub mod Receipts

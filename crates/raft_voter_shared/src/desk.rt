@@ -2,6 +2,7 @@
 ghost use Rattle.std.specs.Prelude.{◌≡◌, ◌+◌, ◌<◌, ◌++◌, ◌∷◌, [], false, true, is_some, length, vec_capacity, vec_len, None};
 ghost use Rattle.raft_voter.specs.Rounds.{World};
 ghost use Rattle.raft_voter.specs.Service.{IsOpenAt};
+ghost use Rattle.raft_voter_shared.specs.Failing.{CameToFailAs};
 ghost use Rattle.raft_voter_shared.specs.Journal.{IsLegal, reached};
 ghost use Rattle.raft_voter_shared.specs.Standing.{is_last, standing};
 
@@ -23,7 +24,8 @@ use std::sync::ledger::Book;
 ///
 /// Whichever voters the store served as it was shared, the journal is a legal history of them; unless it
 /// failed, the store serves what they became; and what a crash leaves of it are those voters or, where it
-/// failed in a round, voters that took that round up to some place.
+/// failed in a round, voters that took that round up to some place. Where it is noted how it came to fail, a file
+/// call failed then, between two states of the store, of which the first served what the records before had led to.
 #[derive(Drop)]
 pub struct Desk<R, S: RoundService<R>, L: Opening> {
     alloc: Global,
@@ -41,6 +43,8 @@ pub struct Desk<R, S: RoundService<R>, L: Opening> {
     ghost alive: { S.service.is_failed store ≡ false → failure ≡ None },
     ghost last: { is_last failure journal.items ≡ true },
     ghost cause: { S.service.is_failed store ≡ true → L.had_failed ≡ false → is_some failure ≡ true },
+    ghost why: { (W : World) → L.served W
+        → CameToFailAs S.service failure (standing W journal.items failure) store },
 }
 
 impl<R, S: RoundService<R>, L: Opening> Desk<R, S, L> {

@@ -5,7 +5,7 @@ ghost use Rattle.raft_voter_shared.specs.Standing.{failure_behind};
 
 use raft_voter::Cause;
 
-/// How a store that hadn't failed before came to fail while it was shared.
+/// How a store that hadn't failed before came to fail while it was shared: a file call failed then.
 #[derive(Clone, Copy, Debug, PartialEq, Eq)]
 pub enum Failure {
     /// In a round that was cut off: that of the record at this place of the journal. It may have been taken up to

@@ -14,7 +14,7 @@ pub trait Maintenance<R>: RoundService<R> {
         ensures { result ≡ Self.service.is_failed self.now };
 
     /// Purges its files; the answer is the groups that are to be compacted. No voter is changed, answered or
-    /// refused; where the store failed in it what was left is left.
+    /// refused. Where the store failed in it a file call did, and what was left is left.
     fn maintain(&mut self, rt: &R) -> Result<Vec<u64>, Self::Refusal>
         ensures { KeepsServed Self.service self.old self.new };
 }

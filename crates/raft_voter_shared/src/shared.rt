@@ -26,6 +26,7 @@ pub struct SharedStore<R, S: RoundService<R>, L: Opening> {
 impl<R, S: RoundService<R>, L: Opening> SharedStore<R, S, L> {
     ghost use Rattle.std.specs.Prelude.{◌+◌, ◌≤◌, false, true, is_some, length, sum_by, IfErr, IfOk, List, OnOk};
     ghost use Rattle.raft_voter_messages.specs.declared.round.Round.{Round};
+    ghost use Rattle.raft_voter_shared.specs.Failing.{CameToFailAs};
     ghost use Rattle.raft_voter_shared.specs.Journal.{IsLegal, reached};
     ghost use Rattle.raft_voter_shared.specs.Noting.{records_of, ToldOfLength};
     ghost use Rattle.raft_voter_shared.specs.Receipts.{AllRight};
@@ -94,7 +95,8 @@ impl<R, S: RoundService<R>, L: Opening> SharedStore<R, S, L> {
         ensures legal { IfOk result (λ settled. (W : World) → L.served W → IsLegal W settled.journal.items) }
         ensures receipts { IfOk result (λ settled. AllRight settled.journal.items receipts.items) }
 
-        // Unless it failed it serves what they became; and what is left of it stands behind the journal.
+        // Unless it failed it serves what they became; and what is left of it stands behind the journal. Where it came
+        // to fail while it was shared it is told how, and a file call failed then.
         ensures serves { IfOk result (λ settled. (W : World) → L.served W
             → S.service.is_failed settled.store ≡ false
             → ∥ IsOpenAt S.service settled.store (reached W settled.journal.items) ∥₁) }
@@ -103,6 +105,8 @@ impl<R, S: RoundService<R>, L: Opening> SharedStore<R, S, L> {
         ensures last { IfOk result (λ settled. is_last settled.failure settled.journal.items ≡ true) }
         ensures cause { IfOk result (λ settled. S.service.is_failed settled.store ≡ true
             → L.had_failed ≡ false → is_some settled.failure ≡ true) }
+        ensures why { IfOk result (λ settled. (W : World) → L.served W
+            → CameToFailAs S.service settled.failure (standing W settled.journal.items settled.failure) settled.store) }
 
         ensures err { IfErr result (λ fault. (fault.seats ≡ seats) × (fault.receipts ≡ receipts)) }
         ensures errors { IfErr result (λ fault. (rounds : List Round)

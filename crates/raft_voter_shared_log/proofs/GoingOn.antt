@@ -17,7 +17,7 @@ use Rattle.raft_voter_log.proofs.Opens.{follows_none}
 use Rattle.raft_voter_shared_log.specs.GoingOn.{ClosedStoresGoOn}
 
 -- an engine that holds a map hasn't failed
-holding_lives : (home : Home) (s : Shows) (m : LogMap) → Holds home s m [] → has_failed s ≡ false
+pub holding_lives : (home : Home) (s : Shows) (m : LogMap) → Holds home s m [] → has_failed s ≡ false
 holding_lives home s m h =
     let one : s.pipes.append.failed ≡ false = h.runs.append.alive in
     let other : s.pipes.rewrite.failed ≡ false = h.runs.rewrite.alive in

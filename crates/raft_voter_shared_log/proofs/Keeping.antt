@@ -1,7 +1,40 @@
--- A purge keeps the voters that threads are served.
-use Rattle.raft_voter.specs.Service.{Service}
+-- A purge keeps the voters that threads are served; where the store failed in it, a file call did.
+use Rattle.std.proofs.Common.{◌≡◌, ◌∙◌, inl, inr, ℕ, true, false, [], sym, subst}
+use Rattle.std.proofs.lemmas.Bool.{false≢true}
+use Rattle.raft_log_record_base.specs.declared.errors.Error.{Error}
+use Rattle.raft_log_engine_laws.specs.Shows.{Home, Shows, has_failed}
+use Rattle.raft_log_purge_parts.specs.Reasons.{HasReason}
+use Rattle.raft_voter_outline.specs.State.{State}
+use Rattle.raft_voter.specs.Rounds.{World}
+use Rattle.raft_voter.specs.Service.{IsOpenAt, Service}
 use Rattle.raft_voter_world.specs.Stores.{KeepsVoters}
+use Rattle.raft_voter_store.specs.Service.{HasFailedCall, service_in}
+use Rattle.raft_voter_store.specs.Upkeep.{KeepsVoters as KeepsMeant}
+use Rattle.raft_voter_log.proofs.Purging.{IsPurgeRefusal}
 use Rattle.raft_voter_shared.specs.Purging.{KeepsServed}
+use Rattle.raft_voter_shared_log.proofs.GoingOn.{holding_lives}
 
-pub served_as : {S : Type 0} (v : Service S) (old new : S) → KeepsVoters v old new → KeepsServed v old new
-served_as v old new keeps = record { failed = keeps.failed; served = keeps.served; left = keeps.left }
+pub served_as :
+    {S : Type 0} (v : Service S) (old new : S) → KeepsVoters v old new
+    → ((W : World) → IsOpenAt v old W → v.is_failed new ≡ true → v.fails old new) → KeepsServed v old new
+served_as v old new keeps fails = record { failed = keeps.failed; served = keeps.served; fails = fails; left = keeps.left }
+
+module _ {S : Type 0} (home : S → Home) (shows : S → Shows) (outlines : S → ℕ → State) (old new : S) where
+  -- answered: the store hasn't failed
+  pub purged_fails :
+      KeepsMeant (shows old) (shows new) → (W : World) → IsOpenAt (service_in home shows outlines) old W
+      → has_failed (shows new) ≡ true → HasFailedCall (shows old) (shows new)
+  purged_fails keeps W at dead =
+      let now = keeps (home old) W at.serves.0 in
+      absurd (false≢true (sym (holding_lives (home old) (shows new) now.map now.holds) ∙ dead))
+
+  -- refused: the error tells that it has failed, and has its reason
+  pub refused_fails :
+      (error : Error) → IsPurgeRefusal error (shows old) (shows new) → (W : World)
+      → IsOpenAt (service_in home shows outlines) old W → has_failed (shows new) ≡ true
+      → HasFailedCall (shows old) (shows new)
+  refused_fails error (inl had) W at dead = absurd (false≢true (sym at.alive ∙ had.1))
+  refused_fails error (inr (alive, fails)) W at dead =
+      let held = at.serves.0 in
+      subst (λ (e : Error). HasReason (home old) held.map e (shows old) (shows new)) ((fails.tells alive).0 dead)
+      (fails.cause (home old) held.map [] held.holds)

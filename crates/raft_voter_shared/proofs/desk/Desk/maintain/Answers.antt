@@ -1,10 +1,12 @@
-use Rattle.std.proofs.Common.{◌≡◌, true, is_some, Option, sym, ap, subst, ◌∙◌}
+use Rattle.std.proofs.Common.{◌≡◌, true, is_some, Option, refl, sym, ap, subst, ◌∙◌}
 use Rattle.std.proofs.Math.Logic.{∥∥₁_map}
 use Rattle.raft_voter.specs.Service.{CutRound}
 use Rattle.raft_voter_shared.specs.declared.failure.Failure.{Failure}
+use Rattle.raft_voter_shared.specs.Failing.{CameToFailAs}
 use Rattle.raft_voter_shared.specs.Journal.{reached}
 use Rattle.raft_voter_shared.specs.Purging.{failure_in_purge}
 use Rattle.raft_voter_shared.specs.Standing.{is_last, standing}
+use Rattle.raft_voter_shared.proofs.Failing.{purged_why}
 use Rattle.raft_voter_shared.proofs.PurgeSteps.{alive_kept, cause_kept, last_kept, standing_kept, was_alive}
 use Rattle.raft_voter_shared.proofs.desk.Desk.maintain.Goals as goal
 
@@ -30,4 +32,6 @@ invariant_of-self g c =
       alive = λ alive. failed ∙ alive_kept before after old.failure old.alive kept.failed alive;
       last = subst (λ (f : Option Failure). is_last f rounds ≡ true) (sym failed) (last_kept before after old.failure rounds old.last);
       cause = λ dead lived. ap is_some failed ∙ cause_kept before after g.L.Opening.had_failed old.failure old.cause dead lived;
+      why = λ W s. subst (λ (f : Option Failure). CameToFailAs v f (standing W rounds f) now) (sym failed)
+          (purged_why v old.store now rounds old.failure kept W (old.serves W s) (old.why W s) before after refl refl);
     }

@@ -18,4 +18,5 @@ invariant_of-result g c =
       alive = λ alive. refl;
       last = refl;
       cause = λ dead lived. absurd (false≢true (sym lived ∙ c.requires.failed ∙ dead));
+      why = λ W s is. absurd (false≢true is);
     }

@@ -7,10 +7,12 @@ use Rattle.raft_voter_messages.specs.declared.round.Round.{Round}
 use Rattle.raft_voter.specs.Rounds.{World}
 use Rattle.raft_voter.specs.Service.{IsOpenAt}
 use Rattle.raft_voter_shared.specs.declared.failure.Failure.{Failure}
+use Rattle.raft_voter_shared.specs.Failing.{CameToFailAs}
 use Rattle.raft_voter_shared.specs.Handing.{HandsOut}
 use Rattle.raft_voter_shared.specs.Journal.{IsLegal, reached}
 use Rattle.raft_voter_shared.specs.Standing.{failure_behind, is_last, standing}
 use Rattle.raft_voter_shared.specs.Noting.{answered, cut_off}
+use Rattle.raft_voter_shared.proofs.Failing.{cut_why}
 use Rattle.raft_voter_shared.proofs.Handing.{handed_round}
 use Rattle.raft_voter_shared.proofs.Steps.{answered_legal, answered_opens, cut_alive, cut_cause, cut_last, cut_leaves, cut_legal, cut_opens}
 use Rattle.raft_voter_shared.proofs.desk.Desk.serve.Goals as goal
@@ -44,6 +46,8 @@ invariant_of-self-in-Ok-serve g c =
       alive = λ alive. none;
       last = subst (λ (f : Option Failure). is_last f c.note.new.journal.items ≡ true) (sym none) refl;
       cause = λ dead lived. absurd (false≢true (sym lives.1 ∙ dead));
+      why = λ W s. subst (λ (f : Option Failure). CameToFailAs v f (standing W c.note.new.journal.items f) now) (sym none)
+          (λ is. absurd (false≢true is));
     }
 
 pub returns-in-Ok-serve-clause-noted : goal.returns-in-Ok-serve-clause-noted
@@ -96,4 +100,7 @@ invariant_of-self-in-Err g c =
           (cut_last cause rounds asked refused old.failure old.last));
       cause = λ dead lived. ap is_some failed
           ∙ cut_cause cause (length asked) (length rounds) old.failure (v.is_failed old.store) (v.is_failed now) g.L.Opening.had_failed fails old.cause dead lived;
+      why = λ W s. subst (λ (rs : List Round). CameToFailAs v c.failure_behind.result (standing W rs c.failure_behind.result) now) (sym noted)
+          (subst (λ (f : Option Failure). CameToFailAs v f (standing W (rounds ++ cut_off asked refused ∷ []) f) now) (sym failed)
+          (cut_why v old.store now rounds asked cause refused old.failure cuts fails old.last W (old.serves W s) (old.why W s)));
     }

@@ -3,3 +3,4 @@ mod Alone
 pub mod Parted
 pub mod Told
 pub mod Believed
+pub mod Serves

@@ -1,13 +1,15 @@
 -- Why each round of a run is told as it is, and each purge of it was answered or refused.
-use Rattle.std.specs.Prelude.{◌≡◌, ◌⊎◌, ◌++◌, List, [], ◌∷◌, Option, All}
+use Rattle.std.specs.Prelude.{◌≡◌, ◌⊎◌, ◌++◌, false, List, [], ◌∷◌, Option, All}
 use Rattle.raft_voter_messages.specs.declared.round.Round.{Round}
-use Rattle.raft_voter.specs.Service.{Service}
+use Rattle.raft_voter.specs.Rounds.{World}
+use Rattle.raft_voter.specs.Service.{IsOpenAt, Service}
 use Rattle.raft_voter.specs.declared.service.Cause.{Cause}
 use Rattle.raft_voter_world.specs.declared.event.Event.{Event}
 use Rattle.raft_voter_world.specs.declared.faults.Purge.{Purge}
 use Rattle.raft_voter_world.specs.declared.report.WorldReport.{WorldReport}
 use Rattle.raft_voter_world.specs.declared.storage.Storage.{Storage}
 use Rattle.raft_voter_world.specs.declared.storage.Storage.TheVariants.{Closed, Open}
+use Rattle.raft_voter_world.specs.Cuts.{ServeSome}
 use Rattle.raft_voter_world.specs.History.{EndsPurge, IsAnswered, IsCutOff, IsIdle, Moment, behind}
 use Rattle.raft_voter_world.specs.History.Change.{purges}
 use Rattle.raft_voter_world.specs.History.Moment.{answered, cut_off, idle, kept}
@@ -59,3 +61,11 @@ EachPurgeHasItsCause {S} {F} v u d = (files : F) (events : List Event) (report :
     → (run : IsRun v u d files events report)
     → (purge : Purge) (refusal : Option Cause) (at now : Storage S F)
     → IsOfRun v u d files events report run (kept (purges purge refusal) now) at → WasPurged v u purge refusal at now
+
+-- In a run in which each store that was opened served voters, whichever they are: a store to which something happened had
+-- failed, or served some.
+abbrev pub StoresOfRunsServe : {S F : Type 0} → Service S → Upkeep S → Disk S F → Type 0
+StoresOfRunsServe {S} {F} v u d = (files : F) (events : List Event) (report : WorldReport F)
+    → (run : IsRun v u d files events report) → ServeSome v (moments_of run.turns)
+    → (m : Moment S F) (store : S) → IsOfRun v u d files events report run m (Open store)
+    → v.is_failed store ≡ false → (W : World) × IsOpenAt v store W

@@ -1,6 +1,6 @@
-//! Why each round of a run is told as it is, and each purge of it was answered or refused.
+//! Why each round of a run is told as it is, and each purge of it was answered or refused; and that its stores serve voters.
 
-ghost use Rattle.raft_voter_world_laws.specs.Causes.{EachPurgeHasItsCause, EachRoundHasItsCause};
+ghost use Rattle.raft_voter_world_laws.specs.Causes.{EachPurgeHasItsCause, EachRoundHasItsCause, StoresOfRunsServe};
 
 use raft_voter_world::{VoterDisk, VoterStorage};
 
@@ -16,4 +16,10 @@ pub fn each_round_has_its_cause<R, S: VoterStorage<R>, F: VoterDisk<R, S>>()
 /// cause that the store had. It kept the voters, or the store failed in it.
 pub fn each_purge_has_its_cause<R, S: VoterStorage<R>, F: VoterDisk<R, S>>()
     ensures { EachPurgeHasItsCause S.service S.upkeep F.disk }
+{}
+
+/// Where each store that a run opened served voters, whichever they are, each of its stores to which something happened
+/// had failed, or served some.
+pub fn stores_of_runs_serve<R, S: VoterStorage<R>, F: VoterDisk<R, S>>()
+    ensures { StoresOfRunsServe S.service S.upkeep F.disk }
 {}

@@ -1,7 +1,8 @@
 -- A purge of a run keeps the voters, or a file call failed in it, and it tells why it is refused.
-use Rattle.std.proofs.Common.{◌≡◌, ◌⊎◌, ◌∙◌, ℕ, Bool, true, false, [], Option, inl, inr, refl, sym, ap, subst}
+use Rattle.std.proofs.Common.{◌≡◌, ◌⊎◌, ◌∙◌, ℕ, Bool, true, false, [], Option, Some, inl, inr, refl, sym, ap, subst}
 use Rattle.raft_log_disk.specs.Causes.{Fails}
 use Rattle.raft_log_disk_memory.specs.declared.memory.MemoryFileSystem.{MemoryFileSystem}
+use Rattle.raft_log_file_settings.specs.declared.config.Config.{Config}
 use Rattle.raft_log_record_base.specs.declared.errors.Error.{Error}
 use Rattle.raft_log_record_base.specs.declared.errors.Error.TheVariants as errors
 use Rattle.raft_log_engine_laws.specs.Settled.{HoldsSettled}
@@ -9,24 +10,39 @@ use Rattle.raft_log_engine_laws.specs.raft_log_file_pair.specs.Pipes.{LogPipes}
 use Rattle.raft_log_engine_laws.specs.Shows.{Home, Shows, has_failed}
 use Rattle.raft_log_engine_laws.proofs.Settling.{settled_held}
 use Rattle.raft_log_engine_core.specs.declared.engine.LogEngine.{LogEngine}
+use Rattle.raft_log_open_laws.specs.ByCalls.{home_of}
+use Rattle.raft_voter_outline.specs.State.{State}
 use Rattle.raft_voter.specs.Rounds.{World}
+use Rattle.raft_voter.specs.Service.{IsOpenAt, Service}
+use Rattle.raft_voter.specs.declared.service.Cause.{Cause}
+use Rattle.raft_voter.specs.declared.service.Cause.TheVariants.{FileSystem, Memory, Failed, TooLong}
 use Rattle.raft_voter_standing_laws.specs.Calls.{KeepsOrLeaves}
 use Rattle.raft_voter_standing_laws.specs.Standing.{IsLeftWith, Keeps}
 use Rattle.raft_voter_standing_laws.proofs.Keeping.{purges_keep_voters}
+use Rattle.raft_voter_store.specs.Service.{service_in}
 use Rattle.raft_voter_world.specs.declared.faults.Purge.{Purge}
 use Rattle.raft_voter_world.specs.declared.faults.Purge.TheVariants.{Expired, RewriteAppend, RewriteRewrite}
-use Rattle.raft_voter_log.specs.Causes.{purge_cause}
+use Rattle.raft_voter_world.specs.declared.storage.Storage.{Storage}
+use Rattle.raft_voter_world.specs.declared.storage.Storage.TheVariants.{Open}
+use Rattle.raft_voter_world.specs.History.{EndsPurge, Moment}
+use Rattle.raft_voter_world.specs.History.Change.{purges}
+use Rattle.raft_voter_world.specs.History.Moment.{kept}
+use Rattle.raft_voter_world.specs.Stores.{Disk, Upkeep}
+use Rattle.raft_voter_world_laws.specs.Causes.{IsOfRun, WasPurged}
+use Rattle.raft_voter_world_laws.proofs.Serves.{stores_of_runs_serve}
+use Rattle.raft_voter_world_laws.proofs.Told.{each_purge_has_its_cause}
+use Rattle.raft_voter_log.specs.Causes.{cause_of, purge_cause}
 use Rattle.raft_voter_log.specs.Instance.{PurgesLog, StopsPurgeAs, log_upkeep}
-use Rattle.raft_voter_log_laws.specs.Causes.{StopsPurge}
+use Rattle.raft_voter_log_laws.specs.Causes.{StopsPurge, VotersHaveReason}
 use Rattle.raft_voter_log_laws.proofs.Causing.{failed_purges_have_failed, purges_tell_causes}
-use Rattle.raft_voter_log_run_laws.specs.Purges.{PurgesKeepOrFail, RefusedPurgesHaveReasons}
+use Rattle.raft_voter_log_run_laws.specs.Purges.{PurgesKeepOrFail, RefusedPurgesHaveReasons, RunsRefuseForReasons}
 
 abbrev KeepsOrFails : Home → World → Shows → Shows → Type 0
 KeepsOrFails home V s t = Keeps home t V ⊎ ((has_failed t ≡ true) × Fails s.pipes.disk t.pipes.disk × IsLeftWith home t.pipes.disk V)
 
 -- where it was refused
 ended : (home : Home) (V : World) (s t : Shows) (error : Error) → Keeps home s V → StopsPurge s t error → (error ≡ errors.Failed → has_failed t ≡ true) → KeepsOrLeaves home error t V → KeepsOrFails home V s t
-ended home V s t error keeps stops tells (inl kept) = inl kept
+ended home V s t error keeps stops tells (inl keeping) = inl keeping
 ended home V s t error keeps stops tells (inr (is, left)) = inr (tells is, failed_purges_have_failed home V s t error keeps stops (tells is), left)
 
 stopped : (home : Home) (V : World) (s t : Shows) (error : Error) → Keeps home s V → StopsPurge s t error → KeepsOrFails home V s t
@@ -73,3 +89,35 @@ module _ {S P : Type 0} (files : S → MemoryFileSystem) (held : LogPipes → Op
     why.1 ∙ ap (λ (b : Bool). purge_cause b why.0) (alive home V (shows old) keeps),
     purges_tell_causes home V (shows old) (shows new) why.0 keeps (stops_of purge (shows old) (shows new) why.0 why.2),
   )
+
+-- so it is of each purge of a run, whose store had failed before or served voters
+module _ {S F : Type 0} (config : S → Config) (u : Upkeep S) (shows : S → Shows) (outlines : S → ℕ → State) (d : Disk S F) (have_reasons : RefusedPurgesHaveReasons u shows) where
+  abbrev v : Service S
+  v = service_in (λ s. home_of (config s)) shows outlines
+
+  -- of voters that an open store serves
+  abbrev HasReason : Cause → S → S → Type 0
+  HasReason cause old new = (W : World) × IsOpenAt v old W × ((error : Error) × (cause ≡ cause_of error) × VotersHaveReason (home_of (config old)) W error (shows old) (shows new))
+
+  has_reason : (purge : Purge) (cause : Cause) (old new : S) → u.refuses purge cause old new → (W : World) × IsOpenAt v old W → HasReason cause old new
+  has_reason purge cause old new refuses (W, at) = (W, at, have_reasons (home_of (config old)) W purge cause old new at.serves.0 refuses)
+
+  why : (purge : Purge) (cause : Cause) (old new : S) → EndsPurge v u purge (Some cause) old new → (has_failed (shows old) ≡ false → (W : World) × IsOpenAt v old W)
+      → ((cause ≡ Failed) × (has_failed (shows old) ≡ true)) ⊎ HasReason cause old new
+  why purge FileSystem old new ends serves = inr (has_reason purge FileSystem old new ends.0 (serves ends.1))
+  why purge Memory old new ends serves = inr (has_reason purge Memory old new ends.0 (serves ends.1.0))
+  why purge Failed old new ends serves = inl (refl, ends.1.0)
+  why purge TooLong old new ends serves = absurd ends.1
+
+  pub runs_refuse_for_reasons : RunsRefuseForReasons v u d config shows
+  runs_refuse_for_reasons first events report run serve purge cause at now among =
+      let was : WasPurged v u purge (Some cause) at now = each_purge_has_its_cause v u d first events report run purge (Some cause) at now among in
+      let moment : Moment S F = kept (purges purge (Some cause)) now in
+      let of_it : IsOfRun v u d first events report run moment (Open was.old) = subst (λ (x : Storage S F). IsOfRun v u d first events report run moment x) was.before among in
+      record {
+        old = was.old;
+        new = was.new;
+        before = was.before;
+        behind = was.behind;
+        why = why purge cause was.old was.new was.ends (λ alive. stores_of_runs_serve v u d first events report run serve moment was.old of_it alive);
+      }

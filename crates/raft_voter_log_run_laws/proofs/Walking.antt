@@ -13,7 +13,7 @@ use Rattle.raft_voter.specs.Service.{CutRound, Service, uncut}
 use Rattle.raft_voter_store.specs.Service.{service_in}
 use Rattle.raft_voter_world.specs.declared.storage.Storage.{Storage}
 use Rattle.raft_voter_world.specs.declared.storage.Storage.TheVariants.{Closed, Open}
-use Rattle.raft_voter_world.specs.Cuts.{NoneLost, cut_after, cut_by}
+use Rattle.raft_voter_world.specs.Cuts.{NoneLost, ServeSome, cut_after, cut_by}
 use Rattle.raft_voter_world.specs.History.{Happen, Moment, rounds_in}
 use Rattle.raft_voter_world.specs.History.Change.{closes, purges, arms}
 use Rattle.raft_voter_world.specs.History.Moment.{opened, crashed, kept, answered, cut_off, idle}
@@ -21,6 +21,7 @@ use Rattle.raft_voter_world.specs.Run.{EndsWell, Knows, moments_of}
 use Rattle.raft_voter_world.specs.Stores.{Disk, Upkeep}
 use Rattle.raft_voter_world_laws.specs.Readers.{GoesBy}
 use Rattle.raft_voter_world_laws.proofs.Believed.{runs_go_by}
+use Rattle.raft_voter_world_laws.proofs.Serves.{serve_first}
 use Rattle.raft_voter_world_laws.proofs.Told.{run_happened}
 use Rattle.raft_voter_log.specs.declared.files.LogFiles.{LogFiles}
 use Rattle.raft_voter_log.specs.Instance.{log_disk}
@@ -40,23 +41,26 @@ module _ {S : Type 0} (tells : MemoryFileSystem → List ℕ → ℕ → Type 0)
   Plain (Closed f) cut known = IsPlain f.config (disk_of f.files) cut known
   Plain (Open store) cut known = Unit {0}
 
-  -- no open lost the voters, and it ends so
+  -- each open served voters, none lost them, and it ends so
   abbrev Ends : List (Moment S LogFiles) → Type 0
-  Ends ms = NoneLost ms × ((last : Storage S LogFiles) × (cut : CutRound) × End last cut)
+  Ends ms = ServeSome v ms × NoneLost ms × ((last : Storage S LogFiles) × (cut : CutRound) × End last cut)
 
   walk : (storage : Storage S LogFiles) (cut : CutRound) (known : Knows v d storage cut) → Plain storage cut known → (ms : List (Moment S LogFiles)) → GoesBy v d End storage cut known ms
       → Happen v u d storage ms → CrashesOnlyLose config shows storage ms → Ends ms
-  walk storage cut known plain [] goes h c = (tt, (storage, cut, goes))
+  walk storage cut known plain [] goes h c = (tt, tt, (storage, cut, goes))
   walk (Closed f) cut known plain (opened workers store voters (Some place) now ∷ ms) goes h c =
-      let on = goes (plain_spared f.config (disk_of f.files) cut known plain (disk_of f.files)) in
-      walk (Open now) (uncut on.1.0) on.1.2.left tt ms (on.1.3 on.1.2.left) h.1 c
+      let spared = plain_spared f.config (disk_of f.files) cut known plain (disk_of f.files) in
+      let found = h.0.0.finds cut known spared in
+      let on = goes spared in
+      let rest = walk (Open now) (uncut on.1.0) on.1.2.left tt ms (on.1.3 on.1.2.left) h.1 c in
+      (((found.0, found.2), rest.0), rest.1, rest.2)
   walk (Closed f) cut known plain (opened workers store voters None now ∷ ms) goes h c =
       absurd (false≢true (goes (plain_spared f.config (disk_of f.files) cut known plain (disk_of f.files))).0)
   walk (Open store) cut known plain (answered round now ∷ ms) goes h c = walk (Open now) (cut_after cut round) goes.0 tt ms (goes.1 goes.0) h.1 c
   walk (Open store) cut known plain (cut_off round cause now ∷ ms) goes h c = walk (Open now) (cut_by cause cut round) goes.0 tt ms (goes.1 goes.0) h.1 c
   walk (Open store) cut known plain (kept (purges purge refusal) (Open now) ∷ ms) goes h c = walk (Open now) cut goes.0 tt ms (goes.1 goes.0) h.1 c
   walk (Open store) cut known plain (kept (arms fault) (Open now) ∷ ms) goes h c = walk (Open now) cut goes.0 tt ms (goes.1 goes.0) h.1 c
-  walk (Open store) cut known plain (kept closes (Closed f) ∷ []) goes h c = (tt, (Closed f, cut, goes.1 goes.0))
+  walk (Open store) cut known plain (kept closes (Closed f) ∷ []) goes h c = (tt, tt, (Closed f, cut, goes.1 goes.0))
   walk (Open store) cut known plain (crashed gone left ∷ ms) goes h c =
       let is = image_under gone (shows store).pipes.disk (disk_of left.files) h.0.0.0 in
       let (still, at_rest) = loses_rests (config store) left.config (shows store) cut left.files h.0.0.1 is c.0 known in
@@ -75,6 +79,7 @@ runs_ask_nothing {S} tells config u shows outlines first events report run is on
     let ms = moments_of run.turns ++ run.closing in
     let goes = runs_go_by v u d first events report run (bare is refl) in
     let ends = walk tells config u shows outlines (λ storage cut. EndsWell ms cut) (Closed first) (uncut fresh_world) (bare is refl) tt ms goes (run_happened v u d first events report run) only in (
-      ends.0,
-      subst (λ (rounds : List Round). Explains rounds report.cuts) (sym run.rounds) (subst (λ (cuts : List ℕ). Explains (rounds_in ms) cuts) (sym run.cuts) ends.1.2.explained),
+      serve_first v (moments_of run.turns) run.closing ends.0,
+      ends.1,
+      subst (λ (rounds : List Round). Explains rounds report.cuts) (sym run.rounds) (subst (λ (cuts : List ℕ). Explains (rounds_in ms) cuts) (sym run.cuts) ends.2.2.explained),
     )

@@ -13,7 +13,7 @@ use Rattle.raft_voter_world.specs.declared.event.Event.{Event}
 use Rattle.raft_voter_world.specs.declared.report.WorldReport.{WorldReport}
 use Rattle.raft_voter_world.specs.declared.storage.Storage.{Storage}
 use Rattle.raft_voter_world.specs.declared.storage.Storage.TheVariants.{Closed, Open}
-use Rattle.raft_voter_world.specs.Cuts.{NoneLost}
+use Rattle.raft_voter_world.specs.Cuts.{NoneLost, ServeSome}
 use Rattle.raft_voter_world.specs.History.{Moment}
 use Rattle.raft_voter_world.specs.History.Change.{closes, purges, arms}
 use Rattle.raft_voter_world.specs.History.Moment.{opened, crashed, kept, answered, cut_off, idle}
@@ -46,13 +46,14 @@ CrashesOnlyLose config shows (Open store) (crashed gone left ∷ ms) =
 CrashesOnlyLose config shows (Closed files) (idle round now ∷ ms) = CrashesOnlyLose config shows (Closed now) ms
 CrashesOnlyLose config shows storage ms = ⊥
 
--- A run from files on in which no log began, with such moments: nothing is lost, and voters that never fail explain its
--- transcript.
+-- A run from files on in which no log began, with such moments: each store that it opens serves voters, nothing is lost,
+-- and voters that never fail explain its transcript.
 abbrev pub RunsAskNothing : {S : Type 0} → Service S → Upkeep S → Disk S LogFiles → (S → Config) → (S → Shows) → Type 0
 RunsAskNothing {S} v u d config shows = (first : LogFiles) (events : List Event) (report : WorldReport LogFiles)
     → (run : IsRun v u d first events report) → IsBare first.config (disk_of first.files)
     → CrashesOnlyLose config shows (Closed first) (moments_of run.turns ++ run.closing)
-    → NoneLost (moments_of run.turns ++ run.closing) × Explains report.transcript.rounds report.cuts
+    → ServeSome v (moments_of run.turns) × NoneLost (moments_of run.turns ++ run.closing)
+    × Explains report.transcript.rounds report.cuts
 
 -- Of a store that runs: where a crash leaves a record that nobody wrote behind all that was written, in either queue,
 -- the premise on chance is broken, by whichever knowledge of what the store leaves.

@@ -3,7 +3,7 @@
 //! Each public function is a law over the definitions of `specs/`: it does nothing, and its contract is what is
 //! proved.
 //! * [`sessions`]: sessions that ask nothing of chance, and such that break its premise; [`workers`]: opens by any number
-//!   of workers; [`purges`]: what a purge makes of the voters.
+//!   of workers; [`purges`]: what a purge makes of the voters, and why it is refused.
 #![tactic(auto)]
 
 pub mod purges;

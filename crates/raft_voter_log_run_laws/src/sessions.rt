@@ -10,8 +10,8 @@ use raft_voter_log::{LogFiles, LogVoters};
 use raft_voter_world::{VoterDisk, VoterStorage};
 
 /// The premise on chance is met by each run over a log in which stores are opened, serve, are purged, and are crashed
-/// while they run, where each crash leaves of the last files no more than what was written there, and zeros: so no open
-/// loses the voters, and voters that never fail explain the rounds.
+/// while they run, where each crash leaves of the last files no more than what was written there, and zeros: so each open
+/// serves voters, none loses them, and voters that never fail explain the rounds.
 pub fn runs_ask_nothing<R: Log>()
     ensures { RunsAskNothing ⟦<LogVoters as RoundService<R>>⟧.service ⟦<LogVoters as VoterStorage<R>>⟧.upkeep
         ⟦<LogFiles as VoterDisk<R, LogVoters>>⟧.disk (λ voters. voters.config)

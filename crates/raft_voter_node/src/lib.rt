@@ -3,6 +3,7 @@
 #![tactic(auto)]
 
 mod asking;
+mod found;
 mod node;
 mod rounds;
 mod running;

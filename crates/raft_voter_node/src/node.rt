@@ -1,4 +1,5 @@
 //! A store of voters that a node has open.
+use crate::found::found_by;
 use crate::rounds::serve_round;
 use log::{Log, info};
 use raft_log_engine::{Config, FileSystem, LogQueue, Nobody, Result};
@@ -19,7 +20,8 @@ pub struct Node<F> {
 }
 
 impl<F: FileSystem + Sync + Drop> Node<F> {
-    /// Opens the store whose log these settings name. How long that took and which files the log has now is logged.
+    /// Opens the store whose log these settings name. What was found, how long the opening took and which files the log
+    /// has now is logged.
     pub fn open<R: Threads + Log + Sync + Clock>(
         rt: &R,
         alloc: Global,
@@ -27,6 +29,7 @@ impl<F: FileSystem + Sync + Drop> Node<F> {
         files: F,
     ) -> anyhow::Result<Node<F>> {
         let start = Instant::now(rt);
+        let found = found_by(&files, alloc, &config);
         let store = match VoterStore::open(rt, alloc, config, files, Nobody) {
             Ok(store) => store,
             Err(refused) => return Err(refused.cause.into()),
@@ -36,7 +39,8 @@ impl<F: FileSystem + Sync + Drop> Node<F> {
         let millis = millis_since(rt, start);
         info!(
             rt;
-            "opened in {millis} ms: append files {} to {}, rewrite files {} to {}", append.0, append.1, rewrite.0, rewrite.1
+            "found {} files of {} bytes, opened in {millis} ms: append files {} to {}, rewrite files {} to {}",
+            found.files, found.bytes, append.0, append.1, rewrite.0, rewrite.1
         );
         Ok(Node {
             alloc,
@@ -45,10 +49,11 @@ impl<F: FileSystem + Sync + Drop> Node<F> {
         })
     }
 
-    /// A line for each voter that is stored, its group and its status, sorted by group.
-    pub fn voter_lines(&mut self) -> anyhow::Result<String> {
+    /// A line for each voter that is stored, its group and its status, sorted by group. How many there are is logged.
+    pub fn voter_lines<R: Log>(&mut self, rt: &R) -> anyhow::Result<String> {
         let mut lines = String::new(self.alloc);
         let mut voters = self.store.voters()?;
+        info!(rt; "{} groups stand", voters.len());
         for (group, voter) in voters.iter_mut() {
             let status = voter.step(&Request::Status)?;
             write!(lines, "voter {group} {status}\n")?;

@@ -1,5 +1,5 @@
 -- A purge keeps the voters that threads are served; where the store failed in it, a file call did.
-use Rattle.std.proofs.Common.{◌≡◌, ◌∙◌, inl, inr, ℕ, true, false, [], sym, subst}
+use Rattle.std.proofs.Common.{◌≡◌, ◌∙◌, inl, inr, ℕ, true, [], sym, subst}
 use Rattle.std.proofs.lemmas.Bool.{false≢true}
 use Rattle.raft_log_record_base.specs.declared.errors.Error.{Error}
 use Rattle.raft_log_engine_laws.specs.Shows.{Home, Shows, has_failed}

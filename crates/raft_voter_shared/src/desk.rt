@@ -28,7 +28,6 @@ use std::sync::ledger::Book;
 /// call failed then, between two states of the store, of which the first served what the records before had led to.
 #[derive(Drop)]
 pub struct Desk<R, S: RoundService<R>, L: Opening> {
-    alloc: Global,
     store: S,
     journal: Vec<Round>,
     failure: Option<Failure>,
@@ -61,7 +60,6 @@ impl<R, S: RoundService<R>, L: Opening> Desk<R, S, L> {
         ensures journal { result.journal.items ≡ [] }
     {
         Desk {
-            alloc,
             store,
             journal: Vec::new(alloc),
             failure: None,
@@ -74,13 +72,16 @@ impl<R, S: RoundService<R>, L: Opening> Desk<R, S, L> {
     /// handed out, or as it was cut off. The receipt tells whose round it was, and where it stands.
     ///
     /// There is none where the round was cut off (`Cut`); and nothing was taken where there was no memory for the
-    /// record or the receipt (`Memory`). A read of which there is no memory for a copy is refused.
+    /// record (`Memory`). The draft is of these requests. A read of which there is no memory for a copy is refused.
     pub fn serve(
         &mut self,
         rt: &R,
         seat: &mut Seat<L>,
         requests: &[(u64, Request)],
+        draft: Draft,
     ) -> Result<Receipt, SharedFault>
+        requires drafted { draft.requests ≡ requests.now }
+        requires asked { draft.asked ≡ requests.now }
         ensures noted { IfOk result (λ receipt. NotesAnswered S.service requests.now receipt.replies
             self.old.store self.old.journal.items self.new.store self.new.journal.items) }
         ensures whose { IfOk result (λ receipt. receipt ≡ record {
@@ -99,7 +100,6 @@ impl<R, S: RoundService<R>, L: Opening> Desk<R, S, L> {
         ensures seat { (seat.new.number ≡ seat.old.number) × (seat.new.parts ≡ seat.old.parts) }
     {
         let Desk {
-            alloc,
             store,
             journal,
             failure,
@@ -107,9 +107,6 @@ impl<R, S: RoundService<R>, L: Opening> Desk<R, S, L> {
             runtime: _,
         } = self;
         let Ok(()) = journal.reserve(1) else {
-            return Err(SharedFault::Memory);
-        };
-        let Ok(draft) = Draft::new(*alloc, requests) else {
             return Err(SharedFault::Memory);
         };
         let place = journal.len();
@@ -161,7 +158,6 @@ impl<R, S: RoundService<R>, L: Opening> Desk<R, S, L> {
         ensures count { length result.journal.items ≡ sum_by (λ seat. seat.turn) seats.items }
     {
         let Desk {
-            alloc: _,
             store,
             journal,
             failure,
@@ -189,7 +185,6 @@ impl<R, S: Maintenance<R>, L: Opening> Desk<R, S, L> {
         ensures keeps { KeepsServed S.service self.old.store self.new.store }
     {
         let Desk {
-            alloc: _,
             store,
             journal: _,
             failure,

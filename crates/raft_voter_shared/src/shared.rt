@@ -4,6 +4,7 @@ ghost use Rattle.raft_voter.specs.Rounds.{World};
 ghost use Rattle.raft_voter.specs.Service.{IsOpenAt};
 
 use crate::desk::Desk;
+use crate::draft::Draft;
 use crate::maintenance::Maintenance;
 use crate::opening::Opening;
 use crate::receipt::{Receipt, SharedFault};
@@ -17,6 +18,7 @@ use std::sync::{Mutex, Wait};
 /// A store of voters under one lock, lent to threads by reference. Each thread has a seat of its own.
 #[derive(Drop)]
 pub struct SharedStore<R, S: RoundService<R>, L: Opening> {
+    alloc: Global,
     desk: Mutex<Desk<R, S, L>>,
     parts: u64,
     ghost all: { parts ≡ L.all },
@@ -47,7 +49,10 @@ impl<R, S: RoundService<R>, L: Opening> SharedStore<R, S, L> {
     {
         let (book, share) = blank.open::<L>();
         let desk = Mutex::new(Desk::new(alloc, store, book));
-        (SharedStore { desk, parts }, Seat::first(share, parts))
+        (
+            SharedStore { alloc, desk, parts },
+            Seat::first(share, parts),
+        )
     }
 
     /// Serves a round of a seat while no other thread does: the round is noted in the journal, and the receipt
@@ -76,7 +81,11 @@ impl<R, S: RoundService<R>, L: Opening> SharedStore<R, S, L> {
         ensures faults { IfErr result (λ fault. seat.new.turn ≡ seat.old.turn + records_of fault) }
         ensures same { (seat.new.number ≡ seat.old.number) × (seat.new.parts ≡ seat.old.parts) }
     {
-        self.desk.lock(rt).serve(rt, seat, requests)
+        // (what needs no store is done before the lock is taken)
+        let Ok(draft) = Draft::new(self.alloc, requests) else {
+            return Err(SharedFault::Memory);
+        };
+        self.desk.lock(rt).serve(rt, seat, requests, draft)
     }
 
     /// The store and its journal, once all seats are there. Whichever voters it served as it was shared, the
@@ -112,12 +121,13 @@ impl<R, S: RoundService<R>, L: Opening> SharedStore<R, S, L> {
         ensures errors { IfErr result (λ fault. (rounds : List Round)
             × IsCause rounds L.all (sum_by (λ seat. seat.parts) seats.items) receipts.items fault.cause) }
     {
-        let SharedStore { desk, parts } = self;
+        let SharedStore { alloc, desk, parts } = self;
         let desk = desk.into_inner();
         match desk.fault(parts, seats.as_slice(), receipts.as_slice()) {
             Some(cause) => Err(SettleFault {
                 cause,
                 store: SharedStore {
+                    alloc,
                     desk: Mutex::new(desk),
                     parts,
                 },

@@ -27,7 +27,7 @@ invariant_of-self-in-Ok-serve g c =
     let told = c.in-Ok-serve.replies in
     let handed = c.answered-round.result.2 in
     let lives = c.in-Ok-serve.ensures.lives in
-    let asks = c.in-Ok-new.ensures.requests in
+    let asks = c.requires.drafted in
     let zip = subst (λ (qs : List (ℕ × Request)). AllZip HandsOut (take (length qs) told) handed) asks c.answered-round.ensures.replies in
     let answers = handed_round v asked told handed old.store now c.in-Ok-serve.ensures.ok zip in
     let noted : c.note.new.journal.items ≡ rounds ++ answered asked handed ∷ [] =
@@ -54,7 +54,7 @@ pub returns-in-Ok-serve-clause-noted : goal.returns-in-Ok-serve-clause-noted
 returns-in-Ok-serve-clause-noted g c =
     let told = c.in-Ok-serve.replies in
     let handed = c.answered-round.result.2 in
-    let asks = c.in-Ok-new.ensures.requests in
+    let asks = c.requires.drafted in
     let rounds = c.args.self.now.journal.items in
     let zip = subst (λ (qs : List (ℕ × Request)). AllZip HandsOut (take (length qs) told) handed) asks c.answered-round.ensures.replies in
     record {
@@ -81,7 +81,7 @@ invariant_of-self-in-Err g c =
     let fails = c.in-Err.ensures.errors in
     let noted : c.note-in-Err.new.journal.items ≡ rounds ++ cut_off asked refused ∷ [] =
     c.note-in-Err.ensures.journal ∙ ap (λ (rs : List Round). rs ++ c.cut_off.result ∷ []) c.reserve.ensures.items
-    ∙ ap (λ (r : Round). rounds ++ r ∷ []) (c.cut_off.ensures ∙ ap (λ qs. cut_off qs refused) c.in-Ok-new.ensures.requests) in
+    ∙ ap (λ (r : Round). rounds ++ r ∷ []) (c.cut_off.ensures ∙ ap (λ qs. cut_off qs refused) c.requires.drafted) in
     let here : c.len-place.result ≡ length rounds = omega (arith, c.len-place.ensures, c.reserve.new.self.ok, ap length c.reserve.ensures.items) in
     let failed : c.failure_behind.result ≡ failure_behind cause (length rounds) old.failure =
     c.failure_behind.ensures ∙ ap (λ place. failure_behind cause place old.failure) here in

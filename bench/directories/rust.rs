@@ -1,5 +1,6 @@
 // The plainest writer that there is: the same entries' bytes and 64 more a batch, behind each other into a file whose blocks
-// were written before, a data sync a batch; and the bytes of the long ones read again.
+// were written before, a data sync a batch; and the bytes of the long ones read again, into memory that is kept (as a log over
+// a real directory keeps them), and into room that is used again.
 use std::fs::{File, OpenOptions};
 use std::io::Read;
 use std::os::unix::fs::FileExt;
@@ -38,8 +39,14 @@ fn appended(work: &str, size: usize) {
 }
 
 fn main() {
-    appended("short", 128);
-    appended("long", 2_118);
+    for (work, size) in [("short", 128), ("long", 2_118), ("short-prefilled", 128), ("long-prefilled", 2_118)] {
+        appended(work, size);
+    }
+    let entries: u64 = (0..BATCHES).map(|number| (number % 16 + 1) * 2_118).sum();
+    let start = Instant::now();
+    let kept = std::fs::read("long").unwrap();
+    report("loaded", kept.len() as u64, start, entries);
+    drop(kept);
     let start = Instant::now();
     let mut file = File::open("long").unwrap();
     let mut bytes = vec![0u8; 1 << 20];

@@ -112,6 +112,9 @@ class Judge:
             if answer.startswith("refused hole") and refused == "hole":
                 self.counts["opened by several workers alone, and not again"] += 1
                 return
+            if answer.split(" ")[:2] in (["refused", "corruption"], ["refused", "codec"], ["refused", "hole"]) and self.is_doubled(meaning):
+                self.counts["a file of a doubled number came back, and refuses the log"] += 1
+                return
             if answer != "ok":
                 raise Wrong(f"isn't opened again: {answer}")
         told = told_map(self.player.ask("map"))

@@ -8,7 +8,7 @@ use raft_voter_store_player::settings::{COPIED, SPILLED, USUAL};
 use raft_voter_store_player::steps::Step;
 use raft_voter_store_player::steps::Step::{
     Crash, CrashFirst, CrashKeeping, File, Fork, Maintain, Refuse, RefuseInPart, Reopen,
-    RewriteAppend, Round, Space, Span, Stop,
+    RewriteAppend, Round, Size, Space, Span, Stop,
 };
 
 /// Candidate 2 asks for a vote in term 5, and candidates 3 and 4 do.
@@ -267,8 +267,13 @@ fn what_a_stop_leaves_is_found(rt: HostRuntime) {
     }
 }
 
-/// The second file of Append, in the other directory.
+/// The second file of Append, and the fourth one, in the other directory.
 const SPILLED_FILE: Step = File("spill/0000000000000002.raftlog");
+
+const LAST_SPILLED_FILE: Step = File("spill/0000000000000004.raftlog");
+
+/// The states of three groups are asked for.
+const ALL_STATES: Step = Round(&[(1, Status), (2, Status), (3, Status)]);
 
 /// An entry of 900 bytes has a record of 1,000: for it there is no space beside the header in the first directory, so
 /// it is written in a file of the other one.
@@ -295,20 +300,60 @@ const WITHOUT_SPACE: [(Step, &str); 7] = [
     (Span, "1 to 3"),
 ];
 
-/// Where there is no space for one more file, the round is cut off, and the store has failed.
-const WITHOUT_A_FILE: [(Step, &str); 6] = [
+/// One request of a round is refused so, and those around it are answered: the records of the votes have 73 bytes, and
+/// lie in the second file, behind its header of 69, and in the fourth one. Behind a crash all of it is found, and again
+/// behind a close.
+const WITHOUT_SPACE_FOR_ONE: [(Step, &str); 9] = [
+    (Space("raft", 100), "armed"),
+    (Space("spill", 4_000), "armed"),
+    (
+        Round(&[(1, Vote(5, 2)), (2, AppendLong(1, 3_900)), (3, Vote(1, 7))]),
+        "Granted 5; Refused; Granted 1",
+    ),
+    (Span, "1 to 4"),
+    (Size, "69 bytes"),
+    (LAST_SPILLED_FILE, "there"),
+    (Crash(4), "open"),
+    (Reopen(1), "open"),
+    (
+        ALL_STATES,
+        "Status 5 2 0 0 0 0 0; Status 0 - 0 0 0 0 0; Status 1 7 0 0 0 0 0",
+    ),
+];
+
+/// Where there is no space for one more file, the round is cut off, and the store has failed; behind a crash there is
+/// no entry.
+const WITHOUT_A_FILE: [(Step, &str); 8] = [
     (Space("raft", 100), "armed"),
     (Space("spill", 100), "armed"),
     (Round(&[(1, AppendLong(1, 900))]), "cut"),
     (Span, "no span"),
     (SECOND, "failed"),
     (STATE, "failed"),
+    (Crash(4), "open"),
+    (STATE, "Status 0 - 0 0 0 0 0"),
 ];
 
-const LITTLE_SPACE: [(&str, &[(Step, &str)]); 3] = [
+/// A first vote made room for a whole file of 1,024 bytes. So there is space for another one, up to 215, and none for an
+/// entry whose record has 1,000: the round is cut off behind its first request, which is found behind a crash.
+const WITHOUT_A_FILE_BEHIND: [(Step, &str); 6] = [
+    (SECOND, "Granted 5"),
+    (Space("raft", 100), "armed"),
+    (Space("spill", 100), "armed"),
+    (Round(&[(3, Vote(1, 7)), (2, AppendLong(1, 900))]), "cut"),
+    (Crash(4), "open"),
+    (
+        ALL_STATES,
+        "Status 5 2 0 0 0 0 0; Status 0 - 0 0 0 0 0; Status 1 7 0 0 0 0 0",
+    ),
+];
+
+const LITTLE_SPACE: [(&str, &[(Step, &str)]); 5] = [
     ("for the record in the other directory", &SPILLED_BEHIND),
     ("for one more file", &WITHOUT_SPACE),
+    ("for one more file, one of three", &WITHOUT_SPACE_FOR_ONE),
     ("for none", &WITHOUT_A_FILE),
+    ("for none, behind a vote", &WITHOUT_A_FILE_BEHIND),
 ];
 
 #[test]

@@ -20,3 +20,16 @@ pub const TWO_GROUPS: [Step; 2] = [
     Step::Round(&[(1, Ask::Append(1, (0, 0), 0, &[1])), (2, Ask::Vote(1, 1))]),
     Step::Round(&[(2, Ask::Retire)]),
 ];
+
+/// Entries are rewritten, others take the place of the last ones, and all are compacted and rewritten.
+pub const REWRITTEN: [Step; 6] = [
+    Step::Round(&[(1, Ask::Append(1, (0, 0), 0, &[1; 20]))]),
+    Step::RewriteAppend,
+    Step::Round(&[
+        (1, Ask::Append(2, (14, 1), 16, &[2, 2])),
+        (1, Ask::Compact(16)),
+    ]),
+    Step::RewriteAppend,
+    Step::Reopen(1),
+    Step::Round(&[(1, Ask::Status)]),
+];

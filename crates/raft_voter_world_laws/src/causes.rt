@@ -1,4 +1,5 @@
-//! Why each round of a run is told as it is, and each purge of it was answered or refused; and that its stores serve voters.
+//! Why each round of a run is told as it is, and each purge of it was answered or refused; and that its stores serve
+//! voters.
 
 ghost use Rattle.raft_voter_world_laws.specs.Causes.{EachPurgeHasItsCause, EachRoundHasItsCause, StoresOfRunsServe};
 

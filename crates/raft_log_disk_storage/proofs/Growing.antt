@@ -21,7 +21,7 @@ length-spliced at bytes old =
     omega (arith, whole, size)
 
 -- a write of some bytes fills its file up to its end
-length-written : (at : ℕ) (bytes old : List ℕ) → 0 < length bytes → length (overwritten at bytes old) ≡ length old + (at + length bytes - length old)
+pub length-written : (at : ℕ) (bytes old : List ℕ) → 0 < length bytes → length (overwritten at bytes old) ≡ length old + (at + length bytes - length old)
 length-written at [] old some = absurd (omega arith)
 length-written at (b ∷ bs) old some = length-spliced at (b ∷ bs) old
 

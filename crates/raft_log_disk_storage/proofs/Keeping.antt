@@ -66,7 +66,7 @@ kept_stamps (Some stored) = stamps_on stored.changes.items
 
 file_kept : (o : Option Stored) → file_stamps (option_map held o) ≡ kept_stamps o
 file_kept None = refl
-file_kept (Some stored) = stamps_made stored.changes.items stored.content.items
+file_kept (Some stored) = stamps_made stored.changes.items stored.content
 
 -- one file's stamps more
 pub stamps_more : (files : List (Option Stored)) (i : ℕ) (o : Option Stored) (front after : List ℕ) → i < length files → o ≡ get_or files i o

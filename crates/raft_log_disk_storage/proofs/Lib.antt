@@ -16,3 +16,4 @@ pub mod Exits
 pub mod Fronts
 pub mod Listings
 pub mod Growing
+pub mod Zeros

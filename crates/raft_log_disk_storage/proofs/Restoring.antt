@@ -1,28 +1,14 @@
 -- What a change replaced, put back behind it, makes the content before it.
 use Rattle.std.specs.Prelude.{◌≡◌, ℕ, ◌+◌, ◌-◌, ◌<◌, ◌≤◌, ◌⊎◌, min, List, [], ◌∷◌, ◌++◌, length, Result, Ok, Err, IfOk}
-use Rattle.std.proofs.Common.{refl, sym, ◌∙◌, ap, subst, arith, inl, inr, get_or, take, drop}
-use Rattle.std.proofs.lemmas.List.{ext_get_or, get_or_append_left, get_or-append_right, get_or-take, get_or-drop, take_all, drop_all, take-append-drop, length-append, length-take, length-take-le, length-drop, length-replicate}
+use Rattle.std.proofs.Common.{refl, sym, ◌∙◌, ap, arith, inl, inr, get_or, take, drop}
+use Rattle.std.proofs.lemmas.List.{ext_get_or, get_or_append_left, get_or-take, get_or-drop, take_all, take-append-drop, length-append, length-take, length-take-le, length-drop}
 use Rattle.std.proofs.lemmas.Bool.{cases_lt}
-use Rattle.raft_log_disk.specs.Disk.{Change, Wrote, ShortenedTo, GrewTo, zeros, grown, spliced, overwritten, changed}
+use Rattle.raft_log_disk.specs.Disk.{Change, Wrote, ShortenedTo, GrewTo, zeros, grown, overwritten, changed}
 use Rattle.raft_log_disk.proofs.ChangeLaws.{overwritten_torn, overwritten_at_end}
 use Rattle.raft_log_disk_storage.specs.declared.former.Former.{Former}
 use Rattle.raft_log_disk_storage.specs.Former.{replaced, Keeps, Restores}
 use Rattle.raft_log_disk_storage.proofs.Growing.{length-grown}
-
-spliced_inside : (at : ℕ) (bytes old : List ℕ) (i : ℕ) → i < length bytes → get_or (spliced at bytes old) (at + i) 0 ≡ get_or bytes i 0
-spliced_inside at bytes old i below =
-    let room : List ℕ = grown (at + length bytes) old in
-    let size = length-grown (at + length bytes) old in
-    let front : length (take at room) ≡ at = length-take-le at room (omega (arith, size)) in
-    let moved : at + i - at ≡ i = omega arith in
-    get_or-append_right (take at room) (bytes ++ drop (at + length bytes) room) at (at + i) 0 front (omega arith)
-    ∙ (ap (λ (n : ℕ). get_or (bytes ++ drop (at + length bytes) room) n 0) moved
-    ∙ get_or_append_left bytes (drop (at + length bytes) room) 0 i below)
-
--- what a write put somewhere stands there
-overwritten_inside : (at : ℕ) (bytes old : List ℕ) (i : ℕ) → i < length bytes → get_or (overwritten at bytes old) (at + i) 0 ≡ get_or bytes i 0
-overwritten_inside at [] old i below = absurd (omega (arith, below))
-overwritten_inside at (b ∷ bs) old i below = spliced_inside at (b ∷ bs) old i below
+use Rattle.raft_log_disk_storage.proofs.Zeros.{overwritten_inside, front_changed}
 
 overwritten_reaches : (at : ℕ) (bytes old : List ℕ) → 0 < length bytes → at + length bytes ≤ length (overwritten at bytes old)
 overwritten_reaches at [] old some = absurd (omega (arith, some))
@@ -111,15 +97,21 @@ restores (GrewTo size) old =
     put_back (length old) (length old) old (old ++ gap) (omega arith) (omega arith) (omega (arith, length-append old gap))
     (λ i below out. get_or_append_left old gap 0 i below)
 
--- what a change is about to replace, kept, is what restores the content
-pub kept_restores : {E : Type 0} (change : Change) (content : List ℕ) (span : ℕ × ℕ) (r : Result Former E) → span ≡ replaced change (length content)
-    → IfOk r (Keeps content span.0 span.1) → IfOk r (Restores change content)
-kept_restores change content span (Err e) is keeps = tt
-kept_restores change content span (Ok former) is keeps =
+-- what a change is about to replace in the front of a content, kept, is what restores the content
+pub kept_restores : {E : Type 0} (change : Change) (content front : List ℕ) (span : ℕ × ℕ) (r : Result Former E) → content ≡ grown (length content) front
+    → span ≡ replaced change (length front) → IfOk r (Keeps (length content) front span.0 span.1) → IfOk r (Restores change content)
+kept_restores change content front span (Err e) all is keeps = tt
+kept_restores change content front span (Ok former) all is keeps =
     let after : List ℕ = changed change content in
-    let own : ℕ × ℕ = replaced change (length content) in
+    let own : ℕ × ℕ = replaced change (length front) in
+    let over : List ℕ = take (own.1 - own.0) (drop own.0 front) in
     let start : former.place ≡ own.0 = keeps.place ∙ ap (λ (s : ℕ × ℕ). s.0) is in
-    let bytes : former.bytes.items ≡ take (own.1 - own.0) (drop own.0 content) = keeps.bytes ∙ ap (λ (s : ℕ × ℕ). take (s.1 - s.0) (drop s.0 content)) is in
-    ap (λ (n : ℕ). overwritten n former.bytes.items (take former.size after)) start
-    ∙ (ap (λ (xs : List ℕ). overwritten own.0 xs (take former.size after)) bytes
-    ∙ (ap (λ (n : ℕ). overwritten own.0 (take (own.1 - own.0) (drop own.0 content)) (take n after)) keeps.size ∙ restores change content))
+    let bytes : former.bytes.items ≡ over = keeps.kept ∙ ap (λ (s : ℕ × ℕ). take (s.1 - s.0) (drop s.0 front)) is in
+    let left : take former.front after ≡ take (length front) (changed change front) =
+    ap (λ (n : ℕ). take n after) keeps.front
+    ∙ (ap (λ (xs : List ℕ). take (length front) (changed change xs)) all ∙ front_changed change (length content) front) in
+    ap (λ (n : ℕ). grown n (overwritten former.place former.bytes.items (take former.front after))) keeps.size
+    ∙ (ap (λ (n : ℕ). grown (length content) (overwritten n former.bytes.items (take former.front after))) start
+    ∙ (ap (λ (xs : List ℕ). grown (length content) (overwritten own.0 xs (take former.front after))) bytes
+    ∙ (ap (λ (xs : List ℕ). grown (length content) (overwritten own.0 over xs)) left
+    ∙ (ap (grown (length content)) (restores change front) ∙ sym all))))

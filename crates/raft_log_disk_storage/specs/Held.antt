@@ -45,9 +45,9 @@ items_of strings = map (λ (v : Vec ℕ Global). v.items) strings
 -- what is kept of a file: the content, and, by taking back the changes, what was synced and what they wrote
 abbrev pub held : Stored → Held
 held stored = record {
-  content = stored.content.items;
-  synced = before stored.changes.items stored.content.items;
-  changes = made_in stored.changes.items stored.content.items;
+  content = stored.content;
+  synced = before stored.changes.items stored.content;
+  changes = made_in stored.changes.items stored.content;
 }
 
 -- a file whose bytes are all synced

@@ -3,7 +3,7 @@ ghost use Rattle.std.specs.Prelude.{◌≡◌, ◌<◌, ◌^◌, length, OnOk, O
 ghost use Rattle.raft_log_disk.specs.Disk.{changed, file_limit};
 ghost use Rattle.raft_log_disk.specs.Image.{end_of};
 
-use crate::bytes::{grow_to, overwrite};
+use crate::content::Content;
 use crate::former::Former;
 use std::alloc::{AllocError, Global};
 
@@ -48,19 +48,19 @@ impl Change {
     ghost use Rattle.raft_log_disk_storage.specs.Left.{left_front, left_as};
 
     // Makes the change, a write with these bytes. Without memory nothing changes.
-    pub(crate) fn carry_out(&self, bytes: &[u8], content: &mut Vec<u8>) -> Result<(), AllocError>
+    pub(crate) fn carry_out(&self, bytes: &[u8], content: &mut Content) -> Result<(), AllocError>
         requires { end_of (change_of self.now bytes.now) < file_limit }
         ensures ok { OnOk result
-            (content.new.items ≡ changed (change_of self.now bytes.now) content.old.items) }
-        ensures err { OnErr result (content.new.items ≡ content.old.items) }
+            (content.new ≡ changed (change_of self.now bytes.now) content.old) }
+        ensures err { OnErr result (content.new ≡ content.old) }
     {
         match self {
-            Change::Write { offset, rest: _ } => overwrite(content, *offset, bytes),
+            Change::Write { offset, rest: _ } => content.write(*offset, bytes),
             Change::Shortening { size } => {
-                content.truncate(*size);
+                content.shorten(*size);
                 Ok(())
             }
-            Change::Growth { size } => grow_to(content, *size),
+            Change::Growth { size } => content.grow(*size),
         }
     }
 
@@ -69,15 +69,15 @@ impl Change {
         &self,
         count: usize,
         bytes: &[u8],
-        content: &mut Vec<u8>,
+        content: &mut Content,
     ) -> Result<(), AllocError>
         requires { end_of (change_of self.now bytes.now) < file_limit }
         ensures { OnOk result
-            (content.new.items ≡ left_front count (change_of self.now bytes.now) content.old.items) }
+            (content.new ≡ left_front count (change_of self.now bytes.now) content.old) }
     {
         match self {
             Change::Write { offset, rest: _ } => {
-                overwrite(content, *offset, &bytes[..count.min(bytes.len())])
+                content.write(*offset, &bytes[..count.min(bytes.len())])
             }
             Change::Shortening { size: _ } | Change::Growth { size: _ } => Ok(()),
         }
@@ -88,15 +88,15 @@ impl Change {
         &self,
         other: &[u8],
         bytes: &[u8],
-        content: &mut Vec<u8>,
+        content: &mut Content,
     ) -> Result<(), AllocError>
         requires { end_of (change_of self.now bytes.now) < file_limit }
         ensures { OnOk result
-            (content.new.items ≡ left_as other.now (change_of self.now bytes.now) content.old.items) }
+            (content.new ≡ left_as other.now (change_of self.now bytes.now) content.old) }
     {
         match self {
             Change::Write { offset, rest: _ } => {
-                overwrite(content, *offset, &other[..bytes.len().min(other.len())])
+                content.write(*offset, &other[..bytes.len().min(other.len())])
             }
             Change::Shortening { size: _ } | Change::Growth { size: _ } => {
                 self.carry_out(bytes, content)
@@ -109,16 +109,17 @@ impl Change {
         &self,
         alloc: Global,
         bytes: &[u8],
-        content: &[u8],
+        content: &Content,
     ) -> Result<Former, AllocError>
-        requires { length content.now < 2 ^ 63 }
         ensures { IfOk result (Restores (change_of self.now bytes.now) content.now) }
     {
-        let (start, end) = self.replaced(bytes, content.len());
-        Former::of(alloc, content, start, end)
+        let size = content.len();
+        let front = content.front();
+        let (start, end) = self.replaced(bytes, front.len());
+        Former::of(alloc, size, front, start, end)
     }
 
-    // Which places of a content of this size the change replaces: from the first one up to the second.
+    // Which places the change replaces of a content whose front has this size: from the first one up to the second.
     fn replaced(&self, bytes: &[u8], size: usize) -> (usize, usize)
         requires { size < 2 ^ 63 }
         ensures { result ≡ replaced (change_of self.now bytes.now) size }
@@ -134,16 +135,17 @@ impl Change {
     }
 
     // The bytes that a write of so many left in a content.
-    fn bytes_in<'a>(&self, length: usize, content: &'a [u8]) -> &'a [u8]
-        ensures { result.now ≡ bytes_in self.now length content.now }
+    fn bytes_in(
+        &self,
+        alloc: Global,
+        length: usize,
+        content: &Content,
+    ) -> Result<Vec<u8>, AllocError>
+        ensures { IfOk result (λ bytes. bytes.items ≡ bytes_in self.now length content.now) }
     {
         match self {
-            Change::Write { offset, rest: _ } => {
-                let start = content.len().min(*offset);
-                let end = content.len().min(offset.saturating_add(length));
-                &content[start..end]
-            }
-            Change::Shortening { size: _ } | Change::Growth { size: _ } => &[],
+            Change::Write { offset, rest: _ } => content.piece(alloc, *offset, length),
+            Change::Shortening { size: _ } | Change::Growth { size: _ } => Ok(Vec::new(alloc)),
         }
     }
 }
@@ -156,13 +158,13 @@ impl Stamped {
     pub(crate) fn take_back(
         &self,
         alloc: Global,
-        content: &mut Vec<u8>,
+        content: &mut Content,
     ) -> Result<Vec<u8>, AllocError>
-        ensures before { OnOk result (content.new.items ≡ restored self.now.former content.old.items) }
+        ensures before { OnOk result (content.new ≡ restored self.now.former content.old) }
         ensures bytes { IfOk result (λ bytes.
-            bytes.items ≡ bytes_in self.now.change self.now.length content.old.items) }
+            bytes.items ≡ bytes_in self.now.change self.now.length content.old) }
     {
-        let bytes = Vec::from_slice(alloc, self.change.bytes_in(self.length, content))?;
+        let bytes = self.change.bytes_in(alloc, self.length, content)?;
         self.former.put_back(content)?;
         Ok(bytes)
     }

@@ -6,6 +6,7 @@ ghost use Rattle.raft_log_disk_storage.specs.Changes.{change_of, rest_of, asked_
 ghost use Rattle.raft_log_disk_storage.specs.Held.{SameHeld, ChangesHeld, with_made, all_synced};
 
 use crate::change::{Change, Stamped};
+use crate::content::Content;
 use std::alloc::{AllocError, Global};
 
 /// A file's bytes. Each stands here once: what was synced, and what the changes since wrote, is had from the
@@ -13,7 +14,7 @@ use std::alloc::{AllocError, Global};
 #[derive(Debug, Drop)]
 pub struct Stored {
     /// As a read gives them.
-    pub content: Vec<u8>,
+    pub content: Content,
     /// What was changed since the last sync, the oldest first.
     pub changes: Vec<Stamped>,
 }
@@ -22,8 +23,8 @@ impl Stored {
     ghost use Rattle.raft_log_disk_storage.specs.Held.{held, resting};
 
     // A file whose bytes are all synced.
-    pub(crate) fn at_rest(alloc: Global, content: Vec<u8>) -> Stored
-        ensures { held result ≡ resting content.items }
+    pub(crate) fn at_rest(alloc: Global, content: Content) -> Stored
+        ensures { held result ≡ resting content }
     {
         Stored {
             content,

@@ -4,6 +4,7 @@
 
 mod bytes;
 pub mod change;
+pub mod content;
 pub mod files;
 pub mod former;
 pub mod laws;
@@ -13,6 +14,7 @@ mod remains;
 pub mod storage;
 
 pub use change::{Change, Stamped};
+pub use content::Content;
 pub use files::Stored;
 pub use former::Former;
 pub use remainder::{Piece, Remainder};

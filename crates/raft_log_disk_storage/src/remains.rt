@@ -9,6 +9,7 @@ ghost use Rattle.raft_log_disk_storage.specs.Left.{left_by};
 ghost use Rattle.raft_log_disk_storage.specs.Stamps.{left_of_file, left_held, place_in};
 
 use crate::change::{Change, Stamped};
+use crate::content::Content;
 use crate::files::Stored;
 use crate::order::place_of;
 use crate::remainder::{Piece, Remainder};
@@ -20,11 +21,11 @@ fn carry_out(
     place: usize,
     change: &Change,
     bytes: &[u8],
-    content: &mut Vec<u8>,
+    content: &mut Content,
 ) -> Result<(), AllocError>
     requires { end_of (change_of change.now bytes.now) < file_limit }
     ensures { OnOk result
-        (content.new.items ≡ left_by what.now place (change_of change.now bytes.now) content.old.items) }
+        (content.new ≡ left_by what.now place (change_of change.now bytes.now) content.old) }
 {
     match what {
         Remainder::LastSync => Ok(()),
@@ -53,11 +54,11 @@ fn carry_out(
 fn take_back(
     alloc: Global,
     changes: &[Stamped],
-    content: &mut Vec<u8>,
+    content: &mut Content,
 ) -> Result<Vec<Vec<u8>>, AllocError>
-    ensures before { OnOk result (content.new.items ≡ before changes.now content.old.items) }
+    ensures before { OnOk result (content.new ≡ before changes.now content.old) }
     ensures pieces { IfOk result (λ pieces.
-        items_of pieces.items ≡ reverse (all_written changes.now content.old.items)) }
+        items_of pieces.items ≡ reverse (all_written changes.now content.old)) }
 {
     let mut pieces = Vec::with_capacity(alloc, changes.len())?;
     let mut left = changes.len();
@@ -75,12 +76,12 @@ fn left_bytes(
     what: &Remainder,
     stamps: &[u64],
     stored: &Stored,
-) -> Result<Vec<u8>, AllocError>
+) -> Result<Content, AllocError>
     requires sorted { IsNonDecreasing stamps.now }
     requires short { AreShort (held stored.now).changes }
-    ensures { IfOk result (λ bytes. bytes.items ≡ left_of_file what.now stamps.now (held stored.now)) }
+    ensures { IfOk result (λ content. content ≡ left_of_file what.now stamps.now (held stored.now)) }
 {
-    let mut content = Vec::from_slice(alloc, &stored.content)?;
+    let mut content = stored.content.copied(alloc)?;
     let mut pieces = take_back(alloc, &stored.changes, &mut content)?;
     for stamped in &stored.changes {
         let place = place_of(stamps, stamped.stamp);
@@ -107,8 +108,8 @@ pub(crate) fn left_files(
     for slot in files {
         let after = match slot {
             Some(stored) => {
-                let bytes = left_bytes(alloc, what, stamps, stored)?;
-                Some(Stored::at_rest(alloc, bytes))
+                let content = left_bytes(alloc, what, stamps, stored)?;
+                Some(Stored::at_rest(alloc, content))
             }
             None => None,
         };

@@ -1,8 +1,8 @@
 //! What a file system in memory holds. Each change is made whole, or without memory not at all.
 ghost use Rattle.raft_log_disk_storage.specs.Listing.{TellsChild};
 
-use crate::bytes::copy_out;
 use crate::change::Change;
+use crate::content::Content;
 use crate::files::{Stored, change_file, flush_file};
 use crate::order::sorted_stamps;
 use crate::remainder::Remainder;
@@ -112,7 +112,7 @@ impl Storage {
     {
         if id < self.files.len() {
             if let Some(stored) = &self.files[id] {
-                return copy_out(&stored.content, offset, room);
+                return stored.content.copy_out(offset, room);
             }
         }
         0
@@ -326,8 +326,8 @@ impl Storage {
         let id = self.files.len();
         self.files.reserve(1)?;
         self.name(path, Node::File(id))?;
-        let empty = Some(Stored::at_rest(self.alloc, Vec::new(self.alloc)));
-        self.files.push(empty).unwrap();
+        let empty = Stored::at_rest(self.alloc, Content::from_vec(Vec::new(self.alloc)));
+        self.files.push(Some(empty)).unwrap();
         Ok(())
     }
 

@@ -15,7 +15,7 @@ carry_out-requires c =
     let us = c.args.stored.now.changes.items in
     let i = c.loop-stamped.stamped-index in
     let u = c.stamped-item.result in
-    let start = c.args.stored.now.content.items in
+    let start = c.args.stored.now.content in
     let rest = c.pop.new.self.items in
     let here : (i < length us) × (u ≡ get_or us i u) =
     subst (λ (vs : List Stamped). (i < length vs) × (u ≡ get_or vs i u)) c.deref-stamped-items.ensures.value (c.loop-stamped-test.true, c.stamped-item.is) in
@@ -32,8 +32,8 @@ loop-stamped-preserved c =
     let us = c.args.stored.now.changes.items in
     let i = c.loop-stamped.stamped-index in
     let u = c.stamped-item.result in
-    let start = c.args.stored.now.content.items in
-    let old = c.loop-stamped.content.items in
+    let start = c.args.stored.now.content in
+    let old = c.loop-stamped.content in
     let rest = c.pop.new.self.items in
     let here : (i < length us) × (u ≡ get_or us i u) =
     subst (λ (vs : List Stamped). (i < length vs) × (u ≡ get_or vs i u)) c.deref-stamped-items.ensures.value (c.loop-stamped-test.true, c.stamped-item.is) in
@@ -41,10 +41,10 @@ loop-stamped-preserved c =
     c.pop.ensures.items ∙ ap (λ (o : Option (Vec ℕ Global)). rest ++ option_to_list o) c.unwrap-piece.ensures in
     let next = next_piece us i u start c.loop-stamped.pieces.items rest c.unwrap-piece.result here.0 here.1 c.loop-stamped.invariant.pieces popped in
     let bytes : c.deref-in-loop-stamped.result.now ≡ written u (drop (i + 1) us) start = c.deref-in-loop-stamped.ensures.value ∙ next.1 in
-    let made : c.carry_out.new.content.items ≡ left_by what c.place_of-place.result (change_of u.change (written u (drop (i + 1) us) start)) old =
+    let made : c.carry_out.new.content ≡ left_by what c.place_of-place.result (change_of u.change (written u (drop (i + 1) us) start)) old =
     c.in_ok-carry_out.ensures ∙ ap (λ (xs : List ℕ). left_by what c.place_of-place.result (change_of u.change xs) old) bytes in
     record {
-      same = next_left what place us i u start old c.carry_out.new.content.items c.place_of-place.result here.0 here.1 c.place_of-place.ensures made ∙ c.loop-stamped.invariant.same;
+      same = next_left what place us i u start old c.carry_out.new.content c.place_of-place.result here.0 here.1 c.place_of-place.ensures made ∙ c.loop-stamped.invariant.same;
       pieces = next.0;
       ends = (next_ends us i u start here.0 here.1 c.loop-stamped.invariant.ends).1;
     }

@@ -1,4 +1,4 @@
-use Rattle.std.proofs.Common.{◌≡◌, ◌≤◌, ℕ, length, drop, reverse}
+use Rattle.std.proofs.Common.{◌≡◌, ◌≤◌, length, drop, reverse}
 use Rattle.raft_log_disk_storage.specs.Held.{before, all_written, items_of}
 use Rattle.raft_log_disk_storage.proofs.remains.take_back.Given as goal
 
@@ -6,8 +6,8 @@ use Rattle.raft_log_disk_storage.proofs.remains.take_back.Given as goal
 abbrev pub invariant-loop-left : goal.invariant-loop-left
 invariant-loop-left l = record {
   within : l.left ≤ length l.changes;
-  content : l.content.items ≡ before (drop l.left l.changes) l.initial.content.items;
-  pieces : items_of l.pieces.items ≡ reverse (all_written (drop l.left l.changes) l.initial.content.items);
+  content : l.content ≡ before (drop l.left l.changes) l.initial.content;
+  pieces : items_of l.pieces.items ≡ reverse (all_written (drop l.left l.changes) l.initial.content);
 }
 
 abbrev pub decreases-loop-left : goal.decreases-loop-left

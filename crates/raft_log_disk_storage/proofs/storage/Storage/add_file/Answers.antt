@@ -36,10 +36,10 @@ files_of_ok : (c : goal.After-unwrap) → (q : ℕ) → held_of c.push.new.self.
 files_of_ok c q =
     let old = c.args.self.now.files in
     let before : c.name.new.self.files.items ≡ old.items = ap (λ v. v.items) c.name.ensures.files ∙ c.reserve.ensures.items in
-    let pushed : c.push.new.self.items ≡ c.name.new.self.files.items ++ Some c.at_rest.result ∷ [] = search rules in
-    ap (λ xs. held_of xs q) (pushed ∙ ap (λ (xs : List (Option Stored)). xs ++ Some c.at_rest.result ∷ []) before)
-    ∙ (held_pushed old.items c.at_rest.result (vec_len old) old.ok.0 q
-    ∙ ap (λ (h : Held). update nat_eq (held_of old.items) (vec_len old) (Some h) q) (c.at_rest.ensures ∙ ap resting c.new.ensures.items))
+    let pushed : c.push.new.self.items ≡ c.name.new.self.files.items ++ Some c.at_rest-empty.result ∷ [] = search rules in
+    ap (λ xs. held_of xs q) (pushed ∙ ap (λ (xs : List (Option Stored)). xs ++ Some c.at_rest-empty.result ∷ []) before)
+    ∙ (held_pushed old.items c.at_rest-empty.result (vec_len old) old.ok.0 q
+    ∙ ap (λ (h : Held). update nat_eq (held_of old.items) (vec_len old) (Some h) q) (c.at_rest-empty.ensures ∙ ap resting (c.from_vec.ensures ∙ c.new.ensures.items)))
 
 abbrev after : goal.After-unwrap → Storage
 after c = record { alloc = c.name.new.self.alloc; paths = c.name.new.self.paths; files = c.push.new.self; made = c.name.new.self.made }

@@ -33,6 +33,7 @@ use Rattle.raft_log_file_blocks.proofs.Keeping.{calls_keep_bytes}
 use Rattle.raft_log_file_blocks.proofs.Staying.{stored_entries_stay}
 use Rattle.raft_log_file_blocks.proofs.Taking.{taken_entries_are_stored}
 use Rattle.raft_log_file_blocks.proofs.Lasting.{written_entries_are_stored}
+use Rattle.raft_log_file_blocks.proofs.WholeBlocks.{batch_whole}
 use Rattle.raft_log_file_blocks.specs.raft_log_table_all.specs.Views.{AreMeant, LieIn, view_of}
 use Rattle.raft_log_file_blocks.specs.raft_log_table_all.proofs.Growing.{view_grows}
 use Rattle.raft_log_file_blocks.specs.raft_log_table_all.proofs.Lying.{written_in}
@@ -97,7 +98,7 @@ module _ (home : Home) (e : Shows) (w : LogPipes) (b : Batch) (block : FileBlock
       let grow = batch_grows b block e.tables h.map h.meant.orderly ready.marked ready.follows in
       let ends = append_answered (Ties (log_in home)) (AllowsIn (log_in home)) s t (view_of e.tables h.map) m pending h.at (view_of after (taken h.map (said_of b ∷ []))) (said_of b) block.id.seq step grow in
       let tied = ends.at.there.append in
-      let stand = written_entries_are_stored t says.value block b.items b.entries (omega (arith, tied.above)) (record { some = ready.some; laid = ready.laid.laid; adds = ready.laid.adds }) last in (
+      let stand = written_entries_are_stored t says.value block b.items b.entries (omega (arith, tied.above)) (record { some = ready.some; laid = ready.laid.laid; adds = ready.laid.adds }) (batch_whole b ready.some ready.says) last in (
         files,
         keeps,
         runs,

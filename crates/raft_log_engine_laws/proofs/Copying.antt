@@ -17,7 +17,7 @@ use Rattle.raft_log_file_layout.specs.declared.record.LogRecord.{LogRecord}
 use Rattle.raft_log_record_batches.specs.Batch.{Batch, block_place}
 use Rattle.raft_log_record_batches.specs.Places.{entry_bytes}
 use Rattle.raft_log_table_runs.specs.Entries.{place_of}
-use Rattle.raft_log_file_blocks.specs.Signing.{signed_for}
+use Rattle.raft_log_file_blocks.specs.Signing.{SaysItself, signed_for}
 use Rattle.raft_log_directory_laws.specs.Calls.Which.{InRewrite}
 use Rattle.raft_log_directory_laws.specs.Tables.{CarriesTo}
 use Rattle.raft_log_table_runs.specs.declared.place.Place.{Place}
@@ -34,6 +34,7 @@ use Rattle.raft_log_file_blocks.specs.Stored.{AreStored, Each, IsStored, entries
 use Rattle.raft_log_file_blocks.specs.Written.{IsLaidOver, RunIsStored}
 use Rattle.raft_log_file_blocks.proofs.Staying.{means_alike}
 use Rattle.raft_log_file_blocks.proofs.Lasting.{written_entries_are_stored}
+use Rattle.raft_log_file_blocks.proofs.WholeBlocks.{batch_whole}
 use Rattle.raft_log_file_blocks.specs.raft_log_table_all.specs.Views.{AreMeant, ViewCarries, view_of}
 use Rattle.raft_log_file_blocks.specs.raft_log_table_all.proofs.Carrying.{copies_on}
 use Rattle.raft_log_file_blocks.specs.raft_log_table_all.proofs.Lying.{written_in}
@@ -155,15 +156,15 @@ module _ (P : Located → Type 0) where
 abbrev pub turned_round : State → State
 turned_round s = record { append = s.rewrite; rewrite = s.append; disk = s.disk }
 
-module _ (s : State) (r : LogRecord) (block : FileBlockHandle) (b : Batch) (spans : s.rewrite.first ≤ s.rewrite.files.last) (some : b.items ≡ [] → ⊥) (laid : IsLaidOut b) (last : HasLast (signed_for b) r block s.rewrite.files) where
+module _ (s : State) (r : LogRecord) (block : FileBlockHandle) (b : Batch) (spans : s.rewrite.first ≤ s.rewrite.files.last) (some : b.items ≡ [] → ⊥) (laid : IsLaidOut b) (says : SaysItself (signed_for b) b) (last : HasLast (signed_for b) r block s.rewrite.files) where
   over : IsLaidOver b.items b.entries
   over = record { some = some; laid = laid.laid; adds = laid.adds }
 
   pub says_there : SaysAt (entries_at s) block b
-  says_there = (written_entries_are_stored (turned_round s) r block b.items b.entries spans over last).1
+  says_there = (written_entries_are_stored (turned_round s) r block b.items b.entries spans over (batch_whole b some says) last).1
 
   pub runs_there : (g : ℕ) → Each (RunIsStored (turned_round s)) (of_group g (items_at block b))
-  runs_there g = (written_entries_are_stored (turned_round s) r block b.items b.entries spans over last).0 g
+  runs_there g = (written_entries_are_stored (turned_round s) r block b.items b.entries spans over (batch_whole b some says) last).0 g
 
 module _ (s : State) (at : Located → List ℕ) (n : ℕ) where
   all_lie : (v : Shown) (xs : List (Item Place (List ℕ))) → IsOrderly v → CanAllMove at v (moves_of n xs) → Each (RunIsStored (turned_round s)) xs → Each (IsStored s) (located v.rewritten v.places)
@@ -280,8 +281,8 @@ copies_written home e t gate b block m h alone copies call same kept =
     let these : HasCopies gate b e.tables h.map = subst (λ k. HasCopies gate b e.tables k) (held_map home e m h) copies in
     record_written home e t b block m h alone call (moved_to gate block b e.tables) same kept
     (λ s r last spans stored rises noted meant.
-    let says = says_there s r block b spans alone.some alone.laid last in (
-      copies_stored s gate block b e.tables h.map meant says these (runs_there s r block b spans alone.some alone.laid last) stored,
+    let says = says_there s r block b spans alone.some alone.laid alone.says last in (
+      copies_stored s gate block b e.tables h.map meant says these (runs_there s r block b spans alone.some alone.laid alone.says last) stored,
       moved_rises s gate block b e.tables h.map last.number meant says these rises,
       copies_noted s gate block b e.tables h.map meant says these noted,
       copies_carry (entries_at s) gate block b e.tables h.map meant says these,

@@ -257,7 +257,7 @@ end_is_taken home e t gate o b block m h k is has =
     let ps : List WrittenPart = with_end o block b in
     let at : Located → List ℕ = entries_at next in
     let meant : AreMeant at e.tables h.holds.map = (stored_entries_stay s next k.keeps e.tables h.holds.stored).1 h.holds.map h.holds.meant in
-    let lie : Each (LiesInRewrite next) ps = each_more (LiesInRewrite next) (parts_of o) p (parts_stay s next k.keeps (parts_of o) h.parts) (part_lies next k.value block b k.spans is.some is.laid k.last) in
+    let lie : Each (LiesInRewrite next) ps = each_more (LiesInRewrite next) (parts_of o) p (parts_stay s next k.keeps (parts_of o) h.parts) (part_lies next k.value block b k.spans is.some is.laid is.says k.last) in
     let says : Each (SaysPart at) ps = each_on (LiesInRewrite next) (SaysPart at) ps (λ q there. there.says) lie in
     let last = k.last.number in let later = k.keeps.rewrite.last in
     record {

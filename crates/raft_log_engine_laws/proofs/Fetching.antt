@@ -1,7 +1,8 @@
 -- What is read of entries through their blocks is the map's.
 use Rattle.std.proofs.Common.{◌≡◌, ◌⊎◌, ℕ, zero, suc, ◌+◌, ◌-◌, ◌<◌, ◌≤◌, Bool, true, false, List, [], ◌∷◌, ◌++◌, length, take, drop, map, Option, Some, None, inl, inr, refl, sym, ap, subst, ◌∙◌, arith, if◌then◌else◌, nat_le, nat_lt, option_map, slice_get}
-use Rattle.std.specs.Prelude.{Err, not}
+use Rattle.std.specs.Prelude.{Err, IsOk, not}
 use Rattle.std.proofs.lemmas.Bool.{cases_Bool, false≢true}
+use Rattle.std.proofs.lemmas.List.{length-drop, length-take-le}
 use Rattle.std.proofs.lemmas.Option.{slice_get-map}
 use Rattle.raft_log_model_laws.specs.Groups.{taken}
 use Rattle.raft_log_model_laws.specs.Meaning.{Content, Slot}
@@ -12,6 +13,7 @@ use Rattle.raft_log_model_laws.specs.Table.{content}
 use Rattle.raft_log_record_base.specs.declared.errors.Error.{Error}
 use Rattle.raft_log_record_base.specs.declared.errors.Error.TheVariants as errors
 use Rattle.raft_log_record_base.specs.declared.pipe_log.FileBlockHandle.{FileBlockHandle}
+use Rattle.raft_log_record_frames.specs.Record.{block_of}
 use Rattle.raft_log_record_items.specs.declared.entry.EntryIndex.{EntryIndex}
 use Rattle.raft_log_record_items.specs.Message.{Parses}
 use Rattle.raft_log_table_runs.specs.declared.place.Place.{Place}
@@ -20,14 +22,16 @@ use Rattle.raft_log_table_runs.specs.Entries.{entry_of, queue_of}
 use Rattle.raft_log_table_lists.specs.Shown.{Shown}
 use Rattle.raft_log_table_lists.specs.Bridge.{Located, in_queue, located, table_of}
 use Rattle.raft_log_table_one.specs.Reads.{AreIn, entries_from, entry_at, fetched, places_between}
-use Rattle.raft_log_file_blocks.specs.Stored.{Each, EntryLiesIn, IsStored, entries_at, part, queue_in}
+use Rattle.raft_log_file_blocks.specs.Stored.{Each, EntryLiesIn, IsStored, block_at, entries_at, file_bytes, part, queue_in}
+use Rattle.raft_log_file_layout.specs.declared.record.LogRecord.{LogRecord}
+use Rattle.raft_log_file_blocks.specs.raft_log_file_pair.specs.State.{Spanned}
 use Rattle.raft_log_file_blocks.specs.raft_log_file_pair.specs.Pipes.{Said, State}
 use Rattle.raft_log_file_blocks.specs.declared.block_cache.BlockCache.{BlockCache}
-use Rattle.raft_log_file_blocks.specs.Blocks.{AreUnread, BlockIsStored, IsBlockUnread, IsEntryUnread, IsNoEntry, IsOfLog, IsUnplaced, KeepsBlock, ReadsEntries, ReadsEntry, written_block}
-use Rattle.raft_log_file_blocks.proofs.KeptBlocks.{kept_is_written, none_kept}
+use Rattle.raft_log_file_blocks.specs.Blocks.{AreUnread, BlockIsStored, IsEntryUnread, IsFileUnread, IsNoEntry, IsOfLog, IsUnplaced, KeepsBlock, ReadsEntries, ReadsEntry, written_block}
+use Rattle.raft_log_file_blocks.proofs.KeptBlocks.{file_unread, kept_is_written, none_kept}
 use Rattle.raft_log_engine_laws.specs.Shows.{Home, LogMap, Shows, sense}
 use Rattle.raft_log_engine_laws.specs.Holding.{Holds}
-use Rattle.raft_log_engine_laws.specs.Fetching.{AreEntriesOf, AreToRead, IsEntryOf, IsOneUntold, IsUntold, LiesOutside, StaysButBlock}
+use Rattle.raft_log_engine_laws.specs.Fetching.{AreEntriesOf, AreToRead, IsEntryOf, IsOneUntold, IsUntold, StaysButBlock}
 
 -- lists and their elements
 each_at : {A : Type 0} (P : A → Type 0) (xs : List A) (k : ℕ) (x : A) → Each P xs → slice_get xs k ≡ Some x → P x
@@ -81,17 +85,27 @@ found v i e is = by (nat_le v.first i) refl is
         record { low = grind (arith, le); place = p; got = got; is = same }
     by false le there = absurd (let never : ⊥ = cc in never)
 
--- what an entry's place says of a log: its block lies there, and its bytes in the map stand in that
+-- what an entry's place says of a log: its block lies there, and is whole, the entry ends before its checksum, and its
+-- bytes in the map stand in that
 record Stands (log : State) (m : LogMap) (g i : ℕ) (e : EntryIndex) : Type 0 where
   block : FileBlockHandle
   placed : e.entries ≡ Some block
   lies : BlockIsStored log block
+  whole : IsOk (block_of (written_block log block))
+  inside : e.entry_offset + e.entry_len ≤ length (written_block log block) - 4
   maps : m g (Index i) ≡ Some (Entry (part e.entry_offset e.entry_len (written_block log block)))
+
+ends_before : (q : Spanned LogRecord) (p : Place) → EntryLiesIn q p → p.entry_offset + p.entry_len ≤ length (block_at q.files p.file p.offset p.len) - 4
+ends_before q p lies =
+    let inside = lies.block.inside in
+    let rest = length-drop p.offset (file_bytes q.files p.file) in
+    let long : length (block_at q.files p.file p.offset p.len) ≡ p.len = length-take-le p.len (drop p.offset (file_bytes q.files p.file)) (omega (arith, inside, rest)) in
+    subst (λ (n : ℕ). p.entry_offset + p.entry_len ≤ n - 4) (sym long) lies.entry
 
 stands_at : (log : State) (m : LogMap) (g i : ℕ) (b : Bool) (p : Place) → EntryLiesIn (queue_in log (not b)) p → m g (Index i) ≡ Some (Entry (entries_at log (in_queue (not b) p)))
     → Stands log m g i (entry_of (queue_of b) i p)
-stands_at log m g i true p lies is = record { block = _; placed = refl; lies = lies.block; maps = is }
-stands_at log m g i false p lies is = record { block = _; placed = refl; lies = lies.block; maps = is }
+stands_at log m g i true p lies is = record { block = _; placed = refl; lies = lies.block; whole = lies.whole; inside = ends_before log.rewrite p lies; maps = is }
+stands_at log m g i false p lies is = record { block = _; placed = refl; lies = lies.block; whole = lies.whole; inside = ends_before log.append p lies; maps = is }
 
 module _ (s : Shows) (g : ℕ) (home : Home) (m : LogMap) (pending : List Said) (h : Holds home s m pending) where
   abbrev told : LogMap
@@ -144,27 +158,32 @@ module _ (s : Shows) (g : ℕ) (home : Home) (m : LogMap) (pending : List Said) 
     unplaced e (errors.InvalidArgument text) is = is
     unplaced e _ is = absurd is
 
-    outside : (e : EntryIndex) (cache : BlockCache) (block : List ℕ) (error : Error) → cache.bytes.items ≡ block → IsNoEntry e.entry_offset e.entry_len cache error → LiesOutside e block error
-    outside e cache block errors.Memory same is = tt
-    outside e cache block (errors.Corruption text) same is = subst (λ (l : List ℕ). e.entry_offset + e.entry_len ≤ length l - 4 → ⊥) same is
-    outside e cache block _ same is = absurd is
+    no_entry : (e : EntryIndex) (block : FileBlockHandle) (cache : BlockCache) (bytes : List ℕ) (error : Error) → cache.bytes.items ≡ bytes → e.entry_offset + e.entry_len ≤ length bytes - 4
+        → IsNoEntry e.entry_offset e.entry_len cache error → IsFileUnread s.pipes block error
+    no_entry e block cache bytes errors.Memory same inside is = tt
+    no_entry e block cache bytes (errors.Corruption text) same inside is = absurd (is (subst (λ (l : List ℕ). e.entry_offset + e.entry_len ≤ length l - 4) (sym same) inside))
+    no_entry e block cache bytes _ same inside is = absurd is
 
     pub untold_of : (i : ℕ) (e : EntryIndex) (old new : BlockCache) (error : Error) → entry_at (s.tables g) i ≡ Some e → IsOfLog h.state old → IsEntryUnread reading s.pipes e old new error
-        → IsOfLog h.state new × IsUntold reading g i s h.state told error
+        → IsOfLog h.state new × IsUntold reading g i s told error
     untold_of i e old new error is cached (inl (none, same)) =
         let there = stands i e is in
         let gone = unplaced e error none in
         let placed = there.placed in
         absurd (let never : ⊥ = cc in never)
     untold_of i e old new error is cached (inr (block, placed, inl (unread, none, apart))) =
-        let there = stands i e is in (
+        let there = stands i e is in
+        let same = same_block e block there.block placed there.placed in
+        let lies = subst (BlockIsStored h.state) (sym same) there.lies in
+        let whole = subst (λ (k : FileBlockHandle). IsOk (block_of (written_block h.state k))) (sym same) there.whole in (
           none_kept h.state new none,
-          record { entry = e; block = block; bytes = _; stands = is; placed = placed; maps = there.maps; why = inl unread },
+          record { entry = e; block = block; bytes = _; stands = is; placed = placed; maps = there.maps; why = inl (file_unread (sense home) s.pipes h.state h.runs block lies whole error unread) },
         )
     untold_of i e old new error is cached (inr (block, placed, inr (kept, why))) =
         let there = stands i e is in
         let same = same_block e block there.block placed there.placed in
         let lies = subst (BlockIsStored h.state) (sym same) there.lies in
+        let inside = subst (λ (k : FileBlockHandle). e.entry_offset + e.entry_len ≤ length (written_block h.state k) - 4) (sym same) there.inside in
         let (of_log, bytes) = kept_is_written (sense home) s.pipes h.state h.runs old new cached block lies kept in (
           of_log,
           record {
@@ -174,10 +193,10 @@ module _ (s : Shows) (g : ℕ) (home : Home) (m : LogMap) (pending : List Said) 
             stands = is;
             placed = placed;
             maps = subst (λ (k : FileBlockHandle). told g (Index i) ≡ Some (Entry (part e.entry_offset e.entry_len (written_block h.state k)))) (sym same) there.maps;
-            why = inr (elim why [
-              | inl none ↦ inl (outside e new (written_block h.state block) error bytes none)
+            why = elim why [
+              | inl none ↦ inl (no_entry e block new (written_block h.state block) error bytes inside none)
               | inr unparsed ↦ inr (subst (λ (l : List ℕ). Parses {M = M} (Err error) (reading (part e.entry_offset e.entry_len l))) bytes unparsed)
-            ]);
+            ];
           },
         )
 
@@ -214,7 +233,7 @@ module _ (s : Shows) (g : ℕ) (home : Home) (m : LogMap) (pending : List Said) 
         (end, (first, subst (λ (k : ℕ). AreEntriesOf reading told g k xs) (let same : v.first + (n + 1) ≡ (v.first + n) + 1 = omega arith in same) others))
 
     pub all_untold : (n : ℕ) (ps : List Place) (begin end : ℕ) (old new : BlockCache) (error : Error) → StandFrom n ps → begin ≤ (s.tables g).first + n → (s.tables g).first + n + length ps ≤ end
-        → IsOfLog h.state old → AreUnread reading s.pipes (entries_from (s.tables g) n ps) old new error → IsOfLog h.state new × IsOneUntold reading g begin end s h.state told error
+        → IsOfLog h.state old → AreUnread reading s.pipes (entries_from (s.tables g) n ps) old new error → IsOfLog h.state new × IsOneUntold reading g begin end s told error
     all_untold n [] begin end old new error from low high cached (memory, same) = (subst (IsOfLog h.state) (sym same) cached, inl memory)
     all_untold n (p ∷ ps) begin end old new error from low high cached (inl (memory, same)) = (subst (IsOfLog h.state) (sym same) cached, inl memory)
     all_untold n (p ∷ ps) begin end old new error from low high cached (inr (inl unread)) =

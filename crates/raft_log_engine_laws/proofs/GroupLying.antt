@@ -1,13 +1,15 @@
 -- The parts of a group lie where they were written, and say what they said.
-use Rattle.std.proofs.Common.{◌≡◌, ℕ, ◌≤◌, Bool, false, if◌then◌else◌, List, [], ◌∷◌, ◌++◌, map, take, drop, refl, sym, ap, ◌∙◌, arith}
+use Rattle.std.proofs.Common.{◌≡◌, ℕ, ◌≤◌, Bool, false, if◌then◌else◌, List, [], ◌∷◌, ◌++◌, map, take, drop, refl, sym, ap, subst, ◌∙◌, arith}
+use Rattle.std.specs.Prelude.{IsOk}
 use Rattle.raft_log_model_laws.specs.Item.{Item}
 use Rattle.raft_log_model_laws.specs.Item.Item.{Clean, Compact, Del, Put, Run}
 use Rattle.raft_log_model_laws.specs.Groups.{of_group}
 use Rattle.raft_log_model_laws.specs.Renamed.{renamed}
 use Rattle.raft_log_record_base.specs.declared.pipe_log.FileBlockHandle.{FileBlockHandle}
+use Rattle.raft_log_record_frames.specs.Record.{block_of}
 use Rattle.raft_log_file_layout.specs.declared.record.LogRecord.{LogRecord}
 use Rattle.raft_log_record_batches.specs.Batch.{Batch}
-use Rattle.raft_log_file_blocks.specs.Signing.{signed_for}
+use Rattle.raft_log_file_blocks.specs.Signing.{SaysItself, signed_for}
 use Rattle.raft_log_file_blocks.specs.raft_log_file_pair.specs.Turning.{HasLast}
 use Rattle.raft_log_table_runs.specs.declared.place.Place.{Place}
 use Rattle.raft_log_table_lists.specs.Bridge.{Located, in_queue}
@@ -65,7 +67,7 @@ module _ (s t : State) (keeps : KeepsLog s t) where
   entry_stays : (p : Place) → EntryLiesIn s.rewrite p → EntryLiesIn t.rewrite p × (entries_at t (in_queue false p) ≡ entries_at s (in_queue false p))
   entry_stays p lies =
       let (block, is) = block_stays s.rewrite t.rewrite keeps.rewrite keeps.rewrite_first p.file p.offset p.len lies.block in
-      (record { block = block; entry = lies.entry }, ap (part p.entry_offset p.entry_len) is)
+      (record { block = block; whole = subst (λ (l : List ℕ). IsOk (block_of l)) (sym is) lies.whole; entry = lies.entry }, ap (part p.entry_offset p.entry_len) is)
 
   part_stays : (p : WrittenPart) → LiesInRewrite s p → LiesInRewrite t p
   part_stays p lies = record {
@@ -84,11 +86,11 @@ run_lies s (Compact c) all = tt
 run_lies s (Put k w) all = tt
 run_lies s (Del k) all = tt
 
-pub part_lies : (s : State) (r : LogRecord) (block : FileBlockHandle) (b : Batch) → s.rewrite.first ≤ s.rewrite.files.last → (b.items ≡ [] → ⊥) → IsLaidOut b
+pub part_lies : (s : State) (r : LogRecord) (block : FileBlockHandle) (b : Batch) → s.rewrite.first ≤ s.rewrite.files.last → (b.items ≡ [] → ⊥) → IsLaidOut b → SaysItself (signed_for b) b
     → HasLast (signed_for b) r block s.rewrite.files → LiesInRewrite s (record { block = block; batch = b })
-part_lies s r block b spans some laid last = record {
-  entries = λ g. each_on (RunIsStored (turned_round s)) (OfEntries (EntryLiesIn s.rewrite)) (of_group g (items_at block b)) (run_lies s) (runs_there s r block b spans some laid last g);
-  says = λ g. sym (copies_said (entries_at s) block b (says_there s r block b spans some laid last) g);
+part_lies s r block b spans some laid says last = record {
+  entries = λ g. each_on (RunIsStored (turned_round s)) (OfEntries (EntryLiesIn s.rewrite)) (of_group g (items_at block b)) (run_lies s) (runs_there s r block b spans some laid says last g);
+  says = λ g. sym (copies_said (entries_at s) block b (says_there s r block b spans some laid says last) g);
 }
 
 -- One more part that may be there or not: told as if it were behind all that stands.

@@ -67,10 +67,10 @@ raised_noted InRewrite s n d v noted = noted
 
 -- An entry that lies in no file below lies in the log still.
 lies_in_append : (s : State) (n : ℕ) (d : Disk) (p : Place) → n ≤ p.file → IsStored s (in_queue true p) → IsStored (raised_log InAppend s n d) (in_queue true p)
-lies_in_append s n d p high lies = record { block = record { first = high; last = lies.block.last; inside = lies.block.inside }; entry = lies.entry }
+lies_in_append s n d p high lies = record { block = record { first = high; last = lies.block.last; inside = lies.block.inside }; whole = lies.whole; entry = lies.entry }
 
 lies_in_rewrite : (s : State) (n : ℕ) (d : Disk) (p : Place) → n ≤ p.file → IsStored s (in_queue false p) → IsStored (raised_log InRewrite s n d) (in_queue false p)
-lies_in_rewrite s n d p high lies = record { block = record { first = high; last = lies.block.last; inside = lies.block.inside }; entry = lies.entry }
+lies_in_rewrite s n d p high lies = record { block = record { first = high; last = lies.block.last; inside = lies.block.inside }; whole = lies.whole; entry = lies.entry }
 
 appended_lie : (s : State) (n : ℕ) (d : Disk) (r : ℕ) (ps : List Place) → ((j : ℕ) → r ≤ j → j < length ps → n ≤ place_file (slice_get ps j)) → Each (IsStored s) (located r ps)
     → Each (IsStored (raised_log InAppend s n d)) (located r ps)

@@ -97,7 +97,7 @@ part_begins home e t number b block m h is call same =
     let last = k.last.number in
     stands_open home e t m h same k.files k.keeps k.runs (begun_by number (record { block = block; batch = b }))
     (group_begun (Ties (log_in home)) (AllowsIn (log_in home)) h.state next (view_of e.tables h.map) m [] h.at number block.id.seq (said_items b) is.fits k.step)
-    (part_lies next k.value block b k.spans is.some is.laid k.last, tt) (le_refl block.id.seq, omega (arith, last))
+    (part_lies next k.value block b k.spans is.some is.laid is.says k.last, tt) (le_refl block.id.seq, omega (arith, last))
     (λ g. subst (λ n. FilesRise h.state.append.files.last n (e.tables g)) (sym last) (rise_on h.state next k.keeps e.tables h.rises g))
 
 pub part_goes_on : (home : Home) (e t : Shows) (o : UnendedGroup) (b : Batch) (block : FileBlockHandle) (m : LogMap) → HoldsInGroup home e m o → IsGroupPart o.number statuses.Middle b
@@ -112,7 +112,7 @@ part_goes_on home e t o b block m h is call same =
     (subst (λ l. IsInGroup (Ties (log_in home) next) (view_of e.tables h.holds.map) m [] o.first.block.id.seq o.number (said_items o.first.batch) l) (sym (map-append (λ q. said_items q.batch) o.more (p ∷ [])))
     (middle_answered (Ties (log_in home)) (AllowsIn (log_in home)) s next (view_of e.tables h.holds.map) m o.first.block.id.seq o.number (said_items o.first.batch) (said_more o) [] block.id.seq (said_items b) is.fits k.step
     (in_group home e m o h)))
-    (each_more (LiesInRewrite next) (parts_of o) p (parts_stay s next k.keeps (parts_of o) h.parts) (part_lies next k.value block b k.spans is.some is.laid k.last))
+    (each_more (LiesInRewrite next) (parts_of o) p (parts_stay s next k.keeps (parts_of o) h.parts) (part_lies next k.value block b k.spans is.some is.laid is.says k.last))
     (one_more_file o.first.block.id.seq s.rewrite.files.last k.files.last (parts_of o) p later last h.files) h.rises
 
 -- Refused.

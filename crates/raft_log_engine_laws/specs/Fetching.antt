@@ -11,8 +11,8 @@ use Rattle.raft_log_record_items.specs.Message.{Parses}
 use Rattle.raft_log_table_runs.specs.Counts.{sized}
 use Rattle.raft_log_table_lists.specs.Shown.{Shown}
 use Rattle.raft_log_table_one.specs.Reads.{AreIn, FetchRefused, entry_at, fetched, places_between}
-use Rattle.raft_log_file_blocks.specs.raft_log_file_pair.specs.Pipes.{Said, State}
-use Rattle.raft_log_file_blocks.specs.Blocks.{IsBlockUnread, written_block}
+use Rattle.raft_log_file_blocks.specs.raft_log_file_pair.specs.Pipes.{Said}
+use Rattle.raft_log_file_blocks.specs.Blocks.{IsFileUnread}
 use Rattle.raft_log_engine_laws.specs.Shows.{Home, LogMap, Shows, has_failed}
 use Rattle.raft_log_engine_laws.specs.Holding.{Holds}
 
@@ -45,24 +45,17 @@ pub record TellsEntry {M : Type 0} (reading : List ℕ → Option M) (g i : ℕ)
   pub exact : (home : Home) (m : LogMap) (pending : List Said) → Holds home s m pending
       → IsEntryTold reading (taken m pending) g i message
 
--- an entry doesn't lie in its block, in front of the checksum; or memory ran out for saying so
-abbrev pub LiesOutside : EntryIndex → List ℕ → Error → Type 0
-LiesOutside e block errors.Memory = Unit {0}
-LiesOutside e block (errors.Corruption text) = e.entry_offset + e.entry_len ≤ length block - 4 → ⊥
-LiesOutside e block _ = ⊥
-
--- Why a group's entry isn't told, though it stands in the map: its block isn't read, or isn't whole; or it
--- doesn't lie in the block that was written there; or its bytes in the map are no message.
-pub record IsUntold {M : Type 0} (reading : List ℕ → Option M) (g i : ℕ) (s : Shows) (log : State) (m : LogMap)
-    (error : Error) : Type 0 where
+-- Why a group's entry isn't told, though it stands in the map: the file that it lies in isn't read, or memory ran
+-- out; or its bytes in the map are no message. It is never told as damaged.
+pub record IsUntold {M : Type 0} (reading : List ℕ → Option M) (g i : ℕ) (s : Shows) (m : LogMap) (error : Error)
+    : Type 0 where
   pub entry : EntryIndex
   pub block : FileBlockHandle
   pub bytes : List ℕ
   pub stands : entry_at (s.tables g) i ≡ Some entry
   pub placed : entry.entries ≡ Some block
   pub maps : m g (Index i) ≡ Some (Entry bytes)
-  pub why : IsBlockUnread s.pipes block error
-      ⊎ (LiesOutside entry (written_block log block) error ⊎ Parses {M = M} (Err error) (reading bytes))
+  pub why : IsFileUnread s.pipes block error ⊎ Parses {M = M} (Err error) (reading bytes)
 
 -- the engine had failed before, and nothing was done
 abbrev pub HadFailed : Shows → Shows → Error → Type 0
@@ -73,8 +66,8 @@ pub record FailsToTell {M : Type 0} (reading : List ℕ → Option M) (g i : ℕ
     : Type 0 where
   pub lived : has_failed s ≡ false
   pub stays : StaysButBlock s t
-  pub why : (home : Home) (m : LogMap) (pending : List Said) → (h : Holds home s m pending)
-      → IsUntold reading g i s h.state (taken m pending) error
+  pub why : (home : Home) (m : LogMap) (pending : List Said) → Holds home s m pending
+      → IsUntold reading g i s (taken m pending) error
 
 -- the entries that a fetch reads: none of a group that doesn't count
 abbrev pub AreToRead : Shows → ℕ → ℕ → ℕ → Option ℕ → List EntryIndex → Type 0
@@ -96,9 +89,9 @@ pub record FetchesTo {M : Type 0} (reading : List ℕ → Option M) (g begin end
       → AreEntriesOf reading (taken m pending) g begin messages
 
 -- why entries aren't fetched, though all are there: memory ran out, or one of them isn't told
-abbrev pub IsOneUntold : {M : Type 0} → (List ℕ → Option M) → ℕ → ℕ → ℕ → Shows → State → LogMap → Error → Type 0
-IsOneUntold reading g begin end s log m error = (error ≡ errors.Memory)
-    ⊎ ((i : ℕ) × (begin ≤ i) × (i < end) × IsUntold reading g i s log m error)
+abbrev pub IsOneUntold : {M : Type 0} → (List ℕ → Option M) → ℕ → ℕ → ℕ → Shows → LogMap → Error → Type 0
+IsOneUntold reading g begin end s m error = (error ≡ errors.Memory)
+    ⊎ ((i : ℕ) × (begin ≤ i) × (i < end) × IsUntold reading g i s m error)
 
 -- why no entries are fetched, and what is so then: the table of a group that counts hasn't got them all, or
 -- one isn't told
@@ -107,5 +100,5 @@ pub record FailsToFetch {M : Type 0} (reading : List ℕ → Option M) (g begin 
   pub lived : has_failed s ≡ false
   pub stays : StaysButBlock s t
   pub why : ((s.counts g ≡ true) × FetchRefused (s.tables g) begin end error)
-      ⊎ ((home : Home) (m : LogMap) (pending : List Said) → (h : Holds home s m pending)
-      → IsOneUntold reading g begin end s h.state (taken m pending) error)
+      ⊎ ((home : Home) (m : LogMap) (pending : List Said) → Holds home s m pending
+      → IsOneUntold reading g begin end s (taken m pending) error)

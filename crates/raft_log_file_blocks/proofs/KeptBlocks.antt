@@ -1,10 +1,15 @@
 -- The block that is kept is what was written at its place.
-use Rattle.std.proofs.Common.{◌≡◌, ◌⊎◌, ℕ, List, None, Some, inl, inr, sym, subst, ◌∙◌}
+use Rattle.std.proofs.Common.{◌≡◌, ◌⊎◌, ℕ, ◌-◌, ◌<◌, ◌≤◌, List, length, None, Some, Result, Err, inl, inr, sym, ap, subst, ◌∙◌}
 use Rattle.std.specs.Prelude.{IsOk}
+use Rattle.std.proofs.lemmas.Bool.{false≢true}
 use Rattle.raft_log_disk.specs.Disk.{Disk}
+use Rattle.raft_log_record_base.specs.Fault.{Fault}
+use Rattle.raft_log_record_base.specs.declared.errors.Error.{Error}
+use Rattle.raft_log_record_base.specs.declared.errors.Error.TheVariants as errors
 use Rattle.raft_log_record_base.specs.declared.pipe_log.FileBlockHandle.{FileBlockHandle}
 use Rattle.raft_log_record_frames.specs.Record.{block_of}
 use Rattle.raft_log_file_pipe.specs.Reading.{IsReadAt}
+use Rattle.raft_log_file_pipe.specs.declared.pipe_files.PipeFiles.{PipeFiles}
 use Rattle.raft_log_directory_laws.specs.Calls.{Which}
 use Rattle.raft_log_directory_laws.specs.Calls.Which.{InAppend, InRewrite}
 use Rattle.raft_log_file_layout.specs.LayoutLaws.{files_are_told, is_layout}
@@ -13,10 +18,10 @@ use Rattle.raft_log_file_pair.specs.Queues.{IsQueueLayout, layout_at}
 use Rattle.raft_log_file_pair.specs.State.{RunsQueue, pipe_at, spanned_at}
 use Rattle.raft_log_file_pair.specs.Pipes.{LogPipes, LogSense, RunsOn, State, files_of, queues, which_of}
 use Rattle.raft_log_file_blocks.specs.Stored.{BlockLiesIn, KeepsLog, block_at}
-use Rattle.raft_log_file_blocks.proofs.Reading.{stored_block_is_read}
+use Rattle.raft_log_file_blocks.proofs.Reading.{stored_block_is_read, told_in_span}
 use Rattle.raft_log_file_blocks.proofs.Staying.{block_stays}
 use Rattle.raft_log_file_blocks.specs.declared.block_cache.BlockCache.{BlockCache}
-use Rattle.raft_log_file_blocks.specs.Blocks.{BlockIsStored, IsNotKept, IsOfLog, KeepsBlock, KeptBlocksAreWritten, KeptBlocksStay, StandsAt, written_block}
+use Rattle.raft_log_file_blocks.specs.Blocks.{BlockIsStored, IsBlockUnread, IsFileUnread, IsNotKept, IsOfLog, KeepsBlock, KeptBlocksAreWritten, KeptBlocksStay, StandsAt, WholeBlocksAreRead, written_block}
 
 runs_at : (log : LogSense) (v : LogPipes) (s : State) (which : Which) → RunsOn log v s → RunsQueue (layout_at which (queues log)) (pipe_at which (files_of v)) (spanned_at which s) s.disk
 runs_at log v s InAppend run = run.run.append
@@ -50,6 +55,43 @@ module _ (log : LogSense) (v : LogPipes) (s : State) (run : RunsOn log v s) wher
 
 pub kept_blocks_are_written : KeptBlocksAreWritten
 kept_blocks_are_written log v s run old new is block lies keeps = kept_is_written log v s run old new is block lies keeps
+
+-- A whole block that lies in the log.
+
+module _ (log : LogSense) (v : LogPipes) (s : State) (run : RunsOn log v s) (block : FileBlockHandle) (lies : BlockIsStored s block) (whole : IsOk (block_of (written_block s block))) where
+  abbrev which : Which
+  which = which_of block.id.queue
+
+  abbrev files : PipeFiles
+  files = pipe_at which (files_of v)
+
+  -- its file is there
+  has_file : (block.id.seq ≡ files.active.seq → ⊥) → (files.first_seq ≤ block.id.seq → block.id.seq - files.first_seq < length files.earlier.items → ⊥) → ⊥
+  has_file other none = told_in_span (layout_at which (queues log)) (lawful_at log v s which run) files (spanned_at which s) s.disk (runs_at log v s which run) block.id.seq lies.first lies.last other none
+
+  -- its bytes are those that were written, which are whole
+  unbroken : (bytes : List ℕ) (fault : Fault) → StandsAt v block bytes → block_of bytes ≡ Err fault → ⊥
+  unbroken bytes fault stands is =
+      let here : block_of (written_block s block) ≡ Err fault = ap block_of (sym (read_is_written log v s run block bytes lies stands)) ∙ is in
+      false≢true (subst (λ (r : Result (List ℕ) Fault). IsOk r) here whole)
+
+  pub file_unread : (error : Error) → IsBlockUnread v block error → IsFileUnread v block error
+  file_unread errors.Memory why = tt
+  file_unread (errors.Io kind) (inl (inl none)) = absurd none
+  file_unread (errors.Io kind) (inl (inr refused)) = refused
+  file_unread (errors.Io kind) (inr (bytes, stands, fault)) = absurd fault
+  file_unread (errors.Corruption text) (inl (inl none)) = has_file none.0 none.1
+  file_unread (errors.Corruption text) (inl (inr (handle, listed, why))) = absurd why
+  file_unread (errors.Corruption text) (inr (bytes, stands, fault)) = unbroken bytes _ stands fault
+  file_unread (errors.Codec c) (inl (inl none)) = absurd none
+  file_unread (errors.Codec c) (inl (inr (handle, listed, why))) = absurd why
+  file_unread (errors.Codec c) (inr (bytes, stands, fault)) = unbroken bytes _ stands fault
+  file_unread _ (inl (inl none)) = absurd none
+  file_unread _ (inl (inr (handle, listed, why))) = absurd why
+  file_unread _ (inr (bytes, stands, fault)) = absurd fault
+
+pub whole_blocks_are_read : WholeBlocksAreRead
+whole_blocks_are_read log v s run block lies whole error unread = file_unread log v s run block lies whole error unread
 
 -- a cache without a block is of every log
 pub none_kept : (s : State) (cache : BlockCache) → cache.place ≡ None → IsOfLog s cache

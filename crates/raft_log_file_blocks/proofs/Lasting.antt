@@ -1,5 +1,6 @@
 -- The last record of Append is that of a batch: what stands at the places of its entries are their bytes.
-use Rattle.std.proofs.Common.{◌≡◌, ℕ, ◌+◌, ◌≤◌, Bool, cond, Option, List, [], ◌∷◌, ◌++◌, length, take, refl, sym, ap, subst, ◌∙◌, arith}
+use Rattle.std.proofs.Common.{◌≡◌, ℕ, ◌+◌, ◌≤◌, Bool, cond, List, [], ◌∷◌, ◌++◌, length, take, refl, sym, ap, subst, ◌∙◌, arith}
+use Rattle.std.specs.Prelude.{IsOk}
 use Rattle.std.proofs.lemmas.List.{append-nil, append_assoc, length-append, take_at, drop_at}
 use Rattle.std.proofs.lemmas.Bool.Decides.{Decides-eqb}
 use Rattle.raft_log_file_laws.specs.Chains.{Written, spelled}
@@ -11,8 +12,8 @@ use Rattle.raft_log_record_items.specs.declared.entry.EntryIndex.{EntryIndex}
 use Rattle.raft_log_record_items.specs.declared.item.LogItem.{LogItem}
 use Rattle.raft_log_record_items.specs.Placed.{entries_len, written, written_entry}
 use Rattle.raft_log_record_marks.specs.Meaning.{tagged_items}
-use Rattle.raft_log_record_frames.specs.Record.{block_bytes, footer_bytes, header_bytes, record_bytes, record_len}
-use Rattle.raft_log_record_frames.proofs.Made.{block_more, header-length}
+use Rattle.raft_log_record_frames.specs.Record.{block_bytes, block_of}
+use Rattle.raft_log_record_frames.proofs.Made.{block_more}
 use Rattle.raft_log_record_batches.specs.Batch.{batch_bytes, block_place}
 use Rattle.raft_log_record_batches.specs.Places.{entry_bytes}
 use Rattle.raft_log_table_runs.specs.declared.place.Place.{Place}
@@ -28,29 +29,13 @@ use Rattle.raft_log_file_blocks.specs.Written.{IsLaidOver, RunIsStored, RunsAreS
 use Rattle.raft_log_file_blocks.proofs.Parts.{part_front}
 use Rattle.raft_log_file_blocks.proofs.Keeping.{spelled_append}
 use Rattle.raft_log_file_blocks.proofs.Laid.{OfRun, items_each, items_say}
-
--- a record is its header of sixteen bytes, its block, and more
-record IsParted (bytes entries : List ℕ) : Type 0 where
-  head : List ℕ
-  tail : List ℕ
-  long : length head ≡ 16
-  is : bytes ≡ head ++ (block_bytes entries ++ tail)
-
-record_parts : (signature : Option ℕ) (items : List LogItem) (entries : List ℕ) → (items ≡ [] → ⊥) → IsParted (batch_bytes signature items entries) entries
-unfolding record_bytes
-record_parts signature [] entries some = absurd (some refl)
-record_parts signature (x ∷ xs) entries some = record {
-  head = header_bytes (record_len (x ∷ xs) entries) (16 + length (block_bytes entries));
-  tail = footer_bytes signature (x ∷ xs);
-  long = header-length (record_len (x ∷ xs) entries) (16 + length (block_bytes entries));
-  is = append_assoc (header_bytes (record_len (x ∷ xs) entries) (16 + length (block_bytes entries))) (block_bytes entries) (footer_bytes signature (x ∷ xs));
-}
+use Rattle.raft_log_file_blocks.proofs.WholeBlocks.{IsParted, entries_before, record_parts}
 
 -- bytes between others
 part_between : (a b c : List ℕ) (offset len : ℕ) → offset ≡ length a → len ≡ length b → part offset len (a ++ (b ++ c)) ≡ b
 part_between a b c offset len at long = ap (λ (l : List ℕ). take len l) (drop_at a (b ++ c) offset (sym at)) ∙ take_at b c len (sym long)
 
-module _ {R : Type 0} (s : LogOnDisk R) (said : R) (block : FileBlockHandle) (items : List LogItem) (entries : List ℕ) (spans : s.append.first ≤ s.append.files.last) (laid : IsLaidOver items entries) (last : HasLast (λ context. batch_bytes (signature_of context) items entries) said block s.append.files) where
+module _ {R : Type 0} (s : LogOnDisk R) (said : R) (block : FileBlockHandle) (items : List LogItem) (entries : List ℕ) (spans : s.append.first ≤ s.append.files.last) (laid : IsLaidOver items entries) (sound : IsOk (block_of (block_bytes entries))) (last : HasLast (λ context. batch_bytes (signature_of context) items entries) said block s.append.files) where
   abbrev q : LogFiles R
   q = s.append.files
 
@@ -93,11 +78,11 @@ module _ {R : Type 0} (s : LogOnDisk R) (said : R) (block : FileBlockHandle) (it
       let more = block_more entries in
       ap (part e.entry_offset e.entry_len) (block_is ∙ more.1) ∙ part_front e.entry_offset e.entry_len entries more.0 inside
 
+  block_whole : IsOk (block_of (block_at q place.id.seq place.offset place.len))
+  block_whole = subst (λ (l : List ℕ). IsOk (block_of l)) (sym block_is) sound
+
   lies : (e : EntryIndex) → e.entry_offset + e.entry_len ≤ length entries → EntryLiesIn s.append (place_of (written_entry place e))
-  lies e inside =
-      let more = block_more entries in
-      let long = ap length more.1 ∙ length-append entries more.0 in
-      record { block = block_lies; entry = omega (arith, inside, long) }
+  lies e inside = let before = entries_before entries in record { block = block_lies; whole = block_whole; entry = omega (arith, inside, before) }
 
   fits : 0 + entries_len items ≤ length entries
   fits = (let adds = laid.adds in omega (arith, adds))
@@ -123,4 +108,5 @@ module _ {R : Type 0} (s : LogOnDisk R) (said : R) (block : FileBlockHandle) (it
       of_runs (x ∷ xs) (one, all) = (of_run x one, of_runs xs all)
 
 pub written_entries_are_stored : {R : Type 0} → WrittenEntriesAreStored R
-written_entries_are_stored s said block items entries spans laid last = (stored s said block items entries spans laid last, says s said block items entries spans laid last)
+written_entries_are_stored s said block items entries spans laid sound last =
+    (stored s said block items entries spans laid sound last, says s said block items entries spans laid sound last)

@@ -1,6 +1,7 @@
 pub mod KeptBlocks
 mod Entries
 mod Signed
+pub mod WholeBlocks
 mod Parts
 pub mod Keeping
 pub mod Staying

@@ -1,7 +1,7 @@
 -- What a running pipe reads of a block that lies in its queue is what was written there.
-use Rattle.std.proofs.Common.{◌≡◌, ℕ, zero, suc, ◌+◌, ◌-◌, ◌<◌, Bool, true, false, cond, Some, List, [], ◌∷◌, ◌++◌, length, drop, inl, inr, refl, sym, ap, subst, ◌∙◌, arith, nat_eq}
+use Rattle.std.proofs.Common.{◌≡◌, ℕ, zero, suc, ◌+◌, ◌-◌, ◌<◌, ◌≤◌, Bool, true, false, cond, Some, List, [], ◌∷◌, ◌++◌, length, drop, inl, inr, refl, sym, ap, subst, ◌∙◌, arith, nat_eq}
 use Rattle.std.specs.Prelude.{slice_index_or}
-use Rattle.std.proofs.lemmas.Bool.{cases_Bool}
+use Rattle.std.proofs.lemmas.Bool.{cases_Bool, cases_lt}
 use Rattle.std.proofs.lemmas.Bool.Decides.{Decides-eqb}
 use Rattle.raft_log_disk.proofs.TouchingLaws.{same_file}
 use Rattle.raft_log_disk.specs.Disk.{File, Disk}
@@ -83,6 +83,17 @@ module _ {R : Type 0} (layout : QueueLayout R) (lawful : IsQueueLayout layout) (
   holds : (n id : ℕ) → IsListed n files id → (file : File) → d.files id ≡ Some file → (more : List ℕ) × (file.content ≡ file_bytes q.files n ++ more)
   holds n id (inl (number, same)) file there = last_holds n id number same file there
   holds n id (inr (f, from, less, at, same)) file there = earlier_holds n id (n - files.first_seq) f (omega (arith, from)) less at same file there
+
+  -- each number of the span has a file
+  pub told_in_span : (n : ℕ) → q.first ≤ n → n ≤ q.files.last → (n ≡ files.active.seq → ⊥) → (files.first_seq ≤ n → n - files.first_seq < length files.earlier.items → ⊥) → ⊥
+  told_in_span n from upto other none =
+      let all = span_end layout.paths d.names files.first_seq q.files.last files.earlier.items pipe.span in
+      let first = runs.first in
+      let number = pipe.number in
+      elim (cases_lt n q.files.last) [
+        | inl less ↦ none (omega (arith, from, first)) (omega (arith, less, all, first, from))
+        | inr more ↦ other (omega (arith, upto, more, number))
+      ]
 
   pub block_is_read : (block : FileBlockHandle) → BlockLiesIn q block.id.seq block.offset block.len → (bytes : List ℕ) → IsReadAt files block bytes d
       → bytes ≡ block_at q.files block.id.seq block.offset block.len

@@ -1,6 +1,6 @@
 -- Entries that lie in a log stay there with their bytes, and what the tables show means the same.
-use Rattle.std.proofs.Common.{◌≡◌, ℕ, zero, suc, ◌-◌, ◌≤◌, Bool, true, false, List, [], ◌∷◌, length, refl, ap, ◌∙◌, arith, if◌then◌else◌, Option, Some, None}
-use Rattle.std.specs.Prelude.{option_map, slice_get, nat_le}
+use Rattle.std.proofs.Common.{◌≡◌, ℕ, zero, suc, ◌-◌, ◌≤◌, Bool, true, false, List, [], ◌∷◌, length, refl, sym, ap, subst, ◌∙◌, arith, if◌then◌else◌, Option, Some, None}
+use Rattle.std.specs.Prelude.{option_map, slice_get, nat_le, IsOk}
 use Rattle.std.proofs.lemmas.List.{length-append}
 use Rattle.raft_log_model_laws.specs.Groups.{Map}
 use Rattle.raft_log_model_laws.specs.Meaning.{Slot}
@@ -8,6 +8,7 @@ use Rattle.raft_log_model_laws.specs.Meaning.Slot.{Index, Key}
 use Rattle.raft_log_model_laws.specs.Meaning.Content.{Entry, Value}
 use Rattle.raft_log_model_laws.specs.Renamed.{renamed_content}
 use Rattle.raft_log_model_laws.specs.Table.{content}
+use Rattle.raft_log_record_frames.specs.Record.{block_of}
 use Rattle.raft_log_table_runs.specs.declared.place.Place.{Place}
 use Rattle.raft_log_table_lists.specs.Shown.{Shown}
 use Rattle.raft_log_table_lists.specs.Bridge.{Located, located, table_of}
@@ -30,7 +31,7 @@ module _ {R : Type 0} (q p : Spanned R) (keeps : KeepsBytes q.files p.files) (fi
   entry_stays : (l : Place) → EntryLiesIn q l → EntryLiesIn p l × (entry_at p.files l ≡ entry_at q.files l)
   entry_stays l lies =
       let (block, is) = block_stays l.file l.offset l.len lies.block in
-      (record { block = block; entry = lies.entry }, ap (part l.entry_offset l.entry_len) is)
+      (record { block = block; whole = subst (λ (b : List ℕ). IsOk (block_of b)) (sym is) lies.whole; entry = lies.entry }, ap (part l.entry_offset l.entry_len) is)
 
 stored_stays_in : {R : Type 0} (s t : LogOnDisk R) (keeps : KeepsLog s t) (b : Bool) (l : Place) → EntryLiesIn (queue_in s b) l
     → EntryLiesIn (queue_in t b) l × (entry_at (queue_in t b).files l ≡ entry_at (queue_in s b).files l)

@@ -1,5 +1,7 @@
 -- The entry block that is kept, and what is read of it.
 use Rattle.std.specs.Prelude.{◌≡◌, ℕ, ◌+◌, ◌-◌, ◌≤◌, ◌⊎◌, None, Option, Some, List, [], ◌∷◌, length, IsOk, Err}
+use Rattle.raft_log_disk.specs.Reading.{IsUnread}
+use Rattle.raft_log_disk.specs.declared.handle.Handle.{Handle}
 use Rattle.raft_log_record_base.specs.declared.errors.Error.{Error}
 use Rattle.raft_log_record_base.specs.declared.errors.Error.TheVariants as errors
 use Rattle.raft_log_record_base.specs.declared.pipe_log.FileBlockHandle.{FileBlockHandle}
@@ -7,7 +9,7 @@ use Rattle.raft_log_record_base.specs.Fault.{FailsOrMemory}
 use Rattle.raft_log_record_items.specs.declared.entry.EntryIndex.{EntryIndex}
 use Rattle.raft_log_record_items.specs.Message.{Parses}
 use Rattle.raft_log_record_frames.specs.Record.{block_of}
-use Rattle.raft_log_file_pipe.specs.Reading.{IsReadAt, IsReadRefused}
+use Rattle.raft_log_file_pipe.specs.Reading.{IsListed, IsReadAt, IsReadRefused}
 use Rattle.raft_log_file_layout.specs.declared.record.LogRecord.{LogRecord}
 use Rattle.raft_log_file_pair.specs.State.{Spanned, pipe_at, spanned_at}
 use Rattle.raft_log_file_pair.specs.Pipes.{LogPipes, LogSense, RunsOn, State, files_of, which_of}
@@ -33,6 +35,15 @@ abbrev pub IsBlockUnread : LogPipes → FileBlockHandle → Error → Type 0
 IsBlockUnread v block error =
     IsReadRefused (pipe_at (which_of block.id.queue) (files_of v)) block v.disk error
     ⊎ ((bytes : List ℕ) × StandsAt v block bytes × FailsOrMemory error (block_of bytes))
+
+-- why a whole block of the log isn't read: the file system refused to read the file that it lies in, or memory ran
+-- out
+abbrev pub IsFileUnread : LogPipes → FileBlockHandle → Error → Type 0
+IsFileUnread v block (errors.Io kind) = (handle : Handle)
+    × IsListed block.id.seq (pipe_at (which_of block.id.queue) (files_of v)) handle.file
+    × IsUnread handle block.offset block.len v.disk kind
+IsFileUnread v block errors.Memory = Unit {0}
+IsFileUnread v block _ = ⊥
 
 -- the entry is in no file
 abbrev pub IsUnplaced : EntryIndex → Error → Type 0
@@ -112,6 +123,13 @@ abbrev pub KeptBlocksAreWritten : Type 0
 KeptBlocksAreWritten = (log : LogSense) (v : LogPipes) (s : State) → RunsOn log v s
     → (old new : BlockCache) → IsOfLog s old → (block : FileBlockHandle) → BlockIsStored s block
     → KeepsBlock v block old new → IsOfLog s new × (new.bytes.items ≡ written_block s block)
+
+-- Whichever log the pipes run over: a block that lies in it, and is whole, is unread for its file or for want of
+-- memory alone.
+abbrev pub WholeBlocksAreRead : Type 0
+WholeBlocksAreRead = (log : LogSense) (v : LogPipes) (s : State) → RunsOn log v s → (block : FileBlockHandle)
+    → BlockIsStored s block → IsOk (block_of (written_block s block)) → (error : Error)
+    → IsBlockUnread v block error → IsFileUnread v block error
 
 -- a kept block that is what was written stays so through calls that keep the log's bytes
 abbrev pub KeptBlocksStay : Type 0

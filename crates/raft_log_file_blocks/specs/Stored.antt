@@ -1,10 +1,11 @@
 -- What bytes stand at each place of a log on a disk, told by the records of its files.
-use Rattle.std.specs.Prelude.{◌≡◌, ℕ, ◌+◌, ◌≤◌, Bool, true, false, cond, List, [], ◌∷◌, ◌++◌, length, take, drop}
+use Rattle.std.specs.Prelude.{◌≡◌, ℕ, ◌+◌, ◌-◌, ◌≤◌, Bool, true, false, cond, List, [], ◌∷◌, ◌++◌, length, take, drop, IsOk}
 use Rattle.std.proofs.Common.{nat_eq}
 use Rattle.raft_log_model_laws.specs.Groups.{Map}
 use Rattle.raft_log_disk.specs.Disk.{Disk}
 use Rattle.raft_log_file_laws.specs.LogQueue.{LogFiles}
 use Rattle.raft_log_record_base.specs.declared.pipe_log.FileBlockHandle.{FileBlockHandle}
+use Rattle.raft_log_record_frames.specs.Record.{block_of}
 use Rattle.raft_log_file_queue.specs.Queue.{past_bytes, settled, synced, whole}
 use Rattle.raft_log_file_pipe.specs.Files.{Listed}
 use Rattle.raft_log_file_pipe.specs.Reading.{IsReadAt}
@@ -46,10 +47,12 @@ block_at q n offset len = part offset len (file_bytes q n)
 abbrev pub entry_at : {R : Type 0} → LogFiles R → Place → List ℕ
 entry_at q p = part p.entry_offset p.entry_len (block_at q p.file p.offset p.len)
 
--- the entry lies in its block, and that in what was written to a file of the queue's span
+-- the entry lies in its block, in front of the four bytes of the checksum; and the block is whole, and lies in
+-- what was written to a file of the queue's span
 pub record EntryLiesIn {R : Type 0} (q : Spanned R) (p : Place) : Type 0 where
   pub block : BlockLiesIn q p.file p.offset p.len
-  pub entry : p.entry_offset + p.entry_len ≤ p.len
+  pub whole : IsOk (block_of (block_at q.files p.file p.offset p.len))
+  pub entry : p.entry_offset + p.entry_len ≤ p.len - 4
 
 -- the queue that a place is in
 abbrev pub queue_in : {R : Type 0} → LogOnDisk R → Bool → Spanned R

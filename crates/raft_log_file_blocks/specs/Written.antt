@@ -1,5 +1,5 @@
 -- What a batch that was written says of its entries is what stands at their places.
-use Rattle.std.specs.Prelude.{◌≡◌, ℕ, ◌≤◌, true, List, [], length}
+use Rattle.std.specs.Prelude.{◌≡◌, ℕ, ◌≤◌, true, List, [], length, IsOk}
 use Rattle.raft_log_model_laws.specs.Item.{Item, Tagged, Record, items_of}
 use Rattle.raft_log_model_laws.specs.Item.Item.{Run}
 use Rattle.raft_log_model_laws.specs.Groups.{Map, of_group}
@@ -9,6 +9,7 @@ use Rattle.raft_log_record_base.specs.Files.{signature_of}
 use Rattle.raft_log_record_base.specs.declared.pipe_log.FileBlockHandle.{FileBlockHandle}
 use Rattle.raft_log_record_items.specs.declared.item.LogItem.{LogItem}
 use Rattle.raft_log_record_items.specs.Placed.{entries_len, laid_out, written}
+use Rattle.raft_log_record_frames.specs.Record.{block_bytes, block_of}
 use Rattle.raft_log_record_marks.specs.Meaning.{tagged_items}
 use Rattle.raft_log_record_batches.specs.Batch.{batch_bytes, block_place}
 use Rattle.raft_log_record_batches.specs.Places.{entry_bytes}
@@ -47,12 +48,12 @@ pub record IsLaidOver (items : List LogItem) (entries : List ℕ) : Type 0 where
 abbrev pub placed_items : FileBlockHandle → List LogItem → List ℕ → List (Tagged Place (List ℕ))
 placed_items block items entries = tagged_items place_of (written (block_place block entries) items)
 
--- The last record of Append is that of a batch: the places of its entries lie in the log, and what stands there
--- are the bytes that were added.
+-- The last record of Append is that of a batch, whose block is whole: the places of its entries lie in the log,
+-- and what stands there are the bytes that were added.
 abbrev pub WrittenEntriesAreStored : Type 0 → Type 0
 WrittenEntriesAreStored R = (s : LogOnDisk R) (said : R) (block : FileBlockHandle) (items : List LogItem)
     (entries : List ℕ)
-    → s.append.first ≤ s.append.files.last → IsLaidOver items entries
+    → s.append.first ≤ s.append.files.last → IsLaidOver items entries → IsOk (block_of (block_bytes entries))
     → HasLast (λ context. batch_bytes (signature_of context) items entries) said block s.append.files
     → RunsAreStored s (placed_items block items entries)
     × (all_written (entries_at s) (placed_items block items entries) ≡ tagged_items (entry_bytes entries) items)

@@ -10,12 +10,12 @@ use Rattle.raft_log_record_items.specs.Message.{Parses}
 use Rattle.raft_log_table_runs.specs.declared.place.Place.{Place}
 use Rattle.raft_log_table_lists.specs.Shown.{Shown}
 use Rattle.raft_log_engine_laws.specs.raft_log_table_one.specs.Reads.{AreIn, FetchRefused, entries_from, fetched, first_of, last_of, places_between}
-use Rattle.raft_log_engine_laws.specs.Shows.{Home, LogMap, Shows, sense}
+use Rattle.raft_log_engine_laws.specs.Shows.{Home, LogMap, Shows}
 use Rattle.raft_log_engine_laws.specs.Holding.{Holds}
 use Rattle.raft_log_engine_laws.specs.Reading.{IsFirstIn, IsLastIn}
-use Rattle.raft_log_engine_laws.specs.Fetching.{AreEntriesOf, AreToRead, FailsToFetch, FetchesTo, IsOneUntold, LiesOutside}
-use Rattle.raft_log_engine_laws.specs.raft_log_file_blocks.specs.Blocks.{IsBlockUnread, written_block}
-use Rattle.raft_log_engine_laws.specs.raft_log_file_pair.specs.Pipes.{RunsOn, Said, State as LogState}
+use Rattle.raft_log_engine_laws.specs.Fetching.{AreEntriesOf, AreToRead, FailsToFetch, FetchesTo, IsOneUntold}
+use Rattle.raft_log_engine_laws.specs.raft_log_file_blocks.specs.Blocks.{IsFileUnread}
+use Rattle.raft_log_engine_laws.specs.raft_log_file_pair.specs.Pipes.{Said}
 use Rattle.raft_log_engine_laws.specs.raft_log_table_all.proofs.Bare.{uncounted_bare}
 use Rattle.raft_log_engine_laws.proofs.Reading.{tables_tell}
 use Rattle.raft_voter_messages.specs.declared.reply.Entry.{Entry as VoterEntry}
@@ -143,23 +143,14 @@ module _ {M : Type 0} (text : M → List ℕ) (reading : List ℕ → Option M) 
       by_error errors.NumberRange h = absurd h
 
   -- an entry isn't told: it wasn't read, or memory ran out
-  one_untold : (home : Home) (q : ℕ × Request) (from to : ℕ) (error : Error) (s t : Shows) (log : LogState) (m : LogMap) → q.1 ≡ Read from to
-      → RunsOn (sense home) s.pipes log → IsOneUntold reading q.0 from to s log m error → WasTurnedDown home q error s t
-  one_untold home q from to error s t log m asks runs (inl memory) = no_memory memory
-  one_untold home q from to error s t log m asks runs (inr one) = by_why one.3.why
+  one_untold : (q : ℕ × Request) (from to : ℕ) (error : Error) (s t : Shows) (m : LogMap) → q.1 ≡ Read from to → IsOneUntold reading q.0 from to s m error → WasTurnedDown q error s t
+  one_untold q from to error s t m asks (inl memory) = no_memory memory
+  one_untold q from to error s t m asks (inr one) = by_why one.3.why
     where
-      entry_unread : IsBlockUnread s.pipes one.3.block error
-          ⊎ ((log : LogState) × RunsOn (sense home) s.pipes log × LiesOutside one.3.entry (written_block log one.3.block) error)
-          → WasTurnedDown home q error s t
-      entry_unread why =
-          unread from to asks (record { index = one.0; entry = one.3.entry; block = one.3.block; asked = (one.1, one.2); stands = one.3.stands; placed = one.3.placed; why = why })
-
-      by_why : IsBlockUnread s.pipes one.3.block error
-          ⊎ (LiesOutside one.3.entry (written_block log one.3.block) error ⊎ Parses {M = M} (Err error) (reading one.3.bytes))
-          → WasTurnedDown home q error s t
-      by_why (inl block) = entry_unread (inl block)
-      by_why (inr (inl outside)) = entry_unread (inr (log, runs, outside))
-      by_why (inr (inr none)) = no_memory (parsed error one.3.bytes none)
+      by_why : IsFileUnread s.pipes one.3.block error ⊎ Parses {M = M} (Err error) (reading one.3.bytes) → WasTurnedDown q error s t
+      by_why (inl file) =
+          unread from to asks (record { index = one.0; entry = one.3.entry; block = one.3.block; asked = (one.1, one.2); stands = one.3.stands; placed = one.3.placed; why = file })
+      by_why (inr none) = no_memory (parsed error one.3.bytes none)
 
   -- the tables have all that the outline says is there
   not_refused : (v : State) (m : LogMap) (g from to : ℕ) (s : Shows) (error : Error) → v.base_index < from → from < to → to ≤ last_index v + 1
@@ -204,8 +195,8 @@ module _ {M : Type 0} (text : M → List ℕ) (reading : List ℕ → Option M) 
     where
       by_why : (home : Home) (m : LogMap) (pending : List Said) (W : World) → (h : Holds home s m pending) → Means (taken m pending) W → AreOutlines os W
           → ((s.counts q.0 ≡ true) × FetchRefused (s.tables q.0) from to error)
-          ⊎ ((home : Home) (m : LogMap) (pending : List Said) → (h : Holds home s m pending) → IsOneUntold reading q.0 from to s h.state (taken m pending) error)
-          → WasTurnedDown home q error s t
+          ⊎ ((home : Home) (m : LogMap) (pending : List Said) → Holds home s m pending → IsOneUntold reading q.0 from to s (taken m pending) error)
+          → WasTurnedDown q error s t
       by_why home m pending W h means outlines (inl refused) =
           let known = shown (taken m pending q.0) (W q.0) (means q.0) in
           let there = (told (W q.0) (sym (outlines q.0))).1 in
@@ -213,7 +204,7 @@ module _ {M : Type 0} (text : M → List ℕ) (reading : List ℕ → Option M) 
           ((tables_tell.first s q.0).exact home m pending h) ((tables_tell.last s q.0).exact home m pending h) refused.1)
       by_why home m pending W h means outlines (inr untold) =
           let there = (told (W q.0) (sym (outlines q.0))).1 in
-          one_untold home q from to error s t h.state (taken m pending) there.0 h.runs (untold home m pending h)
+          one_untold q from to error s t (taken m pending) there.0 (untold home m pending h)
 
 -- Groups that count.
 

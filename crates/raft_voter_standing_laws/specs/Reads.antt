@@ -36,4 +36,4 @@ pub record ReadsNone (q : ℕ × Request) (error : Error) (s t : Shows) (os : �
   pub alive : has_failed s ≡ false
   pub stays : StaysButBlock s t
   pub why : (home : Home) (m : LogMap) (pending : List Said) (W : World) → Holds home s m pending
-      → Means (taken m pending) W → AreOutlines os W → WasTurnedDown home q error s t
+      → Means (taken m pending) W → AreOutlines os W → WasTurnedDown q error s t

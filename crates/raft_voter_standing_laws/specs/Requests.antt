@@ -9,14 +9,13 @@ use Rattle.raft_log_record_items.specs.declared.entry.EntryIndex.{EntryIndex}
 use Rattle.raft_log_record_marks.specs.Meaning.{record_of}
 use Rattle.raft_log_record_batches.specs.Batch.{Batch}
 use Rattle.raft_log_record_batches.specs.Places.{entry_bytes}
-use Rattle.raft_log_engine_laws.specs.Shows.{Home, IsWritable, LogMap, Shows, has_failed, sense}
+use Rattle.raft_log_engine_laws.specs.Shows.{Home, IsWritable, LogMap, Shows, has_failed}
 use Rattle.raft_log_engine_laws.specs.Holding.{EndsAt, Holds, IsLeftAt}
-use Rattle.raft_log_engine_laws.specs.Fetching.{LiesOutside}
 use Rattle.raft_log_directory_laws.specs.Calls.Which.{InAppend}
 use Rattle.raft_log_engine_laws.specs.raft_log_table_one.specs.Reads.{entry_at}
 use Rattle.raft_log_engine_laws.specs.raft_log_file_pair.specs.Numbers.{HasLastNumber}
-use Rattle.raft_log_engine_laws.specs.raft_log_file_pair.specs.Pipes.{RunsOn, Said, State as LogState}
-use Rattle.raft_log_engine_laws.specs.raft_log_file_blocks.specs.Blocks.{IsBlockUnread, written_block}
+use Rattle.raft_log_engine_laws.specs.raft_log_file_pair.specs.Pipes.{Said}
+use Rattle.raft_log_engine_laws.specs.raft_log_file_blocks.specs.Blocks.{IsFileUnread}
 use Rattle.raft_voter_messages.specs.declared.reply.Reply.{Reply}
 use Rattle.raft_voter_messages.specs.declared.request.Request.{Request}
 use Rattle.raft_voter_messages.specs.declared.request.Request.TheVariants.{Read}
@@ -66,24 +65,23 @@ IsUnwrittenFor errors.NumberRange s t = HasLastNumber InAppend t.pipes
 IsUnwrittenFor errors.Memory s t = Unit {0}
 IsUnwrittenFor _ s t = ⊥
 
--- Why a group's entries weren't read from one index on, below another, though the tables show them: the block
--- of one wasn't, or it doesn't lie in the block that was written there.
-pub record WereUnread (home : Home) (g from to : ℕ) (s : Shows) (error : Error) : Type 0 where
+-- Why a group's entries weren't read from one index on, below another, though the tables show them: the file that
+-- one of them lies in wasn't, or memory was refused. None is told as damaged.
+pub record WereUnread (g from to : ℕ) (s : Shows) (error : Error) : Type 0 where
   pub index : ℕ
   pub entry : EntryIndex
   pub block : FileBlockHandle
   pub asked : (from ≤ index) × (index < to)
   pub stands : entry_at (s.tables g) index ≡ Some entry
   pub placed : entry.entries ≡ Some block
-  pub why : IsBlockUnread s.pipes block error
-      ⊎ ((log : LogState) × RunsOn (sense home) s.pipes log × LiesOutside entry (written_block log block) error)
+  pub why : IsFileUnread s.pipes block error
 
 -- Why a request was turned down: its record wasn't written; or the entries that it asks for weren't read; or
 -- memory was refused.
-pub data WasTurnedDown (home : Home) (q : ℕ × Request) (error : Error) (s t : Shows) : Type 0 where
-  unwritten : IsUnwrittenFor error s t → WasTurnedDown home q error s t
-  unread : (from to : ℕ) → q.1 ≡ Read from to → WereUnread home q.0 from to s error → WasTurnedDown home q error s t
-  no_memory : error ≡ errors.Memory → WasTurnedDown home q error s t
+pub data WasTurnedDown (q : ℕ × Request) (error : Error) (s t : Shows) : Type 0 where
+  unwritten : IsUnwrittenFor error s t → WasTurnedDown q error s t
+  unread : (from to : ℕ) → q.1 ≡ Read from to → WereUnread q.0 from to s error → WasTurnedDown q error s t
+  no_memory : error ≡ errors.Memory → WasTurnedDown q error s t
 
 -- A request was turned down: the voters and their outlines are as they were, and this is why.
 pub record TurnedDown (q : ℕ × Request) (error : Error) (s t : Shows) (os : ℕ → State) : Type 0 where
@@ -91,7 +89,7 @@ pub record TurnedDown (q : ℕ × Request) (error : Error) (s t : Shows) (os : �
   pub later : IsLater s.pipes.disk t.pipes.disk
   pub holds : (home : Home) (m : LogMap) (pending : List Said) → Holds home s m pending → EndsAt home t m pending
   pub why : (home : Home) (m : LogMap) (pending : List Said) (W : World) → Holds home s m pending
-      → Means (taken m pending) W → AreOutlines os W → WasTurnedDown home q error s t
+      → Means (taken m pending) W → AreOutlines os W → WasTurnedDown q error s t
 
 -- The engine failed at a request, as a file call did: its log is left with the request's record, or without it.
 pub record Broke (q : ℕ × Request) (s t : Shows) (os : ℕ → State) : Type 0 where

@@ -24,6 +24,7 @@ use Rattle.raft_log_table_all.proofs.Moved.{written_may_move}
 use Rattle.raft_log_file_pair.specs.Pipes.{LogPipes}
 use Rattle.raft_log_file_pair.specs.Calls.{AppendsTo, FailsToAppendTo, TellsFailure}
 use Rattle.raft_log_file_pair.specs.Numbers.{EndsNumbersAt}
+use Rattle.raft_log_file_pair.specs.PipeCalls.{PipeFailsToAppend}
 use Rattle.raft_log_file_blocks.specs.declared.block_cache.BlockCache.{BlockCache}
 use Rattle.raft_log_engine_laws.specs.Shows.{Home, LogMap, Shows, shows}
 use Rattle.raft_log_engine_laws.specs.Rewriting.{CountsAlone}
@@ -75,8 +76,8 @@ module _ (gate : ℕ) (b made : Batch) (v w : LogPipes) (old new : MemTables) (s
       }
 
   pub copies_not_moved : {A : Type 0} (error : Error) → TellsFailure {A = A} (Err error) w → FailsToAppendTo InRewrite (signed_for made) error v w → EndsNumbersAt InRewrite (signed_for made) error v w
-      → ShowsSame old new → FailsToCopy (Some gate) b error (shows v old cache) (shows w new cache)
-  copies_not_moved {A} error tells call ends same = record {
+      → PipeFailsToAppend InRewrite (signed_for made) error v w → ShowsSame old new → FailsToCopy (Some gate) b error (shows v old cache) (shows w new cache)
+  copies_not_moved {A} error tells call ends told same = record {
     same = same_but_pipes v w old new cache same;
     tells = λ lived. tells_err {A = A} error w tells;
     later = later;
@@ -87,7 +88,7 @@ module _ (gate : ℕ) (b made : Batch) (v w : LogPipes) (old new : MemTables) (s
     cause = λ plain home m h.
         inr
         (alone_reason home m error (shows v old cache) (shows w new cache) h.state b (counts_alone plain) h.runs (subst (λ s. FailsToAppendTo InRewrite s error v w) (same_record b made is) call)
-        (subst (λ s. EndsNumbersAt InRewrite s error v w) (same_record b made is) ends));
+        (subst (λ s. EndsNumbersAt InRewrite s error v w) (same_record b made is) ends) (subst (λ s. PipeFailsToAppend InRewrite s error v w) (same_record b made is) told));
   }
 
 -- Before that: the record is made, and room in the tables.

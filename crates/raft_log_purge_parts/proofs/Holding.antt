@@ -117,7 +117,7 @@ unwritten_reason home e m b error w h says long (inr (inl (is, call))) = sync_re
 unwritten_reason home e m b error w h says long (inr (inr r)) =
     let behind = may_sync_held home e m r.synced h r.syncs in
     let (y, speaks) = says r in
-    reason_after home m error e (over e r.synced) (over e w) r.before (record_reason home m error (over e r.synced) (over e w) behind.state y (signed_for b) behind.runs speaks r.call r.range)
+    reason_after home m error e (over e r.synced) (over e w) r.before (record_reason home m error (over e r.synced) (over e w) behind.state y b behind.runs speaks r.call r.range r.told)
 
 -- a part of a group says that it is one
 pub part_speaks : (home : Home) (number : ℕ) (status : AtomicGroupStatus) (b : Batch) → IsGroupPart number status b → Speaks home b

@@ -30,6 +30,7 @@ use Rattle.raft_log_table_all.specs.Tables.{counts, shown_of}
 use Rattle.raft_log_file_pair.specs.Pipes.{LogPipes, is_failed}
 use Rattle.raft_log_file_pair.specs.Calls.{AppendsTo, FailsToAppendTo, FailsToSyncQueue, SyncsQueue, TellsFailure}
 use Rattle.raft_log_file_pair.specs.Numbers.{EndsNumbersAt}
+use Rattle.raft_log_file_pair.specs.PipeCalls.{PipeFailsToAppend}
 use Rattle.raft_log_file_blocks.specs.declared.block_cache.BlockCache.{BlockCache}
 use Rattle.raft_log_engine_laws.specs.Shows.{Home, LogMap, Shows, shows}
 use Rattle.raft_log_engine_laws.specs.Holding.{Holds}
@@ -161,8 +162,8 @@ module _ (tables : ℕ → Shown) (b made : Batch) (v w : LogPipes) (says : Says
   }
 
   pub marks_are_refused : {A : Type 0} (error : Error) (counts : ℕ → Bool) (cache : BlockCache) → TellsFailure {A = A} (Err error) w → FailsToAppendTo InRewrite (signed_for made) error v w
-      → EndsNumbersAt InRewrite (signed_for made) error v w → PartIsRefused error (showing v tables counts cache) (showing w tables counts cache)
-  marks_are_refused {A} error counts cache tells call ends = record {
+      → EndsNumbersAt InRewrite (signed_for made) error v w → PipeFailsToAppend InRewrite (signed_for made) error v w → PartIsRefused error (showing v tables counts cache) (showing w tables counts cache)
+  marks_are_refused {A} error counts cache tells call ends told = record {
     tells = λ lived. tells_err {A = A} error w tells;
     later = later;
     remains = λ home m h.
@@ -171,7 +172,8 @@ module _ (tables : ℕ → Shown) (b made : Batch) (v w : LogPipes) (says : Says
         (subst (λ s. FailsToAppendTo InRewrite s error v w) (same_record b made is) call));
     cause = λ home m h.
         alone_reason home m error (showing v tables counts cache) (showing w tables counts cache) h.state b (says_owed tables b made says some is).alone h.runs
-        (subst (λ s. FailsToAppendTo InRewrite s error v w) (same_record b made is) call) (subst (λ s. EndsNumbersAt InRewrite s error v w) (same_record b made is) ends);
+        (subst (λ s. FailsToAppendTo InRewrite s error v w) (same_record b made is) call) (subst (λ s. EndsNumbersAt InRewrite s error v w) (same_record b made is) ends)
+        (subst (λ s. PipeFailsToAppend InRewrite s error v w) (same_record b made is) told);
   }
 
 -- The marks are written, and then synced, or not.

@@ -1,6 +1,6 @@
 -- Why a part of a purge was refused: of what each call told.
 use Rattle.std.proofs.Common.{◌≡◌, ◌⊎◌, ◌↔◌, ◌==◌, ◌+◌, ◌-◌, ◌^◌, ◌<◌, ◌≤◌, ℕ, suc, Bool, true, false, if◌then◌else◌, List, [], ◌∷◌, ◌++◌, Option, Some, None, option_map, inl, inr, refl, sym, ap, subst, ◌∙◌, arith, nat_lt, length, take, drop}
-use Rattle.std.specs.Prelude.{IsTrue, Result, Ok, Err}
+use Rattle.std.specs.Prelude.{IsTrue, Result, Ok, Err, ◌||◌}
 use Rattle.std.specs.Cmp.Lexicographic.{slice_cmp}
 use Rattle.std.specs.List.Sorted.{IsStrictlySortedBy}
 use Rattle.std.specs.Map.{keys_of}
@@ -15,14 +15,13 @@ use Rattle.raft_log_machine_laws.proofs.TruthRaises.{no_word}
 use Rattle.raft_log_model_laws.specs.Item.Record.{Plain}
 use Rattle.std.specs.Int.{from_le_bytes, w32}
 use Rattle.raft_log_record_checksum.specs.Checksum.{crc32_of}
-use Rattle.raft_log_disk.specs.Causes.{IsLater}
+use Rattle.raft_log_disk.specs.Causes.{Fails, IsLater}
 use Rattle.raft_log_disk.specs.Disk.{Disk}
-use Rattle.raft_log_disk.proofs.CauseLaws.{fails_after}
+use Rattle.raft_log_disk.proofs.CauseLaws.{fails_after, later_same, later_then}
 use Rattle.raft_log_record_base.specs.declared.codec.error.Error.{Error as CodecError}
 use Rattle.raft_log_record_base.specs.declared.errors.Error.{Error}
 use Rattle.raft_log_record_base.specs.declared.errors.Error.TheVariants as errors
 use Rattle.raft_log_record_base.specs.declared.pipe_log.FileBlockHandle.{FileBlockHandle}
-use Rattle.raft_log_record_base.specs.declared.pipe_log.LogFileContext.{LogFileContext}
 use Rattle.raft_log_record_base.specs.declared.pipe_log.LogQueue.TheVariants.{Rewrite}
 use Rattle.raft_log_record_base.specs.Fault.{Fault, corrupt, number}
 use Rattle.raft_log_record_base.specs.Fault.{FailsOrMemory as FailsToRead}
@@ -51,6 +50,7 @@ use Rattle.raft_log_file_blocks.specs.Stored.{entries_at, part}
 use Rattle.raft_log_file_pair.specs.Pipes.{LogPipes, LogSense, RunsOn, Said, State, files_of, is_failed, which_of}
 use Rattle.raft_log_file_pair.specs.Calls.{FailsToAppendTo, FailsToPurgeQueue, FailsToRotateQueue, FailsToSyncQueue}
 use Rattle.raft_log_file_pair.specs.Numbers.{EndsNumbers, EndsNumbersAt, EndsNumbersBelow, HasLastNumber}
+use Rattle.raft_log_file_pair.specs.PipeCalls.{PipeFailsToAppend}
 use Rattle.raft_log_file_blocks.specs.declared.block_cache.BlockCache.{BlockCache}
 use Rattle.raft_log_file_blocks.specs.Blocks.{AreUnread, IsBlockUnread, IsEntryUnread, IsNoEntry, IsUnplaced, written_block}
 use Rattle.raft_log_engine_laws.specs.Shows.{Home, LogMap, Shows, said_by, sense}
@@ -62,16 +62,28 @@ use Rattle.raft_log_record_items.specs.declared.raw_message.RawMessage.{RawMessa
 use Rattle.raft_log_purge_parts.specs.Entries.{AreEntryBytes, as_bytes}
 use Rattle.raft_log_purge_parts.specs.Lengths.{AreOfGroup, AreOnePiece, AreValuesIn, IsOneMark}
 use Rattle.raft_log_purge_parts.specs.Owed.{SaysMarks}
-use Rattle.raft_log_purge_parts.specs.Reasons.{HasFileReason, HasMarkValue, HasReason, IsOneUnread}
+use Rattle.raft_log_purge_parts.specs.Reasons.{FailsAtARecord, HasFileReason, HasMarkValue, HasReason, IsOneUnread}
 use Rattle.raft_log_purge_parts.specs.Refusals.{AreUnput, HasMark, IsOverlong, IsUnmade, IsUnrecorded}
 use Rattle.raft_log_purge_parts.proofs.KeyCopies.{EachOf, each_listed}
 
 -- What came before takes no cause away.
 
+record_after : (error : Error) (s t u : Shows) → IsLater s.pipes.disk t.pipes.disk → FailsAtARecord error t u → FailsAtARecord error s u
+record_after error s t u later (fails, refused) = (
+  fails_after s.pipes.disk t.pipes.disk u.pipes.disk later fails,
+  record {
+    before = refused.before;
+    batch = refused.batch;
+    earlier = later_then s.pipes.disk t.pipes.disk refused.before.disk later refused.earlier;
+    alive = refused.alive;
+    call = refused.call;
+  },
+)
+
 pub reason_after : (home : Home) (m : LogMap) (error : Error) (s t u : Shows) → IsLater s.pipes.disk t.pipes.disk → HasReason home m error t u → HasReason home m error s u
-reason_after home m (errors.Io kind) s t u later (inl fails) = inl (fails_after s.pipes.disk t.pipes.disk u.pipes.disk later fails)
+reason_after home m (errors.Io kind) s t u later (inl fails) = inl (record_after (errors.Io kind) s t u later fails)
 reason_after home m (errors.Io kind) s t u later (inr unread) = inr unread
-reason_after home m (errors.TryAgain text) s t u later fails = fails_after s.pipes.disk t.pipes.disk u.pipes.disk later fails
+reason_after home m (errors.TryAgain text) s t u later fails = record_after (errors.TryAgain text) s t u later fails
 reason_after home m errors.Failed s t u later fails = fails_after s.pipes.disk t.pipes.disk u.pipes.disk later fails
 reason_after home m (errors.Corruption text) s t u later unread = unread
 reason_after home m errors.NumberRange s t u later ends = ends
@@ -214,20 +226,31 @@ memory_is_none error memory failed = (let never : ⊥ = cc in never)
 
 -- What Rewrite and the files refused.
 
-pub record_reason : (home : Home) (m : LogMap) (error : Error) (s t : Shows) (log : State) (y : Said) (signed : LogFileContext → List ℕ) → RunsOn (sense home) s.pipes log
-    → SaysRecord said_by (log_layout Rewrite home.rewrite) Rewrite signed y → FailsToAppendTo InRewrite signed error s.pipes t.pipes → EndsNumbersAt InRewrite signed error s.pipes t.pipes → HasReason home m error s t
-record_reason home m (errors.Io kind) s t log y signed runs says call ends = inl (call (sense home) log y runs says).0
-record_reason home m (errors.TryAgain text) s t log y signed runs says call ends = (call (sense home) log y runs says).0
-record_reason home m errors.NumberRange s t log y signed runs says call ends = (InRewrite, (ends refl (sense home) log y runs says).0)
-record_reason home m errors.Memory s t log y signed runs says call ends = tt
-record_reason home m errors.Failed s t log y signed runs says call ends = (call (sense home) log y runs says).0
-record_reason home m _ s t log y signed runs says call ends = absurd (call (sense home) log y runs says)
+alive_of : (log : LogSense) (v : LogPipes) (s : State) → RunsOn log v s → is_failed v ≡ false
+alive_of log v s runs = ap (λ b. b || v.rewrite.failed) runs.append.alive ∙ runs.rewrite.alive
+
+refused_now : (home : Home) (error : Error) (s t : Shows) (log : State) (b : Batch) → RunsOn (sense home) s.pipes log → Fails s.pipes.disk t.pipes.disk → PipeFailsToAppend InRewrite (signed_for b) error s.pipes t.pipes
+    → FailsAtARecord error s t
+refused_now home error s t log b runs fails told = (
+  fails,
+  record { before = s.pipes; batch = b; earlier = later_same s.pipes.disk; alive = alive_of (sense home) s.pipes log runs; call = told },
+)
+
+pub record_reason : (home : Home) (m : LogMap) (error : Error) (s t : Shows) (log : State) (y : Said) (b : Batch) → RunsOn (sense home) s.pipes log
+    → SaysRecord said_by (log_layout Rewrite home.rewrite) Rewrite (signed_for b) y → FailsToAppendTo InRewrite (signed_for b) error s.pipes t.pipes → EndsNumbersAt InRewrite (signed_for b) error s.pipes t.pipes
+    → PipeFailsToAppend InRewrite (signed_for b) error s.pipes t.pipes → HasReason home m error s t
+record_reason home m (errors.Io kind) s t log y b runs says call ends told = inl (refused_now home (errors.Io kind) s t log b runs (call (sense home) log y runs says).0 told)
+record_reason home m (errors.TryAgain text) s t log y b runs says call ends told = refused_now home (errors.TryAgain text) s t log b runs (call (sense home) log y runs says).0 told
+record_reason home m errors.NumberRange s t log y b runs says call ends told = (InRewrite, (ends refl (sense home) log y runs says).0)
+record_reason home m errors.Memory s t log y b runs says call ends told = tt
+record_reason home m errors.Failed s t log y b runs says call ends told = (call (sense home) log y runs says).0
+record_reason home m _ s t log y b runs says call ends told = absurd (call (sense home) log y runs says)
 
 -- of a batch that counts by itself
 pub alone_reason : (home : Home) (m : LogMap) (error : Error) (s t : Shows) (log : State) (b : Batch) → CountsAlone b → RunsOn (sense home) s.pipes log → FailsToAppendTo InRewrite (signed_for b) error s.pipes t.pipes
-    → EndsNumbersAt InRewrite (signed_for b) error s.pipes t.pipes → HasReason home m error s t
-alone_reason home m error s t log b alone runs call ends =
-    record_reason home m error s t log (Plain (bytes_of b)) (signed_for b) runs (says_marked home b Unmarked (Plain (bytes_of b)) alone.some alone.plain refl alone.says alone.laid) call ends
+    → EndsNumbersAt InRewrite (signed_for b) error s.pipes t.pipes → PipeFailsToAppend InRewrite (signed_for b) error s.pipes t.pipes → HasReason home m error s t
+alone_reason home m error s t log b alone runs call ends told =
+    record_reason home m error s t log (Plain (bytes_of b)) b runs (says_marked home b Unmarked (Plain (bytes_of b)) alone.some alone.plain refl alone.says alone.laid) call ends told
 
 pub sync_reason : (which : Which) (home : Home) (m : LogMap) (error : Error) (s t : Shows) (log : State) → RunsOn (sense home) s.pipes log → error ≡ errors.Failed → FailsToSyncQueue which s.pipes t.pipes → HasReason home m error s t
 sync_reason which home m error s t log runs is call = subst (λ (e : Error). HasReason home m e s t) (sym is) (call (sense home) log runs).0

@@ -13,6 +13,7 @@ use Rattle.raft_log_directory_laws.specs.Calls.Which.{InRewrite}
 use Rattle.raft_log_file_pair.specs.Pipes.{LogPipes}
 use Rattle.raft_log_file_pair.specs.Calls.{AppendsTo, FailsToAppendTo, TellsFailure}
 use Rattle.raft_log_file_pair.specs.Numbers.{EndsNumbersAt}
+use Rattle.raft_log_file_pair.specs.PipeCalls.{PipeFailsToAppend}
 use Rattle.raft_log_purge_parts.specs.Parts.{IsRecordMade}
 use Rattle.raft_log_purge_parts.proofs.PartExits.{alive_ok, later_on, same_record, tells_err}
 use Rattle.raft_log_purge_parts.specs.Syncing.{left_unsynced, CountsRecord, MaySync, SyncsIfDue}
@@ -31,8 +32,9 @@ module _ (b made : Batch) (v mid w : LogPipes) (syncs : MaySync v mid) (is : IsR
     later = later_on v.disk mid.disk w.disk before later;
   }
 
-  pub record_refused : {A : Type 0} (error : Error) → TellsFailure {A = A} (Err error) w → FailsToAppendTo InRewrite (signed_for made) error mid w → EndsNumbersAt InRewrite (signed_for made) error mid w → FailsToWriteRecord b error v w
-  record_refused {A} error tells call ends = record {
+  pub record_refused : {A : Type 0} (error : Error) → TellsFailure {A = A} (Err error) w → FailsToAppendTo InRewrite (signed_for made) error mid w → EndsNumbersAt InRewrite (signed_for made) error mid w
+      → PipeFailsToAppend InRewrite (signed_for made) error mid w → FailsToWriteRecord b error v w
+  record_refused {A} error tells call ends told = record {
     why = inr (inr (record {
       synced = mid;
       syncs = syncs;
@@ -40,6 +42,7 @@ module _ (b made : Batch) (v mid w : LogPipes) (syncs : MaySync v mid) (is : IsR
       laid = is.laid;
       call = subst (λ s. FailsToAppendTo InRewrite s error mid w) (same_record b made is) call;
       range = subst (λ s. EndsNumbersAt InRewrite s error mid w) (same_record b made is) ends;
+      told = subst (λ s. PipeFailsToAppend InRewrite s error mid w) (same_record b made is) told;
       before = before;
     }));
     tells = λ lived. tells_err {A = A} error w tells;

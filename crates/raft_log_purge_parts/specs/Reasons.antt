@@ -1,13 +1,17 @@
 -- Why a part of a purge is refused, by its error.
-use Rattle.std.specs.Prelude.{◌≡◌, ◌⊎◌, ℕ, List, [], Some}
+use Rattle.std.specs.Prelude.{◌≡◌, ◌⊎◌, ℕ, false, List, [], Some}
 use Rattle.raft_log_model_laws.specs.Meaning.Slot.{Key}
 use Rattle.raft_log_model_laws.specs.Meaning.Content.{Value}
 use Rattle.raft_log_disk.specs.Causes.{Fails, IsLater}
 use Rattle.raft_log_record_base.specs.declared.errors.Error.{Error}
 use Rattle.raft_log_record_base.specs.declared.errors.Error.TheVariants as errors
 use Rattle.raft_log_record_marks.specs.Marking.{mark_key}
+use Rattle.raft_log_record_batches.specs.Batch.{Batch}
+use Rattle.raft_log_file_blocks.specs.Signing.{signed_for}
 use Rattle.raft_log_directory_laws.specs.Calls.{Which}
-use Rattle.raft_log_file_pair.specs.Pipes.{LogPipes}
+use Rattle.raft_log_directory_laws.specs.Calls.Which.{InRewrite}
+use Rattle.raft_log_file_pair.specs.PipeCalls.{PipeFailsToAppend}
+use Rattle.raft_log_file_pair.specs.Pipes.{LogPipes, is_failed}
 use Rattle.raft_log_file_pair.specs.Numbers.{HasLastNumber}
 use Rattle.raft_log_engine_laws.specs.Shows.{Home, LogMap, Shows}
 use Rattle.raft_log_engine_laws.specs.Holding.{Holds}
@@ -28,13 +32,27 @@ IsOneUnread home m t error =
 abbrev pub HasMarkValue : LogMap → Type 0
 HasMarkValue m = (value : List ℕ) × (m 0 (Key mark_key) ≡ Some (Value value))
 
--- Why a part was refused, of an engine whose log is this map: a file call has failed during it, an entry isn't
--- read, a queue stands at its last number, a record would be too long, a value would be a mark of an atomic
--- group, or memory ran out. Nothing else comes.
+-- Rewrite refused the record of a batch with this error, and nothing was done since. Its pipe tells that by
+-- its file calls: an `Io` has the kind that the file system answered the write with, and `TryAgain` comes of
+-- want of space alone.
+pub record RecordIsRefused (error : Error) (s t : Shows) : Type 0 where
+  pub before : LogPipes
+  pub batch : Batch
+  pub earlier : IsLater s.pipes.disk before.disk
+  pub alive : is_failed before ≡ false
+  pub call : PipeFailsToAppend InRewrite (signed_for batch) error before t.pipes
+
+-- a file call has failed, and with it a record was refused
+abbrev pub FailsAtARecord : Error → Shows → Shows → Type 0
+FailsAtARecord error s t = Fails s.pipes.disk t.pipes.disk × RecordIsRefused error s t
+
+-- Why a part was refused, of an engine whose log is this map: a record was refused, a file call has failed
+-- during it, an entry isn't read, a queue stands at its last number, a record would be too long, a value
+-- would be a mark of an atomic group, or memory ran out. Nothing else comes.
 abbrev pub HasReason : Home → LogMap → Error → Shows → Shows → Type 0
 HasReason home m (errors.Io kind) s t =
-    Fails s.pipes.disk t.pipes.disk ⊎ IsOneUnread home m t (errors.Io kind)
-HasReason home m (errors.TryAgain text) s t = Fails s.pipes.disk t.pipes.disk
+    FailsAtARecord (errors.Io kind) s t ⊎ IsOneUnread home m t (errors.Io kind)
+HasReason home m (errors.TryAgain text) s t = FailsAtARecord (errors.TryAgain text) s t
 HasReason home m errors.Failed s t = Fails s.pipes.disk t.pipes.disk
 HasReason home m (errors.Corruption text) s t = IsOneUnread home m t (errors.Corruption text)
 HasReason home m errors.NumberRange s t = EndsItsNumbers t.pipes

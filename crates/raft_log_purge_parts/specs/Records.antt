@@ -12,6 +12,7 @@ use Rattle.raft_log_directory_laws.specs.Calls.Which.{InRewrite}
 use Rattle.raft_log_file_pair.specs.Pipes.{LogPipes, is_failed}
 use Rattle.raft_log_file_pair.specs.Calls.{AppendsTo, FailsToAppendTo, FailsToSyncQueue}
 use Rattle.raft_log_file_pair.specs.Numbers.{EndsNumbersAt}
+use Rattle.raft_log_file_pair.specs.PipeCalls.{PipeFailsToAppend}
 use Rattle.raft_log_engine_laws.specs.Shows.{IsLaidOut}
 use Rattle.raft_log_purge_parts.specs.Refusals.{IsUnrecorded}
 use Rattle.raft_log_purge_parts.specs.Syncing.{MaySync}
@@ -36,6 +37,7 @@ pub record RefusesRecord (b : Batch) (error : Error) (v w : LogPipes) : Type 0 w
   pub laid : IsLaidOut b
   pub call : FailsToAppendTo InRewrite (signed_for b) error synced w
   pub range : EndsNumbersAt InRewrite (signed_for b) error synced w
+  pub told : PipeFailsToAppend InRewrite (signed_for b) error synced w
   pub before : IsLater v.disk synced.disk
 
 -- why a batch's record wasn't written: it isn't made, as it would be too long or for want of memory; or the

@@ -42,4 +42,4 @@ returns-in-Err-clause-err g c =
     let record_made = record_is_made b c.new-signed.result.batch (ap (λ (x : Batch). x.items) made) (ap (λ (x : Batch). x.entries) made) n.says n.laid n.adds in
     λ cache.
     copies_not_moved c.args.gate b c.new-signed.result.batch (g.P.PipeLog.shown c.args.pipes.now) (g.P.PipeLog.shown c.append-appended.new.self) c.args.tables.now c.take_back.new.self c.requires.some record_made e.later cache
-    {A = FileBlockHandle} c.in-Err.error e.fails e.err e.range c.take_back.ensures.shows
+    {A = FileBlockHandle} c.in-Err.error e.fails e.err e.range e.refusal c.take_back.ensures.shows

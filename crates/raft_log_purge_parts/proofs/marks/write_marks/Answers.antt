@@ -35,7 +35,7 @@ returns-in_err-append-clause-err g c =
     let p = err_from_is_err_and c.from_residual-in_err-append.result c.from_residual-in_err-append.ensures.1 in
     rw (p.1, p.2) (λ cache.
     marks_are_refused (shown_of c.args.tables.now) c.in_ok-batch.batch c.in_ok-signed.signed.batch (g.P.PipeLog.shown c.args.pipes.now) (g.P.PipeLog.shown c.append.new.self) c.in_ok-batch.ensures.ok
-    (λ none. false≢true (sym c.if-is_empty.false ∙ c.is_empty.ensures.1 none)) c.in_ok-signed.ensures.ok e.later {A = FileBlockHandle} c.in_err-append.field-0.0 (counts c.args.tables.now) cache e.fails e.err e.range)
+    (λ none. false≢true (sym c.if-is_empty.false ∙ c.is_empty.ensures.1 none)) c.in_ok-signed.ensures.ok e.later {A = FileBlockHandle} c.in_err-append.field-0.0 (counts c.args.tables.now) cache e.fails e.err e.range e.refusal)
 
 pub returns-clause-ok : goal.returns-clause-ok
 returns-clause-ok g c =

@@ -18,7 +18,7 @@ returns-in_err-block-clause-err g c =
     let p = err_from_is_err_and c.from_residual-in_err-block.result c.from_residual-in_err-block.ensures.1 in
     rw (p.1, p.2)
     (record_refused b c.new-signed.result.batch (g.P.PipeLog.shown c.args.pipes.now) (g.P.PipeLog.shown c.sync_if_due.new.pipes) (g.P.PipeLog.shown c.append.new.self) c.in_ok-sync_if_due.ensures.ok is c.in_ok-sync_if_due.ensures.later e.later
-    {A = FileBlockHandle} c.in_err-block.field-0.0 e.fails e.err e.range)
+    {A = FileBlockHandle} c.in_err-block.field-0.0 e.fails e.err e.range e.refusal)
 
 pub returns-clause-ok : goal.returns-clause-ok
 returns-clause-ok g c =

@@ -55,6 +55,6 @@ returns-clause-err g c =
     let is = record_is_made b c.new-signed.result.batch (ap (λ (x : Batch). x.items) made ∙ ap (λ (x : Batch). x.items) pop) (ap (λ (x : Batch). x.entries) made ∙ ap (λ (x : Batch). x.entries) pop) n.says n.laid n.adds in record {
       fails =
           record_refused b c.new-signed.result.batch (g.P.PipeLog.shown c.args.pipes.now) (g.P.PipeLog.shown c.sync_if_due.new.pipes) (g.P.PipeLog.shown c.append-appended.new.self) c.in_ok-sync_if_due.ensures.ok is c.in_ok-sync_if_due.ensures.later e.later
-          {A = FileBlockHandle} c.in-Err.error e.fails e.err e.range;
+          {A = FileBlockHandle} c.in-Err.error e.fails e.err e.range e.refusal;
       same = same_twice c.args.tables.now c.make_room.new.tables c.take_back.new.self c.make_room.ensures.shows c.take_back.ensures.shows;
     }

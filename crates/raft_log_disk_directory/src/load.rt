@@ -4,7 +4,7 @@ ghost use Rattle.raft_log_disk_storage.specs.Held.{held_of};
 ghost use Rattle.raft_log_disk_storage.specs.Storage.{IsStorageSound, IsWhole-prop};
 ghost use Rattle.raft_log_disk_directory.specs.Loading.{FillsFile};
 
-use raft_log_disk_storage::{Storage, Stored};
+use raft_log_disk_storage::{Content, Storage, Stored};
 use std::alloc::Global;
 use std::collections::BTreeMap;
 use std::fs::{File, OpenOptions};
@@ -87,7 +87,10 @@ fn fill(storage: &mut Storage, file: usize, content: Vec<u8>)
     ensures whole { IsStorageSound storage.new }
 {
     let changes = Vec::new(storage.alloc);
-    storage.files[file] = Some(Stored { content, changes });
+    storage.files[file] = Some(Stored {
+        content: Content::from_vec(content),
+        changes,
+    });
 }
 
 /// The bytes of a file, read into room for just as many.

@@ -13,10 +13,11 @@ pub returns-clause-whole : goal.returns-clause-whole
 returns-clause-whole c =
     let old = c.args.storage.now in
     let bytes = c.args.content.items in
-    let stored : Stored = record { content = c.args.content; changes = c.new-changes.result } in
+    let stored : Stored = record { content = c.from_vec.result; changes = c.new-changes.result } in
     let new : Storage = record old { files = with_item old.files c.args.file (Some stored) } in
     let rests : held stored ≡ resting bytes =
-    ap (λ (us : List Stamped). let h : Held = record { content = bytes; synced = before us bytes; changes = made_in us bytes } in h) c.new-changes.ensures.items in
+    ap (λ (us : List Stamped). let h : Held = record { content = c.from_vec.result; synced = before us c.from_vec.result; changes = made_in us c.from_vec.result } in h) c.new-changes.ensures.items
+    ∙ ap resting c.from_vec.ensures in
     let files : (q : ℕ) → held_of new.files.items q ≡ update nat_eq (held_of old.files.items) c.args.file (Some (resting bytes)) q =
     λ q. held_put old.files.items c.args.file stored (omega (arith, is_below old c.args.file c.requires.there, old.files.ok)) q
     ∙ ap (λ (h : Held). update nat_eq (held_of old.files.items) c.args.file (Some h) q) rests in

@@ -138,7 +138,7 @@ module _ (e : Shows) (g done count : ℕ) (es : List EntryIndex) (is : es ≡ ta
   unread_reason error unread =
       let (cached, why) = all_untold e g home m [] h as_bytes done ps (v.first + done) (v.first + done + length ps) e.cache new error stands_from (omega arith) (omega arith) h.cached
       (subst (λ l. AreUnread as_bytes e.pipes l e.cache new error) (is ∙ piece_entries v done count) unread) in
-      untold_reason home m error e new h.state (record { state = h.state; map = h.map; runs = h.runs; stored = h.stored; rises = h.rises; noted = h.noted; meant = h.meant; cached = cached; at = h.at }) refl g (v.first + done)
+      untold_reason home m error e new (record { state = h.state; map = h.map; runs = h.runs; stored = h.stored; rises = h.rises; noted = h.noted; meant = h.meant; cached = cached; at = h.at }) g (v.first + done)
       (v.first + done + length ps) why
 
   piece_rises : RisesFrom (v.first + done) (indexes_of es)

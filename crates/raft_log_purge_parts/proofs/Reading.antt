@@ -165,7 +165,7 @@ module _ (s : Shows) (g gate : ℕ) (es : List EntryIndex) (next : AreNext gate 
   unread_reason error unread home m h =
       let (cached, why) = all_untold s g home m [] h as_bytes v.rewritten ps (v.first + v.rewritten) (v.first + v.rewritten + length ps) s.cache new error stands_from (omega arith) (omega arith) h.cached
       (subst (λ l. AreUnread as_bytes s.pipes l s.cache new error) next unread) in
-      untold_reason home m error s new h.state (record { state = h.state; map = h.map; runs = h.runs; stored = h.stored; rises = h.rises; noted = h.noted; meant = h.meant; cached = cached; at = h.at }) refl g (v.first + v.rewritten)
+      untold_reason home m error s new (record { state = h.state; map = h.map; runs = h.runs; stored = h.stored; rises = h.rises; noted = h.noted; meant = h.meant; cached = cached; at = h.at }) g (v.first + v.rewritten)
       (v.first + v.rewritten + length ps) why
 
   -- what comes next makes one record

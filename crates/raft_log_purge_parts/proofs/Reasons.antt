@@ -52,10 +52,10 @@ use Rattle.raft_log_file_pair.specs.Calls.{FailsToAppendTo, FailsToPurgeQueue, F
 use Rattle.raft_log_file_pair.specs.Numbers.{EndsNumbers, EndsNumbersAt, EndsNumbersBelow, HasLastNumber}
 use Rattle.raft_log_file_pair.specs.PipeCalls.{PipeFailsToAppend}
 use Rattle.raft_log_file_blocks.specs.declared.block_cache.BlockCache.{BlockCache}
-use Rattle.raft_log_file_blocks.specs.Blocks.{AreUnread, IsBlockUnread, IsEntryUnread, IsNoEntry, IsUnplaced, written_block}
+use Rattle.raft_log_file_blocks.specs.Blocks.{AreUnread, IsBlockUnread, IsEntryUnread, IsFileUnread, IsNoEntry, IsUnplaced}
 use Rattle.raft_log_engine_laws.specs.Shows.{Home, LogMap, Shows, said_by, sense}
 use Rattle.raft_log_engine_laws.specs.Holding.{Holds}
-use Rattle.raft_log_engine_laws.specs.Fetching.{IsOneUntold, IsUntold, LiesOutside}
+use Rattle.raft_log_engine_laws.specs.Fetching.{IsOneUntold, IsUntold}
 use Rattle.raft_log_engine_laws.specs.Rewriting.{CountsAlone}
 use Rattle.raft_log_engine_laws.proofs.Rewriting.{bytes_of, says_marked}
 use Rattle.raft_log_record_items.specs.declared.raw_message.RawMessage.{RawMessage}
@@ -85,7 +85,6 @@ reason_after home m (errors.Io kind) s t u later (inl fails) = inl (record_after
 reason_after home m (errors.Io kind) s t u later (inr unread) = inr unread
 reason_after home m (errors.TryAgain text) s t u later fails = record_after (errors.TryAgain text) s t u later fails
 reason_after home m errors.Failed s t u later fails = fails_after s.pipes.disk t.pipes.disk u.pipes.disk later fails
-reason_after home m (errors.Corruption text) s t u later unread = unread
 reason_after home m errors.NumberRange s t u later ends = ends
 reason_after home m errors.Full s t u later long = long
 reason_after home m (errors.InvalidArgument text) s t u later reason = reason
@@ -367,31 +366,23 @@ unread_entries v (e ∷ es) old new error (inr (inr (next, m, one, rest))) = unr
 pub unread_is_none : (v : LogPipes) (es : List EntryIndex) (old new : BlockCache) (error : Error) → AreUnread as_bytes v es old new error → error ≡ errors.Failed → ⊥
 unread_is_none v es old new error unread is = subst IsOfReading is (unread_entries v es old new error unread)
 
-outside : (e : EntryIndex) (bytes : List ℕ) (error : Error) → LiesOutside e bytes error → IsOfBlock error
-outside e bytes errors.Memory why = tt
-outside e bytes (errors.Corruption text) why = tt
-outside e bytes _ why = absurd why
-
-untold_of_reading : (v : LogPipes) (e : EntryIndex) (block : FileBlockHandle) (written bytes : List ℕ) (error : Error)
-    → IsBlockUnread v block error ⊎ (LiesOutside e written error ⊎ Parses {M = RawMessage} (Err error) (as_bytes bytes)) → IsOfBlock error
-untold_of_reading v e block written bytes error (inl unread) = unread_block v block error unread
-untold_of_reading v e block written bytes error (inr (inl lies)) = outside e written error lies
-untold_of_reading v e block written bytes error (inr (inr none)) = unparsed bytes error none
-
-of_reading : (home : Home) (m : LogMap) (error : Error) (s t : Shows) → IsOfBlock error → IsOneUnread home m t error → HasReason home m error s t
-of_reading home m (errors.Io kind) s t of unread = inr unread
-of_reading home m (errors.Corruption text) s t of unread = unread
-of_reading home m errors.Memory s t of unread = tt
-of_reading home m _ s t of unread = absurd of
+-- an entry of the map isn't told: its file wasn't read, or memory ran out
+of_untold : (home : Home) (m : LogMap) (error : Error) (s t : Shows) (block : FileBlockHandle) (bytes : List ℕ) → IsFileUnread t.pipes block error ⊎ Parses {M = RawMessage} (Err error) (as_bytes bytes) → IsOneUnread home m t error
+    → HasReason home m error s t
+of_untold home m (errors.Io kind) s t block bytes why unread = inr unread
+of_untold home m errors.Memory s t block bytes why unread = tt
+of_untold home m (errors.Message text) s t block bytes (inl file) unread = absurd file
+of_untold home m (errors.Message text) s t block bytes (inr none) unread = absurd (let never : ⊥ = cc in never)
+of_untold home m _ s t block bytes (inl file) unread = absurd file
+of_untold home m _ s t block bytes (inr none) unread = absurd none
 
 -- with another block it is so still
-with_block : (g i : ℕ) (s : Shows) (new : BlockCache) (log : State) (m : LogMap) (error : Error) → IsUntold as_bytes g i s log m error → IsUntold as_bytes g i (record s { cache = new }) log m error
-with_block g i s new log m error u = record { entry = u.entry; block = u.block; bytes = u.bytes; stands = u.stands; placed = u.placed; maps = u.maps; why = u.why }
+with_block : (g i : ℕ) (s : Shows) (new : BlockCache) (m : LogMap) (error : Error) → IsUntold as_bytes g i s m error → IsUntold as_bytes g i (record s { cache = new }) m error
+with_block g i s new m error u = record { entry = u.entry; block = u.block; bytes = u.bytes; stands = u.stands; placed = u.placed; maps = u.maps; why = u.why }
 
 -- of entries of the map one isn't read: nothing was done but that
-pub untold_reason : (home : Home) (m : LogMap) (error : Error) (s : Shows) (new : BlockCache) (log : State) (h : Holds home (record s { cache = new }) m []) → h.state ≡ log → (g begin end : ℕ) → IsOneUntold as_bytes g begin end s log m error
+pub untold_reason : (home : Home) (m : LogMap) (error : Error) (s : Shows) (new : BlockCache) → Holds home (record s { cache = new }) m [] → (g begin end : ℕ) → IsOneUntold as_bytes g begin end s m error
     → HasReason home m error s (record s { cache = new })
-untold_reason home m error s new log h is g begin end (inl memory) = memory_reason home m error s (record s { cache = new }) memory
-untold_reason home m error s new log h is g begin end (inr (i, low, high, untold)) =
-    let here = with_block g i s new log m error untold in
-    of_reading home m error s (record s { cache = new }) (untold_of_reading s.pipes untold.entry untold.block (written_block log untold.block) untold.bytes error untold.why) (h, g, i, subst (λ (l : State). IsUntold as_bytes g i (record s { cache = new }) l m error) (sym is) here)
+untold_reason home m error s new h g begin end (inl memory) = memory_reason home m error s (record s { cache = new }) memory
+untold_reason home m error s new h g begin end (inr (i, low, high, untold)) =
+    of_untold home m error s (record s { cache = new }) untold.block untold.bytes untold.why (h, g, i, with_block g i s new m error untold)

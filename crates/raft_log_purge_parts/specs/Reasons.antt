@@ -26,7 +26,7 @@ EndsItsNumbers v = (which : Which) × HasLastNumber which v
 -- the engine's log is this map, and of an entry that its tables show the bytes aren't read
 abbrev pub IsOneUnread : Home → LogMap → Shows → Error → Type 0
 IsOneUnread home m t error =
-    (h : Holds home t m []) × (g : ℕ) × (i : ℕ) × IsUntold as_bytes g i t h.state m error
+    Holds home t m [] × (g : ℕ) × (i : ℕ) × IsUntold as_bytes g i t m error
 
 -- the key of marks has a value in the group of marks, which would be a mark of an atomic group if it was written
 abbrev pub HasMarkValue : LogMap → Type 0
@@ -54,7 +54,6 @@ HasReason home m (errors.Io kind) s t =
     FailsAtARecord (errors.Io kind) s t ⊎ IsOneUnread home m t (errors.Io kind)
 HasReason home m (errors.TryAgain text) s t = FailsAtARecord (errors.TryAgain text) s t
 HasReason home m errors.Failed s t = Fails s.pipes.disk t.pipes.disk
-HasReason home m (errors.Corruption text) s t = IsOneUnread home m t (errors.Corruption text)
 HasReason home m errors.NumberRange s t = EndsItsNumbers t.pipes
 HasReason home m errors.Full s t = HasTooMuch m t.tables
 HasReason home m (errors.InvalidArgument text) s t = HasMarkValue m

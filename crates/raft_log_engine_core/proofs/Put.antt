@@ -21,6 +21,7 @@ use Rattle.raft_log_file_blocks.specs.Written.{placed_items}
 use Rattle.raft_log_file_pair.specs.Pipes.{LogPipes, is_failed}
 use Rattle.raft_log_file_pair.specs.Calls.{AppendsTo, FailsToAppendTo, FailsToSyncQueue, SyncsQueue, TellsFailure}
 use Rattle.raft_log_file_pair.specs.Numbers.{EndsNumbersAt}
+use Rattle.raft_log_file_pair.specs.PipeCalls.{PipeAppends, PipeFailsToAppend}
 use Rattle.raft_log_record_base.specs.declared.pipe_log.LogFileContext.{LogFileContext}
 use Rattle.raft_log_file_blocks.specs.declared.block_cache.BlockCache.{BlockCache}
 use Rattle.raft_log_purge.specs.raft_log_engine_laws.specs.Shows.{IsLaidOut, IsWellMarked, Shows, shows}
@@ -31,7 +32,7 @@ use Rattle.raft_log_purge.specs.raft_log_engine_laws.specs.Syncing.{NotSynced, S
 use Rattle.raft_log_purge.specs.raft_log_engine_laws.specs.Laws.{MayBeWritten}
 use Rattle.raft_log_purge.specs.raft_log_engine_laws.proofs.Exits.{empty_unsynced, refuses, write_unsynced, writes, writes_synced}
 use Rattle.raft_log_engine_core.specs.Room.{PutFails}
-use Rattle.raft_log_engine_core.specs.Touching.{LeavesFiles, LeavesRecord, WritesFiles, WritesRecord}
+use Rattle.raft_log_engine_core.specs.Touching.{LeavesFiles, LeavesRecord, PipeRefuses, PipeTakes, RefusesBatch, TellsNoWrite, WritesFiles, WritesRecord}
 
 pub on_ok : {A E : Type 0} {P : Type 0} (r : Result A E) → IsOk r → OnOk r P → P
 on_ok (Ok x) ok p = p
@@ -153,14 +154,42 @@ refused_again signed other error v mid w (Ok block) same none later next failed 
 refused_again signed other error v mid w (Err e) same none later next failed call range =
     inr (mid, (error, none, later, failed), next, (subst (λ s. FailsToAppendTo InAppend s e mid w) same call, subst (λ s. EndsNumbersAt InAppend s e mid w) same range))
 
+-- pipes that found no space live
+alive_again : (error : Error) (w : LogPipes) → SaysTryAgain error → TellsFailure {A = FileBlockHandle} (Err error) w → is_failed w ≡ false
+alive_again error w none tells = elim (cases_Bool (is_failed w)) [
+  | inl hit ↦ absurd (subst SaysTryAgain ((tells_err {A = FileBlockHandle} error w tells).0 hit) none)
+  | inr miss ↦ miss
+]
+
+pub taken_again : (signed other : LogFileContext → List ℕ) (error : Error) (v mid w : LogPipes) (r : Result FileBlockHandle Error) → other ≡ signed → SaysTryAgain error → TellsFailure {A = FileBlockHandle} (Err error) mid
+    → PipeFailsToAppend InAppend signed error v mid → IfOk r (λ block. PipeAppends InAppend other block mid w) → IfOk r (λ block. PipeTakes signed block v w)
+taken_again signed other error v mid w (Ok block) same none tells told call =
+    inr (mid, (error, none, alive_again error mid none tells, told), subst (λ s. PipeAppends InAppend s block mid w) same call)
+taken_again signed other error v mid w (Err e) same none tells told call = tt
+
+pub told_again : (signed other : LogFileContext → List ℕ) (error : Error) (v mid w : LogPipes) (r : Result FileBlockHandle Error) → other ≡ signed → SaysTryAgain error → TellsFailure {A = FileBlockHandle} (Err error) mid
+    → PipeFailsToAppend InAppend signed error v mid → IfErr r (λ e. PipeFailsToAppend InAppend other e mid w) → IfErr r (λ e. PipeRefuses signed e v w)
+told_again signed other error v mid w (Ok block) same none tells told call = tt
+told_again signed other error v mid w (Err e) same none tells told call =
+    inr (mid, (error, none, alive_again error mid none tells, told), subst (λ s. PipeFailsToAppend InAppend s e mid w) same call)
+
 -- what was done to the files, of a batch whose record was made
 pub kept_record : {A : Type 0} (b kept : Batch) (v w : LogPipes) (r : Result A Error) → IsBatchKept b kept → OnOk r (WritesRecord kept v w) → OnOk r (WritesRecord b v w)
 kept_record b kept v w (Ok x) is h = subst (λ k. WritesRecord k v w) is h
 kept_record b kept v w (Err e) is h = tt
 
-pub kept_unrecorded : {A : Type 0} (b kept : Batch) (v w : LogPipes) (r : Result A Error) → IsBatchKept b kept → IfErr r (λ e. RefusesAt (signed_for kept) e v w) → IfErr r (λ e. LeavesRecord b e v w)
+pub kept_unrecorded : {A : Type 0} (b kept : Batch) (v w : LogPipes) (r : Result A Error) → IsBatchKept b kept → IfErr r (λ e. RefusesBatch kept e v w) → IfErr r (λ e. LeavesRecord b e v w)
 kept_unrecorded b kept v w (Ok x) is h = tt
-kept_unrecorded b kept v w (Err e) is h = inr (subst (λ k. RefusesAt (signed_for k) e v w) is h)
+kept_unrecorded b kept v w (Err e) is h = inr (subst (λ k. RefusesBatch k e v w) is h)
+
+unfit_tells : (b : Batch) (v : ℕ → Shown) (error : Error) → IsUnfit b v error → TellsNoWrite error
+unfit_tells b v (errors.Io kind) unfit = absurd unfit
+unfit_tells b v (errors.TryAgain text) unfit = absurd unfit
+unfit_tells b v _ unfit = tt
+
+-- of one that isn't taken nothing was done
+pub unfit_unrecorded : (b : Batch) (v : ℕ → Shown) (error : Error) (pipes : LogPipes) → IsUnfit b v error → LeavesRecord b error pipes pipes
+unfit_unrecorded b v error pipes unfit = inl (unfit_tells b v error unfit, refl)
 
 -- what a write did to the files
 pub none_synced_files : (b : Batch) (v w : LogPipes) → b.items ≡ [] → SyncsQueue InAppend v w → WritesFiles b true v w

@@ -10,6 +10,8 @@ use Rattle.raft_log_record_lists.specs.ItemBatch.{command_item}
 use Rattle.raft_log_purge.specs.raft_log_engine_laws.specs.Fetching.{HadFailed}
 use Rattle.raft_log_purge.specs.raft_log_engine_laws.specs.Shows.{Shows, has_failed}
 use Rattle.raft_log_purge.specs.raft_log_engine_laws.specs.Writing.{NotWritten, Writes}
+use Rattle.raft_log_file_pair.specs.Pipes.{LogPipes}
+use Rattle.raft_log_engine_core.specs.Touching.{LeavesFiles, TellsNoWrite}
 
 -- how many of a group's entries stand below an index, if it has entries
 abbrev pub entries_below : Shown → ℕ → Option ℕ
@@ -39,6 +41,12 @@ abbrev pub FailsToWriteCompact : ℕ → ℕ → Error → Shows → Shows → T
 FailsToWriteCompact g index error s t =
     ((error ≡ errors.Memory) × (has_failed s ≡ false) × (t ≡ s))
     ⊎ ((b : Batch) × SaysCompact g index b × NotWritten b error s t)
+
+-- what is done to the files where none go: nothing, and no write is told as refused; or what is where a batch
+-- that says so isn't written
+abbrev pub LeavesCompact : ℕ → ℕ → Error → LogPipes → LogPipes → Type 0
+LeavesCompact g index error v w = (TellsNoWrite error × (w ≡ v))
+    ⊎ ((b : Batch) × SaysCompact g index b × LeavesFiles b false error v w)
 
 -- why none go: the engine had failed; or the group has entries, and the batch that says so wasn't written
 abbrev pub FailsToCompact : ℕ → ℕ → Error → Shows → Shows → Type 0

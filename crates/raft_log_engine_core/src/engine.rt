@@ -118,10 +118,11 @@ impl<P: PipeLog> LogEngine<P> {
     ///
     /// Before anything is done: `InvalidArgument` for a batch that was written already, or whose marks of
     /// atomic groups are broken; `Full` for a record of 2^56 bytes or more; `Hole` where a group's entries
-    /// would start past the index after the last; `Memory`. Then `Io`: the write was refused and cut off, and
-    /// all batches before are durable; `TryAgain`: the same for want of space, in two files, one after the
-    /// other. `Memory`, `NumberRange`: there is no next file. In each of these cases the batch is kept, and
-    /// its record made. `Failed`: nothing is taken any more, and the batch may be in the log or not.
+    /// would start past the index after the last; `Memory`. Then `Io`, of the kind that the file system
+    /// answered with: the write was refused and cut off, and all batches before are durable; `TryAgain`: the
+    /// same for want of space, in two files, one after the other. `Memory`, `NumberRange`: there is no next
+    /// file. In each of these cases the batch is kept, and its record made. `Failed`: nothing is taken any
+    /// more, and the batch may be in the log or not.
     pub fn write<L: Log>(&mut self, rt: &L, batch: &mut LogBatch, sync: bool) -> Result<usize>
         ensures ok { IfOk result (λ len. WritesBytes batch.old sync len
             (shows_of P.shown self.old) (shows_of P.shown self.new)) }

@@ -21,7 +21,7 @@ ghost use Rattle.raft_log_file_blocks.specs.raft_log_file_pipe.specs.Appending.{
 ghost use Rattle.raft_log_purge.specs.raft_log_engine_laws.specs.Shows.{shows, IsWellMarked, IsWritable};
 ghost use Rattle.raft_log_purge.specs.raft_log_engine_laws.specs.Writing.{items_at, IsBatchKept, IsUnfit, PipesRefused, Writes};
 ghost use Rattle.raft_log_engine_core.specs.Room.{HasListFor, IsUnfitItself, StaysWritable};
-ghost use Rattle.raft_log_engine_core.specs.Touching.{WritesRecord};
+ghost use Rattle.raft_log_engine_core.specs.Touching.{PipeRefuses, PipeTakes, RefusesBatch, WritesRecord};
 
 use log::Log;
 use raft_log_file_blocks::{BlockCache, SignedBatch};
@@ -102,7 +102,7 @@ pub fn append<P: PipeLog, L: Log>(
     ensures err { IfErr result (λ error. PipesRefused batch.old error
         (shows (P.shown pipes.old) tables.old cache.old) (shows (P.shown pipes.new) tables.new cache.new)) }
     ensures files { OnOk result (WritesRecord batch.old (P.shown pipes.old) (P.shown pipes.new)) }
-    ensures left { IfErr result (λ error. RefusesAt (signed_for batch.old) error
+    ensures left { IfErr result (λ error. RefusesBatch batch.old error
         (P.shown pipes.old) (P.shown pipes.new)) }
     ensures rests { IsAtRest tables.new }
     ensures emptied { OnOk result (batch.new ≡ emptied batch.old) }
@@ -142,6 +142,10 @@ fn append_or_again<P: PipeLog, L: Log>(
         (P.shown pipes.old) (P.shown pipes.new)) }
     ensures place { IfOk result (λ block. block.offset < 2 ^ 63) }
     ensures err { IfErr result (λ error. RefusesAt (signed_for signed.old.batch) error
+        (P.shown pipes.old) (P.shown pipes.new)) }
+    ensures takes { IfOk result (λ block. PipeTakes (signed_for signed.old.batch) block
+        (P.shown pipes.old) (P.shown pipes.new)) }
+    ensures told { IfErr result (λ error. PipeRefuses (signed_for signed.old.batch) error
         (P.shown pipes.old) (P.shown pipes.new)) }
     ensures said { record signed.new.batch { state = Populated }
         ≡ record signed.old.batch { state = Populated } }

@@ -7,7 +7,7 @@ use Rattle.raft_log_file_pair.specs.Pipes.{LogPipes}
 use Rattle.raft_log_purge.specs.raft_log_engine_laws.specs.Shows.{shows}
 use Rattle.raft_log_purge.specs.raft_log_engine_laws.specs.Trying.{RefusesAt, WritesAt}
 use Rattle.raft_log_purge.specs.raft_log_engine_laws.specs.Writing.{Writes}
-use Rattle.raft_log_engine_core.specs.Touching.{WritesRecord}
+use Rattle.raft_log_engine_core.specs.Touching.{PipeRefuses, PipeTakes, WritesRecord}
 use Rattle.raft_log_engine_core.proofs.Put.{ready_of, refuses_with, writes_at}
 use Rattle.raft_log_engine_core.proofs.writing.append.Goals as goal
 
@@ -51,7 +51,8 @@ returns-in-Ok-clause-files g c =
     let w = g.P.PipeLog.shown c.append_or_again-appended.new.pipes in
     let was : c.new-signed.result.batch ≡ signed_as None b = c.new-signed.ensures ∙ ap (signed_as None) c.replace.ensures.value in
     let call = subst (λ (x : Batch). WritesAt (signed_for x) c.in-Ok.block v w) was c.in-Ok.ensures.ok in
-    subst (λ (x : LogPipes). WritesRecord b v x) (sym c.post_apply_memtables.ensures.shown) (c.in-Ok.block, call)
+    let takes = subst (λ (x : Batch). PipeTakes (signed_for x) c.in-Ok.block v w) was c.in-Ok.ensures.takes in
+    subst (λ (x : LogPipes). WritesRecord b v x) (sym c.post_apply_memtables.ensures.shown) (c.in-Ok.block, call, takes)
 
 pub returns-in-Err-clause-left : goal.returns-in-Err-clause-left
 returns-in-Err-clause-left g c =
@@ -59,4 +60,7 @@ returns-in-Err-clause-left g c =
     let v = g.P.PipeLog.shown c.args.pipes.now in
     let w = g.P.PipeLog.shown c.append_or_again-appended.new.pipes in
     let was : c.new-signed.result.batch ≡ signed_as None b = c.new-signed.ensures ∙ ap (signed_as None) c.replace.ensures.value in
-    subst (λ (x : Batch). RefusesAt (signed_for x) c.in-Err.error v w) was c.in-Err.ensures.err
+    let told = c.in-Err.ensures in (
+      subst (λ (x : Batch). RefusesAt (signed_for x) c.in-Err.error v w) was told.err,
+      subst (λ (x : Batch). PipeRefuses (signed_for x) c.in-Err.error v w) was told.told,
+    )

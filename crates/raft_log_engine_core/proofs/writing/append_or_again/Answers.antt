@@ -1,5 +1,7 @@
+use Rattle.std.proofs.Common.{inl, sym, ◌∙◌}
+use Rattle.std.proofs.lemmas.Bool.{false≢true}
 use Rattle.raft_log_file_blocks.specs.Signing.{signed_for}
-use Rattle.raft_log_engine_core.proofs.Put.{refused_again, written_again}
+use Rattle.raft_log_engine_core.proofs.Put.{refused_again, taken_again, told_again, written_again}
 use Rattle.raft_log_engine_core.proofs.writing.append_or_again.Goals as goal
 
 pub returns-then-is_no_space-clause-ok : goal.returns-then-is_no_space-clause-ok
@@ -11,3 +13,16 @@ pub returns-then-is_no_space-clause-err : goal.returns-then-is_no_space-clause-e
 returns-then-is_no_space-clause-err g c =
     refused_again (signed_for c.args.signed.now.batch) _ c.in-Err.error (g.P.PipeLog.shown c.args.pipes.now) (g.P.PipeLog.shown c.append.new.self) (g.P.PipeLog.shown c.append-then-is_no_space.new.self)
     c.append-then-is_no_space.result c.append.ensures.signed (c.is_no_space.ensures.0 c.if-is_no_space.true) c.append.ensures.later c.append-then-is_no_space.ensures.later c.in-Err.ensures.err c.append-then-is_no_space.ensures.err c.append-then-is_no_space.ensures.range
+
+pub returns-then-is_no_space-clause-takes : goal.returns-then-is_no_space-clause-takes
+returns-then-is_no_space-clause-takes g c =
+    taken_again (signed_for c.args.signed.now.batch) _ c.in-Err.error (g.P.PipeLog.shown c.args.pipes.now) (g.P.PipeLog.shown c.append.new.self) (g.P.PipeLog.shown c.append-then-is_no_space.new.self)
+    c.append-then-is_no_space.result c.append.ensures.signed (c.is_no_space.ensures.0 c.if-is_no_space.true) c.in-Err.ensures.fails c.in-Err.ensures.refusal c.append-then-is_no_space.ensures.calls
+
+pub returns-then-is_no_space-clause-told : goal.returns-then-is_no_space-clause-told
+returns-then-is_no_space-clause-told g c =
+    told_again (signed_for c.args.signed.now.batch) _ c.in-Err.error (g.P.PipeLog.shown c.args.pipes.now) (g.P.PipeLog.shown c.append.new.self) (g.P.PipeLog.shown c.append-then-is_no_space.new.self)
+    c.append-then-is_no_space.result c.append.ensures.signed (c.is_no_space.ensures.0 c.if-is_no_space.true) c.in-Err.ensures.fails c.in-Err.ensures.refusal c.append-then-is_no_space.ensures.refusal
+
+pub returns-clause-told : goal.returns-clause-told
+returns-clause-told g c = inl ((λ none. false≢true (sym c.if-is_no_space.false ∙ c.is_no_space.ensures.1 none)), c.in-Err.ensures.refusal)

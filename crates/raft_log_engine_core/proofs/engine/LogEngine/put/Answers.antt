@@ -1,4 +1,5 @@
-use Rattle.raft_log_engine_core.proofs.Put.{kept_record, kept_unrecorded, put_answers, put_refuses}
+use Rattle.raft_log_table_all.specs.Tables.{shown_of}
+use Rattle.raft_log_engine_core.proofs.Put.{kept_record, kept_unrecorded, put_answers, put_refuses, unfit_unrecorded}
 use Rattle.raft_log_engine_core.proofs.engine.LogEngine.put.Goals as goal
 
 pub returns-in-Ok-clause-ok : goal.returns-in-Ok-clause-ok
@@ -16,3 +17,6 @@ returns-in-Ok-clause-files g c =
 pub returns-in-Ok-clause-left : goal.returns-in-Ok-clause-left
 returns-in-Ok-clause-left g c =
     kept_unrecorded c.args.batch.now c.make_room.new.batch (g.P.PipeLog.shown c.args.self.now.pipes) (g.P.PipeLog.shown c.append.new.pipes) c.append.result c.make_room.ensures.kept c.append.ensures.left
+
+pub returns-in-Err-clause-left : goal.returns-in-Err-clause-left
+returns-in-Err-clause-left g c = unfit_unrecorded c.args.batch.now (shown_of c.args.self.now.tables) c.in-Err.error (g.P.PipeLog.shown c.args.self.now.pipes) c.in-Err.ensures.errors

@@ -15,11 +15,12 @@ use Rattle.raft_log_open_scan.specs.Names.{built_name}
 use Rattle.raft_log_open_scan.specs.Directories.{MakesIfAbsent}
 use Rattle.raft_log_open_scan.proofs.DirectoryLemmas.{has_more, has_none}
 use Rattle.raft_log_closed.specs.Copies.{AddsOnly, HasCopy, HasUnreadable, IsCopyRefusal, IsInTheWay, IsSourceThere, copy_path}
-use Rattle.raft_log_closed.specs.Steps.{CopiesOne, FailsToCopyOne}
+use Rattle.raft_log_closed.specs.Steps.{CopiesOne, FailsToCopyOne, TellsUncopied}
 use Rattle.raft_log_closed.specs.Forks.{CopiesAll, FailsToCopyAll, HaveCopies, IsCopyPath}
 use Rattle.raft_log_closed.specs.Sources.{AreApart, AllThere}
 use Rattle.raft_log_closed.specs.declared.source_file.SourceFile.{SourceFile}
 use Rattle.raft_log_closed.proofs.Adds.{adds_none, adds_then, adds_wider, copy_before, copy_stays}
+use Rattle.raft_log_closed.proofs.CopyingLemmas.{short_told}
 use Rattle.raft_log_closed.proofs.Lasts.{first, first_or_later, in_none, later}
 
 -- One file more.
@@ -104,8 +105,8 @@ refused_one target before behind file errors.Memory old mid new apart adds why =
 refused_one target before behind file _ old mid new apart adds why = absurd why
 
 pub one_uncopied : (target : List ℕ) (before behind : List SourceFile) (file : SourceFile) (error : Error) (old mid new : Disk) → AreApart (before ++ file ∷ behind)
-    → CopiesAll target before old mid → FailsToCopyOne target file error mid new → FailsToCopyAll target (before ++ file ∷ behind) error old new
-one_uncopied target before behind file error old mid new apart done fails = record {
+    → CopiesAll target before old mid → FailsToCopyOne target file error mid new → TellsUncopied target file error mid new → FailsToCopyAll target (before ++ file ∷ behind) error old new
+one_uncopied target before behind file error old mid new apart done fails told = record {
   copied = before;
   file = file;
   behind = behind;
@@ -113,6 +114,9 @@ one_uncopied target before behind file error old mid new apart done fails = reco
   adds = adds_more target before file old mid new done.adds fails.0;
   copies = still_copied target before file old mid new done.copies fails.0;
   refusal = refused_one target before behind file error old mid new apart done.adds fails.1;
+  between = mid;
+  first = done;
+  told = told;
 }
 
 -- want of memory for the path of a copy that was made
@@ -126,6 +130,9 @@ one_untold target before behind file error old mid new is done next = record {
   adds = adds_more target before file old mid new done.adds next.adds;
   copies = still_copied target before file old mid new done.copies next.adds;
   refusal = subst (λ (e : Error). IsCopyRefusal target (before ++ file ∷ behind) e old new) (sym is) tt;
+  between = mid;
+  first = done;
+  told = short_told target file mid new error is;
 }
 
 -- The target is made first.
@@ -201,4 +208,7 @@ uncopied_since target files error old mid new made fails = record {
   adds = adds_then target (IsCopyPath target (fails.copied ++ fails.file ∷ [])) old mid new (made_adds target (IsCopyPath target (fails.copied ++ fails.file ∷ [])) old mid made) fails.adds;
   copies = copies_since target fails.copied old mid new made fails.copies;
   refusal = refusal_since target files error old mid new made fails.refusal;
+  between = fails.between;
+  first = all_since target fails.copied old mid fails.between made fails.first;
+  told = fails.told;
 }

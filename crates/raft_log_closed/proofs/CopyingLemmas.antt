@@ -1,6 +1,6 @@
 -- Why a file isn't copied, and what stands where one is.
 use Rattle.std.specs.Prelude.{◌⊎◌}
-use Rattle.std.proofs.Common.{◌≡◌, ℕ, Some, true, List, [], ◌∷◌, refl, subst, inl, inr, arith}
+use Rattle.std.proofs.Common.{◌≡◌, ℕ, Some, true, List, [], ◌∷◌, refl, sym, subst, inl, inr, arith}
 use Rattle.std.specs.declared.io.ErrorKind.{ErrorKind}
 use Rattle.raft_log_record_base.specs.declared.errors.Error.{Error}
 use Rattle.raft_log_record_base.specs.declared.errors.Error.TheVariants as errors
@@ -11,7 +11,7 @@ use Rattle.raft_log_disk.specs.Reading.{unreadable, stopped, gone}
 use Rattle.raft_log_open_scan.specs.Names.{built_name}
 use Rattle.raft_log_open_scan.proofs.FoundLemmas.{built_plain}
 use Rattle.raft_log_closed.specs.Copies.{IsCopyRefusal, IsSourceThere, copy_path}
-use Rattle.raft_log_closed.specs.Steps.{CopiesOne, FailsToCopyOne, FailsToMake, FailsToReadWhole, AreAllBytes, MakesFile}
+use Rattle.raft_log_closed.specs.Steps.{CopiesOne, FailsToCopyOne, FailsToMake, FailsToReadWhole, AreAllBytes, MakesFile, TellsUncopied, TellsUnmade}
 use Rattle.raft_log_closed.specs.declared.source_file.SourceFile.{SourceFile}
 use Rattle.raft_log_closed.proofs.Adds.{adds_none}
 
@@ -66,3 +66,25 @@ copied_one target file bytes old new whole made = record {
     stands = subst (λ (l : List ℕ). new.files made.copy ≡ Some (record { content = l; synced = l; changes = [] })) whole.all made.stands;
   };
 }
+
+-- Whose refusal is told.
+
+pub unread_told : (target : List ℕ) (file : SourceFile) (d : Disk) (error : Error) → FailsToReadWhole file.handle d error → TellsUncopied target file error d d
+unread_told target file d (errors.Io kind) fails = inl (fails, refl)
+unread_told target file d errors.Memory fails = tt
+unread_told target file d _ fails = absurd fails
+
+pub short_told : (target : List ℕ) (file : SourceFile) (old new : Disk) (error : Error) → error ≡ errors.Memory → TellsUncopied target file error old new
+short_told target file old new error is = subst (λ (e : Error). TellsUncopied target file e old new) (sym is) tt
+
+unmade_told : (target : List ℕ) (file : SourceFile) (bytes : List ℕ) (error : Error) (old new : Disk) → AreAllBytes file.handle.file bytes old → TellsUnmade (copy_path target file) bytes error old new
+    → TellsUncopied target file error old new
+unmade_told target file bytes (errors.Io kind) old new whole told = inr (bytes, whole, told)
+unmade_told target file bytes _ old new whole told = absurd told
+
+-- the same, where the path that was asked for is the copy's, and the bytes are those that were read
+pub unmade_told_at : (target : List ℕ) (file : SourceFile) (path asked bytes : List ℕ) (error : Error) (old new : Disk) → path ≡ copy_path target file → asked ≡ bytes
+    → AreAllBytes file.handle.file bytes old → TellsUnmade path asked error old new → TellsUncopied target file error old new
+unmade_told_at target file path asked bytes error old new same is whole told =
+    unmade_told target file bytes error old new whole
+    (subst (λ (l : List ℕ). TellsUnmade (copy_path target file) l error old new) is (subst (λ (l : List ℕ). TellsUnmade l asked error old new) same told))

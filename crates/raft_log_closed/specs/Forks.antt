@@ -13,6 +13,7 @@ use Rattle.raft_log_file_settings.specs.Settings.{Settings, directories_of}
 use Rattle.raft_log_file_settings.specs.declared.recovery_mode.RecoveryMode.TheVariants.{TolerateAnyCorruption}
 use Rattle.raft_log_closed.specs.Copies.{AddsOnly, HasCopy, IsCopyRefusal, copy_path}
 use Rattle.raft_log_closed.specs.Sources.{AreSources}
+use Rattle.raft_log_closed.specs.Steps.{TellsUncopied}
 use Rattle.raft_log_closed.specs.declared.source_file.SourceFile.{SourceFile}
 
 -- Which logs are copied, and where.
@@ -76,7 +77,8 @@ pub record CopiesAll (target : List ℕ) (files : List SourceFile) (old new : Di
   pub copies : HaveCopies target files old new
 
 -- Why not all of these files were copied, and what stands then: the first of them have their copies, the one
--- behind them may have one that was begun, and nothing else changed.
+-- behind them may have one that was begun, and nothing else changed. What is told is how a call for that one
+-- was refused, which came behind the copies.
 pub record FailsToCopyAll (target : List ℕ) (files : List SourceFile) (error : Error) (old new : Disk)
     : Type 0 where
   pub copied : List SourceFile
@@ -86,6 +88,9 @@ pub record FailsToCopyAll (target : List ℕ) (files : List SourceFile) (error :
   pub adds : AddsOnly target (IsCopyPath target (copied ++ file ∷ [])) old new
   pub copies : HaveCopies target copied old new
   pub refusal : IsCopyRefusal target files error old new
+  pub between : Disk
+  pub first : CopiesAll target copied old between
+  pub told : TellsUncopied target file error between new
 
 -- The whole.
 

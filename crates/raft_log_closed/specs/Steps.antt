@@ -1,11 +1,13 @@
 -- One file is read whole, and one is made.
 use Rattle.std.specs.Prelude.{◌≡◌, ℕ, ◌⊎◌, Some, List, [], ◌∷◌}
+use Rattle.std.specs.declared.io.ErrorKind.{ErrorKind}
 use Rattle.raft_log_record_base.specs.declared.errors.Error.{Error}
 use Rattle.raft_log_record_base.specs.declared.errors.Error.TheVariants as errors
 use Rattle.raft_log_disk.specs.Disk.{File, Disk, Wrote, at_rest}
 use Rattle.raft_log_disk.specs.Arguments.{WrongCreate}
-use Rattle.raft_log_disk.specs.Calls.{Changes, after_change}
+use Rattle.raft_log_disk.specs.Calls.{Changes, Creates, after_change}
 use Rattle.raft_log_disk.specs.Causes.{Fails}
+use Rattle.raft_log_disk.specs.Exits.{FailsToCreate, FailsToSync, FailsToWrite}
 use Rattle.raft_log_disk.specs.Reading.{IsNotMeasured, IsUnread}
 use Rattle.raft_log_disk.specs.declared.handle.Handle.{Handle}
 use Rattle.raft_log_closed.specs.Copies.{AddsOnly, HasCopy, IsCopyRefusal, copy_path}
@@ -44,6 +46,20 @@ FailsToMake path (errors.Io kind) old new =
     × (Fails old new ⊎ WrongCreate path old kind)
 FailsToMake path _ old new = ⊥
 
+-- whose refusal is told of a file of these bytes that isn't made: that of its making, of the write of its
+-- bytes, or of the sync behind
+pub data UnmadeBy (path bytes : List ℕ) (kind : ErrorKind) (old new : Disk) : Type 0 where
+  not_created : FailsToCreate path kind old new → UnmadeBy path bytes kind old new
+  not_filled : (handle : Handle) (made : Disk) → Creates path handle.file old made
+      → FailsToWrite handle 0 bytes kind made new → UnmadeBy path bytes kind old new
+  not_synced : (handle : Handle) (made full : Disk) → Creates path handle.file old made
+      → Fills handle.file bytes made full → FailsToSync handle kind full new → UnmadeBy path bytes kind old new
+
+-- an error of this kind tells it
+abbrev pub TellsUnmade : List ℕ → List ℕ → Error → Disk → Disk → Type 0
+TellsUnmade path bytes (errors.Io kind) old new = UnmadeBy path bytes kind old new
+TellsUnmade path bytes _ old new = ⊥
+
 -- a file has a copy, and nothing else changed
 pub record CopiesOne (target : List ℕ) (file : SourceFile) (old new : Disk) : Type 0 where
   pub adds : AddsOnly target (λ other. other ≡ copy_path target file) old new
@@ -54,3 +70,13 @@ abbrev pub FailsToCopyOne : List ℕ → SourceFile → Error → Disk → Disk 
 FailsToCopyOne target file error old new =
     AddsOnly target (λ other. other ≡ copy_path target file) old new
     × IsCopyRefusal target (file ∷ []) error old new
+
+-- Whose refusal is told of a file that isn't copied: that of a call which was to read it, or of one which was
+-- to make its copy.
+abbrev pub TellsUncopied : List ℕ → SourceFile → Error → Disk → Disk → Type 0
+TellsUncopied target file (errors.Io kind) old new =
+    (FailsToReadWhole file.handle old (errors.Io kind) × (new ≡ old))
+    ⊎ ((bytes : List ℕ) × AreAllBytes file.handle.file bytes old
+    × UnmadeBy (copy_path target file) bytes kind old new)
+TellsUncopied target file errors.Memory old new = Unit {0}
+TellsUncopied target file _ old new = ⊥

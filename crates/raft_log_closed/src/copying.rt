@@ -5,7 +5,7 @@ ghost use Rattle.std.specs.String.{string_bytes};
 ghost use Rattle.raft_log_record_base.specs.declared.errors.Error.TheVariants.{Memory};
 ghost use Rattle.raft_log_disk.specs.Exits.{FailsToWrite};
 ghost use Rattle.raft_log_closed.specs.Copies.{copy_path, IsSourceThere};
-ghost use Rattle.raft_log_closed.specs.Steps.{CopiesOne, FailsToCopyOne, FailsToMake, FailsToReadWhole, Fills, AreAllBytes, MakesFile};
+ghost use Rattle.raft_log_closed.specs.Steps.{CopiesOne, FailsToCopyOne, FailsToMake, FailsToReadWhole, Fills, AreAllBytes, MakesFile, TellsUncopied, TellsUnmade};
 
 use crate::source_file::SourceFile;
 use raft_log_disk::{FileSystem, Handle};
@@ -14,7 +14,8 @@ use std::alloc::Global;
 use std::io::ErrorKind;
 
 /// Copies a file into a directory, under the name that is built for its number, and syncs it. Answers its path
-/// there. Where that is refused, the copy may have been begun.
+/// there. Where that is refused, the copy may have been begun, and an `Io` has the kind that the file system
+/// answered with.
 pub fn copy_file<F: FileSystem>(
     alloc: Global,
     file_system: &mut F,
@@ -27,6 +28,8 @@ pub fn copy_file<F: FileSystem>(
     ensures ok { OnOk result (CopiesOne target.now file
         (F.disk file_system.old) (F.disk file_system.new)) }
     ensures err { IfErr result (λ error. FailsToCopyOne target.now file error
+        (F.disk file_system.old) (F.disk file_system.new)) }
+    ensures told { IfErr result (λ error. TellsUncopied target.now file error
         (F.disk file_system.old) (F.disk file_system.new)) }
 {
     let bytes = read_whole(alloc, file_system, file.handle)?;
@@ -52,6 +55,8 @@ fn make_file<F: FileSystem>(file_system: &mut F, path: &str, bytes: &[u8]) -> Re
         (MakesFile path.now bytes.now (F.disk file_system.old) (F.disk file_system.new)) }
     ensures err { IfErr result (λ error.
         FailsToMake path.now error (F.disk file_system.old) (F.disk file_system.new)) }
+    ensures told { IfErr result (λ error.
+        TellsUnmade path.now bytes.now error (F.disk file_system.old) (F.disk file_system.new)) }
 {
     let handle = file_system.create(path)?;
     fill(file_system, handle, bytes)?;

@@ -41,7 +41,7 @@ returns-in_err-path-clause-err g c =
     let parts = split files i lt in
     rw (gave.1, gave.2) (subst (λ (l : List SourceFile). FailsToCopyAll target l c.in_err-path.field-0.0 (D c.args.file_system.now) (D c.copy_file.new.file_system)) (sym parts)
     (one_uncopied target (take i files) (drop (i + 1) files) (get_or files i none) c.in_err-path.field-0.0 (D c.args.file_system.now) (D c.loop-file.file_system) (D c.copy_file.new.file_system)
-    (subst AreApart parts c.requires.apart) c.loop-file.invariant.1 c.in_err-path.ensures.err))
+    (subst AreApart parts c.requires.apart) c.loop-file.invariant.1 c.in_err-path.ensures.err c.in_err-path.ensures.told))
 
 pub returns-in_err-push-clause-err : goal.returns-in_err-push-clause-err
 returns-in_err-push-clause-err g c =

@@ -1,9 +1,11 @@
 -- The records that were read of a file are those that stand in it, each with its entries where they lie.
-use Rattle.std.proofs.Common.{◌≡◌, ℕ, ◌+◌, ◌≤◌, Bool, true, false, List, [], ◌∷◌, ◌++◌, length, take, drop, map, Option, Some, None, option_map, unwrap_or, inl, inr, refl, sym, ap, ap₂, subst, ◌∙◌, append_assoc, arith}
+use Rattle.std.proofs.Common.{◌≡◌, ℕ, ◌+◌, ◌-◌, ◌≤◌, Bool, true, false, Result, List, [], ◌∷◌, ◌++◌, length, take, drop, map, Option, Some, None, option_map, unwrap_or, inl, inr, refl, sym, ap, ap₂, subst, ◌∙◌, append_assoc, arith}
+use Rattle.std.specs.Prelude.{IsOk}
 use Rattle.std.proofs.lemmas.List.{drop_at, length-append, take_at}
 use Rattle.std.proofs.lemmas.List.{drop-append-le, length-drop, take-append-le}
 use Rattle.raft_log_model_laws.specs.Item.{Tagged, items_of}
 use Rattle.raft_log_model_laws.specs.Item.Record.{Plain}
+use Rattle.raft_log_record_base.specs.Fault.{Fault}
 use Rattle.raft_log_record_base.specs.Files.{signature_of}
 use Rattle.raft_log_record_base.specs.declared.pipe_log.FileBlockHandle.{FileBlockHandle}
 use Rattle.raft_log_record_base.specs.declared.pipe_log.LogFileContext.{LogFileContext}
@@ -12,7 +14,8 @@ use Rattle.raft_log_record_base.specs.declared.pipe_log.LogQueue.TheVariants.{Ap
 use Rattle.raft_log_record_items.specs.declared.entry.EntryIndex.{EntryIndex}
 use Rattle.raft_log_record_items.specs.declared.item.LogItem.{LogItem}
 use Rattle.raft_log_record_items.specs.Placed.{entries_len, laid_out, placed, written_entry}
-use Rattle.raft_log_record_frames.specs.Record.{block_bytes, IsBlock, IsFrame}
+use Rattle.raft_log_record_frames.specs.Record.{block_bytes, block_of, IsBlock, IsFrame}
+use Rattle.raft_log_record_frames.proofs.Blocks.{block_again}
 use Rattle.raft_log_record_frames.proofs.Headers.{header_words}
 use Rattle.raft_log_record_frames.proofs.Made.{block_more}
 use Rattle.raft_log_record_marks.specs.declared.marking.Marking.{Marking}
@@ -54,6 +57,14 @@ part_between front bytes more offset len at long = ap (λ (l : List ℕ). take l
 block_holds : (block entries : List ℕ) → IsBlock block entries → (more : List ℕ) × (block ≡ entries ++ more)
 block_holds block entries (inl (none, nothing)) = ([], none ∙ ap (λ (l : List ℕ). l ++ []) (sym nothing))
 block_holds block entries (inr (checksum, spelled, is)) = (checksum, is)
+
+-- the entries end before the block's checksum
+ends_before : (block entries : List ℕ) → IsBlock block entries → length entries ≤ length block - 4
+ends_before block entries (inl (none, nothing)) = (let long = ap length nothing in omega (arith, long))
+ends_before block entries (inr (checksum, spelled, is)) =
+    let long = ap length is ∙ length-append entries checksum in
+    let four = spelled.size in
+    omega (arith, long, four)
 
 entries_fit : (items : List LogItem) (signature : Option ℕ) (bytes block entries : List ℕ) → IsFrame signature bytes items block → IsBlock block entries → entries_len items ≤ length entries
 entries_fit items signature bytes block entries frame (inl (none, nothing)) = elim frame.adds_up.1 [
@@ -120,7 +131,7 @@ module _ (at : Located → List ℕ) (P : Located → Type 0) (n : ℕ) where
 module _ (says : LogRecord → Said) (none : FileBlockHandle) (sense : (r : LogRecord) → says r ≡ said_as (marking_of_items (placed none r.items)) (tagged_items (entry_bytes (block_bytes r.entries)) (placed none r.items)))
     (at : Located → List ℕ) (P : Located → Type 0) (queue : LogQueue) (n : ℕ) (content : List ℕ)
     (at_is : (p : Place) → p.file ≡ n → at (in_queue (in_append queue) p) ≡ part p.entry_offset p.entry_len (part p.offset p.len content))
-    (lies : (p : Place) → p.file ≡ n → p.offset + p.len ≤ length content → p.entry_offset + p.entry_len ≤ p.len → P (in_queue (in_append queue) p))
+    (lies : (p : Place) → p.file ≡ n → p.offset + p.len ≤ length content → IsOk (block_of (part p.offset p.len content)) → p.entry_offset + p.entry_len ≤ p.len - 4 → P (in_queue (in_append queue) p))
     (context : LogFileContext) (number : context.id.seq ≡ n) where
   abbrev appended : Bool
   appended = in_append queue
@@ -167,13 +178,16 @@ module _ (says : LogRecord → Said) (none : FileBlockHandle) (sense : (r : LogR
 
     agree_none : (e : EntryIndex) → e.entry_offset + e.entry_len ≤ length entries → entry_bytes (block_bytes entries) (written_entry none e) ≡ entry_bytes entries e
     agree_none e within =
-        let whole = block_more entries in
-        ap (part e.entry_offset e.entry_len) whole.1 ∙ part_front e.entry_offset e.entry_len entries whole.0 within
+        let made = block_more entries in
+        ap (part e.entry_offset e.entry_len) made.1 ∙ part_front e.entry_offset e.entry_len entries made.0 within
+
+    whole : IsOk (block_of (part handle.offset handle.len content))
+    whole = subst (λ (l : List ℕ). IsOk (block_of l)) (sym block_is) (subst (λ (r : Result (List ℕ) Fault). IsOk r) (sym (block_again block entries blocked)) refl)
 
     has_place : (e : EntryIndex) → e.entry_offset + e.entry_len ≤ length entries → P (in_queue appended (place_of (written_entry handle e)))
     has_place e within =
-        let size = ap length more.1 ∙ length-append entries more.0 in
-        lies (place_of (written_entry handle e)) number inside (omega (arith, within, size))
+        let before = ends_before block entries blocked in
+        lies (place_of (written_entry handle e)) number inside whole (omega (arith, within, before))
 
     fit : 0 + entries_len w.value.items ≤ length entries
     fit = (let most = entries_fit w.value.items (signature_of context) w.bytes block entries frame blocked in omega (arith, most))

@@ -1,5 +1,6 @@
 -- The records that were read of a queue are held by its numbered files, each in its own.
-use Rattle.std.proofs.Common.{◌≡◌, ℕ, zero, suc, ◌+◌, ◌<◌, ◌≤◌, Bool, true, false, cond, List, [], ◌∷◌, ◌++◌, length, map, inl, inr, refl, sym, ap, ap₂, subst, ◌∙◌, arith, nat_eq, append_assoc}
+use Rattle.std.proofs.Common.{◌≡◌, ℕ, zero, suc, ◌+◌, ◌-◌, ◌<◌, ◌≤◌, Bool, true, false, cond, List, [], ◌∷◌, ◌++◌, length, map, inl, inr, refl, sym, ap, ap₂, subst, ◌∙◌, arith, nat_eq, append_assoc}
+use Rattle.std.specs.Prelude.{IsOk}
 use Rattle.std.specs.List.{AllZip}
 use Rattle.std.proofs.lemmas.Bool.{cases_Bool}
 use Rattle.std.proofs.lemmas.Bool.Decides.{Decides-eqb}
@@ -10,7 +11,7 @@ use Rattle.raft_log_record_base.specs.declared.pipe_log.FileBlockHandle.{FileBlo
 use Rattle.raft_log_record_base.specs.declared.pipe_log.LogFileContext.{LogFileContext}
 use Rattle.raft_log_record_base.specs.declared.pipe_log.LogQueue.{LogQueue}
 use Rattle.raft_log_record_items.specs.Placed.{placed}
-use Rattle.raft_log_record_frames.specs.Record.{block_bytes}
+use Rattle.raft_log_record_frames.specs.Record.{block_bytes, block_of}
 use Rattle.raft_log_record_marks.specs.Marking.{marking_of_items}
 use Rattle.raft_log_record_marks.specs.Meaning.{tagged_items}
 use Rattle.raft_log_record_batches.specs.Places.{entry_bytes}
@@ -96,13 +97,15 @@ module _ (says : LogRecord → Said) (none : FileBlockHandle) (sense : (r : LogR
       at_is : (p : Place) → p.file ≡ n → at (in_queue appended p) ≡ part p.entry_offset p.entry_len (part p.offset p.len (file_bytes q.files n))
       at_is p file = ap₂ (λ (x : Spanned LogRecord) (k : ℕ). part p.entry_offset p.entry_len (part p.offset p.len (file_bytes x.files k))) is_in file
 
-      lies : (p : Place) → p.file ≡ n → p.offset + p.len ≤ length (file_bytes q.files n) → p.entry_offset + p.entry_len ≤ p.len → P (in_queue appended p)
-      lies p file inside entry = subst (λ (x : Spanned LogRecord). EntryLiesIn x p) (sym is_in) (record {
+      lies : (p : Place) → p.file ≡ n → p.offset + p.len ≤ length (file_bytes q.files n) → IsOk (block_of (part p.offset p.len (file_bytes q.files n))) → p.entry_offset + p.entry_len ≤ p.len - 4
+          → P (in_queue appended p)
+      lies p file inside whole entry = subst (λ (x : Spanned LogRecord). EntryLiesIn x p) (sym is_in) (record {
         block = record {
           first = omega (arith, from, file);
           last = omega (arith, upto, file);
           inside = subst (λ (k : ℕ). p.offset + p.len ≤ length (file_bytes q.files k)) (sym file) inside;
         };
+        whole = subst (λ (k : ℕ). IsOk (block_of (part p.offset p.len (file_bytes q.files k)))) (sym file) whole;
         entry = entry;
       })
 

@@ -200,17 +200,17 @@ module _ {M : Type 0} (reading : List ℕ → Option M) (s t : Shows) (g : ℕ) 
     fetch_unfit es messages error is asked read = record { lived = lived; stays = fetch_stays es messages asked read; why = inr (λ home m pending h. inl is) }
 
     nothing_untold : (home : Home) (m : LogMap) (pending : List Said) (h : Holds home s m pending) (es : List EntryIndex) (error : Error) → es ≡ [] → AreUnread reading s.pipes es s.cache t.cache error
-        → IsOfLog h.state t.cache × IsOneUntold reading g begin end s h.state (taken m pending) error
+        → IsOfLog h.state t.cache × IsOneUntold reading g begin end s (taken m pending) error
     nothing_untold home m pending h es error none unread =
         let (memory, stays) = subst (λ (l : List EntryIndex). AreUnread reading s.pipes l s.cache t.cache error) none unread in
         (subst (IsOfLog h.state) (sym stays) h.cached, inl memory)
 
     read_untold : (home : Home) (m : LogMap) (pending : List Said) (h : Holds home s m pending) (es : List EntryIndex) (error : Error) → AreToRead s g begin end max es
-        → AreUnread reading s.pipes es s.cache t.cache error → IsOfLog h.state t.cache × IsOneUntold reading g begin end s h.state (taken m pending) error
+        → AreUnread reading s.pipes es s.cache t.cache error → IsOfLog h.state t.cache × IsOneUntold reading g begin end s (taken m pending) error
     read_untold home m pending h es error (inl (none, empty)) unread = nothing_untold home m pending h es error empty unread
     read_untold home m pending h es error (inr (some, within, is)) unread = by (nat_lt begin end) refl
       where
-        by : (b : Bool) → nat_lt begin end ≡ b → IsOfLog h.state t.cache × IsOneUntold reading g begin end s h.state (taken m pending) error
+        by : (b : Bool) → nat_lt begin end ≡ b → IsOfLog h.state t.cache × IsOneUntold reading g begin end s (taken m pending) error
         by true less =
             let ask : begin < end = less_of begin end less in
             let inside = within ask in

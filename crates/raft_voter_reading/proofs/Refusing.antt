@@ -7,11 +7,11 @@ use Rattle.raft_log_record_items.specs.Message.{Parses}
 use Rattle.raft_log_record_items.specs.declared.raw_message.RawMessage.{RawMessage}
 use Rattle.raft_log_table_lists.specs.Shown.{Shown}
 use Rattle.raft_log_engine_laws.specs.raft_log_table_one.specs.Reads.{AreIn, FetchRefused}
-use Rattle.raft_log_engine_laws.specs.raft_log_file_blocks.specs.Blocks.{IsBlockUnread, written_block}
-use Rattle.raft_log_engine_laws.specs.raft_log_file_pair.specs.Pipes.{RunsOn, Said, State as LogState}
-use Rattle.raft_log_engine_laws.specs.Shows.{Home, LogMap, Shows, sense}
+use Rattle.raft_log_engine_laws.specs.raft_log_file_blocks.specs.Blocks.{IsFileUnread}
+use Rattle.raft_log_engine_laws.specs.raft_log_file_pair.specs.Pipes.{Said}
+use Rattle.raft_log_engine_laws.specs.Shows.{Home, LogMap, Shows}
 use Rattle.raft_log_engine_laws.specs.Holding.{Holds}
-use Rattle.raft_log_engine_laws.specs.Fetching.{FailsToFetch, HadFailed, IsOneUntold, LiesOutside, StaysButBlock}
+use Rattle.raft_log_engine_laws.specs.Fetching.{FailsToFetch, HadFailed, IsOneUntold, StaysButBlock}
 use Rattle.raft_log_engine_core.specs.Reads.{IsFailed, IsUncopied}
 use Rattle.raft_voter_standing_laws.specs.Requests.{WereUnread}
 use Rattle.raft_voter_reading.specs.declared.unread.Unread.{Unread}
@@ -70,10 +70,9 @@ parsed errors.NumberRange m h = absurd h
 abbrev pub reading_of : List ℕ → Option RawMessage
 reading_of source = Some (record { bytes = source })
 
-one_unread : (home : Home) (g from to : ℕ) (error : Error) (s : Shows) (log : LogState) (m : LogMap) → (error ≡ errors.Memory → ⊥)
-    → RunsOn (sense home) s.pipes log → IsOneUntold reading_of g from to s log m error → WereUnread home g from to s error
-one_unread home g from to error s log m other runs (inl memory) = absurd (other memory)
-one_unread home g from to error s log m other runs (inr one) = record {
+one_unread : (g from to : ℕ) (error : Error) (s : Shows) (m : LogMap) → (error ≡ errors.Memory → ⊥) → IsOneUntold reading_of g from to s m error → WereUnread g from to s error
+one_unread g from to error s m other (inl memory) = absurd (other memory)
+one_unread g from to error s m other (inr one) = record {
   index = one.0;
   entry = one.3.entry;
   block = one.3.block;
@@ -83,13 +82,9 @@ one_unread home g from to error s log m other runs (inr one) = record {
   why = by_why one.3.why;
 }
   where
-    by_why : IsBlockUnread s.pipes one.3.block error
-        ⊎ (LiesOutside one.3.entry (written_block log one.3.block) error ⊎ Parses {M = RawMessage} (Err error) (reading_of one.3.bytes))
-        → IsBlockUnread s.pipes one.3.block error
-        ⊎ ((log : LogState) × RunsOn (sense home) s.pipes log × LiesOutside one.3.entry (written_block log one.3.block) error)
-    by_why (inl block) = inl block
-    by_why (inr (inl outside)) = inr (log, runs, outside)
-    by_why (inr (inr none)) = absurd (other (parsed error (record { bytes = one.3.bytes }) none))
+    by_why : IsFileUnread s.pipes one.3.block error ⊎ Parses {M = RawMessage} (Err error) (reading_of one.3.bytes) → IsFileUnread s.pipes one.3.block error
+    by_why (inl file) = file
+    by_why (inr none) = absurd (other (parsed error (record { bytes = one.3.bytes }) none))
 
 -- a table that has all entries refuses them for want of memory alone
 only_memory : (v : Shown) (from to : ℕ) (error : Error) → AreIn v from to → FetchRefused v from to error → error ≡ errors.Memory
@@ -115,10 +110,10 @@ unfetched_for g from to error cause s t is inside (inl had) = failed_for error c
 unfetched_for g from to error cause s t is inside (inr f) = told_for error cause s is (λ other. by_why other f.why)
   where
     by_why : (error ≡ errors.Memory → ⊥) → ((s.counts g ≡ true) × FetchRefused (s.tables g) from to error)
-        ⊎ ((home : Home) (m : LogMap) (pending : List Said) → (h : Holds home s m pending) → IsOneUntold reading_of g from to s h.state (taken m pending) error)
+        ⊎ ((home : Home) (m : LogMap) (pending : List Said) → Holds home s m pending → IsOneUntold reading_of g from to s (taken m pending) error)
         → IsRefused error s
     by_why other (inl refused) = absurd (other (only_memory (s.tables g) from to error inside refused.1))
-    by_why other (inr untold) = inr (g, from, to, λ home m h. one_unread home g from to error s h.state m other h.runs (untold home m [] h))
+    by_why other (inr untold) = inr (g, from, to, λ home m h. one_unread g from to error s m other (untold home m [] h))
 
 -- whichever way it was refused, the engine stays
 pub unfetched_stays : (g from to : ℕ) (error : Error) (s t : Shows) → HadFailed s t error ⊎ FailsToFetch reading_of g from to s t error → StaysButBlock s t

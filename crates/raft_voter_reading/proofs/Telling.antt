@@ -4,7 +4,7 @@ use Rattle.raft_log_record_base.specs.declared.errors.Error.{Error}
 use Rattle.raft_log_table_lists.specs.Shown.{Shown}
 use Rattle.raft_log_engine_laws.specs.raft_log_table_one.specs.Reads.{AreIn}
 use Rattle.raft_log_engine_laws.specs.raft_log_file_blocks.specs.declared.block_cache.BlockCache.{BlockCache}
-use Rattle.raft_log_engine_laws.specs.Shows.{Home, LogMap, Shows, has_failed}
+use Rattle.raft_log_engine_laws.specs.Shows.{LogMap, Shows, has_failed}
 use Rattle.raft_log_engine_laws.specs.Fetching.{StaysButBlock}
 use Rattle.raft_voter_meaning_laws.specs.Voters.{IsForeign}
 use Rattle.raft_voter_standing_laws.specs.Requests.{WereUnread}
@@ -24,9 +24,9 @@ stays_on s t u a b = record {
 pub told_before : (P : LogMap → Type 0) (s t : Shows) → StaysButBlock s t → Tells t P → Tells s P
 told_before P s t stays told = λ home m h. told home m (stays.holds home m [] h)
 
-were_unread : (home : Home) (g from to : ℕ) (s : Shows) (cache : BlockCache) (error : Error)
-    → WereUnread home g from to (record s { cache = cache }) error → WereUnread home g from to s error
-were_unread home g from to s cache error w = record {
+were_unread : (g from to : ℕ) (s : Shows) (cache : BlockCache) (error : Error)
+    → WereUnread g from to (record s { cache = cache }) error → WereUnread g from to s error
+were_unread g from to s cache error w = record {
   index = w.index;
   entry = w.entry;
   block = w.block;
@@ -44,7 +44,7 @@ refused_before error s t stays (inr (g, from, to, why)) =
       from,
       to,
       λ home m h.
-          were_unread home g from to s t.cache error (subst (λ (e : Shows). WereUnread home g from to e error) stays.same (why home m (stays.holds home m [] h))),
+          were_unread g from to s t.cache error (subst (λ (e : Shows). WereUnread g from to e error) stays.same (why home m (stays.holds home m [] h))),
     )
 
 pub unread_before : (cause : Unread) (s t : Shows) → StaysButBlock s t → IsUnreadFor cause t → IsUnreadFor cause s

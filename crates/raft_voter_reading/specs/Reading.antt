@@ -54,11 +54,11 @@ pub record ListsVoters (s : Shows) (vs : List (ℕ × State)) : Type 0 where
 
 -- Refusals.
 
--- why the engine refused a read: it has failed; or an entry wasn't read, whatever home the log has, for its
--- block wasn't, or it doesn't lie in the block that was written there
+-- why the engine refused a read: it has failed; or an entry wasn't read, whatever map the log is, for the file
+-- that it lies in wasn't
 abbrev pub IsRefused : Error → Shows → Type 0
 IsRefused error s = IsFailed s error
-    ⊎ ((g from to : ℕ) × ((home : Home) (m : LogMap) → Holds home s m [] → WereUnread home g from to s error))
+    ⊎ ((g from to : ℕ) × ((home : Home) (m : LogMap) → Holds home s m [] → WereUnread g from to s error))
 
 -- why voters aren't read: the engine refused a read; what stands in a group is no voter's, whatever map the
 -- engine's log is; or memory ran out

@@ -23,8 +23,9 @@ use raft_log_record_items::{EntryIndex, MessageExt};
 impl<P: PipeLog> LogEngine<P> {
     /// The entry of a group at an index, if there is one.
     ///
-    /// `Failed` of an engine that has failed. `Io` where the file system doesn't read its block, `Corruption`
-    /// where that is damaged, `Message` where its bytes are no message, or `Memory`.
+    /// `Failed` of an engine that has failed. `Io` where the file system doesn't read its block, `Message` where
+    /// its bytes are no message, or `Memory`. `Corruption` comes only where the block was damaged from outside: no
+    /// entry of a log that holds is told so.
     pub fn get_entry<M: MessageExt>(
         &mut self,
         raft_group_id: u64,

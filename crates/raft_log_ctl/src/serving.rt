@@ -49,7 +49,7 @@ impl From<io::Error> for Refusal {
 /// Does a task on the log in these directories, and answers the status; a refusal is told to standard error. `quiet`
 /// starts the threads, and takes what is logged.
 pub fn serve<
-    R: Files<File = File> + Print + Eprint + AllocGlobal + Clone + Drop,
+    R: Files<File = File> + Threads + Print + Eprint + AllocGlobal + Clone + Sync + Drop,
     Q: Threads + Log + Sync,
 >(rt: &R, quiet: &Q, place: &Place, task: &Task) -> u8 {
     match attempt(rt, quiet, place, task) {
@@ -63,12 +63,10 @@ pub fn serve<
 }
 
 /// Does a task.
-fn attempt<R: Files<File = File> + Print + AllocGlobal + Clone + Drop, Q: Threads + Log + Sync>(
-    rt: &R,
-    quiet: &Q,
-    place: &Place,
-    task: &Task,
-) -> Result<Outcome, Refusal> {
+fn attempt<
+    R: Files<File = File> + Threads + Print + AllocGlobal + Clone + Sync + Drop,
+    Q: Threads + Log + Sync,
+>(rt: &R, quiet: &Q, place: &Place, task: &Task) -> Result<Outcome, Refusal> {
     let task = task.trimmed(rt.alloc())?;
     let (mut files, place) = open(rt, place.trimmed(rt.alloc())?, &task)?;
     let mut out = BufWriter::new(rt.alloc(), io::writer(rt))?;
@@ -79,7 +77,7 @@ fn attempt<R: Files<File = File> + Print + AllocGlobal + Clone + Drop, Q: Thread
 
 /// Opens the directories of a log; for a dump of one file, the directory in which it lies. Answers the place as the
 /// files are spelled.
-fn open<R: Files<File = File> + AllocGlobal + Clone + Drop>(
+fn open<R: Files<File = File> + Threads + AllocGlobal + Clone + Sync + Drop>(
     rt: &R,
     place: Place,
     task: &Task,
@@ -107,7 +105,7 @@ fn is_file(fault: &DirectoryFault, asked: &str) -> bool {
 }
 
 /// Opens the directory in which a file lies.
-fn open_home<R: Files<File = File> + AllocGlobal + Clone + Drop>(
+fn open_home<R: Files<File = File> + Threads + AllocGlobal + Clone + Sync + Drop>(
     rt: &R,
     place: &Place,
 ) -> Result<(DirectoryFileSystem<FileDevice<R>>, Place), Refusal> {

@@ -5,13 +5,15 @@ ghost use Rattle.raft_log_disk_storage.specs.Storage.{IsStorageSound, IsWhole-pr
 ghost use Rattle.raft_log_disk_directory.specs.Loading.{FillsFile};
 
 use raft_log_disk_storage::{Content, Storage, Stored};
+use rayon::prelude::*;
 use std::alloc::Global;
 use std::collections::BTreeMap;
-use std::fs::{File, OpenOptions};
+use std::fs::File;
 use std::io;
 use std::io::ErrorKind;
 use std::os::unix::fs::FileExt;
 use std::rt::Files;
+use std::thread::Threads;
 
 /// How many bytes are read at a time: so few that the room for them is still in the processor's cache when they come.
 const PIECE: usize = 1 << 18;
@@ -70,12 +72,23 @@ impl Found {
         }
     }
 
-    /// Syncs a file and adds it, with its bytes.
-    pub fn load_file<R: Files<File = File>>(&mut self, rt: &R, path: &str) -> io::Result<()> {
-        let opened = OpenOptions::new().read(true).write(true).open(rt, path)?;
-        opened.sync_all()?;
-        let content = content_of(self.storage.alloc, &opened)?;
-        self.add_file(path, opened, content)
+    /// Syncs files, and adds them with their bytes. Each is read whole by one of the threads of `rayon`.
+    pub fn load_files<R: Threads + Sync>(
+        &mut self,
+        rt: &R,
+        paths: &[String],
+        opened: Vec<File>,
+    ) -> io::Result<()> {
+        let alloc = self.storage.alloc;
+        let contents = opened
+            .par_iter()
+            .with_min_len(1)
+            .map(|file: &File| -> io::Result<Vec<u8>> { content_of(alloc, file) })
+            .collect::<Vec<_>>(rt, alloc)?;
+        for ((path, file), content) in paths.iter().zip(opened).zip(contents) {
+            self.add_file(path.as_str(), file, content?)?;
+        }
+        Ok(())
     }
 }
 
@@ -93,8 +106,9 @@ fn fill(storage: &mut Storage, file: usize, content: Vec<u8>)
     });
 }
 
-/// The bytes of a file, read into room for just as many.
+/// The bytes of a file, which is synced first, read into room for just as many.
 fn content_of(alloc: Global, opened: &File) -> io::Result<Vec<u8>> {
+    opened.sync_all()?;
     let size = opened.metadata()?.len() as usize;
     let mut content = Vec::with_capacity(alloc, size)?;
     for start in (0..size).step_by(PIECE) {

@@ -8,17 +8,18 @@ use super::file_device::{FileDevice, ZEROS};
 use super::load::Found;
 use raft_log_disk::FileSystem;
 use raft_log_disk_device::{Device, DirectoryFileSystem};
-use std::fs::File;
+use std::fs::{File, OpenOptions};
 use std::io::ErrorKind;
 use std::path::Path;
 use std::rt::Files;
+use std::thread::Threads;
 use std::{fs, io};
 
 /// Opens a log's main directory, and its second one where it has one, and answers the file system over them.
-/// Each is locked, until the file system is dropped; each regular file in them is synced and read. Both have
-/// to be there. Paths are those of the operating system; the log's settings have to spell them the same. A
+/// Each is locked, until the file system is dropped; each regular file in them is synced and read, several side by
+/// side. Both have to be there. Paths are those of the operating system; the log's settings have to spell them the same. A
 /// refusal has changed nothing.
-pub fn open_directories<R: Files<File = File> + AllocGlobal + Clone + Drop>(
+pub fn open_directories<R: Files<File = File> + Threads + AllocGlobal + Clone + Sync + Drop>(
     rt: &R,
     directory: &str,
     spill_directory: Option<&str>,
@@ -88,7 +89,7 @@ fn lock<R: Files<File = File> + AllocGlobal>(
 }
 
 // Reads the files of a directory, and syncs their names.
-fn load<R: Files<File = File> + AllocGlobal + Clone + Drop>(
+fn load<R: Files<File = File> + Threads + AllocGlobal + Clone + Sync + Drop>(
     rt: &R,
     found: &mut Found,
     directory: &str,
@@ -101,17 +102,22 @@ fn load<R: Files<File = File> + AllocGlobal + Clone + Drop>(
 }
 
 // Reads the regular files of a directory, and syncs it.
-fn load_files<R: Files<File = File> + AllocGlobal + Clone + Drop>(
+fn load_files<R: Files<File = File> + Threads + AllocGlobal + Clone + Sync + Drop>(
     rt: &R,
     found: &mut Found,
     directory: &str,
 ) -> io::Result<()> {
+    let mut paths = Vec::new(rt.alloc());
+    let mut opened = Vec::new(rt.alloc());
     for entry in fs::read_dir(rt, directory)? {
         let entry = entry?;
         if entry.file_type()?.is_file() {
             let path = format!(in rt.alloc(); "{directory}/{}", entry.file_name())?;
-            found.load_file(rt, path.as_str())?;
+            let file = OpenOptions::new().read(true).write(true).open(rt, path.as_str())?;
+            opened.push(file)?;
+            paths.push(path)?;
         }
     }
+    found.load_files(rt, paths.as_slice(), opened)?;
     File::open(rt, directory)?.sync_all()
 }

@@ -35,7 +35,7 @@ fn settings<R: Env + Files<File = File> + AllocGlobal>(rt: &R) -> anyhow::Result
 }
 
 /// The file system over the directories of these settings, which are made where they aren't there.
-fn files<R: Files<File = File> + AllocGlobal + Clone + Drop>(
+fn files<R: Files<File = File> + Threads + AllocGlobal + Clone + Sync + Drop>(
     rt: &R,
     config: &Config,
 ) -> anyhow::Result<DirectoryFileSystem<FileDevice<R>>> {

@@ -113,7 +113,10 @@ fn load_files<R: Files<File = File> + Threads + AllocGlobal + Clone + Sync + Dro
         let entry = entry?;
         if entry.file_type()?.is_file() {
             let path = format!(in rt.alloc(); "{directory}/{}", entry.file_name())?;
-            let file = OpenOptions::new().read(true).write(true).open(rt, path.as_str())?;
+            let file = OpenOptions::new()
+                .read(true)
+                .write(true)
+                .open(rt, path.as_str())?;
             opened.push(file)?;
             paths.push(path)?;
         }

@@ -10,6 +10,7 @@ use std::time::Instant;
 const GROUPS: usize = 1_000;
 const BATCHES: u64 = 100_000;
 const IN_BATCH: usize = 10;
+const ENTRIES: u64 = 1_000;
 
 #[derive(Clone, Copy, PartialEq, Eq)]
 enum LogQueue {
@@ -326,8 +327,58 @@ fn report(work: &str, start: Instant, check: u64) {
     println!("{work} {} {check}", 1_000_000u128 * 1_000_000 / nanos);
 }
 
+/// So many entries from this index on, one behind another, of 16 bytes each or of 10 to 22.
+fn run_of(first: u64, count: u64, uneven: bool) -> Vec<EntryIndex> {
+    let mut entry_offset = 0;
+    let mut entries = Vec::new();
+    for i in 0..count {
+        let entry_len = if uneven { (i % 13) as u32 + 10 } else { 16 };
+        entries.push(EntryIndex { index: first + i, entries: None, compression_type: CompressionType::None, entry_offset, entry_len });
+        entry_offset += entry_len;
+    }
+    entries
+}
+
+/// What a group gets: batches of so many entries, up to a thousand in all.
+fn runs_of(size: u64, uneven: bool) -> Vec<Vec<EntryIndex>> {
+    (0..ENTRIES / size).map(|number| run_of(number * size, size, uneven)).collect()
+}
+
+/// Each group gets the first batch, then each the next one, and so on, each batch in a block of its own.
+fn appends_of(tables: &mut [MemTable], runs: &mut [Vec<EntryIndex>]) -> Result<u64, Error> {
+    let mut number: u64 = 0;
+    for run in runs {
+        for table in tables.iter_mut() {
+            let id = FileId { queue: LogQueue::Append, seq: number >> 10 };
+            for entry in run.iter_mut() {
+                entry.entries = Some(FileBlockHandle { id, offset: number << 8, len: 32_000 });
+            }
+            table.replay_append(run)?;
+            number += 1;
+        }
+    }
+    Ok(tables.iter().map(|table| table.last_index().unwrap_or(0)).sum())
+}
+
+fn tables_of() -> Vec<MemTable> {
+    (0..GROUPS).map(|_| MemTable::new()).collect()
+}
+
+/// Batches of so many entries come to the tables of all groups, and then a thousand entries of each are read at once.
+fn batches(size: u64, uneven: bool) {
+    let kind = if uneven { "-uneven" } else { "" };
+    let mut runs = runs_of(size, uneven);
+    let mut tables = tables_of();
+    let start = Instant::now();
+    let check = appends_of(&mut tables, &mut runs).unwrap_or(0);
+    report(&format!("append-{size}{kind}"), start, check);
+    let start = Instant::now();
+    let check = fetches(&tables).unwrap_or(0);
+    report(&format!("fetch-{size}{kind}"), start, check);
+}
+
 fn main() {
-    let mut tables: Vec<MemTable> = (0..GROUPS).map(|_| MemTable::new()).collect();
+    let mut tables = tables_of();
     let start = Instant::now();
     let check = appends(&mut tables).unwrap_or(0);
     report("append", start, check);
@@ -337,4 +388,8 @@ fn main() {
     let start = Instant::now();
     let check = puts(&mut tables);
     report("put", start, check);
+    for size in [10, 1_000] {
+        batches(size, false);
+        batches(size, true);
+    }
 }

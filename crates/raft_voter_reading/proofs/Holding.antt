@@ -12,8 +12,7 @@ use Rattle.raft_log_engine_laws.specs.Holding.{Holds}
 use Rattle.raft_voter_messages.specs.declared.reply.Entry.{Entry as VoterEntry}
 use Rattle.raft_voter_messages.specs.declared.stored.StoredFault.{StoredFault}
 use Rattle.raft_voter_messages.specs.StoredForms.{stored_entry_fits}
-use Rattle.raft_voter_outline.specs.Restoring.{are_in_order, restored, with_log}
-use Rattle.raft_voter_outline.specs.Runs.{bare}
+use Rattle.raft_voter_outline.specs.Restoring.{are_in_order, restored}
 use Rattle.raft_voter_outline.specs.State.{State}
 use Rattle.raft_voter_outline.proofs.Ordered.{restored_ok}
 use Rattle.raft_voter.specs.Laws.{AreReadAs}
@@ -21,14 +20,13 @@ use Rattle.raft_voter_meaning_laws.specs.Voters.{Group, HoldsVoter}
 use Rattle.raft_voter_meaning_laws.specs.Readings.{IsReadAs, read_voter, run_content}
 use Rattle.raft_voter_meaning_laws.proofs.Reading.{read_groups_hold_voters}
 use Rattle.raft_voter_reading.specs.declared.heads.Head.{Head}
-use Rattle.raft_voter_reading.specs.Entries.{KnowsTerms, ReadsBelow, StandFrom, terms_of}
+use Rattle.raft_voter_reading.specs.Entries.{ReadsBelow, StandFrom}
 use Rattle.raft_voter_reading.specs.Groups.{NoneOutside, ReadsHead}
-use Rattle.raft_voter_reading.specs.Listing.{HasOutline}
 use Rattle.raft_voter_reading.specs.Reading.{Tells}
 use Rattle.raft_voter_reading.proofs.Pieces.{length-read, stand_at}
 
 -- entries behind a base, and none outside, are the whole run
-run_is : (grp : Group) (base end : ℕ) (texts : List (List ℕ)) → NoneOutside base end grp → StandFrom grp (base + 1) texts → base + 1 + length texts ≡ end
+pub run_is : (grp : Group) (base end : ℕ) (texts : List (List ℕ)) → NoneOutside base end grp → StandFrom grp (base + 1) texts → base + 1 + length texts ≡ end
     → (i : ℕ) → grp (Index i) ≡ run_content (base + 1) texts i
 run_is grp base end texts outside stand size i = elim (cases_lt base i) [
   | inr low ↦ outside i (inl low) ∙ sym (if_false (nat_le (base + 1) i) _ None (le_false (base + 1) i (omega (arith, low))))
@@ -65,19 +63,6 @@ voter_held s g head es known below = λ home m h. read_groups_hold_voters (m g) 
       read = below.run.read;
       small = let fit = known.ends.small in omega (arith, fit, below.count);
     }
-
--- The outline.
-
-bare_terms : (es : List VoterEntry) → bare (map (λ e. (e.term, e.bytes)) es) ≡ terms_of es
-bare_terms [] = refl
-bare_terms (e ∷ es) = ap (λ more. (e.term, []) ∷ more) (bare_terms es)
-
-pub outline_held : (s : Shows) (g : ℕ) (head : Head) (o : State) → ReadsHead s g head → KnowsTerms s g head.state head.end o → Tells s (λ m. HasOutline o (m g))
-outline_held s g head o known (es, below, is) = λ home m h. (
-  read_voter head.state es,
-  inr (voter_held s g head es known below home m h),
-  is ∙ ap (λ l. with_log head.state l) (sym (bare_terms es)),
-)
 
 -- The voter.
 

@@ -7,3 +7,5 @@ pub mod Messages
 pub mod Runs
 pub mod Holding
 pub mod Filling
+pub mod Numbers
+pub mod TermsRead

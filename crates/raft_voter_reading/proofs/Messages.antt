@@ -1,5 +1,5 @@
 -- One message more is read as an entry, or shows that it is none.
-use Rattle.std.proofs.Common.{◌≡◌, ◌≢◌, ◌∙◌, ℕ, zero, suc, ◌+◌, ◌<◌, ◌^◌, List, [], ◌∷◌, ◌++◌, length, map, length-take, take, get_or, slice_get, Some, sym, ap, subst, arith, append_assoc, length-append}
+use Rattle.std.proofs.Common.{◌≡◌, ◌≢◌, ◌∙◌, ℕ, zero, suc, ◌+◌, ◌<◌, ◌^◌, List, [], ◌∷◌, ◌++◌, length, map, length-take, take, get_or, slice_get, Some, sym, ap, subst, arith}
 use Rattle.std.proofs.lemmas.Bool.Decides.{nat_tests}
 use Rattle.std.proofs.lemmas.List.{length-map, map-append, take_more}
 use Rattle.raft_log_record_items.specs.declared.raw_message.RawMessage.{RawMessage}
@@ -7,9 +7,8 @@ use Rattle.raft_voter_messages.specs.declared.reply.Entry.{Entry as VoterEntry}
 use Rattle.raft_voter_messages.specs.declared.stored.StoredFault.{StoredFault}
 use Rattle.raft_voter_messages.specs.declared.stored.StoredFault.TheVariants as faults
 use Rattle.raft_voter_messages.specs.StoredForms.{EntryFault, IsEntry}
-use Rattle.raft_voter_outline.specs.State.{State}
 use Rattle.raft_voter.specs.Laws.{AreReadAs}
-use Rattle.raft_voter_reading.specs.Entries.{HasBroken, terms_of}
+use Rattle.raft_voter_reading.specs.Entries.{HasBroken}
 use Rattle.raft_voter_reading.proofs.Pieces.{text_of}
 
 -- an entry that is read stands below 2 ^ 63
@@ -56,25 +55,3 @@ broken_at first i index ms m fault lt is at broken why = record {
   broken = broken;
   why = subst (λ (n : ℕ). EntryFault fault m.bytes n) at why;
 }
-
--- Terms alone.
-
-pub term_more : (o p q : State) (es : List VoterEntry) (e : VoterEntry) (i : ℕ) → i < length es → e ≡ get_or es i e → p ≡ record o { log = o.log ++ terms_of (take i es) }
-    → q ≡ record p { log = p.log ++ (e.term, []) ∷ [] } → q ≡ record o { log = o.log ++ terms_of (take (i + 1) es) }
-term_more o p q es e i lt is before now =
-    let some : List VoterEntry = take i es in
-    let all : terms_of (take (i + 1) es) ≡ terms_of some ++ (e.term, []) ∷ [] =
-    ap (λ (l : List VoterEntry). terms_of l) (take_more es i e lt ∙ ap (λ (x : VoterEntry). some ++ x ∷ []) (sym is)) ∙ map-append (λ (x : VoterEntry). (x.term, [])) some (e ∷ []) in
-    now ∙ ap (λ (v : State). record v { log = v.log ++ (e.term, []) ∷ [] }) before
-    ∙ ap (λ l. record o { log = l }) (append_assoc o.log (terms_of some) ((e.term, []) ∷ []))
-    ∙ ap (λ l. record o { log = o.log ++ l }) (sym all)
-
--- there is room for one term more
-pub term_fits : (o p : State) (es : List VoterEntry) (i : ℕ) → i < length es → o.base_index + length o.log + length es < 2 ^ 63 → p ≡ record o { log = o.log ++ terms_of (take i es) }
-    → p.base_index + length p.log + 1 < 2 ^ 63
-term_fits o p es i lt small is =
-    let base = ap (λ (v : State). v.base_index) is in
-    let log = ap (λ (v : State). length v.log) is ∙ length-append o.log (terms_of (take i es)) in
-    let terms = length-map {B = ℕ × List ℕ} (take i es) (λ (x : VoterEntry). (x.term, [])) in
-    let some = length-take i es in
-    omega (arith, base, log, terms, some, small, lt)

@@ -51,7 +51,7 @@ piece_fits v from to max some inside =
     (omega (arith, size, cut, first, between, some), omega (arith, size, cut, between))
 
 -- of a group whose tables have entries, one comes at least, and none past the end
-comes : (s : Shows) (g from to count : ℕ) (max : Option ℕ) (n : ℕ) → IsCounted s → from < to → AreIn (s.tables g) from to
+pub comes : (s : Shows) (g from to count : ℕ) (max : Option ℕ) (n : ℕ) → IsCounted s → from < to → AreIn (s.tables g) from to
     → (es : List EntryIndex) → AreToRead s g from to max es → length es ≡ n → (0 < n) × (n ≤ to - from)
 comes s g from to count max n counted some inside es (inl none) same =
     let empty = counted g none.0 in

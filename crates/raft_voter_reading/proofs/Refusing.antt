@@ -49,42 +49,46 @@ uncopied_for error cause s is (inr memory) = told_for error cause s is (λ other
 
 -- Entries.
 
--- bytes are the message that they are, so one isn't told for want of memory alone
-parsed : (error : Error) (m : RawMessage) → Parses {M = RawMessage} (Err error) (Some m) → error ≡ errors.Memory
-parsed errors.Memory m h = refl
-parsed (errors.Message text) m h = cc
-parsed errors.Hole m h = absurd h
-parsed errors.Full m h = absurd h
-parsed (errors.InvalidArgument text) m h = absurd h
-parsed (errors.Corruption text) m h = absurd h
-parsed (errors.Io kind) m h = absurd h
-parsed (errors.Codec fault) m h = absurd h
-parsed (errors.TryAgain text) m h = absurd h
-parsed errors.EntryCompacted m h = absurd h
-parsed errors.EntryNotFound m h = absurd h
-parsed (errors.Other fault) m h = absurd h
-parsed errors.Failed m h = absurd h
-parsed errors.NumberRange m h = absurd h
-
--- the message of bytes
+-- the raw message of bytes
 abbrev pub reading_of : List ℕ → Option RawMessage
 reading_of source = Some (record { bytes = source })
 
-one_unread : (g from to : ℕ) (error : Error) (s : Shows) (m : LogMap) → (error ≡ errors.Memory → ⊥) → IsOneUntold reading_of g from to s m error → WereUnread g from to s error
-one_unread g from to error s m other (inl memory) = absurd (other memory)
-one_unread g from to error s m other (inr one) = record {
-  index = one.0;
-  entry = one.3.entry;
-  block = one.3.block;
-  asked = (one.1, one.2);
-  stands = one.3.stands;
-  placed = one.3.placed;
-  why = by_why one.3.why;
-}
-  where
-    by_why : IsFileUnread s.pipes one.3.block error ⊎ Parses {M = RawMessage} (Err error) (reading_of one.3.bytes) → IsFileUnread s.pipes one.3.block error
-    by_why (inl file) = file
-    by_why (inr none) = absurd (other (parsed error (record { bytes = one.3.bytes }) none))
+module _ {M : Type 0} (reading : List ℕ → Option M) (total : (bytes : List ℕ) → (message : M) × (reading bytes ≡ Some message)) where
+  -- any bytes are a message, so one isn't told for want of memory alone
+  parsed : (error : Error) (bytes : List ℕ) → Parses {M = M} (Err error) (reading bytes) → error ≡ errors.Memory
+  parsed error bytes h = by_error error (subst (λ (o : Option M). Parses {M = M} (Err error) o) (total bytes).1 h)
+    where
+      by_error : (e : Error) → Parses {M = M} (Err e) (Some (total bytes).0) → e ≡ errors.Memory
+      by_error errors.Memory h = refl
+      by_error (errors.Message text) h = cc
+      by_error errors.Hole h = absurd h
+      by_error errors.Full h = absurd h
+      by_error (errors.InvalidArgument text) h = absurd h
+      by_error (errors.Corruption text) h = absurd h
+      by_error (errors.Io kind) h = absurd h
+      by_error (errors.Codec fault) h = absurd h
+      by_error (errors.TryAgain text) h = absurd h
+      by_error errors.EntryCompacted h = absurd h
+      by_error errors.EntryNotFound h = absurd h
+      by_error (errors.Other fault) h = absurd h
+      by_error errors.Failed h = absurd h
+      by_error errors.NumberRange h = absurd h
+
+  one_unread : (g from to : ℕ) (error : Error) (s : Shows) (m : LogMap) → (error ≡ errors.Memory → ⊥) → IsOneUntold reading g from to s m error → WereUnread g from to s error
+  one_unread g from to error s m other (inl memory) = absurd (other memory)
+  one_unread g from to error s m other (inr one) = record {
+    index = one.0;
+    entry = one.3.entry;
+    block = one.3.block;
+    asked = (one.1, one.2);
+    stands = one.3.stands;
+    placed = one.3.placed;
+    why = by_why one.3.why;
+  }
+    where
+      by_why : IsFileUnread s.pipes one.3.block error ⊎ Parses {M = M} (Err error) (reading one.3.bytes) → IsFileUnread s.pipes one.3.block error
+      by_why (inl file) = file
+      by_why (inr none) = absurd (other (parsed error one.3.bytes none))
 
 -- a table that has all entries refuses them for want of memory alone
 only_memory : (v : Shown) (from to : ℕ) (error : Error) → AreIn v from to → FetchRefused v from to error → error ≡ errors.Memory
@@ -103,19 +107,24 @@ only_memory v from to error inside refused = by_case refused.1
     by_case (inr (inr (inl three))) = absurd (omega (arith, three.2, ends.1))
     by_case (inr (inr (inr four))) = four.0
 
--- entries that the tables have weren't fetched
-pub unfetched_for : (g from to : ℕ) (error : Error) (cause : Unread) (s t : Shows) → cause ≡ cause_of error → AreIn (s.tables g) from to
-    → HadFailed s t error ⊎ FailsToFetch reading_of g from to s t error → IsUnreadFor cause s
-unfetched_for g from to error cause s t is inside (inl had) = failed_for error cause s is (had.0, had.1)
-unfetched_for g from to error cause s t is inside (inr f) = told_for error cause s is (λ other. by_why other f.why)
-  where
-    by_why : (error ≡ errors.Memory → ⊥) → ((s.counts g ≡ true) × FetchRefused (s.tables g) from to error)
-        ⊎ ((home : Home) (m : LogMap) (pending : List Said) → Holds home s m pending → IsOneUntold reading_of g from to s (taken m pending) error)
-        → IsRefused error s
-    by_why other (inl refused) = absurd (other (only_memory (s.tables g) from to error inside refused.1))
-    by_why other (inr untold) = inr (g, from, to, λ home m h. one_unread g from to error s m other (untold home m [] h))
+module _ {M : Type 0} (reading : List ℕ → Option M) (total : (bytes : List ℕ) → (message : M) × (reading bytes ≡ Some message)) where
+  -- entries that the tables have weren't fetched
+  pub unfetched_for : (g from to : ℕ) (error : Error) (cause : Unread) (s t : Shows) → cause ≡ cause_of error → AreIn (s.tables g) from to
+      → HadFailed s t error ⊎ FailsToFetch reading g from to s t error → IsUnreadFor cause s
+  unfetched_for g from to error cause s t is inside (inl had) = failed_for error cause s is (had.0, had.1)
+  unfetched_for g from to error cause s t is inside (inr f) = told_for error cause s is (λ other. by_why other f.why)
+    where
+      by_why : (error ≡ errors.Memory → ⊥) → ((s.counts g ≡ true) × FetchRefused (s.tables g) from to error)
+          ⊎ ((home : Home) (m : LogMap) (pending : List Said) → Holds home s m pending → IsOneUntold reading g from to s (taken m pending) error)
+          → IsRefused error s
+      by_why other (inl refused) = absurd (other (only_memory (s.tables g) from to error inside refused.1))
+      by_why other (inr untold) = inr (g, from, to, λ home m h. one_unread reading total g from to error s m other (untold home m [] h))
 
--- whichever way it was refused, the engine stays
-pub unfetched_stays : (g from to : ℕ) (error : Error) (s t : Shows) → HadFailed s t error ⊎ FailsToFetch reading_of g from to s t error → StaysButBlock s t
-unfetched_stays g from to error s t (inl had) = subst (λ (e : Shows). StaysButBlock s e) (sym had.2) (stays_at_first s)
-unfetched_stays g from to error s t (inr f) = f.stays
+  -- whichever way it was refused, the engine stays
+  pub unfetched_stays : (g from to : ℕ) (error : Error) (s t : Shows) → HadFailed s t error ⊎ FailsToFetch reading g from to s t error → StaysButBlock s t
+  unfetched_stays g from to error s t (inl had) = subst (λ (e : Shows). StaysButBlock s e) (sym had.2) (stays_at_first s)
+  unfetched_stays g from to error s t (inr f) = f.stays
+
+-- any bytes are a raw message
+pub raw_total : (bytes : List ℕ) → (message : RawMessage) × (reading_of bytes ≡ Some message)
+raw_total bytes = (record { bytes = bytes }, refl)

@@ -1,15 +1,11 @@
 -- Runs of entries that were read, one behind another.
 use Rattle.std.proofs.Common.{◌≡◌, ◌∙◌, ℕ, ◌+◌, List, [], ◌∷◌, ◌++◌, length, refl, sym, ap, subst, arith, length-append}
-use Rattle.std.proofs.lemmas.List.{length-map, map-append}
 use Rattle.raft_log_engine_laws.specs.Shows.{Shows}
 use Rattle.raft_log_engine_laws.specs.Fetching.{StaysButBlock}
 use Rattle.raft_voter_messages.specs.declared.reply.Entry.{Entry as VoterEntry}
-use Rattle.raft_voter_messages.specs.declared.reply.VoterState.{VoterState}
-use Rattle.raft_voter_outline.specs.Restoring.{with_log}
-use Rattle.raft_voter_outline.specs.State.{State}
 use Rattle.raft_voter.specs.Laws.{AreReadAs}
 use Rattle.raft_voter_meaning_laws.specs.Voters.{Group}
-use Rattle.raft_voter_reading.specs.Entries.{KnowsTerms, ReadsBelow, ReadsPiece, ReadsRun, StandFrom, terms_of}
+use Rattle.raft_voter_reading.specs.Entries.{ReadsBelow, ReadsPiece, ReadsRun, StandFrom}
 use Rattle.raft_voter_reading.proofs.Pieces.{length-read}
 use Rattle.raft_voter_reading.proofs.Telling.{told_before}
 
@@ -44,25 +40,3 @@ more_read s t g base next end after es fs all stays below piece is at = record {
   });
   count = let size = ap (λ (l : List VoterEntry). length l) is ∙ length-append es fs in omega (arith, size, below.count, at);
 }
-
--- The terms alone.
-
-pub no_terms : (s : Shows) (g : ℕ) (state : VoterState) (next : ℕ) (o : State) → o ≡ with_log state [] → next ≡ state.base_index + 1 → KnowsTerms s g state next o
-no_terms s g state next o is at = ([], none_read s g state.base_index next [] refl at, is)
-
--- the last index of what is known so far
-pub last_known : (s : Shows) (g : ℕ) (state : VoterState) (next : ℕ) (o : State) → KnowsTerms s g state next o → o.base_index + length o.log + 1 ≡ next
-last_known s g state next o (es, below, is) =
-    let base = ap (λ (v : State). v.base_index) is in
-    let log = ap (λ (v : State). length v.log) is ∙ length-map es (λ e. (e.term, [])) in
-    omega (arith, base, log, below.count)
-
-pub more_terms : (s t : Shows) (g : ℕ) (state : VoterState) (next end after : ℕ) (o p : State) (fs slice : List VoterEntry) → StaysButBlock s t → KnowsTerms s g state next o
-    → ReadsPiece t g next end fs → slice ≡ fs → p ≡ record o { log = o.log ++ terms_of slice } → after ≡ next + length fs → KnowsTerms s g state after p
-more_terms s t g state next end after o p fs slice stays (es, below, is) piece same now at = (
-  es ++ fs,
-  more_read s t g state.base_index next end after es fs (es ++ fs) stays below piece refl at,
-  now ∙ ap (λ (l : List VoterEntry). record o { log = o.log ++ terms_of l }) same
-      ∙ ap (λ (v : State). record v { log = v.log ++ terms_of fs }) is
-      ∙ ap (λ l. with_log state l) (sym (map-append (λ e. (e.term, [])) es fs)),
-)

@@ -1,15 +1,12 @@
 -- Entries as they are read of a group, one behind another.
-use Rattle.std.specs.Prelude.{◌≡◌, ◌≢◌, ◌+◌, ◌≤◌, ◌<◌, ℕ, List, [], ◌∷◌, length, map, slice_get, Some}
+use Rattle.std.specs.Prelude.{◌≡◌, ◌≢◌, ◌+◌, ◌≤◌, ◌<◌, ℕ, List, [], ◌∷◌, length, slice_get, Some}
 use Rattle.raft_log_model_laws.specs.Meaning.Slot.{Index}
 use Rattle.raft_log_model_laws.specs.Meaning.Content.{Entry}
 use Rattle.raft_log_engine_laws.specs.Shows.{Shows}
 use Rattle.raft_voter_messages.specs.declared.reply.Entry.{Entry as VoterEntry}
-use Rattle.raft_voter_messages.specs.declared.reply.VoterState.{VoterState}
 use Rattle.raft_voter_messages.specs.declared.stored.StoredFault.{StoredFault}
 use Rattle.raft_voter_messages.specs.declared.stored.StoredFault.TheVariants as faults
 use Rattle.raft_voter_messages.specs.StoredForms.{EntryFault}
-use Rattle.raft_voter_outline.specs.Restoring.{with_log}
-use Rattle.raft_voter_outline.specs.State.{State}
 use Rattle.raft_voter.specs.Laws.{AreReadAs}
 use Rattle.raft_voter_meaning_laws.specs.Voters.{Group}
 use Rattle.raft_voter_reading.specs.declared.unread.Unread.{Unread}
@@ -52,11 +49,3 @@ pub record ReadsPiece (e : Shows) (g first end : ℕ) (es : List VoterEntry) : T
 pub record ReadsBelow (e : Shows) (g base next : ℕ) (es : List VoterEntry) : Type 0 where
   pub run : ReadsRun e g (base + 1) es
   pub count : base + 1 + length es ≡ next
-
--- the entries of a log that is known by its terms alone
-abbrev pub terms_of : List VoterEntry → List (ℕ × List ℕ)
-terms_of es = map (λ e. (e.term, [])) es
-
--- entries below an index were read, and this is the outline of a voter with these alone
-abbrev pub KnowsTerms : Shows → ℕ → VoterState → ℕ → State → Type 0
-KnowsTerms e g s next o = (es : List VoterEntry) × ReadsBelow e g s.base_index next es × (o ≡ with_log s (terms_of es))

@@ -2,3 +2,5 @@ pub mod Reading
 pub mod Groups
 pub mod Entries
 pub mod Listing
+pub mod Numbers
+pub mod Terms

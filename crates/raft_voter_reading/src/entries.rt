@@ -15,7 +15,7 @@ use raft_voter_messages::{Entry, StoredFault, read_entry};
 use std::alloc::Global;
 
 /// So many bytes of entries are read at once at most, or one entry.
-const PIECE_BYTES: usize = 1024 * 1024;
+pub const PIECE_BYTES: usize = 1024 * 1024;
 
 /// Entries of a group from one index on, all below another: one at least, and as many as have the bytes of a
 /// piece together.

@@ -6,8 +6,10 @@
 #![tactic(auto)]
 
 mod entries;
+mod entry_head;
 mod heads;
 mod outlines;
+mod terms;
 mod unread;
 mod voters;
 

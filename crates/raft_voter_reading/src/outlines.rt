@@ -4,24 +4,24 @@ ghost use Rattle.raft_log_engine_laws.specs.Fetching.{StaysButBlock};
 ghost use Rattle.raft_log_engine_core.specs.Reads.{shows_of};
 ghost use Rattle.raft_voter_outline.specs.State.{last_index};
 ghost use Rattle.raft_voter_outlines.specs.Kept.{outlines_in};
-ghost use Rattle.raft_voter_reading.specs.Entries.{KnowsTerms, terms_of};
 ghost use Rattle.raft_voter_reading.specs.Groups.{ReadsHead};
 ghost use Rattle.raft_voter_reading.specs.Listing.{AddsOutline, TellsOutline};
 ghost use Rattle.raft_voter_reading.specs.Reading.{IsUnreadFor, ReadsVoters};
+ghost use Rattle.raft_voter_reading.specs.Terms.{KnowsTerms, alone};
 
 use crate::Unread;
-use crate::entries::read_piece;
 use crate::heads::{Head, read_head};
+use crate::terms::read_terms_piece;
 use raft_log_engine_core::LogEngine;
 use raft_log_file_pair::PipeLog;
-use raft_voter_messages::{Entry, Memory};
+use raft_voter_messages::Memory;
 use raft_voter_outline::Outline;
 use raft_voter_outlines::Outlines;
 use std::alloc::Global;
 
 /// The outline of each group's voter, as an engine's log tells it that was just opened: whatever map the log
-/// is, it means voters, and these are their outlines. Entries are read in pieces and not kept, so memory is
-/// wanted for the outlines and a piece alone; each block of entries is read once.
+/// is, it means voters, and these are their outlines. Of the entries the indexes and the terms are read, in pieces
+/// and not kept, so memory is wanted for the outlines and a piece alone; each block of entries is read once.
 ///
 /// `Foreign`: what stands in this group is no voter's. `Engine`: the engine has failed, or didn't read a block
 /// of entries. `Memory`. Answered or refused, the engine is as it was, but for the block that it read last.
@@ -99,23 +99,23 @@ fn read_terms<P: PipeLog>(
     let mut outline = Outline::at_base(alloc, &head.state);
     let mut next = head.state.base_index + 1;
     while next < head.end {
-        let entries = read_piece(alloc, engine, group, next, head.end)?;
-        let Ok(()) = push_terms(&mut outline, entries.as_slice()) else {
+        let terms = read_terms_piece(alloc, engine, group, next, head.end)?;
+        let Ok(()) = push_terms(&mut outline, terms.as_slice()) else {
             return Err(Unread::Memory);
         };
-        next += entries.len() as u64;
+        next += terms.len() as u64;
     }
     Ok(outline)
 }
 
-/// More entries of a voter's log, right behind the last one: of each the outline keeps its term.
-fn push_terms(outline: &mut Outline, entries: &[Entry]) -> Result<(), Memory>
-    requires { last_index outline.old.voter + length entries.now < 2 ^ 63 }
+/// More entries of a voter's log, right behind the last one, of these terms.
+fn push_terms(outline: &mut Outline, terms: &[u64]) -> Result<(), Memory>
+    requires { last_index outline.old.voter + length terms.now < 2 ^ 63 }
     ensures { OnOk result (outline.new.voter
-        ≡ record outline.old.voter { log = outline.old.voter.log ++ terms_of entries.now }) }
+        ≡ record outline.old.voter { log = outline.old.voter.log ++ alone terms.now }) }
 {
-    for entry in entries {
-        let Ok(()) = outline.push(entry.term) else {
+    for term in terms {
+        let Ok(()) = outline.push(*term) else {
             return Err(Memory);
         };
     }

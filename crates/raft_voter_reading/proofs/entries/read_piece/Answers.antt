@@ -2,7 +2,7 @@ use Rattle.std.proofs.lemmas.Result.{IfErr-weaker, IfOk-weaker}
 use Rattle.raft_log_engine_core.specs.Reads.{shows_of}
 use Rattle.raft_voter_standing_laws.proofs.Fetching.{engines_are_counted}
 use Rattle.raft_voter_reading.proofs.Pieces.{piece_read, piece_unread}
-use Rattle.raft_voter_reading.proofs.Refusing.{unfetched_for, unfetched_stays}
+use Rattle.raft_voter_reading.proofs.Refusing.{raw_total, reading_of, unfetched_for, unfetched_stays}
 use Rattle.raft_voter_reading.proofs.entries.read_piece.Goals as goal
 
 pub returns-in-Ok-clause-ok : goal.returns-in-Ok-clause-ok
@@ -18,9 +18,9 @@ returns-in-Ok-clause-err g c =
 
 pub returns-clause-err : goal.returns-clause-err
 returns-clause-err g c =
-    unfetched_for c.args.group c.args.from c.args.end c.in-Err.refusal c.from_refusal.result (shows_of g.P.PipeLog.shown c.args.engine.now) (shows_of g.P.PipeLog.shown c.fetch_entries_to.new.self) c.from_refusal.ensures c.requires.placed
+    unfetched_for reading_of raw_total c.args.group c.args.from c.args.end c.in-Err.refusal c.from_refusal.result (shows_of g.P.PipeLog.shown c.args.engine.now) (shows_of g.P.PipeLog.shown c.fetch_entries_to.new.self) c.from_refusal.ensures c.requires.placed
     c.in-Err.ensures.err
 
 pub returns-clause-stays : goal.returns-clause-stays
 returns-clause-stays g c =
-    unfetched_stays c.args.group c.args.from c.args.end c.in-Err.refusal (shows_of g.P.PipeLog.shown c.args.engine.now) (shows_of g.P.PipeLog.shown c.fetch_entries_to.new.self) c.in-Err.ensures.err
+    unfetched_stays reading_of raw_total c.args.group c.args.from c.args.end c.in-Err.refusal (shows_of g.P.PipeLog.shown c.args.engine.now) (shows_of g.P.PipeLog.shown c.fetch_entries_to.new.self) c.in-Err.ensures.err

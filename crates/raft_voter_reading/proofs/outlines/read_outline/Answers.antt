@@ -2,7 +2,7 @@ use Rattle.std.proofs.Common.{Option, subst}
 use Rattle.raft_log_engine_core.specs.Reads.{shows_of}
 use Rattle.raft_voter_reading.specs.Groups.{TellsHead}
 use Rattle.raft_voter_reading.specs.declared.heads.Head.{Head}
-use Rattle.raft_voter_reading.proofs.Holding.{outline_held}
+use Rattle.raft_voter_reading.proofs.TermsRead.{outline_held}
 use Rattle.raft_voter_reading.proofs.outlines.read_outline.Goals as goal
 
 pub returns-clause-ok : goal.returns-clause-ok

@@ -1,0 +1,26 @@
+use Rattle.std.proofs.lemmas.Result.{IfErr-weaker, IfOk-weaker}
+use Rattle.raft_log_engine_core.specs.Reads.{shows_of}
+use Rattle.raft_voter_standing_laws.proofs.Fetching.{engines_are_counted}
+use Rattle.raft_voter_reading.proofs.TermsRead.{head_of, heads_total, terms_read, terms_unread}
+use Rattle.raft_voter_reading.proofs.Refusing.{unfetched_for, unfetched_stays}
+use Rattle.raft_voter_reading.proofs.terms.read_terms_piece.Goals as goal
+
+pub returns-in-Ok-clause-ok : goal.returns-in-Ok-clause-ok
+returns-in-Ok-clause-ok g c =
+    IfOk-weaker c.terms_in.result _ _ (λ terms told. terms_read (shows_of g.P.PipeLog.shown c.args.engine.now) (shows_of g.P.PipeLog.shown c.fetch_entries_to.new.self) c.args.group c.args.from c.args.end c.in-Ok.field-0 _
+    c.new-heads.result.items c.fetch_entries_to.new.vec.items c.as_slice.result.now c.new-heads.ensures.items c.as_slice.ensures.value c.in-Ok.ensures.ok terms.items
+    (engines_are_counted (g.P.PipeLog.shown c.args.engine.now.pipes) c.args.engine.now.tables c.args.engine.now.cache) c.requires.some c.requires.placed told) c.terms_in.ensures.ok
+
+pub returns-in-Ok-clause-err : goal.returns-in-Ok-clause-err
+returns-in-Ok-clause-err g c =
+    IfErr-weaker c.terms_in.result _ _ (λ cause none. terms_unread (shows_of g.P.PipeLog.shown c.args.engine.now) (shows_of g.P.PipeLog.shown c.fetch_entries_to.new.self) c.args.group c.args.from c.args.end c.in-Ok.field-0 _
+    c.new-heads.result.items c.fetch_entries_to.new.vec.items c.as_slice.result.now c.new-heads.ensures.items c.as_slice.ensures.value c.in-Ok.ensures.ok cause none) c.terms_in.ensures.err
+
+pub returns-clause-err : goal.returns-clause-err
+returns-clause-err g c =
+    unfetched_for head_of heads_total c.args.group c.args.from c.args.end c.in-Err.refusal c.from_refusal.result (shows_of g.P.PipeLog.shown c.args.engine.now) (shows_of g.P.PipeLog.shown c.fetch_entries_to.new.self) c.from_refusal.ensures c.requires.placed
+    c.in-Err.ensures.err
+
+pub returns-clause-stays : goal.returns-clause-stays
+returns-clause-stays g c =
+    unfetched_stays head_of heads_total c.args.group c.args.from c.args.end c.in-Err.refusal (shows_of g.P.PipeLog.shown c.args.engine.now) (shows_of g.P.PipeLog.shown c.fetch_entries_to.new.self) c.in-Err.ensures.err

@@ -1,0 +1,71 @@
+-- Terms of a group's entries, as they are read without the entries' own bytes.
+use Rattle.std.specs.Prelude.{◌≡◌, ◌+◌, ◌≤◌, ◌<◌, ℕ, List, [], ◌∷◌, length, map, slice_get, None, Some}
+use Rattle.raft_log_model_laws.specs.Meaning.Slot.{Index}
+use Rattle.raft_log_model_laws.specs.Meaning.Content.{Entry}
+use Rattle.raft_log_engine_laws.specs.Shows.{Shows}
+use Rattle.raft_voter_messages.specs.declared.reply.Entry.{Entry as VoterEntry}
+use Rattle.raft_voter_messages.specs.declared.reply.VoterState.{VoterState}
+use Rattle.raft_voter_messages.specs.StoredForms.{IsEntry}
+use Rattle.raft_voter_outline.specs.Restoring.{with_log}
+use Rattle.raft_voter_outline.specs.State.{State}
+use Rattle.raft_voter_meaning_laws.specs.Voters.{Group}
+use Rattle.raft_voter_reading.specs.declared.entry_head.EntryHead.{EntryHead}
+use Rattle.raft_voter_reading.specs.declared.unread.Unread.{Unread}
+use Rattle.raft_voter_reading.specs.declared.unread.Unread.TheVariants as causes
+use Rattle.raft_voter_reading.specs.Numbers.{term_told}
+use Rattle.raft_voter_reading.specs.Reading.{Tells}
+
+-- What a group has.
+
+-- an entry of this term stands at an index of a group
+pub record HasTerm (grp : Group) (i t : ℕ) : Type 0 where
+  pub bytes : List ℕ
+  pub entry : VoterEntry
+  pub stands : grp (Index i) ≡ Some (Entry bytes)
+  pub is : IsEntry bytes i entry
+  pub term : entry.term ≡ t
+
+-- entries of these terms stand in a group from an index on
+abbrev pub HaveTerms : Group → ℕ → List ℕ → Type 0
+HaveTerms grp i [] = Unit {0}
+HaveTerms grp i (t ∷ ts) = HasTerm grp i t × HaveTerms grp (i + 1) ts
+
+-- What heads tell.
+
+-- the heads tell these terms, the first of the entry at this index
+abbrev pub AreTold : ℕ → List EntryHead → List ℕ → Type 0
+AreTold i [] ts = ts ≡ []
+AreTold i (h ∷ hs) [] = ⊥
+AreTold i (h ∷ hs) (t ∷ ts) = (term_told i h.numbers ≡ Some t) × AreTold (i + 1) hs ts
+
+-- one of the heads, the first at this index, tells no term of the entry at its own
+pub record HasUntold (first : ℕ) (hs : List EntryHead) : Type 0 where
+  pub place : ℕ
+  pub head : EntryHead
+  pub at : slice_get hs place ≡ Some head
+  pub untold : term_told (first + place) head.numbers ≡ None
+
+-- why no terms are told: one of the heads tells none, and the group is told to be foreign; or memory ran out
+abbrev pub AreNotTold : ℕ → ℕ → List EntryHead → Unread → Type 0
+AreNotTold g first hs (causes.Foreign h) = (h ≡ g) × HasUntold first hs
+AreNotTold g first hs (causes.Engine error) = ⊥
+AreNotTold g first hs causes.Memory = Unit {0}
+
+-- What is known.
+
+-- the terms of some entries of a group were read from an index on, of at least one and all below an end
+pub record ReadsTerms (e : Shows) (g first end : ℕ) (ts : List ℕ) : Type 0 where
+  pub have : Tells e (λ m. HaveTerms (m g) first ts)
+  pub some : 0 < length ts
+  pub within : first + length ts ≤ end
+
+-- the entries of a log that is known by its terms alone
+abbrev pub alone : List ℕ → List (ℕ × List ℕ)
+alone ts = map (λ t. (t, [])) ts
+
+-- the terms of the entries below an index were read, and this is the outline of a voter with these alone
+pub record KnowsTerms (e : Shows) (g : ℕ) (s : VoterState) (next : ℕ) (o : State) : Type 0 where
+  pub terms : List ℕ
+  pub have : Tells e (λ m. HaveTerms (m g) (s.base_index + 1) terms)
+  pub count : s.base_index + 1 + length terms ≡ next
+  pub is : o ≡ with_log s (alone terms)

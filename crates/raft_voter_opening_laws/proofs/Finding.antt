@@ -4,6 +4,7 @@ use Rattle.std.proofs.Math.Seq.{take-nil}
 use Rattle.raft_log_disk.specs.Disk.{Disk}
 use Rattle.raft_log_disk.specs.Image.{IsSound}
 use Rattle.raft_log_record_base.specs.declared.errors.Error.{Error}
+use Rattle.raft_log_record_base.specs.declared.errors.Error.TheVariants as errors
 use Rattle.raft_log_model_laws.specs.Groups.{taken}
 use Rattle.raft_log_machine_laws.specs.Fresh.{nothing_stands}
 use Rattle.raft_log_file_settings.specs.declared.config.Config.{Config}
@@ -30,6 +31,7 @@ use Rattle.raft_voter_meaning_laws.proofs.Leading.{empty_maps_are_fresh}
 use Rattle.raft_voter_meaning_laws.proofs.Owning.{one_world}
 use Rattle.raft_voter_standing_laws.specs.Standing.{AreOutlines, IsLeftAmong, IsLeftWith, Keeps}
 use Rattle.raft_voter_standing_laws.proofs.Keeping.{left_alone}
+use Rattle.raft_voter_reading.specs.Reading.{cause_of}
 use Rattle.raft_voter_reading.specs.declared.unread.Unread.{Unread}
 use Rattle.raft_voter_reading.specs.declared.unread.Unread.TheVariants as causes
 use Rattle.raft_voter_store.specs.Opening.{ClosesUnread, FailsToOpenVoters, OpensEngine, OpensVoters}
@@ -44,8 +46,21 @@ alive home s m h =
     let other : s.pipes.rewrite.failed ≡ false = h.runs.rewrite.alive in
     rw (one, other) refl
 
-no_engine : (group : ℕ) (error : Error) → causes.Foreign group ≡ causes.Engine error → ⊥
-no_engine group error is = cc
+no_engine : (group : ℕ) (error : Error) → causes.Foreign group ≡ cause_of error → ⊥
+no_engine group errors.Memory is = cc
+no_engine group (errors.Message text) is = cc
+no_engine group errors.Hole is = cc
+no_engine group errors.Full is = cc
+no_engine group (errors.InvalidArgument text) is = cc
+no_engine group (errors.Corruption text) is = cc
+no_engine group (errors.Io kind) is = cc
+no_engine group (errors.Codec fault) is = cc
+no_engine group (errors.TryAgain text) is = cc
+no_engine group errors.EntryCompacted is = cc
+no_engine group errors.EntryNotFound is = cc
+no_engine group (errors.Other fault) is = cc
+no_engine group errors.Failed is = cc
+no_engine group errors.NumberRange is = cc
 
 -- Over directories whose log an open's engine holds as one map, which means these voters.
 module _ {F : Type 0} (disk : F → Disk) (tells : F → List ℕ → ℕ → Type 0) (config : Config) (old : F) (m : LogMap) (W : World) (means : Means m W)

@@ -11,9 +11,8 @@ use Rattle.raft_log_engine.specs.raft_log_open_directory.specs.Opening.{FailsToO
 use Rattle.raft_log_engine.specs.raft_log_engine_laws.specs.Fetching.{StaysButBlock}
 use Rattle.raft_log_engine.specs.raft_log_engine_laws.specs.Shows.{Shows, has_failed, shows}
 use Rattle.raft_voter_outline.specs.State.{State}
-use Rattle.raft_voter_reading.specs.Reading.{IsUnreadFor, ReadsVoters}
+use Rattle.raft_voter_reading.specs.Reading.{IsUnreadFor, ReadsVoters, cause_of}
 use Rattle.raft_voter_reading.specs.declared.unread.Unread.{Unread}
-use Rattle.raft_voter_reading.specs.declared.unread.Unread.TheVariants as causes
 
 -- the log of these settings was opened as an engine that shows this, and keeps no block
 pub record OpensEngine {F : Type 0} (disk : F → Disk) (tells : F → List ℕ → ℕ → Type 0) (config : Config)
@@ -43,10 +42,11 @@ pub record ClosesUnread {F : Type 0} (disk : F → Disk) (tells : F → List ℕ
   pub stays : StaysButBlock engine after
   pub closes : has_failed after ≡ false → ClosesLog after.pipes (disk back)
 
--- A store isn't opened: its log isn't, for this error; or its voters aren't read of it.
+-- A store isn't opened: its log isn't, for this error, which is told as want of memory where it is that; or its
+-- voters aren't read of it.
 pub data FailsToOpenVoters {F : Type 0} (disk : F → Disk) (tells : F → List ℕ → ℕ → Type 0) (config : Config)
     (cause : Unread) (old back : F) : Type 0 where
-  unopened : (error : Error) → cause ≡ causes.Engine error
+  unopened : (error : Error) → cause ≡ cause_of error
       → FailsToOpenDirectory disk tells config error old back
       → FailsToOpenVoters disk tells config cause old back
   unread : ClosesUnread disk tells config cause old back

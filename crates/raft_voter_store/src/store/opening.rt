@@ -36,7 +36,8 @@ impl<F: FileSystem + Sync, E: EventListener> LogVoterStore<EnginePipes<F, E>> {
     /// more is kept than its term.
     ///
     /// Refused, the file system is handed back, and the store may be opened again: `Engine` as an engine's open is
-    /// refused, or where an entry isn't read; `Foreign` with a group that holds what is no voter's; `Memory`.
+    /// refused, but for want of memory, or where an entry isn't read; `Foreign` with a group that holds what is no
+    /// voter's; `Memory`.
     pub fn open<R: Threads + Log + Sync>(
         rt: &R,
         alloc: Global,
@@ -112,7 +113,7 @@ impl<F: FileSystem + Sync, E: EventListener> LogVoterStore<EnginePipes<F, E>> {
             Ok(engine) => engine,
             Err(refused) => {
                 return Err(StoreRefused {
-                    cause: Unread::Engine(refused.error),
+                    cause: Unread::from_refusal(refused.error),
                     file_system: refused.file_system,
                 });
             }

@@ -1,10 +1,9 @@
-use Rattle.std.proofs.Common.{refl}
 use Rattle.raft_voter_store.specs.Opening.FailsToOpenVoters.{unopened}
 use Rattle.raft_voter_store.proofs.Opening.{closes_unread}
 use Rattle.raft_voter_store.proofs.store.opening.LogVoterStore+EnginePipes+F+E.open_by.Goals as goal
 
 pub returns-in-Err-clause-err : goal.returns-in-Err-clause-err
-returns-in-Err-clause-err g c = unopened c.in-Err.refused.error refl c.in-Err.ensures.err
+returns-in-Err-clause-err g c = unopened c.in-Err.refused.error c.from_refusal.ensures c.in-Err.ensures.err
 
 pub returns-in-Err-read_outlines-clause-err : goal.returns-in-Err-read_outlines-clause-err
 returns-in-Err-read_outlines-clause-err g c =

@@ -92,8 +92,7 @@ module _ (body : List ℕ) where
       let own : List ℕ = drop 8 (drop 8 body) in
       let text : body ≡ number_text i ++ (number_text t ++ own) = numbers_known i t is in
       let size : length body ≡ 16 + length own = length-entry body own i t text in
-      let fit : list_all fits (i ∷ t ∷ []) ≡ true = rw (fi, ft) refl in
-      (
+      let fit : list_all fits (i ∷ t ∷ []) ≡ true = rw (fi, ft) refl in (
         record { index = i; term = t; bytes = own },
         record { text = text; in_range = entry_in_range i t own fit (omega (arith, size, short)) },
         refl,

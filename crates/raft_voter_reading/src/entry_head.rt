@@ -70,11 +70,7 @@ impl MessageExt for EntryHeads {
 }
 
 /// Adds the bytes of an entry of this index and this term, with none of its own.
-fn append_numbers(
-    out: &mut Vec<u8>,
-    index: u64,
-    term: u64,
-) -> std::result::Result<(), AllocError>
+fn append_numbers(out: &mut Vec<u8>, index: u64, term: u64) -> std::result::Result<(), AllocError>
     ensures ok { OnOk result (out.new.items ≡ out.old.items ++ numbers_text (Some (index, term))) }
     ensures err { OnErr result (KeepsFront out.old.items out.new.items) }
     ensures small { term < 2 ^ 64 }

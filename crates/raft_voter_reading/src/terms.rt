@@ -37,12 +37,7 @@ pub fn read_terms_piece<P: PipeLog>(
 }
 
 /// The terms that heads of a group's entries tell, the first at this index.
-fn terms_in(
-    alloc: Global,
-    group: u64,
-    first: u64,
-    heads: &[EntryHead],
-) -> Result<Vec<u64>, Unread>
+fn terms_in(alloc: Global, group: u64, first: u64, heads: &[EntryHead]) -> Result<Vec<u64>, Unread>
     ensures ok { IfOk result (λ terms. AreTold first heads.now terms.items) }
     ensures err { IfErr result (AreNotTold group first heads.now) }
 {

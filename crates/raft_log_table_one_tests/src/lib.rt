@@ -3,6 +3,8 @@
 #![tactic(auto)]
 
 #[cfg(test)]
+mod cuts;
+#[cfg(test)]
 mod directory_laws;
 #[cfg(test)]
 mod model_laws;
@@ -14,5 +16,7 @@ mod reads;
 mod rows;
 #[cfg(test)]
 mod runs;
+#[cfg(test)]
+mod short_memory;
 #[cfg(test)]
 mod stats;

@@ -16,7 +16,7 @@ def script(random, count, longest=60):
     for place in range(count):
         if place in (count // 3, 2 * count // 3):
             steps += [("close",), ("open",)] if random.random() < 0.5 else [("crash", "all"), ("open",)]
-        kind = random.choices(["write", "sync", "compact", "purge"], [10, 1, 1, 3])[0]
+        kind = random.choices(["write", "sync", "compact", "purge", "read"], [10, 1, 1, 3, 1.5])[0]
         if kind == "write":
             items = batch(random, world, longest)
             world = world.take(items)
@@ -30,7 +30,7 @@ def script(random, count, longest=60):
         elif kind == "purge":
             steps.append(("purge", random.choice(PURGES)))
         else:
-            steps.append(("sync",))
+            steps.append((kind,))
     return steps + [("close",), ("open",)]
 
 
@@ -42,20 +42,44 @@ class Run:
         self.worlds, self.is_open, self.met, self.refused = [World()], False, False, []
         self.failures = 0
         self.denied = None
+        # lines that were asked at once, with their answers
+        self.ahead = []
+        # at which step the fault fell
+        self.fell = None
 
     def begin(self):
         """A log without files, and the fault armed."""
-        self.ask("growth 0" if self.player.preload else "stand")
-        self.want(self.ask("new"))
-        self.want(self.ask(self.settings.line()))
         kind, *words = self.fault
+        lines = ["growth 0" if self.player.preload else "stand", "new", self.settings.line()]
         if kind == "growth":
-            self.want(self.ask(f"growth {words[0]}"))
+            lines.append(f"growth {words[0]}")
         elif kind != "deny":
-            self.want(self.ask(" ".join(["arm", kind, *map(str, words)])))
+            lines.append(" ".join(["arm", kind, *map(str, words)]))
+        for answer in self.player.ask_all(lines)[1:]:
+            self.want(answer)
+
+    def ask_ahead(self, lines):
+        """Asks lines at once that are to be asked one behind another."""
+        self.ahead += zip(lines, self.player.ask_all(lines))
 
     def ask(self, line):
-        return self.player.ask(line)
+        if not self.ahead:
+            return self.player.ask(line)
+        asked, answer = self.ahead.pop(0)
+        if asked != line:
+            raise Wrong(f"{asked} was asked in place of {line}")
+        return answer
+
+    def stands(self):
+        """The lines that `stand` asks."""
+        return ["stand", "grown"] if self.fault[0] == "growth" else ["stand"]
+
+    def lines_of(self, step):
+        """The lines that a step asks where no fault falls."""
+        if step[0] == "crash":
+            return [f"crash {step[1]}"]
+        line = self.line_of(step) if step[0] in ("write", "compact", "purge") else step[0]
+        return [line, *self.stands(), *["map"] * (step[0] in ("open", "read"))]
 
     @staticmethod
     def want(answer):
@@ -63,13 +87,15 @@ class Run:
             raise Wrong(f"{answer} in place of ok")
         return answer
 
-    def play(self, steps):
-        """Plays all steps, and opens what a crash may leave at the end, and where the fault fell."""
+    def play(self, steps, sure=0):
+        """Plays all steps, and opens what a crash may leave at the end, and where the fault fell. It falls in none of the first so many ones."""
         self.begin()
+        self.ask_ahead([line for step in steps[:sure] for line in self.lines_of(step)])
         for place, step in enumerate(steps):
             before = self.met
             self.step(place, step)
             if self.met and not before:
+                self.fell = place
                 self.compare_left()
         self.compare_left()
         return self.met
@@ -94,7 +120,11 @@ class Run:
             return self.restart() if stopped else None
         if kind == "crash":
             return self.crash(step[1], True)
-        next_, line = self.next_of(step)
+        if kind == "read":
+            return self.read()
+        next_, line = self.next_of(step), self.line_of(step)
+        if not self.ahead:
+            self.ask_ahead([line, *self.stands()])
         answer = self.ask(line)
         rose, stopped, failed = self.stand()
         if answer.startswith("ok"):
@@ -112,14 +142,33 @@ class Run:
             self.compare()
         return None
 
+    def read(self):
+        """Reads all; what isn't read for want of memory is read then."""
+        answer = self.ask("read")
+        self.stand()
+        short = self.fault[0] == "growth" and self.met
+        if answer.startswith("refused memory") and short:
+            self.refused.append("read: memory")
+        elif not answer.startswith("map") or not self.is_told(self.worlds[-1], told_map(answer), short):
+            raise Wrong(f"reads {answer} in place of {self.worlds[-1]}")
+        elif "~memory" in answer or "!memory" in answer:
+            self.refused.append("read: memory of entries")
+        elif "!io" in answer:
+            self.refused.append("read: io")
+        self.compare()
+
     def next_of(self, step):
-        """The world behind a step, and the line that plays it."""
-        world = self.worlds[-1]
+        """The world behind a step."""
+        if step[0] in ("write", "compact"):
+            return self.worlds[-1].take(step[1] if step[0] == "write" else [step])
+        return self.worlds[-1]
+
+    @staticmethod
+    def line_of(step):
+        """The line that plays a step."""
         if step[0] == "write":
-            return world.take(step[1]), f"write {int(step[2])} {spelled(step[1])}"
-        if step[0] == "compact":
-            return world.take([step]), f"compact {step[1]} {step[2]}"
-        return world, " ".join(step)
+            return f"write {int(step[2])} {spelled(step[1])}"
+        return " ".join(map(str, step))
 
     def answered(self, step, answer, next_):
         """A step was answered."""
@@ -187,15 +236,22 @@ class Run:
             raise Wrong(f"opens with {told}, none of {self.worlds}")
         self.worlds = fits[-1:]
 
-    def is_told(self, world, told):
-        """Whether the program tells this world, but for entries in a place that can't be read."""
-        if self.denied is None:
+    def is_told(self, world, told, short=False):
+        """Whether the program tells this world, but for entries in a place that can't be read, or, where memory is short, for want of it."""
+        may = ["!io"] * (self.denied is not None) + ["!memory"] * short
+        if not may:
             return world.is_told(told)
         read = {}
-        for group, (entries, _, keys) in told.items():
+        for group, (entries, together, keys) in told.items():
             of = world.groups.get(group, ({}, {}))[0]
-            read[group] = [{index: shown(of[index]) if text == "!io" and index in of else text for index, text in entries.items()}, "", keys]
+            shows = {index: shown(of[index]) if text in may and index in of else text for index, text in entries.items()}
+            read[group] = [shows, "" if self.may_be_apart(together, entries, may) else together, keys]
         return world.is_told(read)
+
+    @staticmethod
+    def may_be_apart(together, entries, may):
+        """Whether entries may be read otherwise with one another than alone: refused, or as one of them was."""
+        return f"!{together}" in may or together == "other" and any(text in may for text in entries.values())
 
     def restart(self):
         self.restart_now()
@@ -218,14 +274,14 @@ class Run:
 
     def compare_left(self):
         """Opens what some crashes may leave now, by one worker or by four."""
-        if self.fault[0] == "growth":
-            self.ask("growth 0")
-        for turn in range(EACH):
-            what = LEFT[(self.number * EACH + turn) % len(LEFT)]
-            answers = []
-            for workers in ((1, 4), (4,), (1,))[turn % 3]:
-                self.want(self.ask(self.settings.but(workers=workers).line()))
-                answers.append(self.ask(f"left {what}"))
+        turns = [(LEFT[(self.number * EACH + turn) % len(LEFT)], ((1, 4), (4,), (1,))[turn % 3]) for turn in range(EACH)]
+        lines = ["growth 0"] * (self.fault[0] == "growth")
+        for what, workers in turns:
+            for count in workers:
+                lines += [self.settings.but(workers=count).line(), f"left {what}"]
+        answered = [answer for line, answer in zip(lines, self.player.ask_all(lines)) if line.startswith("left")]
+        for what, workers in turns:
+            answers, answered = answered[:len(workers)], answered[len(workers):]
             if len(set(answers)) > 1 or not answers[0].startswith("map"):
                 raise Wrong(f"{what}: left {answers}")
             told = told_map(answers[0])

@@ -11,24 +11,47 @@ use raft_log_open_builder::DualPipesBuilder;
 use std::io::ErrorKind;
 use std::test::Fail;
 
-/// A file system in memory that keeps something beside the first three files of Append.
+/// A file system in memory that keeps something beside files of Append: beside those from one number to another one, and
+/// beside one that stands alone.
 #[derive(Drop)]
 struct Keeping {
     // The file system below.
     files: MemoryFileSystem,
-    // The number of the file beside which something was deleted last, or four.
+    // The lowest of the numbers.
+    lowest: u64,
+    // The highest of them.
+    highest: u64,
+    // The number that stands alone.
+    alone: u64,
+    // The number of the file beside which something was deleted last, or that of the first file.
     last: u64,
-    // The numbers of all of them, the first as the highest digit.
-    deleted: u64,
+    // How often something was deleted.
+    count: u64,
+    // Whether each time the number was the next lower one.
+    falls: bool,
 }
 
-/// The number of one of the three files, or none.
-fn number_of(path: &str) -> u64 {
-    match path {
-        "d/0000000000000001.raftlog" => 1,
-        "d/0000000000000002.raftlog" => 2,
-        "d/0000000000000003.raftlog" => 3,
-        _ => 0,
+/// The number that the path of a file of Append in the directory `d` says.
+fn number_of(path: &str) -> Option<u64> {
+    if !path.starts_with("d/") || !path.ends_with(".raftlog") {
+        return None;
+    }
+    path.get(2..18)?.parse::<u64>().ok()
+}
+
+impl Keeping {
+    /// Something is deleted beside the file of a number.
+    fn note(&mut self, number: u64) {
+        self.falls = self.falls && number.wrapping_add(1) == self.last;
+        self.last = number;
+        self.count = self.count.wrapping_add(1);
+    }
+
+    /// Whether something is kept beside the file of a number.
+    fn keeps(&self, number: u64) -> bool {
+        let is_among = self.lowest <= number && number <= self.highest;
+        let is_gone = self.last <= number && self.count > 0;
+        number == self.alone || (is_among && !is_gone)
     }
 }
 
@@ -55,8 +78,7 @@ impl FileSystem for Keeping {
         if self.files.has_stopped() {
             return Err(ErrorKind::Other);
         }
-        self.last = number_of(path);
-        self.deleted = self.deleted.wrapping_mul(10).wrapping_add(self.last);
+        self.note(number_of(path).unwrap_or(0));
         Ok(())
     }
 
@@ -85,8 +107,10 @@ impl FileSystem for Keeping {
     }
 
     fn exists_metadata(&self, path: &str) -> bool {
-        let number = number_of(path);
-        number > 0 && number < self.last
+        match number_of(path) {
+            Some(number) => self.keeps(number),
+            None => false,
+        }
     }
 
     fn list(&self, directory: &str) -> Result<Vec<String>, ErrorKind> {
@@ -123,20 +147,52 @@ impl FileSystem for Keeping {
         } };
 }
 
-#[test]
-fn it_is_deleted_from_the_highest_number_down(rt: HostRuntime) -> Result<(), Fail> {
+/// Scans a directory with two files of Append, the first one's number this one, in which something is kept beside the
+/// files from one number to another one, and beside one that stands alone.
+fn scanned(
+    rt: &HostRuntime,
+    first: &str,
+    second: &str,
+    (lowest, highest): (u64, u64),
+    (alone, last): (u64, u64),
+) -> Result<Keeping, Fail> {
     let mut files = MemoryFileSystem::new(rt.alloc());
     files.create_dir("d")?;
-    let _fourth = files.create("d/0000000000000004.raftlog")?;
+    let _first = files.create(first)?;
+    let _second = files.create(second)?;
     let mut system = Keeping {
         files,
-        last: 4,
-        deleted: 0,
+        lowest,
+        highest,
+        alone,
+        last,
+        count: 0,
+        falls: true,
     };
     let mut config = Config::default(rt.alloc());
     config.dir = String::from_str(rt.alloc(), "d")?;
     let mut builder = DualPipesBuilder::new(rt.alloc(), config);
-    builder.scan(rt.alloc(), &rt, &mut system)?;
-    assert!(rt; system.deleted == 321);
+    builder.scan(rt.alloc(), rt, &mut system)?;
+    Ok(system)
+}
+
+#[test]
+fn it_is_deleted_from_the_highest_number_down(rt: HostRuntime) -> Result<(), Fail> {
+    let fourth = "d/0000000000000004.raftlog";
+    let fifth = "d/0000000000000005.raftlog";
+    let system = scanned(&rt, fourth, fifth, (1, 3), (4, 4))?;
+    assert!(rt; system.falls && system.last == 1 && system.count == 3);
+    Ok(())
+}
+
+/// The first file has the number 250, so every 2.5th number is asked for: 95, 97, 100, and so on. Something is kept
+/// beside the file 250 itself and all down to 98, and beside 96. Of these 100 is the first that is asked for, and 97 the
+/// one before it: so what is kept goes from 249 down to 98, and that beside 96 and 250 stays.
+#[test]
+fn a_hundred_numbers_are_asked_for(rt: HostRuntime) -> Result<(), Fail> {
+    let first = "d/0000000000000250.raftlog";
+    let second = "d/0000000000000251.raftlog";
+    let system = scanned(&rt, first, second, (98, 250), (96, 250))?;
+    assert!(rt; system.falls && system.last == 98 && system.count == 152);
     Ok(())
 }

@@ -41,7 +41,9 @@ fn number_of(path: &str) -> Option<u64> {
 
 impl Keeping {
     /// Something is deleted beside the file of a number.
-    fn note(&mut self, number: u64) {
+    fn note(&mut self, number: u64)
+        ensures { self.new.files ≡ self.old.files }
+    {
         self.falls = self.falls && number.wrapping_add(1) == self.last;
         self.last = number;
         self.count = self.count.wrapping_add(1);

@@ -1,6 +1,6 @@
-//! Each file call of some scripts is refused, and the file system stopped at it and behind it, in turn: whatever a
-//! crash then leaves is opened, and its voters are those of the rounds that were answered, and of some first requests
-//! of one that was cut off.
+//! Each file call of some scripts is refused, whole or in part, and the file system stopped at it and behind it, in
+//! turn: whatever a crash then leaves is opened, and its voters are those of the rounds that were answered, and of some
+//! first requests of one that was cut off.
 use crate::asks::Ask;
 use crate::models::{are_replies, fresh_models, take};
 use crate::remainders::all_stand;
@@ -195,6 +195,8 @@ fn play_armed<S: Store, R: Threads + Log + Sync>(
 pub enum Failing {
     /// The call is refused.
     Refused,
+    /// The call is refused, and of a write there 40 bytes are written.
+    RefusedInPart,
     /// The file system stops at the call.
     Stops,
     /// The file system stops behind the call.
@@ -205,6 +207,7 @@ pub enum Failing {
 fn fault_of(failing: Failing, call: u64) -> Fault {
     match failing {
         Failing::Refused => Fault::Refuse(call),
+        Failing::RefusedInPart => Fault::RefuseInPart(call, 40),
         Failing::Stops => Fault::StopAt(call),
         Failing::StopsBehind => Fault::StopAfter(call),
     }

@@ -5,17 +5,17 @@ use crate::steps::{NOWHERE, Said, Step, ends_of, steps_of};
 use raft_log_record_base::Result;
 use std::alloc::Global;
 
-/// A record from 69 to 134, by blocks of 512.
+/// A record of 73 bytes, from 69 to 142, by blocks of 512.
 const ONE: [Step; 6] = [
     (Said::Header(0), 69, 1, 0),
-    (Said::Batch, 134, 2, 69),
-    (Said::Nothing, 134, 2, 69),
-    (Said::Nothing, 134, 2, 69),
-    (Said::Nothing, 134, 2, 69),
+    (Said::Batch, 142, 2, 69),
+    (Said::Nothing, 142, 2, 69),
+    (Said::Nothing, 142, 2, 69),
+    (Said::Nothing, 142, 2, 69),
     (Said::Nothing, 0, 2, 69),
 ];
 
-/// Behind it a record to 1,566, by blocks of 512.
+/// A record to 134, and behind it one to 1,566, by blocks of 512.
 const OVER_THREE: [Step; 6] = [
     (Said::Header(0), 69, 1, 0),
     (Said::Batch, 134, 2, 69),
@@ -43,11 +43,11 @@ fn broken(alloc: Global) -> Result<Vec<u8>> {
     Ok(bytes)
 }
 
-/// Whether a file of one record, of 134 bytes, is read at 0 and at 69.
+/// Whether a file of one record, of 142 bytes, is read at 0 and at 69.
 fn is_read_at_0_and_at_69(alloc: Global) -> Result<bool> {
-    let bytes = records(alloc, &[34])?;
+    let bytes = records(alloc, &[42])?;
     let read = steps_of(alloc, bytes.as_slice(), NOWHERE, 512)? == ONE;
-    Ok((bytes.len() == 134) & read)
+    Ok((bytes.len() == 142) & read)
 }
 
 /// Whether these steps come of a file with values of so many bytes, read by blocks of a size.

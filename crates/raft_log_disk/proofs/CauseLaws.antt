@@ -1,11 +1,11 @@
 -- Causes, chained along calls.
-use Rattle.std.specs.Prelude.{◌≡◌, ℕ, List, Result}
+use Rattle.std.specs.Prelude.{◌≡◌, ℕ, false, List, ◌∷◌, Result}
 use Rattle.std.specs.Result.{IfOk, IfErr, OnOk, OnErr}
 use Rattle.std.specs.declared.io.ErrorKind.{ErrorKind}
 use Rattle.std.proofs.Common.{refl, sym, ◌∙◌, ap, arith}
 use Rattle.std.proofs.lemmas.Bool.{false≢true}
 use Rattle.raft_log_disk.specs.Disk.{Change, Disk}
-use Rattle.raft_log_disk.specs.Laws.{UndisturbedHasNoCause, OtherFilesAreNoCause}
+use Rattle.raft_log_disk.specs.Laws.{UndisturbedHasNoCause, OtherFilesAreNoCause, CountedRefusalTellsItsKind, CountedRefusalHasOneKind}
 use Rattle.raft_log_disk.specs.Exits.{LeavesAll}
 use Rattle.raft_log_disk.specs.Calls.{IsRight, after_change, flushed, Changes, Creates, Deletes, Renames, MakesDirectory, Refused, after_stop, wrong_argument, failed, stops, SomeOf, none, some, RefusedChange, RefusedWhole}
 use Rattle.raft_log_disk.specs.Causes.{HasCause, stopped, counted_one, unreadable_place, Fails, has_stopped, has_failed, FailsTwice, has_stopped_since, has_failed_twice, IsLater}
@@ -27,6 +27,37 @@ other_files_are_no_cause files old new readable (unreadable_place id place one i
 pub fails_has_cause : (files : ℕ → Type 0) (old new : Disk) → Fails old new → HasCause files old new
 fails_has_cause files old new (has_stopped is) = stopped is
 fails_has_cause files old new (has_failed rises) = counted_one rises
+
+-- a refused call whose arguments were right, on a disk that runs on, was counted, and tells the kind that is kept
+pub tells_its_kind : {part done : Disk → Type 0} {wrong : ErrorKind → Type 0} {error : ErrorKind} {old new : Disk} → ((left : Disk) → part left → left.kinds ≡ old.kinds) → IsRight wrong
+    → new.stopped ≡ false → Refused part done wrong error old new → new.kinds ≡ error ∷ old.kinds
+tells_its_kind {old = old} keeps right runs (after_stop is same) = absurd (false≢true (sym runs ∙ (ap (λ (d : Disk). d.stopped) same ∙ is)))
+tells_its_kind {error = error} keeps right runs (wrong_argument before why same) = absurd (right error why)
+tells_its_kind {error = error} keeps right runs (failed before fine left is same) =
+    ap (λ (d : Disk). d.kinds) same ∙ ap (λ (kinds : List ErrorKind). error ∷ kinds) (keeps left is)
+tells_its_kind keeps right runs (stops before left is same) = absurd (false≢true (sym runs ∙ ap (λ (d : Disk). d.stopped) same))
+
+change_keeps : (id : ℕ) (change : Change) (old left : Disk) → SomeOf id change old left → left.kinds ≡ old.kinds
+change_keeps id change old left (none same) = ap (λ (d : Disk). d.kinds) same
+change_keeps id change old left (some file content is part same) = ap (λ (d : Disk). d.kinds) same
+
+pub counted_refusal_tells_its_kind : (wrong : ErrorKind → Type 0) (done : Disk → Type 0) → CountedRefusalTellsItsKind wrong done
+counted_refusal_tells_its_kind wrong done = record {
+  change = λ id change error old new right runs refused. tells_its_kind (change_keeps id change old) right runs refused;
+  whole = λ error old new right runs refused. tells_its_kind (λ left same. ap (λ (d : Disk). d.kinds) same) right runs refused;
+}
+
+-- so two kinds that it tells are one
+one_front : {A : Type 0} (a b : A) (l m : List A) → m ≡ a ∷ l → m ≡ b ∷ l → a ≡ b
+one_front a b l m here there = cc
+
+pub counted_refusal_has_one_kind : (wrong : ErrorKind → Type 0) (done : Disk → Type 0) → CountedRefusalHasOneKind wrong done
+counted_refusal_has_one_kind wrong done = record {
+  change = λ id change a b old new right runs first next. let tells = (counted_refusal_tells_its_kind wrong done).change id change in
+      one_front a b old.kinds new.kinds (tells a old new right runs first) (tells b old new right runs next);
+  whole = λ a b old new right runs first next. let tells = (counted_refusal_tells_its_kind wrong done).whole in
+      one_front a b old.kinds new.kinds (tells a old new right runs first) (tells b old new right runs next);
+}
 
 pub later_same : (d : Disk) → IsLater d d
 later_same d = record { failures = omega arith; stopped = λ is. is }

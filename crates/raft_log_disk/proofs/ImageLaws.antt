@@ -3,6 +3,7 @@
 use Rattle.std.specs.Prelude.{◌≡◌, ℕ, ◌-◌, ◌<◌, ◌≤◌, Bool, Option, Some, None, List, [], length}
 use Rattle.std.specs.List.{All, Contains}
 use Rattle.std.specs.Option.{option_map}
+use Rattle.std.specs.declared.io.ErrorKind.{ErrorKind}
 use Rattle.std.proofs.Common.{refl, sym, ◌∙◌, ap, subst, arith, inl, inr}
 use Rattle.std.proofs.Math.ListN.{set}
 use Rattle.std.proofs.lemmas.List.{ext_get_or, get_or-set_other, length-set}
@@ -58,15 +59,16 @@ file_twice (Some f) (Some r) (Some s) (first, at, left) (second, then_at, left_a
 
 -- two disks are one where all they hold is
 pub disk_ext : (d e : Disk) → d.directories ≡ e.directories → d.names ≡ e.names → d.files ≡ e.files → d.unused ≡ e.unused
-    → d.unreadable ≡ e.unreadable → d.stopped ≡ e.stopped → d.failures ≡ e.failures → d ≡ e
-disk_ext d e directories names files unused unreadable stopped failures =
+    → d.unreadable ≡ e.unreadable → d.stopped ≡ e.stopped → d.failures ≡ e.failures → d.kinds ≡ e.kinds → d ≡ e
+disk_ext d e directories names files unused unreadable stopped failures kinds =
     ap (λ (x : List ℕ → Bool). record d { directories = x }) directories
     ∙ ap (λ (x : List ℕ → Option ℕ). record d { directories = e.directories; names = x }) names
     ∙ ap (λ (x : ℕ → Option File). record d { directories = e.directories; names = e.names; files = x }) files
-    ∙ ap (λ (x : ℕ). record e { unused = x; unreadable = d.unreadable; stopped = d.stopped; failures = d.failures }) unused
-    ∙ ap (λ (x : ℕ → ℕ → Bool). record e { unreadable = x; stopped = d.stopped; failures = d.failures }) unreadable
-    ∙ ap (λ (x : Bool). record e { stopped = x; failures = d.failures }) stopped
-    ∙ ap (λ (x : ℕ). record e { failures = x }) failures
+    ∙ ap (λ (x : ℕ). record e { unused = x; unreadable = d.unreadable; stopped = d.stopped; failures = d.failures; kinds = d.kinds }) unused
+    ∙ ap (λ (x : ℕ → ℕ → Bool). record e { unreadable = x; stopped = d.stopped; failures = d.failures; kinds = d.kinds }) unreadable
+    ∙ ap (λ (x : Bool). record e { stopped = x; failures = d.failures; kinds = d.kinds }) stopped
+    ∙ ap (λ (x : ℕ). record e { failures = x; kinds = d.kinds }) failures
+    ∙ ap (λ (x : List ErrorKind). record e { kinds = x }) kinds
 
 -- where a file isn't absent, there is one
 pub some_file : (o : Option File) → (o ≡ None → ⊥) → (file : File) × (o ≡ Some file)
@@ -83,6 +85,7 @@ stands_is_image d sound = record {
   readable = λ id place. refl;
   running = refl;
   uncounted = refl;
+  untold = refl;
 }
 
 -- where all is synced, they are the only one
@@ -90,7 +93,7 @@ pub synced_is_only_image : (d image : Disk) → IsSound d → IsAllSynced d → 
 synced_is_only_image d image sound synced is =
     disk_ext image (as_it_stands d) is.directories is.names
     (fun_ext (λ id. file_only (d.files id) (image.files id) (sound.files id) (synced id) (is.files id)))
-    is.unused (fun_ext (λ id. fun_ext (λ place. is.readable id place))) is.running is.uncounted
+    is.unused (fun_ext (λ id. fun_ext (λ place. is.readable id place))) is.running is.uncounted is.untold
 
 -- and of one file that is synced
 pub synced_file_has_one_image : SyncedFileHasOneImage
@@ -108,6 +111,7 @@ image_of_image d image later is again = record {
   readable = again.readable;
   running = again.running;
   uncounted = again.uncounted;
+  untold = again.untold;
 }
 
 -- in a written range, and behind a cut, any byte may be left
@@ -176,14 +180,15 @@ images_alike d e image directories names files unused is = record {
   readable = is.readable;
   running = is.running;
   uncounted = is.uncounted;
+  untold = is.untold;
 }
 
 pub images_stay : ImagesStay
 images_stay = record {
   marks = λ d image unreadable. images_alike d (with_marks unreadable d) image refl refl refl refl;
-  failure = λ d image. images_alike d (counted d) image refl refl refl refl;
+  failure = λ error d image. images_alike d (counted error d) image refl refl refl refl;
   stop = λ d image. images_alike d (at_stop d) image refl refl refl refl;
-  failure_back = λ d image. images_alike (counted d) d image refl refl refl refl;
+  failure_back = λ error d image. images_alike (counted error d) d image refl refl refl refl;
   marks_back = λ d image unreadable. images_alike (with_marks unreadable d) d image refl refl refl refl;
   stop_back = λ d image. images_alike (at_stop d) d image refl refl refl refl;
 }

@@ -10,7 +10,7 @@ use Rattle.raft_log_disk.proofs.ChangeLaws.{changed_in_part}
 
 -- neither a counted failure nor a stop touches it
 pub record IsCalm (Q : Disk → Type 0) : Type 0 where
-  pub at_count : (d : Disk) → Q d → Q (counted d)
+  pub at_count : {error : ErrorKind} (d : Disk) → Q d → Q (counted error d)
   pub at_end : (d : Disk) → Q d → Q (at_stop d)
 
 -- A refused call keeps what each disk has that it may leave.

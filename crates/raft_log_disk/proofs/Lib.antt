@@ -7,3 +7,4 @@ pub mod CauseLaws
 pub mod Props
 pub mod NamesLaws
 pub mod TouchingLaws
+pub mod Sharing

@@ -2,6 +2,7 @@
 use Rattle.std.specs.Prelude.{◌≡◌, ℕ, ◌<◌, ◌⊎◌, Bool, true, false, cond, Option, Some, None, List, []}
 use Rattle.std.specs.Map.{update}
 use Rattle.std.specs.Str.{bytes_eq}
+use Rattle.std.specs.declared.io.ErrorKind.{ErrorKind}
 use Rattle.std.proofs.Common.{refl, sym, ◌∙◌, ap, subst, arith, inl, inr, nat_eq}
 use Rattle.std.proofs.lemmas.List.Elements.{All-nil, All-push}
 use Rattle.std.proofs.lemmas.Bool.{cases_eq, cases_Bool}
@@ -47,8 +48,8 @@ sound_with_file d id old next sound is fine = record {
 }
 
 -- after a failure, at a stop, and with other marks
-pub sound_counted : (d : Disk) → IsSound d → IsSound (counted d)
-sound_counted d sound = record { named = sound.named; one_name = sound.one_name; apart = sound.apart; fresh = sound.fresh; files = sound.files }
+pub sound_counted : (error : ErrorKind) (d : Disk) → IsSound d → IsSound (counted error d)
+sound_counted error d sound = record { named = sound.named; one_name = sound.one_name; apart = sound.apart; fresh = sound.fresh; files = sound.files }
 
 pub sound_at_stop : (d : Disk) → IsSound d → IsSound (at_stop d)
 sound_at_stop d sound = record { named = sound.named; one_name = sound.one_name; apart = sound.apart; fresh = sound.fresh; files = sound.files }

@@ -63,9 +63,9 @@ marked (Some file) place marks id at =
 abbrev pub denied : List ℕ → ℕ → Disk → Disk
 denied name place d = with_marks (marked (d.names name) place d.unreadable) d
 
--- the disk with one more failure counted
-abbrev pub counted : Disk → Disk
-counted d = record d { failures = suc d.failures }
+-- the disk with one more failure counted, which was told as this kind
+abbrev pub counted : ErrorKind → Disk → Disk
+counted error d = record d { failures = suc d.failures; kinds = error ∷ d.kinds }
 
 -- the disk of a file system that has stopped
 abbrev pub at_stop : Disk → Disk
@@ -132,14 +132,14 @@ IsRight wrong = (error : ErrorKind) → wrong error → ⊥
 
 -- A refused call. After a stop nothing changes. Nor does it for an argument that is wrong as things stand,
 -- and no failure is counted for it; the error says which. Where no argument is wrong, a failure is counted,
--- and the call may have been done in part. Or the file system stopped at this call: nothing was done, or, of
--- a call with the right arguments, a part or all. (On a counted refusal, and from a stop on, the error may be
--- any.)
+-- and the call may have been done in part; the error may be of any kind, and that kind is kept with the
+-- failure. Or the file system stopped at this call: nothing was done, or, of a call with the right arguments,
+-- a part or all. (From a stop on the error may be of any kind, and none is kept.)
 pub data Refused (part done : Disk → Type 0) (wrong : ErrorKind
     → Type 0) (error : ErrorKind) (old new : Disk) : Type 0 where
   after_stop : old.stopped ≡ true → new ≡ old → Refused part done wrong error old new
   wrong_argument : old.stopped ≡ false → wrong error → new ≡ old → Refused part done wrong error old new
-  failed : old.stopped ≡ false → IsRight wrong → (left : Disk) → part left → new ≡ counted left
+  failed : old.stopped ≡ false → IsRight wrong → (left : Disk) → part left → new ≡ counted error left
       → Refused part done wrong error old new
   stops : old.stopped ≡ false → (left : Disk) → (left ≡ old) ⊎ (IsRight wrong × (part left ⊎ done left))
       → new ≡ at_stop left

@@ -2,6 +2,7 @@
 -- changes made since.
 use Rattle.std.specs.Prelude.{◌≡◌, ℕ, ◌+◌, ◌-◌, ◌<◌, ◌^◌, Bool, true, false, Option, None, List, [], ◌∷◌, ◌++◌, length, slice_index}
 use Rattle.std.specs.Map.{update}
+use Rattle.std.specs.declared.io.ErrorKind.{ErrorKind}
 use Rattle.std.proofs.Common.{nat_eq, take, drop, replicate}
 
 -- A change of a file that isn't synced yet: a write, with all bytes that were handed in, also where the call
@@ -19,7 +20,7 @@ pub record File : Type 0 where
 
 -- A file system. A path names the file with a number; a number is given once and never again, so that a
 -- handle stays with its file. Whether a place of a file is unreadable is a mark on the file and outlives
--- writes and renames.
+-- writes and renames. Failures are counted, and the kinds are kept that they were told as, the last one first.
 pub record Disk : Type 0 where
   pub directories : List ℕ → Bool
   pub names : List ℕ → Option ℕ
@@ -28,6 +29,7 @@ pub record Disk : Type 0 where
   pub unreadable : ℕ → ℕ → Bool
   pub stopped : Bool
   pub failures : ℕ
+  pub kinds : List ErrorKind
 
 -- a file whose bytes are all synced
 abbrev pub at_rest : List ℕ → File
@@ -91,4 +93,5 @@ empty_disk = record {
   unreadable = λ id place. false;
   stopped = false;
   failures = 0;
+  kinds = [];
 }

@@ -38,7 +38,7 @@ IsFileImage (Some before) None = ⊥
 IsFileImage (Some before) (Some after) = (bytes : List ℕ) × (after ≡ at_rest bytes) × IsLeft before bytes
 
 -- An image of a disk is a disk that a stop at this moment may leave: the names as they stand, each file at
--- rest, nothing unreadable, no failure counted.
+-- rest, nothing unreadable, no failure counted and none told.
 pub record IsImage (d image : Disk) : Type 0 where
   pub directories : image.directories ≡ d.directories
   pub names : image.names ≡ d.names
@@ -47,6 +47,7 @@ pub record IsImage (d image : Disk) : Type 0 where
   pub readable : (id place : ℕ) → image.unreadable id place ≡ false
   pub running : image.stopped ≡ false
   pub uncounted : image.failures ≡ 0
+  pub untold : image.kinds ≡ []
 
 -- A file is sound if its content is one of what a stop may leave, and neither it nor any of these reaches the
 -- limit.
@@ -71,6 +72,7 @@ as_it_stands d = record d {
   unreadable = λ id place. false;
   stopped = false;
   failures = 0;
+  kinds = [];
 }
 
 -- every file is synced

@@ -1,10 +1,11 @@
 -- The laws of the definitions, as the public functions without a body state them.
-use Rattle.std.specs.Prelude.{◌≡◌, ℕ, ◌<◌, Bool, false, Some, None, List, []}
+use Rattle.std.specs.Prelude.{◌≡◌, ℕ, ◌<◌, Bool, false, Some, None, List, [], ◌∷◌}
 use Rattle.std.specs.List.{Contains}
+use Rattle.std.specs.declared.io.ErrorKind.{ErrorKind}
 use Rattle.std.proofs.Math.ListN.{set}
 use Rattle.raft_log_disk.specs.Disk.{Change, File, Disk, at_rest, with_file, file_limit}
 use Rattle.raft_log_disk.specs.Image.{Touches, end_of, IsLeft, IsImage, IsSound, as_it_stands, IsAllSynced}
-use Rattle.raft_log_disk.specs.Calls.{with_change, flushed, created, deleted, renamed, with_directory, with_marks, counted, at_stop, InPart}
+use Rattle.raft_log_disk.specs.Calls.{with_change, flushed, created, deleted, renamed, with_directory, with_marks, counted, at_stop, InPart, IsRight, RefusedChange, RefusedWhole}
 use Rattle.raft_log_disk.specs.Causes.{HasCause, Fails, IsUndisturbed}
 
 -- the files as they stand are an image
@@ -47,6 +48,25 @@ abbrev pub OtherFilesAreNoCause : (ℕ → Type 0) → Type 0
 OtherFilesAreNoCause files = (old new : Disk) → ((id place : ℕ) → files id → new.unreadable id place ≡ false)
     → HasCause files old new → Fails old new
 
+-- A refused call whose arguments were right, on a disk that runs on, was counted, and the kind that it tells
+-- is the one that is kept with the failure, in front of those before.
+pub record CountedRefusalTellsItsKind (wrong : ErrorKind → Type 0) (done : Disk → Type 0) : Type 0 where
+  pub change : (id : ℕ) (change : Change) (error : ErrorKind) (old new : Disk)
+      → IsRight wrong → new.stopped ≡ false → RefusedChange id change wrong error old new
+      → new.kinds ≡ error ∷ old.kinds
+  pub whole : (error : ErrorKind) (old new : Disk)
+      → IsRight wrong → new.stopped ≡ false → RefusedWhole done wrong error old new
+      → new.kinds ≡ error ∷ old.kinds
+
+-- two kinds that such a call tells are one
+pub record CountedRefusalHasOneKind (wrong : ErrorKind → Type 0) (done : Disk → Type 0) : Type 0 where
+  pub change : (id : ℕ) (change : Change) (a b : ErrorKind) (old new : Disk)
+      → IsRight wrong → new.stopped ≡ false → RefusedChange id change wrong a old new
+      → RefusedChange id change wrong b old new → a ≡ b
+  pub whole : (a b : ErrorKind) (old new : Disk)
+      → IsRight wrong → new.stopped ≡ false → RefusedWhole done wrong a old new
+      → RefusedWhole done wrong b old new → a ≡ b
+
 -- what a call may leave of a sound disk is sound
 pub record CallsKeepSound : Type 0 where
   pub change : (d : Disk) (id : ℕ) (file : File) (change : Change) (content : List ℕ) → IsSound d
@@ -63,21 +83,21 @@ pub record CallsKeepSound : Type 0 where
       → d.directories to ≡ false → IsSound (renamed from to id d)
   pub directory : (d : Disk) (path : List ℕ) → IsSound d → d.names path ≡ None
       → IsSound (with_directory path d)
-  pub failure : (d : Disk) → IsSound d → IsSound (counted d)
+  pub failure : (error : ErrorKind) (d : Disk) → IsSound d → IsSound (counted error d)
   pub stop : (d : Disk) → IsSound d → IsSound (at_stop d)
 
 -- a name leads to a number that was given
 abbrev pub NamedIsUsed : Type 0
 NamedIsUsed = (d : Disk) (path : List ℕ) (id : ℕ) → IsSound d → d.names path ≡ Some id → id < d.unused
 
--- What a stop may leave doesn't depend on marks, on counted failures, nor on whether the file system has
--- stopped.
+-- What a stop may leave doesn't depend on marks, on counted failures and their kinds, nor on whether the file
+-- system has stopped.
 pub record ImagesStay : Type 0 where
   pub marks : (d image : Disk) (unreadable : ℕ → ℕ → Bool) → IsImage d image
       → IsImage (with_marks unreadable d) image
-  pub failure : (d image : Disk) → IsImage d image → IsImage (counted d) image
+  pub failure : (error : ErrorKind) (d image : Disk) → IsImage d image → IsImage (counted error d) image
   pub stop : (d image : Disk) → IsImage d image → IsImage (at_stop d) image
-  pub failure_back : (d image : Disk) → IsImage (counted d) image → IsImage d image
+  pub failure_back : (error : ErrorKind) (d image : Disk) → IsImage (counted error d) image → IsImage d image
   pub marks_back : (d image : Disk) (unreadable : ℕ → ℕ → Bool) → IsImage (with_marks unreadable d) image
       → IsImage d image
   pub stop_back : (d image : Disk) → IsImage (at_stop d) image → IsImage d image

@@ -23,9 +23,10 @@ use std::io::ErrorKind;
 /// done in part or whole. After a stop every call is refused and nothing changes any more. Each file stays
 /// below 2^63 bytes: what would grow it further is refused.
 ///
-/// The error tells which argument was wrong, and no more: on a counted refusal and from a stop on it may be
-/// any. So `NotFound` of a file system that has stopped doesn't mean that a file is absent, and no caller may
-/// go by the error of a changing call but where the clauses say that an argument was wrong.
+/// The error tells which argument was wrong. On a counted refusal it may be of any kind, and that kind is kept
+/// with the failure, so a caller that hands the error on can't tell another; from a stop on it may be of any
+/// kind, and none is kept. So `NotFound` of a file system that has stopped doesn't mean that a file is absent,
+/// and no caller may go by the error of a changing call but where the clauses say that an argument was wrong.
 ///
 /// *Over a real directory.* `open`, `read_at` and `list` take `&self`, since readers and dumps are lent the
 /// file system: an implementation keeps its descriptors in a table whose slots are written once. A place

@@ -8,7 +8,9 @@ pub mod causes;
 pub mod file_system;
 pub mod handle;
 pub mod images;
+pub mod kinds;
 pub mod names;
 
 pub use file_system::FileSystem;
 pub use handle::{Fault, Handle, Permission};
+pub use kinds::Kinds;

@@ -1,5 +1,5 @@
 -- What stands after the model changed or synced a file, and the device was asked to.
-use Rattle.std.specs.Prelude.{◌≡◌, ℕ, Bool, true, false, Some, None, [], Result}
+use Rattle.std.specs.Prelude.{◌≡◌, ℕ, Bool, true, false, Some, None, List, [], Result}
 use Rattle.std.specs.Result.{OnOk, OnErr}
 use Rattle.std.specs.declared.io.ErrorKind.{ErrorKind}
 use Rattle.std.proofs.Common.{refl, ap, ◌∙◌}
@@ -17,21 +17,21 @@ use Rattle.raft_log_disk_device.proofs.Made.{Made, made_of, did_change, did_sync
 
 module _ (file : ℕ) (old new : Storage) (there : (contents_of old).files file ≡ None → ⊥) where
   -- the model's file, changed
-  pub makes_change : (change : Change) (failures : ℕ) → Makes file change [] old new → Changes file (after_change change) (with_failures failures (contents_of old)) (with_failures failures (contents_of new))
-  makes_change change failures makes =
+  pub makes_change : (change : Change) (failures : ℕ) (kinds : List ErrorKind) → Makes file change [] old new → Changes file (after_change change) (with_failures failures kinds (contents_of old)) (with_failures failures kinds (contents_of new))
+  makes_change change failures kinds makes =
       let got = some_file ((contents_of old).files file) there in
       record {
         runs = refl;
         file = got.0;
         is = got.1;
-        done = ap (with_failures failures) (makes.contents got.0 got.1 ∙ ap (λ (f : File). with_file file (Some f) (contents_of old)) (after_whole change got.0));
+        done = ap (with_failures failures kinds) (makes.contents got.0 got.1 ∙ ap (λ (f : File). with_file file (Some f) (contents_of old)) (after_whole change got.0));
       }
 
   -- and synced
-  pub makes_sync : (failures : ℕ) → SyncsFile file old new → Changes file flushed (with_failures failures (contents_of old)) (with_failures failures (contents_of new))
-  makes_sync failures syncs =
+  pub makes_sync : (failures : ℕ) (kinds : List ErrorKind) → SyncsFile file old new → Changes file flushed (with_failures failures kinds (contents_of old)) (with_failures failures kinds (contents_of new))
+  makes_sync failures kinds syncs =
       let got = some_file ((contents_of old).files file) there in
-      record { runs = refl; file = got.0; is = got.1; done = ap (with_failures failures) (syncs.contents got.0 got.1) }
+      record { runs = refl; file = got.0; is = got.1; done = ap (with_failures failures kinds) (syncs.contents got.0 got.1) }
 
   module _ (trace later : Trace) (made : Result (Unit {0}) ErrorKind) (was stopped : Bool) (runs : was ≡ false) (follows : Follows was old trace) (goes_on : OnOk made (stopped ≡ was)) (stop : OnErr made (stopped ≡ true)) where
     pub change_made : (change : Change) → Makes file change [] old new → OnOk made (later ≡ noted (Changed file change) trace) → OnErr made (MayBeMade (Changed file change) trace later)

@@ -23,8 +23,8 @@ pub record Made (call : DeviceCall) (old new : Storage) (trace later : Trace) (m
   pub stop : OnErr made (stopped ≡ true)
 
 -- with a disk in its place, what is shown
-abbrev over : Bool → ℕ → Disk → Disk
-over stopped failures d = record d { unreadable = λ id place. false; stopped = stopped; failures = failures }
+abbrev over : Bool → ℕ → List ErrorKind → Disk → Disk
+over stopped failures kinds d = record d { unreadable = λ id place. false; stopped = stopped; failures = failures; kinds = kinds }
 
 module _ (call : DeviceCall) (old new : Storage) (trace later : Trace) where
   kept_ok : Made call old new trace later (Ok tt) false → held_by later ≡ settled (contents_of new)
@@ -42,22 +42,22 @@ module _ (call : DeviceCall) (old new : Storage) (trace later : Trace) where
   later_sound (Err e) stopped m was is = elim (kept_err m) [ inl same ↦ subst IsSound (sym same) was.sound | inr same ↦ subst IsSound (sym same) is.sound ]
 
   -- it was answered: what it does, told of the model's disk, holds of the disk
-  pub made_ok : (does : Disk → Disk → Type 0) (made : Result (Unit {0}) ErrorKind) (stopped : Bool) (failures : ℕ) (d : Disk) → Made call old new trace later made stopped
-      → d ≡ with_failures failures (contents_of old) → does (with_failures failures (contents_of old)) (with_failures failures (contents_of new)) → OnOk made (does d (shown later stopped failures))
-  made_ok does (Ok v) stopped failures d m same is =
-      subst (λ (k : Disk). does k (shown later stopped failures)) (sym same)
-      (subst (does (with_failures failures (contents_of old))) (sym (ap (λ (k : Disk). over stopped failures k) (ap (λ (h : Held). h.kept) (m.ok (contents_of old) m.follows) ∙ sym m.did) ∙ ap (λ (s : Bool). over s failures (contents_of new)) m.runs)) is)
-  made_ok does (Err e) stopped failures d m same is = tt
+  pub made_ok : (does : Disk → Disk → Type 0) (made : Result (Unit {0}) ErrorKind) (stopped : Bool) (failures : ℕ) (kinds : List ErrorKind) (d : Disk) → Made call old new trace later made stopped
+      → d ≡ with_failures failures kinds (contents_of old) → does (with_failures failures kinds (contents_of old)) (with_failures failures kinds (contents_of new)) → OnOk made (does d (shown later stopped failures kinds))
+  made_ok does (Ok v) stopped failures kinds d m same is =
+      subst (λ (k : Disk). does k (shown later stopped failures kinds)) (sym same)
+      (subst (does (with_failures failures kinds (contents_of old))) (sym (ap (λ (k : Disk). over stopped failures kinds k) (ap (λ (h : Held). h.kept) (m.ok (contents_of old) m.follows) ∙ sym m.did) ∙ ap (λ (s : Bool). over s failures kinds (contents_of new)) m.runs)) is)
+  made_ok does (Err e) stopped failures kinds d m same is = tt
 
   -- it was refused: the same of why
-  pub made_err : (part does : Disk → Disk → Type 0) (wrong : Disk → ErrorKind → Type 0) (made : Result (Unit {0}) ErrorKind) (stopped : Bool) (failures : ℕ) (d : Disk) → Made call old new trace later made stopped
-      → d ≡ with_failures failures (contents_of old) → IsRight (wrong (with_failures failures (contents_of old))) → does (with_failures failures (contents_of old)) (with_failures failures (contents_of new))
-      → OnErr made ((e : ErrorKind) → Refused (part d) (does d) (wrong d) e d (shown later stopped failures))
-  made_err part does wrong (Ok v) stopped failures d m same right is = tt
-  made_err part does wrong (Err k) stopped failures d m same right is =
-      subst (λ (k : Disk). (e : ErrorKind) → Refused (part k) (does k) (wrong k) e k (shown later stopped failures)) (sym same) (elim (kept_err m) [
-        | inl stays ↦ λ e. stops refl (with_failures failures (contents_of old)) (inl refl) (ap (λ (k : Disk). over stopped failures k) stays ∙ ap (λ (s : Bool). over s failures (contents_of old)) m.stop)
-        | inr goes ↦ λ e. stops refl (with_failures failures (contents_of new)) (inr (right, inr is)) (ap (λ (k : Disk). over stopped failures k) goes ∙ ap (λ (s : Bool). over s failures (contents_of new)) m.stop)
+  pub made_err : (part does : Disk → Disk → Type 0) (wrong : Disk → ErrorKind → Type 0) (made : Result (Unit {0}) ErrorKind) (stopped : Bool) (failures : ℕ) (kinds : List ErrorKind) (d : Disk) → Made call old new trace later made stopped
+      → d ≡ with_failures failures kinds (contents_of old) → IsRight (wrong (with_failures failures kinds (contents_of old))) → does (with_failures failures kinds (contents_of old)) (with_failures failures kinds (contents_of new))
+      → OnErr made ((e : ErrorKind) → Refused (part d) (does d) (wrong d) e d (shown later stopped failures kinds))
+  made_err part does wrong (Ok v) stopped failures kinds d m same right is = tt
+  made_err part does wrong (Err k) stopped failures kinds d m same right is =
+      subst (λ (k : Disk). (e : ErrorKind) → Refused (part k) (does k) (wrong k) e k (shown later stopped failures kinds)) (sym same) (elim (kept_err m) [
+        | inl stays ↦ λ e. stops refl (with_failures failures kinds (contents_of old)) (inl refl) (ap (λ (k : Disk). over stopped failures kinds k) stays ∙ ap (λ (s : Bool). over s failures kinds (contents_of old)) m.stop)
+        | inr goes ↦ λ e. stops refl (with_failures failures kinds (contents_of new)) (inr (right, inr is)) (ap (λ (k : Disk). over stopped failures kinds k) goes ∙ ap (λ (s : Bool). over s failures kinds (contents_of new)) m.stop)
       ])
 
   -- what is known of the parts
@@ -79,11 +79,11 @@ told_err {A = A} {B = B} result made P same is = subst (λ (r : Result A B). IfE
     each (Err e) P is = is e
 
 -- a failure was counted, or the file system stopped, and nothing else happened
-pub failed_once : (part does : Disk → Disk → Type 0) (wrong : Disk → ErrorKind → Type 0) (error : ErrorKind) (failures : ℕ) (contents d new : Disk) → d ≡ with_failures failures contents → contents.stopped ≡ false
-    → IsRight (wrong (with_failures failures contents)) → ((k : Disk) → part k k) → FailsOnce d new → Refused (part d) (does d) (wrong d) error d new
-failed_once part does wrong error failures contents d new same runs right none (inl is) =
+pub failed_once : (part does : Disk → Disk → Type 0) (wrong : Disk → ErrorKind → Type 0) (error : ErrorKind) (failures : ℕ) (kinds : List ErrorKind) (contents d new : Disk) → d ≡ with_failures failures kinds contents → contents.stopped ≡ false
+    → IsRight (wrong (with_failures failures kinds contents)) → ((k : Disk) → part k k) → FailsOnce error d new → Refused (part d) (does d) (wrong d) error d new
+failed_once part does wrong error failures kinds contents d new same runs right none (inl is) =
     failed (ap (λ (k : Disk). k.stopped) same ∙ runs) (subst (λ (k : Disk). IsRight (wrong k)) (sym same) right) d (none d) is
-failed_once part does wrong error failures contents d new same runs right none (inr is) = stops (ap (λ (k : Disk). k.stopped) same ∙ runs) d (inl refl) is
+failed_once part does wrong error failures kinds contents d new same runs right none (inr is) = stops (ap (λ (k : Disk). k.stopped) same ∙ runs) d (inl refl) is
 
 -- Each call, as the model does it.
 

@@ -11,13 +11,14 @@ use Rattle.raft_log_disk_device.specs.Following.{shown}
 use Rattle.raft_log_disk_device.specs.declared.device.Device as device
 use Rattle.raft_log_disk_device.specs.declared.directory.DirectoryFileSystem.{DirectoryFileSystem}
 
--- the disk with so many failures counted
-abbrev pub with_failures : ℕ → Disk → Disk
-with_failures failures d = record d { failures = failures }
+-- the disk with so many failures counted, which were told as these kinds
+abbrev pub with_failures : ℕ → List ErrorKind → Disk → Disk
+with_failures failures kinds d = record d { failures = failures; kinds = kinds }
 
--- a failure was counted, or, where the count is full, the file system stopped; nothing else happened
-abbrev pub FailsOnce : Disk → Disk → Type 0
-FailsOnce old new = (new ≡ counted old) ⊎ (new ≡ at_stop old)
+-- a failure was counted that was told as this kind, or, where the count is full, the file system stopped;
+-- nothing else happened
+abbrev pub FailsOnce : ErrorKind → Disk → Disk → Type 0
+FailsOnce error old new = (new ≡ counted error old) ⊎ (new ≡ at_stop old)
 
 -- the file system has stopped, or the path isn't a directory's
 abbrev pub LacksDirectory : List ℕ → Disk → ErrorKind → Type 0
@@ -34,12 +35,13 @@ LacksWriter handle d error = (d.stopped ≡ true) ⊎ ((d.stopped ≡ false) × 
 module _ {D : Type 0} (g : device.Ghosts D) where
   -- the disk of a file system over a device
   abbrev pub disk_of : DirectoryFileSystem D g → Disk
-  disk_of system = shown (g.trace system.device) system.stopped system.failures
+  disk_of system = shown (g.trace system.device) system.stopped system.failures system.kinds.told
 
   -- the file system runs, and so its disk has what the model has
   pub record Runs (system : DirectoryFileSystem D g) : Type 0 where
     pub running : system.stopped ≡ false
-    pub same : disk_of system ≡ with_failures system.failures (contents_of system.storage)
+    pub same : disk_of system
+        ≡ with_failures system.failures system.kinds.told (contents_of system.storage)
 
   -- the file system runs, and the path is a directory's
   pub record RunsWithDirectory (path : List ℕ) (system : DirectoryFileSystem D g) : Type 0 where

@@ -1,5 +1,6 @@
 -- How a model in memory follows a device, and what a file system over both shows.
-use Rattle.std.specs.Prelude.{◌≡◌, ℕ, Bool, false}
+use Rattle.std.specs.Prelude.{◌≡◌, ℕ, Bool, false, List}
+use Rattle.std.specs.declared.io.ErrorKind.{ErrorKind}
 use Rattle.std.proofs.Props.{props}
 use Rattle.raft_log_disk.proofs.Props.{Change-set, File-set}
 use Rattle.raft_log_disk.specs.Disk.{Disk}
@@ -12,11 +13,12 @@ abbrev pub Follows : Bool → Storage → Trace → Type 0
 Follows stopped storage trace = stopped ≡ false → held_by trace ≡ settled (contents_of storage)
 
 -- What is on the disk is what a crash finds on the device; each place of it can be read.
-abbrev pub shown : Trace → Bool → ℕ → Disk
-shown trace stopped failures = record (held_by trace).kept {
+abbrev pub shown : Trace → Bool → ℕ → List ErrorKind → Disk
+shown trace stopped failures kinds = record (held_by trace).kept {
   unreadable = λ id place. false;
   stopped = stopped;
   failures = failures;
+  kinds = kinds;
 }
 
 -- a device holds what it does in one way only, so that a type may keep the fact beside its fields

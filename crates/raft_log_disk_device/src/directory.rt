@@ -10,6 +10,7 @@ ghost use Rattle.raft_log_disk_device.specs.Device.{held_by};
 ghost use Rattle.raft_log_disk_device.specs.Following.{Follows, Follows-prop};
 
 use crate::device::Device;
+use raft_log_disk::Kinds;
 use raft_log_disk_storage::Storage;
 use std::collections::BTreeMap;
 
@@ -23,6 +24,7 @@ pub struct DirectoryFileSystem<D: Device> {
     spaces: BTreeMap<String, u64>,
     device: D,
     failures: u64,
+    kinds: Kinds,
     stopped: bool,
     ghost whole: { IsStorageSound storage } by { IsWhole-prop storage },
     ghost follows: { Follows stopped storage (D.Device.trace device) } by { Follows-prop stopped storage (D.Device.trace device) },
@@ -49,6 +51,7 @@ impl<D: Device> DirectoryFileSystem<D> {
             spaces,
             device,
             failures: 0,
+            kinds: Kinds::new(),
             stopped: false,
         }
     }

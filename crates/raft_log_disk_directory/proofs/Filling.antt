@@ -55,7 +55,7 @@ fills old new id bytes paths files len file is =
     disk_ext (contents_of new) (with_file id (Some (at_rest bytes)) (contents_of old))
     (ap (λ p. (contents_of (record old { paths = p })).directories) paths) (ap (λ p. (contents_of (record old { paths = p })).names) paths)
     (fun_ext (updated id (held_of old.files.items) (held_of new.files.items) (Some (resting bytes)) files))
-    len refl refl refl
+    len refl refl refl refl
 
 -- at its number stands the new file, and at the others what did
 fills_here : (old new : ℕ → Option Held) (id : ℕ) (file : Held) → ((q : ℕ) → new q ≡ update nat_eq old id (Some file) q) → new id ≡ Some file

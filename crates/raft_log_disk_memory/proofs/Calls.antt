@@ -36,12 +36,12 @@ no_writer handle change error system (inr (runs, wrong)) = uncounted (inr wrong)
 
 -- a refused call that did nothing
 pub refused_whole : {done : Disk → Type 0} {wrong : ErrorKind → Type 0} {error : ErrorKind} (old mid new : Disk) → old.stopped ≡ false → IsRight wrong → mid ≡ old
-    → (new ≡ counted mid) ⊎ (new ≡ at_stop mid) → RefusedWhole done wrong error old new
-refused_whole old mid new runs right same (inl is) = failed runs right old refl (is ∙ ap counted same)
+    → (new ≡ counted error mid) ⊎ (new ≡ at_stop mid) → RefusedWhole done wrong error old new
+refused_whole {error = error} old mid new runs right same (inl is) = failed runs right old refl (is ∙ ap (counted error) same)
 refused_whole old mid new runs right same (inr is) = stops runs old (inl refl) (is ∙ ap at_stop same)
 
 pub refused_piece : {id : ℕ} {piece : Change} {wrong : ErrorKind → Type 0} {error : ErrorKind} (old new : Disk) → old.stopped ≡ false → IsRight wrong
-    → (new ≡ counted old) ⊎ (new ≡ at_stop old) → RefusedChange id piece wrong error old new
+    → (new ≡ counted error old) ⊎ (new ≡ at_stop old) → RefusedChange id piece wrong error old new
 refused_piece old new runs right (inl is) = failed runs right old (none refl) is
 refused_piece old new runs right (inr is) = stops runs old (inl refl) is
 
@@ -91,7 +91,7 @@ front_or_not id at bytes count (Err e) begun after old same ok err there = ap (o
 pub part_err : {wrong : ErrorKind → Type 0} {error : ErrorKind} (id at : ℕ) (bytes : List ℕ) (count : ℕ) (done : Result (Unit {0}) ErrorKind) (old mid new : Disk)
     → old.stopped ≡ false → IsRight wrong
     → MatchResult done (λ v. IsFrontOnDisk id at bytes count old mid) (λ e. mid ≡ old)
-    → new ≡ failed_once mid → RefusedChange id (Wrote at bytes) wrong error old new
+    → new ≡ failed_once error mid → RefusedChange id (Wrote at bytes) wrong error old new
 part_err id at bytes count (Ok v) old mid new runs right made fail =
     let part : SomeOf id (Wrote at bytes) old mid = some made.file _ made.is (front_torn at bytes count made.file.content) made.disk in
     elim (counted_or_stop mid new fail) [

@@ -22,6 +22,7 @@ over system d = record d {
   unreadable = is_denied system.denied.items;
   stopped = system.stopped;
   failures = system.failures;
+  kinds = system.kinds.told;
 }
 
 -- the first bytes of a write stand on the disk
@@ -37,35 +38,35 @@ kept_ext a b disk order =
     ∙ ap (λ (us : List (ℕ × Change)). let k : Kept = record { disk = b.disk; unsynced = us } in k) order
 
 -- a failure is counted, or is a stop
-pub counted_or_stop : (old new : Disk) → new ≡ failed_once old → (new ≡ counted old) ⊎ (new ≡ at_stop old)
-counted_or_stop old new is = elim (cases_Bool (nat_lt (suc old.failures) most_failures)) [
-  | inl less ↦ inl (is ∙ ap (λ (b : Bool). cond b (counted old) (at_stop old)) less)
-  | inr full ↦ inr (is ∙ ap (λ (b : Bool). cond b (counted old) (at_stop old)) full)
+pub counted_or_stop : {error : ErrorKind} (old new : Disk) → new ≡ failed_once error old → (new ≡ counted error old) ⊎ (new ≡ at_stop old)
+counted_or_stop {error} old new is = elim (cases_Bool (nat_lt (suc old.failures) most_failures)) [
+  | inl less ↦ inl (is ∙ ap (λ (b : Bool). cond b (counted error old) (at_stop old)) less)
+  | inr full ↦ inr (is ∙ ap (λ (b : Bool). cond b (counted error old) (at_stop old)) full)
 ]
 
 -- what fell at a call that is done whole or not at all, as the disk has it
 pub refused : {error : ErrorKind} {old new : MemoryFileSystem} → HasRefused error old new
-    → (disk_of new ≡ counted (disk_of old)) ⊎ (disk_of new ≡ at_stop (disk_of old))
+    → (disk_of new ≡ counted error (disk_of old)) ⊎ (disk_of new ≡ at_stop (disk_of old))
 refused {error} {old} {new} (inl whole) = counted_or_stop (disk_of old) (disk_of new) whole.left
 refused {error} {old} {new} (inr part) = counted_or_stop (disk_of old) (disk_of new) part.left
 
 pub fallen : {error : ErrorKind} {old new : MemoryFileSystem} → HasFallen error old new
-    → (disk_of new ≡ counted (disk_of old)) ⊎ (disk_of new ≡ at_stop (disk_of old))
+    → (disk_of new ≡ counted error (disk_of old)) ⊎ (disk_of new ≡ at_stop (disk_of old))
 fallen {error} {old} {new} (inl refusal) = refused refusal
 fallen (inr stopped) = inr stopped.left
 
 -- a refusal that fell, as the call's cause
 pub refusal : {left_at_stop : ErrorKind → Kept → Type 0} {left_in_part : ℕ → ErrorKind → Kept → Type 0} {wrong no_room : ErrorKind → Type 0} {error : ErrorKind} {old new : MemoryFileSystem} → IsCounted wrong old new
     → new.storage ≡ old.storage → ArmedRefusalFell error old new → IsRefusedCall left_at_stop left_in_part wrong no_room error old new
-refusal {old = old} {new = new} counts storage fell =
-    refusal_fell counts fell (kept_ext (kept new) (after_failure (kept old)) fell.left (ap unsynced_of storage))
+refusal {error = error} {old = old} {new = new} counts storage fell =
+    refusal_fell counts fell (kept_ext (kept new) (after_failure error (kept old)) fell.left (ap unsynced_of storage))
 
 -- also one in part, which did nothing
 pub any_refusal : {left_at_stop : ErrorKind → Kept → Type 0} {wrong no_room : ErrorKind → Type 0} {error : ErrorKind} {old new : MemoryFileSystem} → IsCounted wrong old new
     → new.storage ≡ old.storage → HasRefused error old new → IsRefusedCall left_at_stop (λ count. Untouched (kept old)) wrong no_room error old new
 any_refusal counts storage (inl whole) = refusal counts storage whole
-any_refusal {old = old} {new = new} counts storage (inr part) =
-    part_fell counts part.count part.falls (kept old) (part.kind, refl) (kept_ext (kept new) (after_failure (kept old)) part.left (ap unsynced_of storage))
+any_refusal {error = error} {old = old} {new = new} counts storage (inr part) =
+    part_fell counts part.count part.falls (kept old) (part.kind, refl) (kept_ext (kept new) (after_failure error (kept old)) part.left (ap unsynced_of storage))
 
 pub fell : (done : Disk → Type 0) (order : List (ℕ × Change)) {wrong : ErrorKind → Type 0} {error : ErrorKind} {old new : MemoryFileSystem} → IsCounted wrong old new
     → new.storage ≡ old.storage → HasFallen error old new → IsRefusedWhole done order wrong error old new
@@ -82,8 +83,8 @@ pub part_cause : {wrong : ErrorKind → Type 0} {error : ErrorKind} (id at : ℕ
     → MatchResult done (λ v. IsFrontOnDisk id at bytes count (disk_of old) (over begun (contents_of after))) (λ e. over begun (contents_of after) ≡ disk_of old)
     → begun.storage ≡ old.storage → OnOk done (Makes id (Wrote at (take count bytes)) (drop count bytes) begun.storage after) → OnErr done (IsSame begun.storage after)
     → OnOk done (HasSpaceFor id (Wrote at bytes) old) → IfErr done (NoRoomFor id (Wrote at bytes) old)
-    → new.storage ≡ after → disk_of new ≡ failed_once (over begun (contents_of after)) → IsRefusedChange id (Wrote at bytes) wrong error old new
-part_cause id at bytes count (Ok v) old begun new after counts falls kind made storage makes same space room stored failed =
+    → new.storage ≡ after → disk_of new ≡ failed_once error (over begun (contents_of after)) → IsRefusedChange id (Wrote at bytes) wrong error old new
+part_cause {error = error} id at bytes count (Ok v) old begun new after counts falls kind made storage makes same space room stored failed =
     let left : Kept = record { disk = over begun (contents_of after); unsynced = unsynced new } in
     part_fell counts count falls left
     (inl (
@@ -96,10 +97,10 @@ part_cause id at bytes count (Ok v) old begun new after counts falls kind made s
         order = ap unsynced_of stored ∙ (makes.order ∙ ap (λ (s : Storage). unsynced_of s ++ (id, Wrote at (take count bytes)) ∷ []) storage);
       },
     ))
-    (kept_ext (kept new) (after_failure left) failed refl)
-part_cause id at bytes count (Err k) old begun new after counts falls kind made storage makes same space room stored failed =
+    (kept_ext (kept new) (after_failure error left) failed refl)
+part_cause {error = error} id at bytes count (Err k) old begun new after counts falls kind made storage makes same space room stored failed =
     part_fell counts count falls (kept old) (inr (subst (NoRoomFor id (Wrote at bytes) old) (sym kind) room, refl))
-    (kept_ext (kept new) (after_failure (kept old)) (failed ∙ ap failed_once made) (ap unsynced_of stored ∙ (same.order ∙ ap unsynced_of storage)))
+    (kept_ext (kept new) (after_failure error (kept old)) (failed ∙ ap (failed_once error) made) (ap unsynced_of stored ∙ (same.order ∙ ap unsynced_of storage)))
 
 -- an answered call that is done whole or not at all
 pub call_turn : {T E : Type 0} (result : Result T ErrorKind) (stops : Bool) (done : Result (Unit {0}) E) (mid : Disk) (old new : MemoryFileSystem) → armed new ≡ call_later (armed old) → (stops ≡ false → IsSpared (armed old))
@@ -135,7 +136,7 @@ call_cause does order (Err k) stops mid old begun new after (Err e) counts is sp
 call_cause does order (Ok v) stops mid old begun new after (Err e) counts is spared made storage makes same stored (not_made runs done_is failed) = absurd done_is
 call_cause does order (Err k) stops mid old begun new after (Err e) counts is spared made storage makes same stored (not_made runs done_is failed) =
     room_short counts (spared runs) done_is
-    (kept_ext (kept new) (after_failure (kept old)) (failed ∙ ap failed_once made) (ap unsynced_of stored ∙ (same.order ∙ ap unsynced_of storage)))
+    (kept_ext (kept new) (after_failure e (kept old)) (failed ∙ ap (failed_once e) made) (ap unsynced_of stored ∙ (same.order ∙ ap unsynced_of storage)))
 
 -- the order of all changes after one that was answered
 pub change_order : {T : Type 0} (id : ℕ) (change : Change) (done : Result (Unit {0}) ErrorKind) (stops : Bool) (mid : Disk) (old begun new : MemoryFileSystem) (after : Storage) (result : Result T ErrorKind)
@@ -168,4 +169,4 @@ change_cause id change (Ok v) stops mid old begun new after (Err e) counts is sp
 change_cause id change (Err k) stops mid old begun new after (Err e) counts is spared made storage makes same stored space room (not_made runs done_is failed) =
     let order : unsynced new ≡ unsynced old = ap unsynced_of stored ∙ (same.order ∙ ap unsynced_of storage) in
     room_short counts (spared runs) (subst (NoRoomFor id change old) (sym done_is) room)
-    (kept_ext (kept new) (after_failure (kept old)) (failed ∙ ap failed_once made) order)
+    (kept_ext (kept new) (after_failure e (kept old)) (failed ∙ ap (failed_once e) made) order)

@@ -1,6 +1,7 @@
 -- A file system in memory, as a disk, and the order of the changes of all its files.
 use Rattle.std.specs.Prelude.{◌≡◌, ℕ, ◌+◌, ◌<◌, ◌≤◌, Bool, true, false, suc, cond, Option, Some, None, List, [], ◌∷◌}
 use Rattle.std.proofs.Common.{nat_eq, nat_lt}
+use Rattle.std.specs.declared.io.ErrorKind.{ErrorKind}
 use Rattle.raft_log_disk.specs.Disk.{Change, Disk}
 use Rattle.raft_log_disk.specs.Calls.{counted, at_stop}
 use Rattle.raft_log_disk_memory.specs.declared.memory.MemoryFileSystem.{MemoryFileSystem}
@@ -21,6 +22,7 @@ disk_of system = record (contents_of system.storage) {
   unreadable = is_denied system.denied.items;
   stopped = system.stopped;
   failures = system.failures;
+  kinds = system.kinds.told;
 }
 
 -- one of so many places from a first one on can't be read
@@ -52,9 +54,10 @@ kept system = record { disk = disk_of system; unsynced = unsynced system }
 abbrev pub most_failures : ℕ
 most_failures = 18446744073709551615
 
--- the disk with one failure more, and where the count would reach 2^64 - 1, with a stop in its place
-abbrev pub failed_once : Disk → Disk
-failed_once d = cond (nat_lt (suc d.failures) most_failures) (counted d) (at_stop d)
+-- the disk with one failure more, which was told as this kind, and where the count would reach 2^64 - 1, with a
+-- stop in its place
+abbrev pub failed_once : ErrorKind → Disk → Disk
+failed_once error d = cond (nat_lt (suc d.failures) most_failures) (counted error d) (at_stop d)
 
 -- the changes that are left where the file with a name is deleted
 abbrev pub without_named : Option ℕ → List (ℕ × Change) → List (ℕ × Change)

@@ -112,14 +112,14 @@ pub record ArmedRefusalFell (error : ErrorKind) (old new : MemoryFileSystem) : T
   pub falls : Contains (armed old).refusals 1
   pub no_stop : (armed old).stop ≡ 1 → ⊥
   pub kind : error ≡ Other
-  pub left : disk_of new ≡ failed_once (disk_of old)
+  pub left : disk_of new ≡ failed_once error (disk_of old)
 
 -- an armed refusal in part fell, and nothing was done
 pub record ArmedPartFell (error : ErrorKind) (old new : MemoryFileSystem) : Type 0 where
   pub count : ℕ
   pub falls : PartFalls count (armed old)
   pub kind : error ≡ Other
-  pub left : disk_of new ≡ failed_once (disk_of old)
+  pub left : disk_of new ≡ failed_once error (disk_of old)
 
 -- a stop fell that was armed to come before the call, and nothing was done
 pub record ArmedStopFell (error : ErrorKind) (old new : MemoryFileSystem) : Type 0 where
@@ -128,9 +128,10 @@ pub record ArmedStopFell (error : ErrorKind) (old new : MemoryFileSystem) : Type
   pub kind : error ≡ Other
   pub left : disk_of new ≡ at_stop (disk_of old)
 
--- what holds after a failure: nothing was done, and it was counted, or is a stop where no more can be counted
-abbrev pub after_failure : Kept → Kept
-after_failure k = record k { disk = failed_once k.disk }
+-- what holds after a failure that was told as this kind: nothing was done, and it was counted, or is a stop where
+-- no more can be counted
+abbrev pub after_failure : ErrorKind → Kept → Kept
+after_failure error k = record k { disk = failed_once error k.disk }
 
 -- what holds after a stop that left this
 abbrev pub after_stop : Kept → Kept
@@ -138,8 +139,8 @@ after_stop k = record k { disk = at_stop k.disk }
 
 -- Why a changing call was refused, and what it left. It doesn't count, as the file system has stopped or the
 -- argument is wrong, and nothing changed; or the armed stop fell; or an armed refusal fell; or one in part;
--- or nothing fell, and there was no room for what was asked. A failure is counted, and a stop comes in its
--- place only where the count would reach 2^64 - 1.
+-- or nothing fell, and there was no room for what was asked. A failure is counted as the error that is told,
+-- and a stop comes in its place only where the count would reach 2^64 - 1.
 pub data IsRefusedCall (left_at_stop : ErrorKind → Kept → Type 0)
     (left_in_part : ℕ → ErrorKind → Kept → Type 0) (wrong no_room : ErrorKind → Type 0) (error : ErrorKind) (old new : MemoryFileSystem) : Type 0 where
   uncounted : ((disk_of old).stopped ≡ true) ⊎ wrong error → armed new ≡ armed old → kept new ≡ kept old
@@ -148,13 +149,13 @@ pub data IsRefusedCall (left_at_stop : ErrorKind → Kept → Type 0)
       → kept new ≡ after_stop left
       → IsRefusedCall left_at_stop left_in_part wrong no_room error old new
   refusal_fell : IsCounted wrong old new → ArmedRefusalFell error old new
-      → kept new ≡ after_failure (kept old)
+      → kept new ≡ after_failure error (kept old)
       → IsRefusedCall left_at_stop left_in_part wrong no_room error old new
   part_fell : IsCounted wrong old new → (count : ℕ) → PartFalls count (armed old) → (left : Kept)
-      → left_in_part count error left → kept new ≡ after_failure left
+      → left_in_part count error left → kept new ≡ after_failure error left
       → IsRefusedCall left_at_stop left_in_part wrong no_room error old new
   room_short : IsCounted wrong old new → IsSpared (armed old) → no_room error
-      → kept new ≡ after_failure (kept old)
+      → kept new ≡ after_failure error (kept old)
       → IsRefusedCall left_at_stop left_in_part wrong no_room error old new
 
 -- nothing was done
@@ -232,7 +233,7 @@ pub data IsEnded {E : Type 0} (kind_of : E → ErrorKind) (stops : Bool) (done :
     (error : ErrorKind) (old new : Disk) : Type 0 where
   at_the_stop : stops ≡ true → MatchResult done (λ v. error ≡ Other) (λ e. error ≡ kind_of e)
       → new ≡ at_stop old → IsEnded kind_of stops done error old new
-  not_made : stops ≡ false → MatchResult done (λ v. ⊥) (λ e. error ≡ kind_of e) → new ≡ failed_once old
+  not_made : stops ≡ false → MatchResult done (λ v. ⊥) (λ e. error ≡ kind_of e) → new ≡ failed_once error old
       → IsEnded kind_of stops done error old new
 
 -- how a change ended

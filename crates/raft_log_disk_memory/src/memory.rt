@@ -7,6 +7,7 @@ mod turns;
 
 ghost use Rattle.raft_log_disk_storage.specs.Storage.{IsStorageSound, IsWhole-prop};
 
+use raft_log_disk::Kinds;
 use raft_log_disk_storage::{Remainder, Storage};
 use std::alloc::{AllocError, Global};
 use std::collections::BTreeMap;
@@ -16,6 +17,7 @@ use std::collections::BTreeMap;
 pub struct MemoryFileSystem {
     storage: Storage,
     failures: u64,
+    kinds: Kinds,
     stopped: bool,
     // How many changing calls there are up to each one that is refused, up to each one that is refused in
     // part, with the number of bytes that a write there writes, and up to the one at which it stops, or 0;
@@ -48,6 +50,7 @@ impl MemoryFileSystem {
         MemoryFileSystem {
             storage: Storage::new(alloc),
             failures: 0,
+            kinds: Kinds::new(),
             stopped: false,
             refusals: Vec::new(alloc),
             parts: Vec::new(alloc),
@@ -79,6 +82,7 @@ impl MemoryFileSystem {
         Ok(MemoryFileSystem {
             storage,
             failures: 0,
+            kinds: Kinds::new(),
             stopped: false,
             refusals: Vec::new(self.storage.alloc),
             parts: Vec::new(self.storage.alloc),

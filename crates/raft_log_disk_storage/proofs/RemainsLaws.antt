@@ -72,7 +72,7 @@ left_contents what old new stamps whole perm nodes files len =
     (fun_ext (λ q. ap is_directory (nodes q))) (fun_ext (λ q. ap file_named (nodes q)))
     (fun_ext (λ q. ap (option_map file_of) (files q)
     ∙ file_left what old (place_in stamps) whole.stamped (place_sorted (held_of old.files.items) (vec_len old.files) stamps perm) q (held_of old.files.items q) refl))
-    len refl refl refl
+    len refl refl refl refl
 
 left_image : (what : Remainder) (storage : Storage) → AreStamped storage.made (held_of storage.files.items) → (id : ℕ) (o : Option Held) → held_of storage.files.items id ≡ o
     → IsFileImage (option_map file_of o) (option_map (left_file what (unsynced_of storage) id) (option_map file_of o))
@@ -95,6 +95,7 @@ left_is_image what storage whole = record {
   readable = λ id place. refl;
   running = refl;
   uncounted = refl;
+  untold = refl;
 }
 
 no_stamp : (what : Remainder) (place : ℕ → ℕ) (stamp id : ℕ) (o : Option Held) → with_stamp stamp id (option_map (left_held what place) o) ≡ []

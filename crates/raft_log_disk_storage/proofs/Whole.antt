@@ -47,7 +47,7 @@ pub is_same : (old new : Storage) → ((q : List ℕ) → node_at new q ≡ node
 is_same old new nodes files made len = record {
   contents = disk_ext (contents_of new) (contents_of old)
       (fun_ext (λ q. ap is_directory (nodes q))) (fun_ext (λ q. ap file_named (nodes q)))
-      (fun_ext (λ q. ap (option_map file_of) (files q))) len refl refl refl;
+      (fun_ext (λ q. ap (option_map file_of) (files q))) len refl refl refl refl;
   order = order_kept old new files made len;
 }
 
@@ -81,7 +81,7 @@ made_contents old new id step next each nodes files len file is =
     (fun_ext (λ q. ap is_directory (nodes q))) (fun_ext (λ q. ap file_named (nodes q)))
     (fun_ext (λ q. updated id (held_of old.files.items) (held_of new.files.items) (option_map step (held_of old.files.items id)) files q
     ∙ ap (λ (o : Option File). update nat_eq (contents_of old).files id o q) (stepped (held_of old.files.items id) is)))
-    len refl refl refl
+    len refl refl refl refl
   where
     stepped : (o : Option Held) → option_map file_of o ≡ Some file → option_map file_of (option_map step o) ≡ Some (next file)
     stepped None at = absurd (cc)
@@ -208,7 +208,7 @@ adds_file old new path whole free nodes files made len =
           (fun_ext (λ q. ap is_directory (nodes q) ∙ same_there is_directory (node_at old) path (Some (node.File id)) (sym (ap is_directory free)) q))
           (fun_ext (λ q. ap file_named (nodes q) ∙ mapped file_named (node_at old) path (Some (node.File id)) q))
           (fun_ext (updated id F G (Some (resting [])) files))
-          len refl refl refl;
+          len refl refl refl refl;
       order = ap (λ (n : ℕ). in_order n G (vec_len new.files)) made ∙ (ap (λ (n : ℕ). in_order old.made G n) len
           ∙ order_added old.made id F G (added_stamps F G id (fresh_of old whole) files)
           (λ s. ap (with_stamp s id) (files id ∙ file_here F id (Some (resting [])))));
@@ -238,7 +238,7 @@ adds_directory old new path free nodes files made len = record {
       (fun_ext (λ q. ap is_directory (nodes q) ∙ mapped is_directory (node_at old) path (Some node.Directory) q))
       (fun_ext (λ q. ap file_named (nodes q) ∙ same_there file_named (node_at old) path (Some node.Directory) (sym (ap file_named free)) q))
       (fun_ext (λ q. ap (option_map file_of) (files q)))
-      len refl refl refl;
+      len refl refl refl refl;
   order = order_kept old new files made len;
 }
 
@@ -279,7 +279,7 @@ drops old new path id is nodes files made len = record {
       (fun_ext (λ q. ap is_directory (nodes q) ∙ same_there is_directory (node_at old) path None (sym (ap is_directory is)) q))
       (fun_ext (λ q. ap file_named (nodes q) ∙ mapped file_named (node_at old) path None q))
       (fun_ext (updated id (held_of old.files.items) (held_of new.files.items) None files))
-      len refl refl refl;
+      len refl refl refl refl;
   order = gone_order old new id files made len;
 }
 
@@ -337,7 +337,7 @@ moves old new from to id apart is other nodes none files made len =
           (fun_ext (λ q. ap file_named (nodes q) ∙ moved_names (node_at old) from to id apart q))
           (fun_ext (λ q. ap (option_map file_of) (files q)
           ∙ (sym (put_back F id (F id) refl q) ∙ ap (λ (o : Option ℕ). update nat_eq (without o F) id (F id) q) (sym none))))
-          len refl refl refl;
+          len refl refl refl refl;
       order = order_kept old new files made len ∙ ap (λ (o : Option ℕ). without_replaced id o (unsynced_of old)) (sym none);
     }
 
@@ -356,7 +356,7 @@ moves_over old new from to id gone whole apart is over nodes files made len =
           (fun_ext (λ q. updated gone (held_of old.files.items) (held_of new.files.items) None files q
           ∙ (sym (put_back (update nat_eq F gone None) id (F id) (file_apart F gone None id other) q)
           ∙ ap (λ (o : Option ℕ). update nat_eq (without o F) id (F id) q) (sym (ap file_named over)))))
-          len refl refl refl;
+          len refl refl refl refl;
       order = gone_order old new gone files made len
           ∙ (sym (ap (λ (b : Bool). cond b (unsynced_of old) (without_file gone (unsynced_of old))) (miss gone id (λ same. other (sym same))))
           ∙ ap (λ (o : Option ℕ). without_replaced id o (unsynced_of old)) (sym (ap file_named over)));
@@ -372,7 +372,7 @@ stays_there old from to id same is = record {
       (disk_ext (contents_of old) (renamed from from id (contents_of old)) refl
       (fun_ext (λ q. sym (back q)))
       (fun_ext (λ q. sym (own q)))
-      refl refl refl refl);
+      refl refl refl refl refl);
   order = sym (ap (λ (o : Option ℕ). without_replaced id o (unsynced_of old)) (ap (λ (p : List ℕ). file_named (node_at old p)) (sym same) ∙ ap file_named is)
       ∙ ap (λ (b : Bool). cond b (unsynced_of old) (without_file id (unsynced_of old))) (eq-eqb id id refl));
 }

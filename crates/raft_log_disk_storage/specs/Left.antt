@@ -55,4 +55,5 @@ left_disk what unsynced d = record d {
   unreadable = λ id place. false;
   stopped = false;
   failures = 0;
+  kinds = [];
 }

@@ -50,6 +50,7 @@ contents_of storage = record {
   unreadable = λ id place. false;
   stopped = false;
   failures = 0;
+  kinds = [];
 }
 
 -- the changes of all files that aren't synced, in the order of the calls

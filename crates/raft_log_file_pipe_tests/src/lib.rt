@@ -5,8 +5,6 @@
 #[cfg(test)]
 mod closings;
 #[cfg(test)]
-mod narrow;
-#[cfg(test)]
 mod pipes;
 #[cfg(test)]
 mod queues;

@@ -1,28 +1,29 @@
 //! New files where two directories have little space.
-use super::narrow::Narrow;
 use super::pipes::{Plain, begin_pipe};
 use raft_log_disk::{FileSystem, Permission};
 use raft_log_disk_memory::MemoryFileSystem;
 use raft_log_file_layout::LogLayout;
 use raft_log_file_pipe::SinglePipe;
 use raft_log_record_base::{Error, LogQueue, Result};
-use std::alloc::Global;
+use std::alloc::{AllocError, Global};
 use std::test::Fail;
 
 // A file system with the directories `d` and `s`, and space enough.
-fn roomy(alloc: Global) -> Result<Narrow, Fail> {
-    let mut system = Narrow {
-        files: MemoryFileSystem::new(alloc),
-        space: (1 << 20, 1 << 20),
-        made: Vec::new(alloc),
-    };
+fn roomy(alloc: Global) -> Result<MemoryFileSystem, Fail> {
+    let mut system = MemoryFileSystem::new(alloc);
     system.create_dir("d")?;
     system.create_dir("s")?;
     Ok(system)
 }
 
+// Lets the files of `d`, and those of `s`, have so many bytes in all.
+fn set_spaces(system: &mut MemoryFileSystem, spaces: (u64, u64)) -> Result<(), AllocError> {
+    system.set_space("d", spaces.0)?;
+    system.set_space("s", spaces.1)
+}
+
 // A pipe of files of 1,024 bytes that begins in `d` and may spill into `s`.
-fn pipe(rt: &HostRuntime, system: &mut Narrow) -> Result<SinglePipe<LogLayout>, Fail> {
+fn pipe(rt: &HostRuntime, system: &mut MemoryFileSystem) -> Result<SinglePipe<LogLayout>, Fail> {
     let mut paths = Vec::new(rt.alloc());
     paths.push(String::from_str(rt.alloc(), "d")?)?;
     paths.push(String::from_str(rt.alloc(), "s")?)?;
@@ -31,7 +32,7 @@ fn pipe(rt: &HostRuntime, system: &mut Narrow) -> Result<SinglePipe<LogLayout>, 
 }
 
 // Whether a file lies in `d`, and whether it lies in `s`.
-fn lies(alloc: Global, system: &Narrow, number: u64) -> Result<(bool, bool), Fail> {
+fn lies(alloc: Global, system: &MemoryFileSystem, number: u64) -> Result<(bool, bool), Fail> {
     let main = format!(in alloc; "d/{number:016}.raftlog")?;
     let spilled = format!(in alloc; "s/{number:016}.raftlog")?;
     Ok((
@@ -42,7 +43,7 @@ fn lies(alloc: Global, system: &Narrow, number: u64) -> Result<(bool, bool), Fai
 
 // The space of `d`, of which file 1 takes 69 bytes, and of `s`; and whether file 2 lies in `s`: where `d` has
 // no room for 1,024 bytes, and `s` has.
-const SPACES: [((usize, usize), bool); 6] = [
+const SPACES: [((u64, u64), bool); 6] = [
     ((1093, 0), false),
     ((1093, 1024), false),
     ((1092, 1024), true),
@@ -52,10 +53,10 @@ const SPACES: [((usize, usize), bool); 6] = [
 ];
 
 // Where file 2 lies that is begun with this space.
-fn second_file(rt: &HostRuntime, space: (usize, usize)) -> Result<(bool, bool), Fail> {
+fn second_file(rt: &HostRuntime, space: (u64, u64)) -> Result<(bool, bool), Fail> {
     let mut system = roomy(rt.alloc())?;
     let mut pipe = pipe(rt, &mut system)?;
-    system.space = space;
+    set_spaces(&mut system, space)?;
     pipe.rotate(rt.alloc(), rt, &mut system)?;
     lies(rt.alloc(), &system, 2)
 }
@@ -72,11 +73,11 @@ fn a_new_file_lies_where_there_is_room_for_it(rt: HostRuntime) -> Result<(), Fai
 // Goes on in a next file twice, with this space.
 fn rotated(
     rt: &HostRuntime,
-    system: &mut Narrow,
+    system: &mut MemoryFileSystem,
     pipe: &mut SinglePipe<LogLayout>,
-    space: (usize, usize),
+    space: (u64, u64),
 ) -> Result<()> {
-    system.space = space;
+    set_spaces(system, space)?;
     pipe.rotate(rt.alloc(), rt, system)?;
     pipe.rotate(rt.alloc(), rt, system)
 }
@@ -105,7 +106,7 @@ fn a_kept_file_is_used_in_its_directory(rt: HostRuntime) -> Result<(), Fail> {
 // the pipe has failed, and 3 otherwise.
 fn appended(
     rt: &HostRuntime,
-    system: &mut Narrow,
+    system: &mut MemoryFileSystem,
     pipe: &mut SinglePipe<LogLayout>,
     plain: &mut Plain,
 ) -> u8 {
@@ -119,7 +120,7 @@ fn appended(
 
 // The space of the directories, the length of a record, how it is answered when it is appended twice, and the
 // last file then.
-const SHORTAGES: [((usize, usize), usize, (u8, u8), u64); 3] = [
+const SHORTAGES: [((u64, u64), usize, (u8, u8), u64); 3] = [
     ((100, 4000), 1000, (1, 0), 2),
     ((100, 4000), 4000, (1, 1), 3),
     ((100, 100), 1000, (2, 2), 1),
@@ -129,14 +130,14 @@ const SHORTAGES: [((usize, usize), usize, (u8, u8), u64); 3] = [
 // the second directory.
 fn appended_twice(
     rt: &HostRuntime,
-    space: (usize, usize),
+    space: (u64, u64),
     len: usize,
 ) -> Result<((u8, u8), (u64, u64), bool), Fail> {
     let mut system = roomy(rt.alloc())?;
     let mut pipe = pipe(rt, &mut system)?;
     let bytes = vec![in rt.alloc(); 7; len]?;
     let mut plain = Plain { bytes };
-    system.space = space;
+    set_spaces(&mut system, space)?;
     let first = appended(rt, &mut system, &mut pipe, &mut plain);
     let second = appended(rt, &mut system, &mut pipe, &mut plain);
     Ok((

@@ -33,7 +33,7 @@ module _ {R : Type 0} (F : Format R) (own : List ℕ → Type 0) (base : Disk) w
 
   pub fresh_calm : IsCalm (IsFresh F own base)
   fresh_calm = record {
-    at_count = λ d fresh. fresh_same d (counted d) refl refl refl fresh;
+    at_count = λ {error} d fresh. fresh_same d (counted error d) refl refl refl fresh;
     at_end = λ d fresh. fresh_same d (at_stop d) refl refl refl fresh;
   }
 

@@ -93,7 +93,7 @@ module _ {R : Type 0} (F : Format R) (own : List ℕ → Type 0) (lawful : IsFor
       let q = fresh_queue older header in
       let Q : Disk → Type 0 = λ d. IsHalfBegun F own base q d × IsAbsent F 0 d in
       let calm : IsCalm Q = record {
-        at_count = λ d (half, none). ((half_calm base q).at_count d half, absent_calm.at_count d none);
+        at_count = λ {error} d (half, none). ((half_calm base q).at_count {error = error} d half, absent_calm.at_count {error = error} d none);
         at_end = λ d (half, none). ((half_calm base q).at_end d half, absent_calm.at_end d none);
       } in
       let refused : Result ℕ ErrorKind = Err error in

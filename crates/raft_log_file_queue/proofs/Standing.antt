@@ -104,7 +104,7 @@ module _ {R : Type 0} (F : Format R) (own : List ℕ → Type 0) (base : Disk) w
 
   pub stands_calm : (q : LogFiles R) (path : List ℕ) (id : ℕ) (P : File → Type 0) (N : Names) → IsCalm (Stands F own base q path id P N)
   stands_calm q path id P N = record {
-    at_count = λ d s. stands_same q path id P N d (counted d) refl refl refl s;
+    at_count = λ {error} d s. stands_same q path id P N d (counted error d) refl refl refl s;
     at_end = λ d s. stands_same q path id P N d (at_stop d) refl refl refl s;
   }
 

@@ -41,7 +41,7 @@ names_calm = record { at_count = λ d is. record { one = is.one; used = is.used 
 module _ {R : Type 0} (F : Format R) where
   pub keeps_calm : (old : Disk) → IsCalm (KeepsNumbered F old)
   keeps_calm old = record {
-    at_count = λ d keeps. keeps_then F old d (counted d) keeps (keeps_same F d (counted d) refl refl refl);
+    at_count = λ {error} d keeps. keeps_then F old d (counted error d) keeps (keeps_same F d (counted error d) refl refl refl);
     at_end = λ d keeps. keeps_then F old d (at_stop d) keeps (keeps_same F d (at_stop d) refl refl refl);
   }
 

@@ -5,5 +5,5 @@ use Rattle.raft_log_disk.specs.Causes.{IsLater}
 
 -- no file and no name changed; calls may have been refused
 pub record ChangesNoFile (old new : Disk) : Type 0 where
-  pub rest : new ≡ record old { stopped = new.stopped; failures = new.failures }
+  pub rest : new ≡ record old { stopped = new.stopped; failures = new.failures; kinds = new.kinds }
   pub later : IsLater old new

@@ -54,7 +54,7 @@ file_once (Some f) (Some r) (Some s) (first, at, first_left) (second, then_at, s
 crashed_once : (before d e : OnDisk) → IsImage before d → IsImage d e → e ≡ d
 crashed_once before d e is again =
     disk_ext e d again.directories again.names (fun_ext (λ id. file_once (before.files id) (d.files id) (e.files id) (is.files id) (again.files id))) again.unused
-    (fun_ext (λ id. fun_ext (λ place. again.readable id place ∙ sym (is.readable id place)))) (again.running ∙ sym is.running) (again.uncounted ∙ sym is.uncounted)
+    (fun_ext (λ id. fun_ext (λ place. again.readable id place ∙ sym (is.readable id place)))) (again.running ∙ sym is.running) (again.uncounted ∙ sym is.uncounted) (again.untold ∙ sym is.untold)
 
 bare_image : (config : Config) (d e : OnDisk) → IsImage d e → IsBare config d → IsBare config e
 bare_image config d e is b = record {

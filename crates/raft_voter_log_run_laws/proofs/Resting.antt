@@ -60,6 +60,7 @@ left_is_one what system after is =
       readable = i.readable;
       running = i.running;
       uncounted = i.uncounted;
+      untold = i.untold;
     } in
     subst (λ (d : OnDisk). IsImage (disk_of system) d) (sym is) image
 

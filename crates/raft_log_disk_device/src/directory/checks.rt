@@ -11,13 +11,17 @@ impl<D: Device> DirectoryFileSystem<D> {
     ghost use Rattle.std.specs.Prelude.{◌≡◌, true, OnOk, OnErr, IfErr};
     ghost use Rattle.raft_log_disk_device.specs.Directory.{disk_of, FailsOnce, Runs, RunsWithDirectory, RunsWithFile, RunsWithWriter, LacksDirectory, LacksFile, LacksWriter};
 
-    /// Counts a failure; the one that would make 2^64 stops the file system.
+    /// Counts a failure and notes the kind that it is told as; the one that would make 2^64 stops the file
+    /// system, and none is noted.
     pub(super) fn fail(&mut self, kind: ErrorKind) -> ErrorKind
-        ensures failed { FailsOnce (disk_of D.Device self.old) (disk_of D.Device self.new) }
+        ensures failed { FailsOnce result (disk_of D.Device self.old) (disk_of D.Device self.new) }
         ensures kind { result ≡ kind }
     {
         match self.failures.checked_add(1) {
-            Some(failures) => self.failures = failures,
+            Some(failures) => {
+                self.failures = failures;
+                self.kinds.note(&kind);
+            }
             None => self.stopped = true,
         }
         kind

@@ -99,7 +99,7 @@ impl MemoryFileSystem {
     // Ends a write that is refused in part. The error is the front's, where it wasn't written.
     pub(super) fn fail_in_part(&mut self, done: Result<(), ErrorKind>) -> ErrorKind
         ensures storage { self.new.storage ≡ self.old.storage }
-        ensures failed { disk_of self.new ≡ failed_once (disk_of self.old) }
+        ensures failed { disk_of self.new ≡ failed_once result (disk_of self.old) }
         ensures same { armed self.new ≡ armed self.old }
         ensures kind { MatchResult done (λ v. result ≡ ErrorKind.Other) (λ kind. result ≡ kind) }
     {
@@ -185,15 +185,17 @@ impl MemoryFileSystem {
         }
     }
 
-    // Counts a failure; the one that would make 2^64 - 1 stops the file system.
+    // Counts a failure and notes the kind that it is told as; the one that would make 2^64 - 1 stops the file
+    // system, and none is noted.
     pub(super) fn fail(&mut self, kind: ErrorKind) -> ErrorKind
         ensures storage { self.new.storage ≡ self.old.storage }
-        ensures failed { disk_of self.new ≡ failed_once (disk_of self.old) }
+        ensures failed { disk_of self.new ≡ failed_once kind (disk_of self.old) }
         ensures same { armed self.new ≡ armed self.old }
         ensures kind { result ≡ kind }
     {
         if self.failures < u64::MAX - 1 {
             self.failures += 1;
+            self.kinds.note(&kind);
         } else {
             self.stopped = true;
         }

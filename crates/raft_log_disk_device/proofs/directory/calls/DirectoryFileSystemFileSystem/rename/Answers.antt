@@ -19,8 +19,8 @@ returns-in_default-rename_file-clause-err g c =
     let is : old.names from ≡ Some id = search rules in
     let apart : is_directory (node_at system.storage to) ≡ false = search rules in
     let home : HasDirectory to old = search rules in
-    failed_once Nothing (Renames from to) (WrongRename from to) c.fail.result system.failures old (disk_of g.D.Device system) (disk_of g.D.Device c.fail.new.self) c.in_ok-check_runs.ensures.ok.same refl
-    (right_rename from to (with_failures system.failures old) id is apart (record { directory = home.directory; inside = home.inside; there = home.there })) (λ k. refl) c.fail.ensures.failed
+    failed_once Nothing (Renames from to) (WrongRename from to) c.fail.result system.failures system.kinds.told old (disk_of g.D.Device system) (disk_of g.D.Device c.fail.new.self) c.in_ok-check_runs.ensures.ok.same refl
+    (right_rename from to (with_failures system.failures system.kinds.told old) id is apart (record { directory = home.directory; inside = home.inside; there = home.there })) (λ k. refl) c.fail.ensures.failed
 
 pub invariant_of-self-2 : goal.invariant_of-self-2
 invariant_of-self-2 g c =
@@ -54,8 +54,8 @@ returns-clause-ok g c =
     let m = made_of (Renamed from to) system.storage c.rename_file.new.self (g.D.Device.trace system.device) (g.D.Device.trace c.rename-made.new.device) made system.stopped c.stopping.new.stopped
     runs.running system.follows (did_rename from to id old (contents_of c.rename_file.new.self) is c.in-Ok.ensures.ok.contents) c.rename-made.ensures.ok c.rename-made.ensures.err c.stopping.ensures.ok c.stopping.ensures.err in
     told_ok c.stopping.result made _ c.stopping.ensures.same
-    (made_ok _ _ _ _ _ (Renames from to) made _ system.failures (disk_of g.D.Device system) m runs.same
-    (record { runs = refl; id = id; is = is; apart = apart; home = record { directory = home.directory; inside = home.inside; there = home.there }; done = ap (with_failures system.failures) c.in-Ok.ensures.ok.contents }))
+    (made_ok _ _ _ _ _ (Renames from to) made _ system.failures system.kinds.told (disk_of g.D.Device system) m runs.same
+    (record { runs = refl; id = id; is = is; apart = apart; home = record { directory = home.directory; inside = home.inside; there = home.there }; done = ap (with_failures system.failures system.kinds.told) c.in-Ok.ensures.ok.contents }))
 
 pub returns-clause-err : goal.returns-clause-err
 returns-clause-err g c =
@@ -68,11 +68,11 @@ returns-clause-err g c =
     let is : old.names from ≡ Some id = search rules in
     let apart : is_directory (node_at system.storage to) ≡ false = search rules in
     let home : HasDirectory to old = search rules in
-    let there : HasDirectory to (with_failures system.failures old) = record { directory = home.directory; inside = home.inside; there = home.there } in
+    let there : HasDirectory to (with_failures system.failures system.kinds.told old) = record { directory = home.directory; inside = home.inside; there = home.there } in
     let made = c.rename-made.result in
     let m = made_of (Renamed from to) system.storage c.rename_file.new.self (g.D.Device.trace system.device) (g.D.Device.trace c.rename-made.new.device) made system.stopped c.stopping.new.stopped
     runs.running system.follows (did_rename from to id old (contents_of c.rename_file.new.self) is c.in-Ok.ensures.ok.contents) c.rename-made.ensures.ok c.rename-made.ensures.err c.stopping.ensures.ok c.stopping.ensures.err in
     told_err c.stopping.result made _ c.stopping.ensures.same
-    (made_err _ _ _ _ _ Nothing (Renames from to) (WrongRename from to) made _ system.failures (disk_of g.D.Device system) m runs.same
-    (right_rename from to (with_failures system.failures old) id is apart there)
-    (record { runs = refl; id = id; is = is; apart = apart; home = there; done = ap (with_failures system.failures) c.in-Ok.ensures.ok.contents }))
+    (made_err _ _ _ _ _ Nothing (Renames from to) (WrongRename from to) made _ system.failures system.kinds.told (disk_of g.D.Device system) m runs.same
+    (right_rename from to (with_failures system.failures system.kinds.told old) id is apart there)
+    (record { runs = refl; id = id; is = is; apart = apart; home = there; done = ap (with_failures system.failures system.kinds.told) c.in-Ok.ensures.ok.contents }))

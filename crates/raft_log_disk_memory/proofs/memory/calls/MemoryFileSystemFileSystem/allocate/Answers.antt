@@ -1,12 +1,12 @@
 use Rattle.std.proofs.Common.{◌∙◌, ◌+◌}
 use Rattle.std.proofs.lemmas.Result.{err_from_is_err_and}
 use Rattle.raft_log_disk.specs.Disk.{GrewTo}
-use Rattle.raft_log_disk.specs.Calls.{after_change, RefusedChange}
+use Rattle.raft_log_disk.specs.Calls.{after_change}
 use Rattle.raft_log_disk.specs.Arguments.{WrongWriter}
 use Rattle.raft_log_disk_storage.specs.Storage.{contents_of}
 use Rattle.raft_log_disk_memory.specs.Memory.{disk_of}
 use Rattle.raft_log_disk_memory.proofs.Turns.{over, refused, any_refusal, change_order, change_cause, call_turn}
-use Rattle.raft_log_disk_memory.proofs.Calls.{any_err, refused_piece, made_or_not, change_ok, change_err, right_writer, no_writer}
+use Rattle.raft_log_disk_memory.proofs.Calls.{refused_piece, made_or_not, change_ok, change_err, right_writer, no_writer}
 use Rattle.raft_log_disk_memory.proofs.Space.{room_told, space_had, space_found}
 use Rattle.raft_log_disk_memory.proofs.memory.calls.MemoryFileSystemFileSystem.allocate.Goals as goal
 
@@ -19,8 +19,8 @@ pub returns-in_err-stops-clause-err : goal.returns-in_err-stops-clause-err
 returns-in_err-stops-clause-err c =
     let old = disk_of c.args.self.now in
     let checked = c.in_ok-check_writer.ensures.ok in
-    any_err c.from_residual-in_err-stops.result (λ e. RefusedChange c.args.handle.file (GrewTo (c.args.offset + c.args.size)) (WrongWriter c.args.handle old) e old (disk_of c.begin_change.new.self))
-    (λ e. refused_piece old (disk_of c.begin_change.new.self) checked.0 (right_writer c.args.handle old checked.1 checked.2)
+    let same = err_from_is_err_and c.from_residual-in_err-stops.result c.from_residual-in_err-stops.ensures.1 in
+    rw (same.1, same.2) (refused_piece old (disk_of c.begin_change.new.self) checked.0 (right_writer c.args.handle old checked.1 checked.2)
     (refused c.in_err-stops.ensures.err))
 
 pub returns-in_err-stops-clause-cause : goal.returns-in_err-stops-clause-cause

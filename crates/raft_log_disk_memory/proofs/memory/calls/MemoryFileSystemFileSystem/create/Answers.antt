@@ -2,7 +2,7 @@ use Rattle.std.proofs.Common.{rules, refl, sym, ap, subst, ◌≡◌, ◌∙◌,
 use Rattle.std.specs.Result.{MatchResult}
 use Rattle.std.proofs.lemmas.Result.{err_from_is_err_and}
 use Rattle.raft_log_disk.specs.Disk.{HasDirectory}
-use Rattle.raft_log_disk.specs.Calls.{Creates, RefusedWhole, created}
+use Rattle.raft_log_disk.specs.Calls.{Creates, created}
 use Rattle.raft_log_disk.specs.Arguments.{WrongCreate}
 use Rattle.raft_log_disk_storage.specs.Steps.{IsSame, AddsName}
 use Rattle.raft_log_disk_storage.specs.Storage.{contents_of, unsynced_of, node_at, file_named, is_directory}
@@ -10,7 +10,7 @@ use Rattle.raft_log_disk_memory.specs.Memory.{disk_of, kept}
 use Rattle.raft_log_disk_memory.specs.Answers.{CreatesNext, order_of}
 use Rattle.raft_log_disk_storage.proofs.Exits.{ok_then, err_then}
 use Rattle.raft_log_disk_memory.proofs.Turns.{over, fallen, fell, call_turn, call_order, call_cause}
-use Rattle.raft_log_disk_memory.proofs.Calls.{any_err, refused_whole, call_ok, call_err, done_or_not, right_create}
+use Rattle.raft_log_disk_memory.proofs.Calls.{refused_whole, call_ok, call_err, done_or_not, right_create}
 use Rattle.raft_log_disk_memory.proofs.memory.calls.MemoryFileSystemFileSystem.create.Goals as goal
 
 pub returns-in_err-stops-clause-err : goal.returns-in_err-stops-clause-err
@@ -18,8 +18,8 @@ returns-in_err-stops-clause-err c =
     let old = disk_of c.args.self.now in
     let free : node_at c.args.self.now.storage c.args.path.now ≡ None = search rules in
     let home : HasDirectory c.args.path.now old = search rules in
-    any_err c.from_residual-in_err-stops.result (λ e. RefusedWhole (CreatesNext c.args.path.now old) (WrongCreate c.args.path.now old) e old (disk_of c.begin.new.self))
-    (λ e. refused_whole old old (disk_of c.begin.new.self) c.in_ok-check_runs.ensures.ok (right_create c.args.path.now old (ap file_named free) (ap is_directory free) home) refl (fallen c.in_err-stops.ensures.err))
+    let same = err_from_is_err_and c.from_residual-in_err-stops.result c.from_residual-in_err-stops.ensures.1 in
+    rw (same.1, same.2) (refused_whole old old (disk_of c.begin.new.self) c.in_ok-check_runs.ensures.ok (right_create c.args.path.now old (ap file_named free) (ap is_directory free) home) refl (fallen c.in_err-stops.ensures.err))
 
 pub returns-in_err-stops-clause-cause : goal.returns-in_err-stops-clause-cause
 returns-in_err-stops-clause-cause c =

@@ -1,7 +1,7 @@
 use Rattle.std.proofs.Common.{rules, refl, sym, ap, ◌≡◌, ◌∙◌, Some, ℕ, Option, Ok, Result}
 use Rattle.std.specs.declared.alloc.AllocError.{AllocError}
 use Rattle.std.proofs.lemmas.Result.{err_from_is_err_and}
-use Rattle.raft_log_disk.specs.Calls.{Deletes, RefusedWhole, deleted}
+use Rattle.raft_log_disk.specs.Calls.{Deletes, deleted}
 use Rattle.raft_log_disk.specs.Arguments.{WrongName}
 use Rattle.raft_log_disk_storage.specs.declared.storage.Node.TheVariants as node
 use Rattle.raft_log_disk_storage.specs.declared.storage.Storage.{Storage}
@@ -9,15 +9,15 @@ use Rattle.raft_log_disk_storage.specs.Storage.{contents_of, unsynced_of, node_a
 use Rattle.raft_log_disk_memory.specs.Memory.{disk_of, unsynced, kept, without_named}
 use Rattle.raft_log_disk_memory.specs.Answers.{order_without_named}
 use Rattle.raft_log_disk_memory.proofs.Turns.{over, fallen, fell, call_turn, call_order, call_cause}
-use Rattle.raft_log_disk_memory.proofs.Calls.{any_err, refused_whole, call_ok, call_err, right_name}
+use Rattle.raft_log_disk_memory.proofs.Calls.{refused_whole, call_ok, call_err, right_name}
 use Rattle.raft_log_disk_memory.proofs.memory.calls.MemoryFileSystemFileSystem.delete.Goals as goal
 
 pub returns-in_err-stops-clause-err : goal.returns-in_err-stops-clause-err
 returns-in_err-stops-clause-err c =
     let old = disk_of c.args.self.now in
     let is : node_at c.args.self.now.storage c.args.path.now ≡ Some (node.File c.in-Some-File.id) = search rules in
-    any_err c.from_residual-in_err-stops.result (λ e. RefusedWhole (Deletes c.args.path.now old) (WrongName c.args.path.now old) e old (disk_of c.begin.new.self))
-    (λ e. refused_whole old old (disk_of c.begin.new.self) c.in_ok-check_runs.ensures.ok (right_name c.args.path.now old c.in-Some-File.id (ap file_named is)) refl (fallen c.in_err-stops.ensures.err))
+    let same = err_from_is_err_and c.from_residual-in_err-stops.result c.from_residual-in_err-stops.ensures.1 in
+    rw (same.1, same.2) (refused_whole old old (disk_of c.begin.new.self) c.in_ok-check_runs.ensures.ok (right_name c.args.path.now old c.in-Some-File.id (ap file_named is)) refl (fallen c.in_err-stops.ensures.err))
 
 pub returns-in_err-stops-clause-cause : goal.returns-in_err-stops-clause-cause
 returns-in_err-stops-clause-cause c =

@@ -2,7 +2,7 @@ use Rattle.std.proofs.Common.{rules, refl, sym, ap, ◌≡◌, ◌∙◌, Some, 
 use Rattle.std.specs.Result.{MatchResult}
 use Rattle.std.proofs.lemmas.Result.{err_from_is_err_and}
 use Rattle.raft_log_disk.specs.Disk.{HasDirectory}
-use Rattle.raft_log_disk.specs.Calls.{Renames, RefusedWhole, renamed}
+use Rattle.raft_log_disk.specs.Calls.{Renames, renamed}
 use Rattle.raft_log_disk.specs.Arguments.{WrongRename}
 use Rattle.raft_log_disk_storage.specs.Steps.{IsSame, MovesName, without_replaced}
 use Rattle.raft_log_disk_storage.specs.declared.storage.Node.TheVariants as node
@@ -12,7 +12,7 @@ use Rattle.raft_log_disk_memory.specs.Memory.{disk_of, unsynced, kept, with_move
 use Rattle.raft_log_disk_memory.specs.Answers.{order_without_replaced}
 use Rattle.raft_log_disk_storage.proofs.Exits.{ok_then, err_then}
 use Rattle.raft_log_disk_memory.proofs.Turns.{over, fallen, fell, call_turn, call_order, call_cause}
-use Rattle.raft_log_disk_memory.proofs.Calls.{any_err, refused_whole, call_ok, call_err, done_or_not, right_rename}
+use Rattle.raft_log_disk_memory.proofs.Calls.{refused_whole, call_ok, call_err, done_or_not, right_rename}
 use Rattle.raft_log_disk_memory.proofs.memory.calls.MemoryFileSystemFileSystem.rename.Goals as goal
 
 pub returns-in_err-stops-clause-err : goal.returns-in_err-stops-clause-err
@@ -21,8 +21,8 @@ returns-in_err-stops-clause-err c =
     let is : node_at c.args.self.now.storage c.args.from.now ≡ Some (node.File c.in-Some-File.id) = search rules in
     let apart : is_directory (node_at c.args.self.now.storage c.args.to.now) ≡ false = search rules in
     let home : HasDirectory c.args.to.now old = search rules in
-    any_err c.from_residual-in_err-stops.result (λ e. RefusedWhole (Renames c.args.from.now c.args.to.now old) (WrongRename c.args.from.now c.args.to.now old) e old (disk_of c.begin.new.self))
-    (λ e. refused_whole old old (disk_of c.begin.new.self) c.in_ok-check_runs.ensures.ok (right_rename c.args.from.now c.args.to.now old c.in-Some-File.id (ap file_named is) apart home) refl (fallen c.in_err-stops.ensures.err))
+    let same = err_from_is_err_and c.from_residual-in_err-stops.result c.from_residual-in_err-stops.ensures.1 in
+    rw (same.1, same.2) (refused_whole old old (disk_of c.begin.new.self) c.in_ok-check_runs.ensures.ok (right_rename c.args.from.now c.args.to.now old c.in-Some-File.id (ap file_named is) apart home) refl (fallen c.in_err-stops.ensures.err))
 
 pub returns-in_err-stops-clause-cause : goal.returns-in_err-stops-clause-cause
 returns-in_err-stops-clause-cause c =

@@ -1,7 +1,7 @@
 use Rattle.std.proofs.Common.{refl, ap, ◌≡◌, ◌∙◌}
 use Rattle.std.specs.Result.{MatchResult}
 use Rattle.std.proofs.lemmas.Result.{err_from_is_err_and}
-use Rattle.raft_log_disk.specs.Calls.{RefusedWhole, flushed}
+use Rattle.raft_log_disk.specs.Calls.{flushed}
 use Rattle.raft_log_disk.specs.Arguments.{WrongHandle}
 use Rattle.raft_log_disk_storage.specs.Order.{without_file}
 use Rattle.raft_log_disk_storage.specs.Steps.{IsSame, SyncsFile}
@@ -11,14 +11,14 @@ use Rattle.raft_log_disk_memory.specs.Memory.{disk_of, kept}
 use Rattle.raft_log_disk_memory.specs.Answers.{SyncsAll, order_without}
 use Rattle.raft_log_disk_storage.proofs.Exits.{ok_then, err_then}
 use Rattle.raft_log_disk_memory.proofs.Turns.{over, fallen, fell, call_turn, call_order, call_cause}
-use Rattle.raft_log_disk_memory.proofs.Calls.{any_err, refused_whole, call_ok, call_err, changed_or_not, right_handle}
+use Rattle.raft_log_disk_memory.proofs.Calls.{refused_whole, call_ok, call_err, changed_or_not, right_handle}
 use Rattle.raft_log_disk_memory.proofs.memory.calls.MemoryFileSystemFileSystem.sync.Goals as goal
 
 pub returns-in_err-stops-clause-err : goal.returns-in_err-stops-clause-err
 returns-in_err-stops-clause-err c =
     let old = disk_of c.args.self.now in
-    any_err c.from_residual-in_err-stops.result (λ e. RefusedWhole (SyncsAll c.args.handle.file old) (WrongHandle c.args.handle old) e old (disk_of c.begin.new.self))
-    (λ e. refused_whole old old (disk_of c.begin.new.self) c.in_ok-check_handle.ensures.ok.0 (right_handle c.args.handle old c.in_ok-check_handle.ensures.ok.1) refl (fallen c.in_err-stops.ensures.err))
+    let same = err_from_is_err_and c.from_residual-in_err-stops.result c.from_residual-in_err-stops.ensures.1 in
+    rw (same.1, same.2) (refused_whole old old (disk_of c.begin.new.self) c.in_ok-check_handle.ensures.ok.0 (right_handle c.args.handle old c.in_ok-check_handle.ensures.ok.1) refl (fallen c.in_err-stops.ensures.err))
 
 pub returns-in_err-stops-clause-cause : goal.returns-in_err-stops-clause-cause
 returns-in_err-stops-clause-cause c =

@@ -3,12 +3,12 @@ use Rattle.std.specs.Option.{IfSome}
 use Rattle.raft_log_disk_memory.specs.Turns.{armed, PartFalls}
 use Rattle.std.proofs.lemmas.Result.{err_from_is_err_and}
 use Rattle.raft_log_disk.specs.Disk.{Wrote}
-use Rattle.raft_log_disk.specs.Calls.{after_change, RefusedChange}
+use Rattle.raft_log_disk.specs.Calls.{after_change}
 use Rattle.raft_log_disk.specs.Arguments.{WrongWriter}
 use Rattle.raft_log_disk_storage.specs.Storage.{contents_of}
 use Rattle.raft_log_disk_memory.specs.Memory.{disk_of}
 use Rattle.raft_log_disk_memory.proofs.Turns.{over, counted_or_stop, refusal, part_cause, change_order, change_cause, call_turn}
-use Rattle.raft_log_disk_memory.proofs.Calls.{any_err, refused_piece, front_or_not, part_err, made_or_not, change_ok, change_err, right_writer, no_writer}
+use Rattle.raft_log_disk_memory.proofs.Calls.{refused_piece, front_or_not, part_err, made_or_not, change_ok, change_err, right_writer, no_writer}
 use Rattle.raft_log_disk_memory.proofs.Space.{room_told, space_had, space_found}
 use Rattle.raft_log_disk_memory.proofs.memory.calls.MemoryFileSystemFileSystem.write_at.Goals as goal
 
@@ -21,8 +21,8 @@ pub returns-in_err-stops-clause-err : goal.returns-in_err-stops-clause-err
 returns-in_err-stops-clause-err c =
     let old = disk_of c.args.self.now in
     let checked = c.in_ok-check_writer.ensures.ok in
-    any_err c.from_residual-in_err-stops.result (λ e. RefusedChange c.args.handle.file (Wrote c.args.offset c.args.bytes.now) (WrongWriter c.args.handle old) e old (disk_of c.begin_write.new.self))
-    (λ e. refused_piece old (disk_of c.begin_write.new.self) checked.0 (right_writer c.args.handle old checked.1 checked.2)
+    let same = err_from_is_err_and c.from_residual-in_err-stops.result c.from_residual-in_err-stops.ensures.1 in
+    rw (same.1, same.2) (refused_piece old (disk_of c.begin_write.new.self) checked.0 (right_writer c.args.handle old checked.1 checked.2)
     (counted_or_stop old (disk_of c.begin_write.new.self) c.in_err-stops.ensures.err.left))
 
 pub returns-in_err-stops-clause-cause : goal.returns-in_err-stops-clause-cause

@@ -1,7 +1,9 @@
 -- Zeros at the end of bytes: what stands at a place is the same with them and without, as it is 0 past the end too.
 use Rattle.std.specs.Prelude.{◌≡◌, ℕ, ◌+◌, ◌-◌, ◌<◌, ◌≤◌, ◌⊎◌, min, max, List, [], ◌∷◌, ◌++◌, length}
+use Rattle.std.specs.List.{All}
 use Rattle.std.proofs.Common.{refl, sym, ◌∙◌, ap, arith, inl, inr, get_or, take, drop}
 use Rattle.std.proofs.lemmas.List.{ext_get_or, get_or_append_left, get_or-append_right, get_or-take, get_or-drop, get_or-replicate, get_or_past, take_all, take_at, drop_at, append-nil, append_assoc, length-append, length-take, length-take-le, length-drop, length-replicate}
+use Rattle.std.proofs.lemmas.List.Elements.{All-get_or}
 use Rattle.std.proofs.lemmas.Bool.{cases_lt}
 use Rattle.raft_log_disk.specs.Disk.{Change, Wrote, ShortenedTo, GrewTo, zeros, grown, spliced, overwritten, changed}
 use Rattle.raft_log_disk.proofs.ChangeLaws.{overwritten_torn}
@@ -102,6 +104,32 @@ written_front at bytes size count front is =
     let over : List ℕ = overwritten at bytes front in
     let same : max size count - length over ≡ size - length over = omega (arith, is) in
     ap (λ (n : ℕ). over ++ zeros n) same ∙ sym (overwritten-grown at bytes size front)
+
+-- zeros that are written behind the front fill the bytes up with zeros
+pub zeros_written : (at : ℕ) (bytes : List ℕ) (size : ℕ) (front : List ℕ) → length front ≤ at → 0 < length bytes → All (λ byte. byte ≡ 0) bytes
+    → grown (at + length bytes) (grown size front) ≡ overwritten at bytes (grown size front)
+zeros_written at bytes size front behind some none =
+    let old : List ℕ = grown size front in
+    let end : ℕ = at + length bytes in
+    let left : List ℕ = overwritten at bytes old in
+    let outside : (i : ℕ) → (i < at) ⊎ (end ≤ i) → get_or (grown end old) i 0 ≡ get_or left i 0 =
+    λ i out. get_or-grown end old i ∙ sym (overwritten_outside at bytes old i out) in
+    ext_get_or 0 (grown end old) left
+    (omega (arith, length-written at bytes old some, length-grown end old))
+    (λ i inside. elim (cases_lt i at) [
+      | inl before ↦ outside i (inl before)
+      | inr from ↦ elim (cases_lt i end) [
+        | inr past ↦ outside i (inr past)
+        | inl within ↦
+            let moved : at + (i - at) ≡ i = omega (arith, from) in
+            let below : i - at < length bytes = omega (arith, from, within) in
+            get_or-grown end old i
+            ∙ (get_or-grown size front i
+            ∙ (get_or_past front i 0 (omega (arith, behind, from))
+            ∙ (sym (All-get_or (λ (byte : ℕ). byte ≡ 0) bytes (i - at) 0 below none)
+            ∙ (sym (overwritten_inside at bytes old (i - at) below) ∙ ap (λ (n : ℕ). get_or left n 0) moved))))
+      ]
+    ])
 
 -- a front without the zeros behind it
 take-grown : (n size : ℕ) (old : List ℕ) → n ≤ length old → take n (grown size old) ≡ take n old

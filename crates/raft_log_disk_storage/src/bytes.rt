@@ -1,5 +1,6 @@
 //! Changes of a file's bytes in place.
-ghost use Rattle.std.specs.Prelude.{◌≡◌, ◌+◌, ◌-◌, ◌++◌, min, take, drop, ◌<◌, ◌^◌, length, is_ok, if◌then◌else◌, OnOk, OnErr};
+ghost use Rattle.std.specs.Prelude.{◌≡◌, ◌+◌, ◌-◌, ◌++◌, min, take, drop, ◌<◌, ◌^◌, length, IsTrue, ◌↔◌, is_ok, if◌then◌else◌, OnOk, OnErr};
+ghost use Rattle.std.specs.List.{All};
 ghost use Rattle.raft_log_disk.specs.Disk.{grown, overwritten};
 
 use std::alloc::AllocError;
@@ -31,6 +32,14 @@ pub(crate) fn overwrite(bytes: &mut Vec<u8>, at: usize, over: &[u8]) -> Result<(
     grow_to(bytes, end)?;
     bytes[at..end].copy_from_slice(over);
     Ok(())
+}
+
+// Whether there are bytes, and all of them are zeros.
+pub(crate) fn are_zeros(bytes: &[u8]) -> bool
+    ensures some { IsTrue result → 0 < length bytes.now }
+    ensures zeros { IsTrue result → All (λ byte. byte ≡ 0) bytes.now }
+{
+    !bytes.is_empty() && bytes.iter().all(|byte| *byte == 0)
 }
 
 // Copies the bytes from `offset` on until the room is full or they end, and answers how many.

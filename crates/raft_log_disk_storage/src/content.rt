@@ -2,9 +2,12 @@
 ghost use Rattle.std.specs.Prelude.{◌≡◌, ◌+◌, ◌-◌, ◌++◌, ◌<◌, ◌≤◌, ◌^◌, min, take, drop, length, OnOk, OnErr, IfOk};
 ghost use Rattle.raft_log_disk.specs.Disk.{grown, overwritten};
 
-use crate::bytes::{copy_out, overwrite};
+use crate::bytes::{are_zeros, copy_out, overwrite};
 use std::alloc::{AllocError, Global};
 use std::marker::Model;
+
+// Each file is shorter than this.
+const LIMIT: usize = 1 << 63;
 
 /// A file's bytes, which contracts see as a list. Those behind the last one that was written are zeros and
 /// stand nowhere: room is kept for them, and a write puts its bytes there over nothing.
@@ -90,11 +93,16 @@ impl Content {
     }
 
     // Puts bytes over the ones that stand from `offset` on, with zeros in a gap. Without memory nothing changes.
+    // A write of zeros behind the bytes at the front is counted too, as a growth is.
     pub(crate) fn write(&mut self, offset: usize, over: &[u8]) -> Result<(), AllocError>
         requires { offset + length over.now < 2 ^ 64 }
         ensures ok { OnOk result (self.new ≡ overwritten offset over.now self.old) }
         ensures err { OnErr result (self.new ≡ self.old) }
     {
+        let end = offset + over.len();
+        if self.front.len() <= offset && end < LIMIT && are_zeros(over) {
+            return self.grow(end);
+        }
         overwrite(&mut self.front, offset, over)?;
         self.size = self.size.max(self.front.len());
         Ok(())

@@ -1,33 +1,60 @@
--- Entries that are read one after another.
-use Rattle.std.proofs.Common.{◌≡◌, ℕ, zero, suc, ◌+◌, ◌<◌, List, [], ◌∷◌, ◌++◌, length, take, drop, Some, slice_get, nat_lt, sym, ap, ap₂, ◌∙◌, arith, append_assoc}
+-- Entries that are read: those in Rewrite, and behind them those in Append.
+use Rattle.std.proofs.Common.{◌≡◌, ℕ, suc, ◌+◌, ◌-◌, ◌<◌, ◌≤◌, List, [], ◌∷◌, ◌++◌, length, take, drop, nat_lt, refl, sym, ap, ap₂, ◌∙◌, arith, append_assoc, drop-drop, length-drop, length-take-le, take-append-drop, take-take}
+use Rattle.std.proofs.lemmas.List.{drop-take}
+use Rattle.raft_log_record_base.specs.declared.pipe_log.LogQueue.TheVariants.{Append, Rewrite}
 use Rattle.raft_log_record_items.specs.declared.entry.EntryIndex.{EntryIndex}
+use Rattle.raft_log_model_laws.proofs.Cases.{lt_false, lt_true}
 use Rattle.raft_log_table_runs.specs.declared.place.Place.{Place}
-use Rattle.raft_log_table_runs.specs.Entries.{entry_of, queue_of}
+use Rattle.raft_log_table_runs.specs.Entries.{entries_of, entry_of, queue_of}
 use Rattle.raft_log_table_lists.specs.Shown.{Shown}
 use Rattle.raft_log_table_one.specs.Reads.{entries_from}
-use Rattle.raft_log_model_laws.proofs.TableSteps.{get_drop}
-use Rattle.raft_log_machine_laws.proofs.TruthRaises.{no_word}
-use Rattle.raft_log_table_one.proofs.Leasts.{place_there}
 
--- one entry more
-push_at : (v : Shown) (n j : ℕ) (ps : List Place) (p : Place) → slice_get ps j ≡ Some p
-    → entries_from v n (take (j + 1) ps) ≡ entries_from v n (take j ps) ++ (entry_of (queue_of (nat_lt (n + j) v.rewritten)) (v.first + (n + j)) p ∷ [])
-push_at v n zero [] p h = no_word p h
-push_at v n (suc j) [] p h = no_word p h
-push_at v n zero (x ∷ ps) p h =
-    let same : x ≡ p = cc in
-    ap₂ (λ k q. entry_of (queue_of (nat_lt k v.rewritten)) (v.first + k) q ∷ []) (let here : n ≡ n + 0 = omega arith in here) same
-push_at v n (suc j) (x ∷ ps) p h =
-    ap (λ k. entries_from v n (take k (x ∷ ps))) (let same : suc j + 1 ≡ suc (j + 1) = omega arith in same)
-    ∙ ap (λ l. entry_of (queue_of (nat_lt n v.rewritten)) (v.first + n) x ∷ l)
-    (push_at v (n + 1) j ps p h
-    ∙ ap (λ k. entries_from v (n + 1) (take j ps) ++ (entry_of (queue_of (nat_lt k v.rewritten)) (v.first + k) p ∷ [])) (let there : n + 1 + j ≡ n + suc j = omega arith in there))
+-- entries before the border lie in Rewrite
+rewritten_only : (v : Shown) (n k : ℕ) (ps : List Place) → k ≡ v.first + n → (0 < length ps → n + length ps ≤ v.rewritten) → entries_from v n ps ≡ entries_of Rewrite k ps
+rewritten_only v n k [] e h = refl
+rewritten_only v n k (p ∷ ps) e h =
+    let all = h (omega arith) in
+    ap₂ (λ b i. entry_of (queue_of b) i p ∷ entries_from v (n + 1) ps) (lt_true n v.rewritten (omega (arith, all))) (sym e)
+    ∙ ap (λ l. entry_of Rewrite k p ∷ l) (rewritten_only v (n + 1) (k + 1) ps (omega (arith, e)) (λ some. omega (arith, all)))
 
-pub pushes : (v : Shown) (old new : List EntryIndex) (n j : ℕ) (ps : List Place) (e : EntryIndex) → n + j < length ps
-    → ((p : Place) → slice_get ps (n + j) ≡ Some p → e ≡ entry_of (queue_of (nat_lt (n + j) v.rewritten)) (v.first + (n + j)) p)
-    → new ≡ old ++ entries_from v n (take j (drop n ps)) → new ++ (e ∷ []) ≡ old ++ entries_from v n (take (j + 1) (drop n ps))
-pushes v old new n j ps e h is so =
-    let there = place_there ps (n + j) h in
-    ap (λ l. l ++ (e ∷ [])) so ∙ append_assoc old (entries_from v n (take j (drop n ps))) (e ∷ [])
-    ∙ ap (λ x. old ++ (entries_from v n (take j (drop n ps)) ++ (x ∷ []))) (is there.0 there.1)
-    ∙ ap (λ l. old ++ l) (sym (push_at v n j (drop n ps) there.0 (get_drop n ps j ∙ there.1)))
+-- entries from the border on lie in Append
+appended_only : (v : Shown) (n k : ℕ) (ps : List Place) → k ≡ v.first + n → (0 < length ps → v.rewritten ≤ n) → entries_from v n ps ≡ entries_of Append k ps
+appended_only v n k [] e h = refl
+appended_only v n k (p ∷ ps) e h =
+    let all = h (omega arith) in
+    ap₂ (λ b i. entry_of (queue_of b) i p ∷ entries_from v (n + 1) ps) (lt_false n v.rewritten all) (sym e)
+    ∙ ap (λ l. entry_of Append k p ∷ l) (appended_only v (n + 1) (k + 1) ps (omega (arith, e)) (λ some. omega (arith, all)))
+
+from_append : (v : Shown) (n : ℕ) (ps qs : List Place) → entries_from v n (ps ++ qs) ≡ entries_from v n ps ++ entries_from v (n + length ps) qs
+from_append v n [] qs = ap (λ k. entries_from v k qs) (let same : n ≡ n + 0 = omega arith in same)
+from_append v n (p ∷ ps) qs =
+    ap (λ l. entry_of (queue_of (nat_lt n v.rewritten)) (v.first + n) p ∷ l)
+    (from_append v (n + 1) ps qs
+    ∙ ap (λ k. entries_from v (n + 1) ps ++ entries_from v k qs) (let same : n + 1 + length ps ≡ n + suc (length ps) = omega arith in same))
+
+-- both parts of what is read
+pub parts_read : (v : Shown) (n count before first : ℕ) (ps qs : List Place) (old mid new : List EntryIndex) → first ≡ v.first → qs ≡ ps → n + count ≤ length ps → before ≤ count
+    → (0 < before → n + before ≤ v.rewritten) → (0 < count - before → v.rewritten ≤ n + before)
+    → mid ≡ old ++ entries_of Rewrite (first + n) (take before (drop n qs))
+    → new ≡ mid ++ entries_of Append (first + (n + before)) (take (count - before) (drop (n + before) qs))
+    → new ≡ old ++ entries_from v n (take count (drop n ps))
+parts_read v n count before first ps qs old mid new e same h few low high one two =
+    let rest = drop n ps in
+    let long = length-drop n ps in
+    let front = take before rest in
+    let back = take (count - before) (drop (n + before) ps) in
+    let front_long = length-take-le before rest (omega (arith, long, h, few)) in
+    let gone = length-drop (n + before) ps in
+    let back_long = length-take-le (count - before) (drop (n + before) ps) (omega (arith, gone, h, few)) in
+    let whole : take count rest ≡ front ++ back =
+    sym (take-append-drop before (take count rest))
+    ∙ ap₂ ◌++◌ (take-take before count rest few)
+    (ap (λ m. drop before (take m rest)) (let all : count ≡ before + (count - before) = omega (arith, few) in all)
+    ∙ drop-take before (count - before) rest ∙ ap (take (count - before)) (drop-drop before n ps)) in
+    let first_part = rewritten_only v n (first + n) front (omega (arith, e)) (λ some. let some_of = low (omega (arith, front_long, some)) in omega (arith, front_long, some_of)) in
+    let last_part = appended_only v (n + length front) (first + (n + before)) back (omega (arith, e, front_long))
+    (λ some. let some_of = high (omega (arith, back_long, some)) in omega (arith, front_long, some_of)) in
+    two ∙ ap₂ (λ l q. l ++ entries_of Append (first + (n + before)) (take (count - before) (drop (n + before) q)))
+    (one ∙ ap (λ q. old ++ entries_of Rewrite (first + n) (take before (drop n q))) same) same
+    ∙ append_assoc old (entries_of Rewrite (first + n) front) (entries_of Append (first + (n + before)) back)
+    ∙ ap (λ l. old ++ l) (sym (ap (entries_from v n) whole ∙ from_append v n front back ∙ ap₂ ◌++◌ first_part last_part))

@@ -239,29 +239,13 @@ impl MemTable {
             ≡ entries.old.items ++ entries_from (shown self.now) position
             (take count (drop position (shown self.now).places)) }
     {
-        let mut hint = 0;
-        for i in 0..count {
-            entries.push_reserved(self.entry_there(position + i, &mut hint));
-        }
-    }
-
-    /// The entry at this position, which is there. It is looked for in the run of the hint first, and then the
-    /// hint is its run.
-    fn entry_there(&self, position: usize, hint: &mut usize) -> EntryIndex
-        requires { position < length (shown self.now).places }
-        ensures { (p : Place) → slice_get (shown self.now).places position ≡ Some p → result
-            ≡ entry_of (queue_of (nat_lt position self.now.rewritten)) (self.now.first + position) p }
-    {
-        let queue = if position < self.rewritten {
-            LogQueue::Rewrite
-        } else {
-            LogQueue::Append
-        };
-        entry_of(
-            queue,
-            self.first + position as u64,
-            self.places.at(position, hint),
-        )
+        let before = self.rewritten.saturating_sub(position).min(count);
+        let behind = position + before;
+        let places = &self.places;
+        let index = self.first + position as u64;
+        places.copy_entries(LogQueue::Rewrite, index, position, before, entries);
+        let index = self.first + behind as u64;
+        places.copy_entries(LogQueue::Append, index, behind, count - before, entries);
     }
 
     /// Makes room for the entries of a batch that is to be written, behind all that is prepared already.

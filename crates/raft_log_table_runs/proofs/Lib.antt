@@ -9,3 +9,4 @@ pub mod RunTurns
 pub mod RunSteps
 pub mod RunRoom
 pub mod RunReplacing
+pub mod RunCopies

@@ -195,6 +195,17 @@ module _ (front base len : ℕ) (rs : List Run) (ss : List ℕ) (before : List R
       ∙ get_behind (counts before) i (expand before ss) (places_of r (drop (widths before) ss)) (expand after (drop (widths before + width r) ss)) d before_long
       (let long = places_long in omega (arith, long, h))
 
+  -- so many places from one of them on
+  pub part_is : (i c : ℕ) → i + c ≤ r.count → take c (drop (counts before + i) (expand rs ss)) ≡ take c (drop i (places_of r (drop (widths before) ss)))
+  part_is i c h =
+      let here_are = places_of r (drop (widths before) ss) in
+      let behind = expand after (drop (widths before + width r) ss) in
+      let long = places_long in
+      let rest = length-drop i here_are in
+      ap (λ l. take c (drop (counts before + i) l)) (expand_around rs ss before r after here.split)
+      ∙ ap (take c) (drop_behind (counts before) i (expand before ss) here_are behind before_long (omega (arith, long, h)))
+      ∙ take-append-le c (drop i here_are) behind (omega (arith, rest, long, h))
+
   -- the runs before it and so many of its entries
   pub back_cut : (i : ℕ) (d : Place) → i < r.count
       → expand (before ++ (head r (suc i) (slice_index_or (places_of r (drop (widths before) ss)) i d).entry_len ∷ [])) (take (widths before + width_of r.even (suc i)) ss)

@@ -22,7 +22,7 @@ pub first_low : (front base len number : ℕ) (rs : List Run) (ss : List ℕ) �
 first_low front base len number [] ss s h k d = let none = s.count in absurd (omega (arith, none, h))
 first_low front base len number (r ∷ rs) ss s h k d = let first = s.numbered.0 in omega (arith, first, k)
 
-fits_each : (e : Bool) (r : Run) → StartsFit e r → e ≡ true → (j : ℕ) → j < r.count → r.start + j * r.size < 2 ^ 32
+pub fits_each : (e : Bool) (r : Run) → StartsFit e r → e ≡ true → (j : ℕ) → j < r.count → r.start + j * r.size < 2 ^ 32
 fits_each true r f h = f
 fits_each false r f h = λ j k. absurd (let clash : false ≡ true = h in let never : ⊥ = cc in never)
 
@@ -34,7 +34,7 @@ first_of_next : (n m : ℕ) (qs : List Run) (d : Run) → IsNumbered n m qs → 
 first_of_next n m [] d h k = absurd (omega arith)
 first_of_next n m (q ∷ qs) d h k = h.0
 
-below_end : (front base len number k : ℕ) (rs : List Run) (ss : List ℕ) (r : Run) → Around front base len rs ss (take k rs) r (drop (k + 1) rs)
+pub below_end : (front base len number k : ℕ) (rs : List Run) (ss : List ℕ) (r : Run) → Around front base len rs ss (take k rs) r (drop (k + 1) rs)
     → IsFound number rs k → number < front + len → number < r.first + r.count
 below_end front base len number k rs ss r here found h = by (drop (k + 1) rs) refl
   where

@@ -1,5 +1,5 @@
 -- The places of entries.
-use Rattle.std.specs.Prelude.{ℕ, List, [], ◌∷◌, Option, Some, None, map, if◌then◌else◌, Bool}
+use Rattle.std.specs.Prelude.{ℕ, ◌+◌, List, [], ◌∷◌, Option, Some, None, map, if◌then◌else◌, Bool}
 use Rattle.raft_log_record_base.specs.declared.pipe_log.LogQueue.{LogQueue}
 use Rattle.raft_log_record_base.specs.declared.pipe_log.LogQueue.TheVariants.{Append, Rewrite}
 use Rattle.raft_log_record_base.specs.declared.pipe_log.FileBlockHandle.{FileBlockHandle}
@@ -46,6 +46,11 @@ entry_of queue index p = record {
   entry_offset = p.entry_offset;
   entry_len = p.entry_len;
 }
+
+-- the entries that lie at these places, the first of this index
+abbrev pub entries_of : LogQueue → ℕ → List Place → List EntryIndex
+entries_of queue index [] = []
+entries_of queue index (p ∷ ps) = entry_of queue index p ∷ entries_of queue (index + 1) ps
 
 -- the entries as an item: a run from the first one's index on
 abbrev pub run_of : List EntryIndex → Item Place (List ℕ)

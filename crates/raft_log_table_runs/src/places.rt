@@ -1,6 +1,6 @@
 //! The places of a group's entries, and room for more.
-ghost use Rattle.std.specs.Prelude.{◌≡◌, ◌↔◌, IsTrue, ◌+◌, ◌-◌, ◌≤◌, ◌<◌, ◌++◌, [], length, map, take, drop, slice_get, Some, OnOk, OnErr};
-ghost use Rattle.raft_log_table_runs.specs.Entries.{place_of, entry_of};
+ghost use Rattle.std.specs.Prelude.{◌≡◌, ◌↔◌, IsTrue, ◌+◌, ◌-◌, ◌≤◌, ◌<◌, ◌++◌, [], length, map, take, drop, slice_get, vec_len, vec_capacity, ◌^◌, Some, OnOk, OnErr};
+ghost use Rattle.raft_log_table_runs.specs.Entries.{place_of, entry_of, entries_of};
 ghost use Rattle.raft_log_table_runs.specs.Blocks.{pieces};
 ghost use Rattle.raft_log_table_runs.specs.Counts.{passing, sized};
 
@@ -113,6 +113,28 @@ impl Places {
         ensures { slice_get self.now.items position ≡ Some result }
     {
         self.runs.at(position, hint)
+    }
+
+    /// Adds the entries of so many places from this position on, for which there is room. They lie in files of
+    /// this queue, and the first has this index.
+    pub fn copy_entries(
+        &self,
+        queue: LogQueue,
+        index: u64,
+        position: usize,
+        count: usize,
+        entries: &mut Vec<EntryIndex>,
+    )
+        requires within { position + count ≤ length self.now.items }
+        requires indexes { index + count < 2 ^ 64 }
+        requires room { vec_len entries.old + count ≤ vec_capacity entries.old }
+        ensures items { entries.new.items ≡ entries.old.items
+            ++ entries_of queue index (take count (drop position self.now.items)) }
+        ensures len { vec_len entries.new ≡ vec_len entries.old + count }
+        ensures capacity { vec_capacity entries.new ≡ vec_capacity entries.old }
+    {
+        self.runs
+            .copy_entries(queue, index, position, count, entries);
     }
 
     /// Makes room for so many more. Where memory is refused, nothing changes.

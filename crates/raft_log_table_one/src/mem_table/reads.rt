@@ -94,7 +94,7 @@ impl MemTable {
 
     /// Calls back with each key that isn't below the start and is below the end, where they are given, and
     /// with its value: in the order of the keys' bytes or backwards, up to the first call that answers
-    /// false. It takes time in all keys of the table.
+    /// false. It takes time in the keys between the bounds, also in those that have no value.
     pub fn scan<F: FnMut(&[u8], &[u8]) -> bool>(
         &self,
         start: Option<&[u8]>,
@@ -112,7 +112,8 @@ impl MemTable {
     }
 
     /// Adds the keys that aren't below the start and are below the end, where they are given, and their
-    /// values, in the order of the keys. A refusal adds nothing. It takes time in all keys of the table.
+    /// values, in the order of the keys. A refusal adds nothing. It takes time in the keys between the bounds,
+    /// also in those that have no value.
     pub fn fetch_kvs_within(
         &self,
         start: Option<&[u8]>,

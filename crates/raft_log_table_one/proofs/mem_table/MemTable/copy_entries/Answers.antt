@@ -1,13 +1,17 @@
-use Rattle.std.proofs.Common.{◌∙◌, arith}
+use Rattle.std.proofs.Common.{ap, arith}
 use Rattle.raft_log_table_one.specs.Table.{shown}
-use Rattle.raft_log_table_one.proofs.Fetching.{pushes}
+use Rattle.raft_log_table_one.proofs.Fetching.{parts_read}
 use Rattle.raft_log_table_one.proofs.mem_table.MemTable.copy_entries.Goals as goal
 
-pub loop-i-preserved : goal.loop-i-preserved
-loop-i-preserved c = (
-  c.push_reserved.ensures.items
-      ∙ pushes (shown c.args.self.now) c.args.entries.now.items c.loop-i.entries.items c.args.position c.loop-i.i c.args.self.now.places.items c.entry_there.result
-      (omega (arith, c.requires.within, c.loop-i-test.true)) c.entry_there.ensures c.loop-i.invariant.0,
-  omega (arith, c.push_reserved.ensures.len, c.loop-i.invariant.1),
-  c.push_reserved.ensures.capacity ∙ c.loop-i.invariant.2,
-)
+pub returns : goal.returns
+returns c =
+    let t = c.self.inside in
+    let first = ap (λ v. v.first) c.self.view_is in
+    let places = ap (λ v. v.places.items) c.self.view_is in
+    let border = ap (λ v. v.rewritten) c.self.view_is in
+    parts_read (shown c.args.self.now) c.args.position c.args.count c.min-before.result t.first c.args.self.now.places.items t.places.items c.args.entries.now.items
+    c.copy_entries.new.entries.items c.copy_entries-2.new.entries.items first places c.requires.within
+    (omega (arith, c.min-before.ensures))
+    (λ some. omega (arith, c.min-before.ensures, c.saturating_sub.ensures, border, some))
+    (λ some. omega (arith, c.min-before.ensures, c.saturating_sub.ensures, border, some))
+    c.copy_entries.ensures.items c.copy_entries-2.ensures.items

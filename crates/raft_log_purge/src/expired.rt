@@ -21,8 +21,8 @@ use raft_log_file_pair::PipeLog;
 use raft_log_purge_parts::raft_log_file_blocks::BlockCache;
 use raft_log_purge_parts::{least_file, rewrite_marks};
 use raft_log_purge_rules::{
-    Rounds, Thresholds, Watermarks, answered_groups, append_watermarks, asked_groups,
-    rewritten_groups, takes_append,
+    GroupLists, Rounds, Thresholds, Watermarks, answered_groups, append_watermarks, picked_groups,
+    takes_append,
 };
 use raft_log_record_base::{FileId, FileSeq, LogQueue, Result};
 use raft_log_table_all::MemTables;
@@ -119,10 +119,12 @@ fn pick_groups(
 ) -> Result<PickedGroups, AllocError>
     ensures { IfOk result (PicksGroups watermarks.now restated tables.now rounds.now) }
 {
-    let asked = asked_groups(alloc, tables, watermarks)?;
+    let GroupLists {
+        asked,
+        rewritten,
+        answered,
+    } = picked_groups(alloc, tables, watermarks, rounds, restated)?;
     let next = rounds.behind(alloc, asked.as_slice())?;
-    let rewritten = rewritten_groups(alloc, tables, watermarks, rounds)?;
-    let answered = answered_groups(alloc, tables, Some(*watermarks), restated)?;
     Ok(PickedGroups {
         answered,
         rewritten,

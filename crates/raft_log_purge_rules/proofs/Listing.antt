@@ -16,9 +16,10 @@ use Rattle.raft_log_table_all.specs.declared.mem_tables.MemTables.{MemTables}
 use Rattle.raft_log_table_all.specs.Tables.{has_table, raw_of}
 use Rattle.raft_log_table_one.specs.Table.{Raw}
 use Rattle.raft_log_table_all.specs.Walking.{ListsGroups}
+use Rattle.raft_log_purge_rules.specs.declared.picking.GroupLists.{GroupLists}
 use Rattle.raft_log_purge_rules.specs.declared.watermarks.Watermarks.{Watermarks}
 use Rattle.raft_log_purge_rules.specs.Behind.{round_behind}
-use Rattle.raft_log_purge_rules.specs.Picking.{answers_at, answers_in, asks_at, asks_in, rewrites_at, rewrites_in}
+use Rattle.raft_log_purge_rules.specs.Picking.{answers_at, answers_in, asks_at, asks_in, rewrites_at, rewrites_in, ListsPicked, PicksOf}
 
 both_pass : (a b : Bool) → (a ≡ true → b ≡ true) → (a && b) ≡ a
 both_pass true b h = h refl
@@ -82,6 +83,16 @@ answered_known marks restated m g = answered_has_table marks restated (get nat_c
 
 pub rewritten_known : (marks : Watermarks) (counts : ℕ → ℕ) (m : MemTables) (g : ℕ) → rewrites_at marks counts m g ≡ true → has_table m g ≡ true
 rewritten_known marks counts m g = rewritten_has_table marks (counts g) (get nat_cmp m.groups g)
+
+pub all_are_picked : {E : Type 0} (r : Result GroupLists E) (marks : Watermarks) (counts : ℕ → ℕ) (restated : Bool) (m : MemTables) (gs now : List ℕ) → now ≡ gs → ListsGroups (has_table m) gs
+    → IfOk r (PicksOf marks counts restated m now) → IfOk r (ListsPicked marks counts restated m)
+all_are_picked (Ok a) marks counts restated m gs now same lists is =
+    let of : PicksOf marks counts restated m gs a = subst (λ (l : List ℕ). PicksOf marks counts restated m l a) same is in record {
+      asked = subst (ListsGroups (asks_at marks m)) (sym of.asked) (picked (asks_at marks m) (has_table m) gs (asked_known marks m) lists);
+      rewritten = subst (ListsGroups (rewrites_at marks counts m)) (sym of.rewritten) (picked (rewrites_at marks counts m) (has_table m) gs (rewritten_known marks counts m) lists);
+      answered = subst (ListsGroups (answers_at (Some marks) restated m)) (sym of.answered) (picked (answers_at (Some marks) restated m) (has_table m) gs (answered_known (Some marks) restated m) lists);
+    }
+all_are_picked (Err e) marks counts restated m gs now same lists is = tt
 
 -- one group more
 

@@ -1,10 +1,13 @@
 -- The groups that a purge of Append picks, and in how many purges in a row each was asked to be compacted.
-use Rattle.std.specs.Prelude.{ℕ, Bool, false, ◌&&◌, ◌||◌, nat_lt, Option, Some, None, unwrap_or}
+use Rattle.std.specs.Prelude.{◌≡◌, ℕ, Bool, false, ◌&&◌, ◌||◌, nat_lt, List, Option, Some, None, unwrap_or}
 use Rattle.std.specs.BTreeMap.{get}
+use Rattle.std.specs.List.{filter}
 use Rattle.std.specs.Ordering.{nat_cmp}
 use Rattle.raft_log_table_all.specs.declared.mem_tables.MemTables.{MemTables}
 use Rattle.raft_log_table_all.specs.Tables.{raw_of}
 use Rattle.raft_log_table_one.specs.Table.{Raw, shown}
+use Rattle.raft_log_table_all.specs.Walking.{ListsGroups}
+use Rattle.raft_log_purge_rules.specs.declared.picking.GroupLists.{GroupLists}
 use Rattle.raft_log_purge_rules.specs.declared.watermarks.Watermarks.{Watermarks}
 use Rattle.raft_log_purge_rules.specs.declared.rounds.Rounds.{Rounds}
 use Rattle.raft_log_purge_rules.specs.Rules.{asks, rewrites}
@@ -45,3 +48,18 @@ answers_in marks restated (Some t) = asks_by marks t || (restated && nat_lt 32 (
 -- a group is answered
 abbrev pub answers_at : Option Watermarks → Bool → MemTables → ℕ → Bool
 answers_at marks restated m g = answers_in marks restated (raw_of m g)
+
+-- these are the groups that a purge of Append picks up to watermarks, where each was asked in so many purges in a
+-- row before
+pub record ListsPicked (marks : Watermarks) (counts : ℕ → ℕ) (restated : Bool) (m : MemTables) (picked : GroupLists)
+    : Type 0 where
+  pub asked : ListsGroups (asks_at marks m) picked.asked.items
+  pub rewritten : ListsGroups (rewrites_at marks counts m) picked.rewritten.items
+  pub answered : ListsGroups (answers_at (Some marks) restated m) picked.answered.items
+
+-- of these groups these are picked, in their order
+pub record PicksOf (marks : Watermarks) (counts : ℕ → ℕ) (restated : Bool) (m : MemTables) (groups : List ℕ)
+    (picked : GroupLists) : Type 0 where
+  pub asked : picked.asked.items ≡ filter (asks_at marks m) groups
+  pub rewritten : picked.rewritten.items ≡ filter (rewrites_at marks counts m) groups
+  pub answered : picked.answered.items ≡ filter (answers_at (Some marks) restated m) groups

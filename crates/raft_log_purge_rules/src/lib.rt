@@ -8,7 +8,7 @@ pub mod rules;
 pub mod thresholds;
 pub mod watermarks;
 
-pub use picking::{answered_groups, asked_groups, rewritten_groups};
+pub use picking::{GroupLists, answered_groups, picked_groups};
 pub use rounds::Rounds;
 pub use thresholds::Thresholds;
 pub use watermarks::{Watermarks, append_watermarks, is_any_past, takes_append, takes_rewrite};

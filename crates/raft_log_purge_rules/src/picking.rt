@@ -1,17 +1,19 @@
 //! The groups that a purge of Append picks.
 
-ghost use Rattle.std.specs.Prelude.{◌≡◌, [], ◌∷◌, ◌++◌, IfOk, OnOk, if◌then◌else◌};
+ghost use Rattle.std.specs.Prelude.{◌≡◌, [], ◌∷◌, ◌++◌, Some, option_copied, IfOk, OnOk, if◌then◌else◌};
 ghost use Rattle.std.specs.List.{filter};
-ghost use Rattle.raft_log_table_all.specs.Tables.{raw_of};
 ghost use Rattle.raft_log_table_all.specs.Walking.{ListsGroups};
 ghost use Rattle.raft_log_purge_rules.specs.Picking.{
   answers_at,
+  answers_in,
   asks_at,
   asks_by,
   asks_in,
   count_of,
   rewrites_at,
   rewrites_in,
+  ListsPicked,
+  PicksOf,
 };
 
 use crate::Watermarks;
@@ -23,6 +25,18 @@ use std::alloc::{AllocError, Global};
 
 /// Of so many entries in Rewrite, or fewer, a group isn't answered for those.
 const MOST_REWRITTEN: usize = 32;
+
+/// The groups that a purge of Append picks, each list from the least up.
+#[derive(Drop)]
+pub struct GroupLists {
+    /// Those that it asks to be compacted.
+    pub asked: Vec<u64>,
+    /// Those that it rewrites itself.
+    pub rewritten: Vec<u64>,
+    /// Those that it answers: it asks them to be compacted, or Rewrite was rewritten, and they have many
+    /// entries there.
+    pub answered: Vec<u64>,
+}
 
 /// The groups that a purge answers, from the least up: those that are asked to be compacted, where Append is
 /// purged up to watermarks; and where Rewrite was rewritten, those that have many entries there.
@@ -41,30 +55,26 @@ pub fn answered_groups(
     answered_of(alloc, tables, watermarks, restated, groups.as_slice())
 }
 
-/// The groups that a purge asks to be compacted, from the least up.
-pub fn asked_groups(
-    alloc: Global,
-    tables: &MemTables,
-    watermarks: &Watermarks,
-) -> Result<Vec<u64>, AllocError>
-    ensures { IfOk result (λ groups. ListsGroups (asks_at watermarks.now tables.now) groups.items) }
-{
-    let groups = tables.known_groups()?;
-    asked_of(alloc, tables, watermarks, groups.as_slice())
-}
-
-/// The groups that a purge rewrites itself, from the least up.
-pub fn rewritten_groups(
+/// The groups that a purge of Append picks, each list from the least up. The tables are listed once, and each
+/// is looked at once.
+pub fn picked_groups(
     alloc: Global,
     tables: &MemTables,
     watermarks: &Watermarks,
     rounds: &Rounds,
-) -> Result<Vec<u64>, AllocError>
-    ensures { IfOk result (λ groups.
-        ListsGroups (rewrites_at watermarks.now (count_of rounds.now) tables.now) groups.items) }
+    restated: bool,
+) -> Result<GroupLists, AllocError>
+    ensures { IfOk result (ListsPicked watermarks.now (count_of rounds.now) restated tables.now) }
 {
     let groups = tables.known_groups()?;
-    rewritten_of(alloc, tables, watermarks, rounds, groups.as_slice())
+    picked_of(
+        alloc,
+        tables,
+        watermarks,
+        rounds,
+        restated,
+        groups.as_slice(),
+    )
 }
 
 /// Of these groups those that are answered.
@@ -80,46 +90,58 @@ fn answered_of(
 {
     let mut picked = Vec::new(alloc);
     for group in groups {
-        let wanted = is_answered(tables, watermarks, restated, *group);
+        let wanted = is_answered(watermarks, restated, tables.known_table(*group));
         push_if(&mut picked, *group, wanted)?;
     }
     Ok(picked)
 }
 
-/// Of these groups those that are asked to be compacted.
-fn asked_of(
-    alloc: Global,
-    tables: &MemTables,
-    watermarks: &Watermarks,
-    groups: &[u64],
-) -> Result<Vec<u64>, AllocError>
-    ensures { IfOk result (λ picked. picked.items ≡ filter (asks_at watermarks.now tables.now) groups.now) }
-{
-    let mut picked = Vec::new(alloc);
-    for group in groups {
-        let wanted = is_asked(tables, watermarks, *group);
-        push_if(&mut picked, *group, wanted)?;
-    }
-    Ok(picked)
-}
-
-/// Of these groups those that are rewritten.
-fn rewritten_of(
+/// Of these groups those that are picked.
+fn picked_of(
     alloc: Global,
     tables: &MemTables,
     watermarks: &Watermarks,
     rounds: &Rounds,
+    restated: bool,
     groups: &[u64],
-) -> Result<Vec<u64>, AllocError>
-    ensures { IfOk result (λ picked.
-        picked.items ≡ filter (rewrites_at watermarks.now (count_of rounds.now) tables.now) groups.now) }
+) -> Result<GroupLists, AllocError>
+    ensures { IfOk result
+        (PicksOf watermarks.now (count_of rounds.now) restated tables.now groups.now) }
 {
-    let mut picked = Vec::new(alloc);
+    let mut picked = GroupLists {
+        asked: Vec::new(alloc),
+        rewritten: Vec::new(alloc),
+        answered: Vec::new(alloc),
+    };
     for group in groups {
-        let wanted = is_rewritten(tables, watermarks, rounds.count_of(*group), *group);
-        push_if(&mut picked, *group, wanted)?;
+        pick(&mut picked, tables, watermarks, rounds, restated, *group)?;
     }
     Ok(picked)
+}
+
+/// Adds a group to the lists that it is to be in.
+fn pick(
+    picked: &mut GroupLists,
+    tables: &MemTables,
+    watermarks: &Watermarks,
+    rounds: &Rounds,
+    restated: bool,
+    group: u64,
+) -> Result<(), AllocError>
+    ensures asked { OnOk result (picked.new.asked.items ≡ picked.old.asked.items
+        ++ (if asks_at watermarks.now tables.now group then group ∷ [] else [])) }
+    ensures rewritten { OnOk result (picked.new.rewritten.items ≡ picked.old.rewritten.items
+        ++ (if rewrites_at watermarks.now (count_of rounds.now) tables.now group then group ∷ [] else [])) }
+    ensures answered { OnOk result (picked.new.answered.items ≡ picked.old.answered.items
+        ++ (if answers_at (Some watermarks.now) restated tables.now group then group ∷ [] else [])) }
+{
+    let table = tables.known_table(group);
+    let asked = is_asked(watermarks, table);
+    let rewritten = is_rewritten(watermarks, rounds.count_of(group), table);
+    let answered = is_answered(Some(*watermarks), restated, table);
+    push_if(&mut picked.asked, group, asked)?;
+    push_if(&mut picked.rewritten, group, rewritten)?;
+    push_if(&mut picked.answered, group, answered)
 }
 
 /// Adds a group to those that are picked, if it is wanted.
@@ -133,36 +155,32 @@ fn push_if(picked: &mut Vec<u64>, group: u64, wanted: bool) -> Result<(), AllocE
     Ok(())
 }
 
-/// Whether a group is asked to be compacted.
-fn is_asked(tables: &MemTables, watermarks: &Watermarks, group: u64) -> bool
-    ensures { result ≡ asks_in watermarks.now (raw_of tables.now group) }
+/// Whether a group with this table, if it has one, is asked to be compacted.
+fn is_asked(watermarks: &Watermarks, table: Option<&MemTable>) -> bool
+    ensures { result ≡ asks_in watermarks.now (option_copied table.entry) }
 {
-    match tables.known_table(group) {
+    match table {
         Some(table) => asks(watermarks, table),
         None => false,
     }
 }
 
-/// Whether a group is rewritten.
-fn is_rewritten(tables: &MemTables, watermarks: &Watermarks, rounds: u32, group: u64) -> bool
-    ensures { result ≡ rewrites_in watermarks.now rounds (raw_of tables.now group) }
+/// Whether a group with this table, if it has one, is rewritten, which was asked in so many purges in a row
+/// before.
+fn is_rewritten(watermarks: &Watermarks, rounds: u32, table: Option<&MemTable>) -> bool
+    ensures { result ≡ rewrites_in watermarks.now rounds (option_copied table.entry) }
 {
-    match tables.known_table(group) {
+    match table {
         Some(table) => rewrites(watermarks, rounds, table),
         None => false,
     }
 }
 
-/// Whether a group is answered.
-fn is_answered(
-    tables: &MemTables,
-    watermarks: Option<Watermarks>,
-    restated: bool,
-    group: u64,
-) -> bool
-    ensures { result ≡ answers_at watermarks restated tables.now group }
+/// Whether a group with this table, if it has one, is answered.
+fn is_answered(watermarks: Option<Watermarks>, restated: bool, table: Option<&MemTable>) -> bool
+    ensures { result ≡ answers_in watermarks restated (option_copied table.entry) }
 {
-    match tables.known_table(group) {
+    match table {
         Some(table) => {
             asks_by(watermarks, table) || (restated && MOST_REWRITTEN < table.rewritten_count())
         }

@@ -5,10 +5,11 @@ use Rattle.raft_log_purge_rules.specs.Picking.{count_of}
 use Rattle.raft_log_purge.proofs.expired.pick_groups.Goals as goal
 
 pub returns : goal.returns
-returns c = record {
-  answered = c.in_ok-answered.ensures;
-  rewritten = c.in_ok-rewritten.ensures;
-  rounds = λ g.
-      c.in_ok-next.ensures g
-      ∙ ap (λ (b : Bool). round_behind b (count_of c.args.rounds.now g)) (ap (λ (l : List ℕ). list_any (λ k. k == g) l) c.as_slice.ensures.value ∙ c.in_ok-asked.ensures.exact g);
-}
+returns c =
+    let lists = c.in_ok-asked.ensures in record {
+      answered = lists.answered;
+      rewritten = lists.rewritten;
+      rounds = λ g.
+          c.in_ok-next.ensures g
+          ∙ ap (λ (b : Bool). round_behind b (count_of c.args.rounds.now g)) (ap (λ (l : List ℕ). list_any (λ k. k == g) l) c.as_slice.ensures.value ∙ lists.asked.exact g);
+    }

@@ -1,6 +1,6 @@
 -- What a write was told by its pipes and its tables, put together.
-use Rattle.std.proofs.Common.{◌≡◌, ◌↔◌, ℕ, true, false, None, List, [], inl, inr, refl, sym, ap, ap₂, subst, ◌∙◌}
-use Rattle.std.specs.Prelude.{Bool, IsTrue, IsOk, IfErr, IfOk, OnOk, Result, Ok, Err, is_err}
+use Rattle.std.proofs.Common.{◌≡◌, ◌↔◌, ℕ, true, false, None, Some, List, [], length, inl, inr, refl, sym, ap, ap₂, subst, ◌∙◌, arith}
+use Rattle.std.specs.Prelude.{Bool, Option, IsTrue, IsOk, IfErr, IfOk, OnErr, OnOk, Result, Ok, Err, is_err}
 use Rattle.std.proofs.lemmas.Bool.{cases_Bool, false≢true}
 use std.Path.{fun_ext}
 use Rattle.raft_log_model_laws.specs.Groups.{of_group}
@@ -11,6 +11,7 @@ use Rattle.raft_log_record_base.specs.declared.pipe_log.FileBlockHandle.{FileBlo
 use Rattle.raft_log_record_items.specs.declared.item.LogItem.{LogItem}
 use Rattle.raft_log_record_marks.specs.Meaning.{tagged_items}
 use Rattle.raft_log_record_batches.specs.Batch.{Batch, IsButBuffer, IsReadyForEach, emptied}
+use Rattle.raft_log_record_batches.specs.declared.log_batch.BatchState.TheVariants.{Populated}
 use Rattle.raft_log_file_blocks.specs.Signing.{SaysItself, signed_for}
 use Rattle.raft_log_directory_laws.specs.Calls.Which.{InAppend}
 use Rattle.raft_log_table_lists.specs.Shown.{Shown}
@@ -31,7 +32,8 @@ use Rattle.raft_log_purge.specs.raft_log_engine_laws.specs.Writing.{IsBatchKept,
 use Rattle.raft_log_purge.specs.raft_log_engine_laws.specs.Syncing.{NotSynced, SyncsAppend}
 use Rattle.raft_log_purge.specs.raft_log_engine_laws.specs.Laws.{MayBeWritten}
 use Rattle.raft_log_purge.specs.raft_log_engine_laws.proofs.Exits.{empty_unsynced, refuses, write_unsynced, writes, writes_synced}
-use Rattle.raft_log_engine_core.specs.Room.{PutFails}
+use Rattle.raft_log_engine_core.specs.Compacting.{CompactsTo, FailsToCompact, SaysCompact, entries_below}
+use Rattle.raft_log_engine_core.specs.Room.{IsMadeIfTried, IsMadeUnlessFailed, PutFails}
 use Rattle.raft_log_engine_core.specs.Touching.{LeavesFiles, LeavesRecord, PipeRefuses, PipeTakes, RefusesBatch, TellsNoWrite, WritesFiles, WritesRecord}
 
 pub on_ok : {A E : Type 0} {P : Type 0} (r : Result A E) → IsOk r → OnOk r P → P
@@ -116,6 +118,17 @@ put_refuses b kept v w old mid new cache later (Err e) is same h =
 
 pub put_unfit : (b : Batch) (error : Error) (v : LogPipes) (old mid : MemTables) (cache : BlockCache) → ShowsSame old mid → IsUnfit b (shown_of old) error → PutFails b error (shows v old cache) (shows v mid cache)
 put_unfit b error v old mid cache same why = inl (why, same_shows v old mid cache same)
+
+-- the record of a batch that wasn't taken may not be made; of one that the pipes refused it is
+pub unfit_made : (b new : Batch) (error : Error) (v : LogPipes) (old mid : MemTables) (cache : BlockCache) → ShowsSame old mid → IsUnfit b (shown_of old) error → IsMadeIfTried error b new (shows v old cache) (shows v mid cache)
+unfit_made b new error v old mid cache same why = inl (why, same_shows v old mid cache same)
+
+pub refused_made : {A : Type 0} (r : Result A Error) (b mid new : Batch) (s t : Shows) → mid.state ≡ Populated → OnErr r (new ≡ mid) → IfErr r (λ error. IsMadeIfTried error b new s t)
+refused_made (Ok x) b mid new s t made kept = tt
+refused_made (Err e) b mid new s t made kept = inr (ap (λ (x : Batch). x.state) kept ∙ made)
+
+pub unsynced_made : (b new : Batch) (error : Error) (s mid t : Shows) → NotSynced error mid t → IsMadeUnlessFailed error b new s t
+unsynced_made b new error s mid t (is, why) = inr is
 
 pub kept_on : (b mid new : Batch) → IsBatchKept b mid → new ≡ mid → IsBatchKept b new
 kept_on b mid new is e = subst (λ x. IsBatchKept b x) (sym e) is
@@ -203,3 +216,33 @@ put_synced_files b v mid w wrote call = inr (mid, wrote, call)
 
 pub put_unsynced_files : (b : Batch) (sync : Bool) (error : Error) (v mid w : LogPipes) → sync ≡ true → WritesRecord b v mid → FailsToSyncQueue InAppend mid w → LeavesFiles b sync error v w
 put_unsynced_files b sync error v mid w asked wrote call = inr (asked, (mid, inr wrote, call))
+
+-- what a write did that wasn't to be synced
+pub some_unsynced_files : (b : Batch) (v w : LogPipes) → (b.items ≡ [] → ⊥) → WritesFiles b false v w → WritesRecord b v w
+some_unsynced_files b v w some (inl (none, same)) = absurd (some none)
+some_unsynced_files b v w some (inr (mid, wrote, same)) = subst (λ (x : LogPipes). WritesRecord b v x) (sym same) wrote
+
+pub refused_unsynced_files : (b : Batch) (error : Error) (v w : LogPipes) → LeavesFiles b false error v w → LeavesRecord b error v w
+refused_unsynced_files b error v w (inl left) = left
+refused_unsynced_files b error v w (inr (asked, rest)) = absurd (false≢true asked)
+
+-- a batch that says that entries go isn't empty
+says_some : (g index : ℕ) (b : Batch) → SaysCompact g index b → b.items ≡ [] → ⊥
+says_some g index b says none =
+    let is : 1 ≡ 0 = sym (ap length says.items) ∙ ap length none in
+    omega (arith, is)
+
+written_some : (b : Batch) (len : ℕ) (s t : Shows) → (b.items ≡ [] → ⊥) → WritesBytes b false len s t → Writes b false s t
+written_some b len s t some (inl (none, rest, nothing)) = absurd (some none)
+written_some b len s t some (inr (ready, wrote)) = wrote
+
+pub compacts : (g index count len : ℕ) (b : Batch) (s t : Shows) → entries_below (s.tables g) index ≡ Some count → SaysCompact g index b → WritesBytes b false len s t → WritesFiles b false s.pipes t.pipes
+    → CompactsTo g index count s t
+compacts g index count len b s t there says wrote files =
+    let some = says_some g index b says in
+    inr (there, (b, says, written_some b len s t some wrote, some_unsynced_files b s.pipes t.pipes some files))
+
+pub not_compacted : (g index count : ℕ) (error : Error) (b : Batch) (s t : Shows) → entries_below (s.tables g) index ≡ Some count → SaysCompact g index b → NotWritten b error s t
+    → LeavesFiles b false error s.pipes t.pipes → FailsToCompact g index error s t
+not_compacted g index count error b s t there says why left =
+    inr ((λ none. let clash : None ≡ Some count = sym none ∙ there in cc), inr (b, says, why, refused_unsynced_files b error s.pipes t.pipes left))

@@ -10,8 +10,7 @@ use Rattle.raft_log_record_lists.specs.ItemBatch.{command_item}
 use Rattle.raft_log_purge.specs.raft_log_engine_laws.specs.Fetching.{HadFailed}
 use Rattle.raft_log_purge.specs.raft_log_engine_laws.specs.Shows.{Shows, has_failed}
 use Rattle.raft_log_purge.specs.raft_log_engine_laws.specs.Writing.{NotWritten, Writes}
-use Rattle.raft_log_file_pair.specs.Pipes.{LogPipes}
-use Rattle.raft_log_engine_core.specs.Touching.{LeavesFiles, TellsNoWrite}
+use Rattle.raft_log_engine_core.specs.Touching.{LeavesRecord, WritesRecord}
 
 -- how many of a group's entries stand below an index, if it has entries
 abbrev pub entries_below : Shown → ℕ → Option ℕ
@@ -24,9 +23,11 @@ pub record SaysCompact (g index : ℕ) (b : Batch) : Type 0 where
   pub entries : b.entries ≡ []
   pub fills : b.state ≡ Filling
 
--- a batch was written that says that a group's entries below an index go
+-- a batch was written that says that a group's entries below an index go; to the files nothing was done but
+-- that its record was, so that it isn't synced
 abbrev pub WritesCompact : ℕ → ℕ → Shows → Shows → Type 0
 WritesCompact g index s t = (b : Batch) × SaysCompact g index b × Writes b false s t
+    × WritesRecord b s.pipes t.pipes
 
 -- so many entries of a group go: those below the index, by a batch that says so. Of a group without entries
 -- none do, and nothing is written.
@@ -36,17 +37,11 @@ CompactsTo g index count s t =
     ⊎ ((entries_below (s.tables g) index ≡ Some count) × WritesCompact g index s t)
 
 -- a batch that says that a group's entries below an index go wasn't written: memory ran out before the write;
--- or the write was refused
+-- or the write was refused, and to the files nothing was done but what that tells of its record
 abbrev pub FailsToWriteCompact : ℕ → ℕ → Error → Shows → Shows → Type 0
 FailsToWriteCompact g index error s t =
     ((error ≡ errors.Memory) × (has_failed s ≡ false) × (t ≡ s))
-    ⊎ ((b : Batch) × SaysCompact g index b × NotWritten b error s t)
-
--- what is done to the files where none go: nothing, and no write is told as refused; or what is where a batch
--- that says so isn't written
-abbrev pub LeavesCompact : ℕ → ℕ → Error → LogPipes → LogPipes → Type 0
-LeavesCompact g index error v w = (TellsNoWrite error × (w ≡ v))
-    ⊎ ((b : Batch) × SaysCompact g index b × LeavesFiles b false error v w)
+    ⊎ ((b : Batch) × SaysCompact g index b × NotWritten b error s t × LeavesRecord b error s.pipes t.pipes)
 
 -- why none go: the engine had failed; or the group has entries, and the batch that says so wasn't written
 abbrev pub FailsToCompact : ℕ → ℕ → Error → Shows → Shows → Type 0

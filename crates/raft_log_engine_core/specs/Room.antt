@@ -3,6 +3,7 @@ use Rattle.std.specs.Prelude.{◌≡◌, ◌⊎◌, ◌≤◌, ◌+◌, [], leng
 use Rattle.raft_log_record_base.specs.declared.errors.Error.{Error}
 use Rattle.raft_log_record_base.specs.declared.errors.Error.TheVariants as errors
 use Rattle.raft_log_record_batches.specs.Batch.{Batch, max_kept_len}
+use Rattle.raft_log_record_batches.specs.declared.log_batch.BatchState.TheVariants.{Populated}
 use Rattle.raft_log_purge.specs.raft_log_engine_laws.specs.Shows.{IsWellMarked, IsWritable, Shows}
 use Rattle.raft_log_purge.specs.raft_log_engine_laws.specs.Writing.{IsUnfit, PipesRefused}
 use Rattle.raft_log_engine_core.specs.declared.writing.Room.{Room}
@@ -30,3 +31,11 @@ KeepsLittle old new = (old.items ≡ []) ⊎ (new.buffer ≤ max_kept_len)
 -- a batch that may be written may be so afterwards: its record isn't signed for a file
 abbrev pub StaysWritable : Batch → Batch → Type 0
 StaysWritable old new = IsWritable old.state → IsWritable new.state
+
+-- what is so of a batch that wasn't put: it isn't taken, and nothing was done; or its record is made
+abbrev pub IsMadeIfTried : Error → Batch → Batch → Shows → Shows → Type 0
+IsMadeIfTried error old new s t = (IsUnfit old s.tables error × (t ≡ s)) ⊎ (new.state ≡ Populated)
+
+-- what is so of a batch that wasn't written: this, or the engine has failed
+abbrev pub IsMadeUnlessFailed : Error → Batch → Batch → Shows → Shows → Type 0
+IsMadeUnlessFailed error old new s t = IsMadeIfTried error old new s t ⊎ (error ≡ errors.Failed)

@@ -19,7 +19,7 @@ pub record StaysPurged {P : Type 0} (old new : LogEngine P) : Type 0 where
   pub thresholds : new.thresholds ≡ old.thresholds
   pub counts : new.counts ≡ old.counts
 
--- Append's pipe found no space for a record, as it tells by its file calls, and lives
+-- Append's pipe found no space for a record, as it tells by its file calls, went on in its next file, and lives
 abbrev pub FindsNoSpace : (LogFileContext → List ℕ) → LogPipes → LogPipes → Type 0
 FindsNoSpace signed v w = (error : Error) × SaysTryAgain error × (is_failed w ≡ false)
     × PipeFailsToAppend InAppend signed error v w
@@ -29,14 +29,16 @@ abbrev pub PipeTakes : (LogFileContext → List ℕ) → FileBlockHandle → Log
 PipeTakes signed block v w = PipeAppends InAppend signed block v w
     ⊎ ((mid : LogPipes) × FindsNoSpace signed v mid × PipeAppends InAppend signed block mid w)
 
--- Append's pipe refused a record: at the first try, and not for want of space; or at the second, as it found
--- no space at the first. It tells each by its file calls: an `Io` has the kind that the file system answered
--- the write with, and `TryAgain` comes of want of space alone.
+-- Append's pipe refused a record: at the first try, which isn't to be tried again; or at the second, as it found
+-- no space at the first. It tells each by its file calls. Behind `Io` and `TryAgain` the write was refused, and
+-- what it left was cut off and synced: `Io` has the kind that the file system refused the write with, another
+-- than want of space, and `TryAgain` comes of want of space alone, where the pipe went on in its next file.
 abbrev pub PipeRefuses : (LogFileContext → List ℕ) → Error → LogPipes → LogPipes → Type 0
 PipeRefuses signed error v w = ((SaysTryAgain error → ⊥) × PipeFailsToAppend InAppend signed error v w)
     ⊎ ((mid : LogPipes) × FindsNoSpace signed v mid × PipeFailsToAppend InAppend signed error mid w)
 
--- a batch's record was written to Append, at the first try or the second, and nothing else was done to the files
+-- A batch's record was written to Append, at the first try or the second, and nothing else was done to the files,
+-- but that before either the pipe may have gone on in its next file.
 abbrev pub WritesRecord : Batch → LogPipes → LogPipes → Type 0
 WritesRecord b v w =
     (block : FileBlockHandle) × WritesAt (signed_for b) block v w × PipeTakes (signed_for b) block v w

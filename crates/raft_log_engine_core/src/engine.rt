@@ -51,7 +51,13 @@ impl<P: PipeLog> LogEngine<P> {
     ghost use Rattle.raft_log_record_base.specs.declared.pipe_log.LogQueue.TheVariants.{Rewrite};
     ghost use Rattle.raft_log_table_one.specs.Stats.{added, no_entries};
     ghost use Rattle.raft_log_engine_core.specs.Reads.{shows_of};
-    ghost use Rattle.raft_log_engine_core.specs.Room.{KeepsLittle, PutFails, StaysWritable};
+    ghost use Rattle.raft_log_engine_core.specs.Room.{
+      IsMadeIfTried,
+      IsMadeUnlessFailed,
+      KeepsLittle,
+      PutFails,
+      StaysWritable,
+    };
     ghost use Rattle.raft_log_engine_core.specs.Touching.{
       LeavesFiles,
       LeavesRecord,
@@ -118,11 +124,11 @@ impl<P: PipeLog> LogEngine<P> {
     ///
     /// Before anything is done: `InvalidArgument` for a batch that was written already, or whose marks of
     /// atomic groups are broken; `Full` for a record of 2^56 bytes or more; `Hole` where a group's entries
-    /// would start past the index after the last; `Memory`. Then `Io`, of the kind that the file system
-    /// answered with: the write was refused and cut off, and all batches before are durable; `TryAgain`: the
-    /// same for want of space, in two files, one after the other. `Memory`, `NumberRange`: there is no next
-    /// file. In each of these cases the batch is kept, and its record made. `Failed`: nothing is taken any
-    /// more, and the batch may be in the log or not.
+    /// would start past the index after the last; `Memory`. Then `Io`, of the kind that the file system refused
+    /// the write with: it was cut off, and all batches before are durable; `TryAgain`: the same for want of
+    /// space, in two files, one after the other. `Memory`, `NumberRange`: for want of memory, or of a number,
+    /// Append didn't go on in its next file. In each of these cases the batch is kept, and its record made.
+    /// `Failed`: nothing is taken any more, and the batch may be in the log or not.
     pub fn write<L: Log>(&mut self, rt: &L, batch: &mut LogBatch, sync: bool) -> Result<usize>
         ensures ok { IfOk result (λ len. WritesBytes batch.old sync len
             (shows_of P.shown self.old) (shows_of P.shown self.new)) }
@@ -132,6 +138,8 @@ impl<P: PipeLog> LogEngine<P> {
         ensures bounded { OnOk result (KeepsLittle batch.old batch.new) }
         ensures kept { IfErr result (λ error. IsKeptUnlessFailed error batch.old batch.new) }
         ensures again { StaysWritable batch.old batch.new }
+        ensures made { IfErr result (λ error. IsMadeUnlessFailed error batch.old batch.new
+            (shows_of P.shown self.old) (shows_of P.shown self.new)) }
         ensures files { OnOk result (WritesFiles batch.old sync
             (P.shown self.old.pipes) (P.shown self.new.pipes)) }
         ensures left { IfErr result (λ error. LeavesFiles batch.old sync error
@@ -176,6 +184,8 @@ impl<P: PipeLog> LogEngine<P> {
         ensures bounded { OnOk result (batch.new.buffer ≤ max_kept_len) }
         ensures kept { OnErr result (IsBatchKept batch.old batch.new) }
         ensures again { StaysWritable batch.old batch.new }
+        ensures made { IfErr result (λ error. IsMadeIfTried error batch.old batch.new
+            (shows_of P.shown self.old) (shows_of P.shown self.new)) }
         ensures files { OnOk result (WritesRecord batch.old
             (P.shown self.old.pipes) (P.shown self.new.pipes)) }
         ensures left { IfErr result (λ error. LeavesRecord batch.old error

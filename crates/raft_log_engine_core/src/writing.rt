@@ -193,7 +193,7 @@ fn commit(tables: &mut MemTables, batch: &mut LogBatch, block: FileBlockHandle, 
     tables.apply_append_writes(items, block.id.seq);
 }
 
-/// PipesRefused a batch that was signed or written already, or whose marks are broken.
+/// Refuses a batch that was signed or written already, or whose marks are broken.
 fn check(alloc: Global, batch: &LogBatch) -> Result<()>
     ensures writable { OnOk result (IsWritable batch.now.state) }
     ensures marked { OnOk result (IsWellMarked batch.now) }

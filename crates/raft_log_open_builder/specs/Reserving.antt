@@ -1,5 +1,5 @@
 -- The files that a log keeps for use under reserved names, as an open readies them.
-use Rattle.std.specs.Prelude.{◌≡◌, ◌-◌, ◌⊎◌, ℕ, min, List, length}
+use Rattle.std.specs.Prelude.{◌≡◌, ◌-◌, ◌⊎◌, ℕ, min, List, [], length}
 use Rattle.raft_log_record_base.specs.declared.errors.Error.{Error}
 use Rattle.raft_log_record_base.specs.declared.errors.Error.TheVariants as errors
 use Rattle.raft_log_record_base.specs.declared.pipe_log.LogQueue.TheVariants.{Append}
@@ -30,3 +30,7 @@ abbrev pub FailsToReadyLog : {F : Type 0} → (F → Disk) → (F → List ℕ �
 FailsToReadyLog disk tells b error old new = ((error ≡ errors.Memory) × (disk new ≡ disk old))
     ⊎ FailsToReady disk tells (log_paths Append (paths_of b.config)) b.config.target_file_size.0
     (wanted_files b) b.reserved.items error old new
+
+-- what a builder knows of them behind a refusal: what it knew, where nothing was done; else of none
+abbrev pub LeavesReserved : DualPipesBuilder → DualPipesBuilder → Disk → Disk → Type 0
+LeavesReserved b after old new = ((after ≡ b) × (new ≡ old)) ⊎ (after.reserved.items ≡ [])

@@ -41,7 +41,7 @@ impl DualPipesBuilder {
     ghost use Rattle.raft_log_open_builder.specs.Finishing.{FailsToOpenRecovered, FailsToSyncLog, IsAllRead, IsUnready, IsWantedAs, OpensRecovered, SyncsLog};
     ghost use Rattle.raft_log_open_builder.specs.Recovering.{FailsToRecoverLog, RecoversLog};
     ghost use Rattle.raft_log_open_builder.specs.RecoveringQueue.{FailsToRecoverFiles, OtherQueueIsKept, RecoversFiles, queue_files};
-    ghost use Rattle.raft_log_open_builder.specs.Reserving.{FailsToReadyLog, ReadiesLog};
+    ghost use Rattle.raft_log_open_builder.specs.Reserving.{FailsToReadyLog, LeavesReserved, ReadiesLog};
     ghost use Rattle.raft_log_open_builder.specs.Scanning.{FailsToScanLog, ScansLog};
 
     /// A builder that has scanned nothing: its log has no file.
@@ -219,8 +219,9 @@ impl DualPipesBuilder {
     /// as many as the settings want beside the files of Append, filled with zeros; those past that are deleted,
     /// from the newest on. To be called before `finish`, behind `scan`.
     ///
-    /// `Io` where a file isn't made, `NumberRange` where there is no name for one that is to be made or deleted,
-    /// `Memory`: those before it were made or deleted, and the builder knows of none.
+    /// `Memory` before anything is done: the builder is as it was. Then `Io` where a file isn't made,
+    /// `NumberRange` where there is no name for one that is to be made or deleted, `Memory`: those before it were
+    /// made or deleted, and the builder knows of none.
     pub fn initialize_files<F: FileSystem, L: Log>(
         &mut self,
         alloc: Global,
@@ -231,6 +232,8 @@ impl DualPipesBuilder {
             (ReadiesLog F.disk F.tells_space self.old self.new file_system.old file_system.new) }
         ensures err { IfErr result (λ error.
             FailsToReadyLog F.disk F.tells_space self.old error file_system.old file_system.new) }
+        ensures left { OnErr result
+            (LeavesReserved self.old self.new (F.disk file_system.old) (F.disk file_system.new)) }
         ensures same { (self.new.config ≡ self.old.config) × (self.new.append ≡ self.old.append)
             × (self.new.rewrite ≡ self.old.rewrite) }
     {

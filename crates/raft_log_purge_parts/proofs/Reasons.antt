@@ -142,7 +142,7 @@ long_reason home m error s t g first bytes pairs mark b one made piece run value
 -- that of the marks that are owed
 pub marks_long_reason : (home : Home) (m : LogMap) (error : Error) (s t : Shows) (b : Batch) → SaysMarks t.tables b → IsUnrecorded b error → HasReason home m error s t
 marks_long_reason home m error s t b says (inl memory) = memory_reason home m error s t memory
-marks_long_reason home m error s t b says (inr (is, long)) = subst (λ (e : Error). HasReason home m e s t) (sym is) (inr (b, says, inr long))
+marks_long_reason home m error s t b says (inr (is, long)) = subst (λ (e : Error). HasReason home m e s t) (sym is) (inr (b, says, long))
 
 -- a key isn't put
 mark_value_of : (m : LogMap) (g : ℕ) (pairs : List (List ℕ × List ℕ)) → AreValuesIn m g pairs → HasMark g pairs → HasMarkValue m

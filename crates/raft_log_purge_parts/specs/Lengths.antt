@@ -68,9 +68,9 @@ abbrev pub HasLongGroup : LogMap → Type 0
 HasLongGroup m =
     (items : List LogItem) × (entries : List ℕ) × AreOfMap m items entries × IsTooLong items entries
 
--- the record of the marks that are owed would be too long
+-- the record of the marks that are owed would be too long: it would have 2 ^ 56 bytes or more
 abbrev pub OwesTooMuch : (ℕ → Shown) → Type 0
-OwesTooMuch v = (b : Batch) × SaysMarks v b × IsTooLong b.items b.entries
+OwesTooMuch v = (b : Batch) × SaysMarks v b × (2 ^ 56 ≤ record_len b.items b.entries)
 
 -- a record that is to be made would be too long: of what one group has, or of the marks that are owed
 abbrev pub HasTooMuch : LogMap → (ℕ → Shown) → Type 0

@@ -33,8 +33,9 @@ abbrev pub HasMarkValue : LogMap → Type 0
 HasMarkValue m = (value : List ℕ) × (m 0 (Key mark_key) ≡ Some (Value value))
 
 -- Rewrite refused the record of a batch with this error, and nothing was done since. Its pipe tells that by
--- its file calls: an `Io` has the kind that the file system answered the write with, and `TryAgain` comes of
--- want of space alone.
+-- its file calls. Behind `Io` and `TryAgain` the write was refused, and what it left was cut off and synced:
+-- `Io` has the kind that the file system refused the write with, another than want of space, and `TryAgain`
+-- comes of want of space alone, where the pipe went on in its next file.
 pub record RecordIsRefused (error : Error) (s t : Shows) : Type 0 where
   pub before : LogPipes
   pub batch : Batch

@@ -4,7 +4,7 @@ ghost use Rattle.std.specs.Prelude.{◌≡◌, IfErr, IfOk};
 ghost use Rattle.raft_log_record_base.specs.declared.errors.Error.TheVariants as errors;
 ghost use Rattle.raft_log_record_batches.specs.declared.log_batch.BatchState.TheVariants.{Filling};
 ghost use Rattle.raft_log_table_all.specs.Tables.{shown_of};
-ghost use Rattle.raft_log_engine_core.specs.Compacting.{entries_below, CompactsTo, FailsToCompact, LeavesCompact, SaysCompact};
+ghost use Rattle.raft_log_engine_core.specs.Compacting.{entries_below, CompactsTo, FailsToCompact, SaysCompact};
 ghost use Rattle.raft_log_engine_core.specs.Reads.{shows_of};
 ghost use Rattle.raft_log_engine_core.specs.Touching.{StaysPurged};
 
@@ -18,7 +18,7 @@ use std::alloc::Global;
 
 impl<P: PipeLog> LogEngine<P> {
     /// Writes that a group's entries below an index go, and answers how many do; nothing is written for a
-    /// group without entries. It isn't synced.
+    /// group without entries. It isn't synced, and nothing else is done to the files.
     ///
     /// `Failed` of an engine that has failed. `Memory` before anything is done. Then what `write` refuses.
     pub fn compact_to<L: Log>(&mut self, rt: &L, raft_group_id: u64, index: u64) -> Result<u64>
@@ -26,8 +26,6 @@ impl<P: PipeLog> LogEngine<P> {
             (shows_of P.shown self.old) (shows_of P.shown self.new)) }
         ensures err { IfErr result (λ error. FailsToCompact raft_group_id index error
             (shows_of P.shown self.old) (shows_of P.shown self.new)) }
-        ensures left { IfErr result (λ error. LeavesCompact raft_group_id index error
-            (P.shown self.old.pipes) (P.shown self.new.pipes)) }
         ensures purges { StaysPurged self.old self.new }
     {
         if self.is_failed() {

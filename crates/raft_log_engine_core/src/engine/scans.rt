@@ -16,7 +16,7 @@ use std::alloc::Global;
 impl<P: PipeLog> LogEngine<P> {
     /// Calls back with each key of a group that isn't below the start and is below the end, where they are
     /// given, and with its value: in the order of the keys' bytes or backwards, up to the first call that
-    /// answers false. It takes time in all keys of the group.
+    /// answers false. It takes time in the keys between the bounds, also in those that have no value.
     ///
     /// `Failed` of an engine that has failed: nothing is called then.
     pub fn scan_raw_messages<C: FnMut(&[u8], &[u8]) -> bool>(

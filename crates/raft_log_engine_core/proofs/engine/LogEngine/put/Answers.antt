@@ -1,5 +1,6 @@
 use Rattle.raft_log_table_all.specs.Tables.{shown_of}
-use Rattle.raft_log_engine_core.proofs.Put.{kept_record, kept_unrecorded, put_answers, put_refuses, unfit_unrecorded}
+use Rattle.raft_log_purge.specs.raft_log_engine_laws.specs.Shows.{shows}
+use Rattle.raft_log_engine_core.proofs.Put.{kept_record, kept_unrecorded, put_answers, put_refuses, refused_made, unfit_made, unfit_unrecorded}
 use Rattle.raft_log_engine_core.proofs.engine.LogEngine.put.Goals as goal
 
 pub returns-in-Ok-clause-ok : goal.returns-in-Ok-clause-ok
@@ -20,3 +21,13 @@ returns-in-Ok-clause-left g c =
 
 pub returns-in-Err-clause-left : goal.returns-in-Err-clause-left
 returns-in-Err-clause-left g c = unfit_unrecorded c.args.batch.now (shown_of c.args.self.now.tables) c.in-Err.error (g.P.PipeLog.shown c.args.self.now.pipes) c.in-Err.ensures.errors
+
+pub returns-in-Ok-clause-made : goal.returns-in-Ok-clause-made
+returns-in-Ok-clause-made g c =
+    let s = shows (g.P.PipeLog.shown c.args.self.now.pipes) c.args.self.now.tables c.args.self.now.cache in
+    let t = shows (g.P.PipeLog.shown c.append.new.pipes) c.append.new.tables c.append.new.cache in
+    refused_made c.append.result c.args.batch.now c.make_room.new.batch c.append.new.batch s t c.in-Ok.ensures.made c.append.ensures.kept
+
+pub returns-in-Err-clause-made : goal.returns-in-Err-clause-made
+returns-in-Err-clause-made g c =
+    unfit_made c.args.batch.now c.make_room.new.batch c.in-Err.error (g.P.PipeLog.shown c.args.self.now.pipes) c.args.self.now.tables c.make_room.new.tables c.args.self.now.cache c.make_room.ensures.shows c.in-Err.ensures.errors

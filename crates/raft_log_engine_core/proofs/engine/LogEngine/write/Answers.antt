@@ -2,7 +2,7 @@ use Rattle.std.proofs.Common.{◌≡◌, true, inl, inr, refl, sym, subst, arith
 use Rattle.raft_log_purge.specs.raft_log_engine_laws.specs.Shows.{shows}
 use Rattle.raft_log_purge.specs.raft_log_engine_laws.specs.Writing.{WritesBytes}
 use Rattle.raft_log_engine_core.specs.Touching.{WritesFiles}
-use Rattle.raft_log_engine_core.proofs.Put.{none_unsynced, none_unsynced_files, put_synced, put_synced_files, put_unsynced, put_unsynced_files}
+use Rattle.raft_log_engine_core.proofs.Put.{none_unsynced, none_unsynced_files, put_synced, put_synced_files, put_unsynced, put_unsynced_files, unsynced_made}
 use Rattle.raft_log_engine_core.proofs.engine.LogEngine.write.Goals as goal
 
 pub returns-in-Err-clause-err : goal.returns-in-Err-clause-err
@@ -57,3 +57,19 @@ returns-then-not-sync-2-clause-files g c =
 
 pub returns-in-Err-put-clause-left : goal.returns-in-Err-put-clause-left
 returns-in-Err-put-clause-left g c = inl c.in-Err-put.ensures.left
+
+pub returns-in-Err-clause-made : goal.returns-in-Err-clause-made
+returns-in-Err-clause-made g c =
+    let s = shows (g.P.PipeLog.shown c.args.self.now.pipes) c.args.self.now.tables c.args.self.now.cache in
+    let t = shows (g.P.PipeLog.shown c.sync.new.self.pipes) c.sync.new.self.tables c.sync.new.self.cache in
+    unsynced_made c.args.batch.now c.args.batch.now c.in-Err.error s s t c.in-Err.ensures.err
+
+pub returns-in-Err-put-clause-made : goal.returns-in-Err-put-clause-made
+returns-in-Err-put-clause-made g c = inl c.in-Err-put.ensures.made
+
+pub returns-in-Err-sync-clause-made : goal.returns-in-Err-sync-clause-made
+returns-in-Err-sync-clause-made g c =
+    let s = shows (g.P.PipeLog.shown c.args.self.now.pipes) c.args.self.now.tables c.args.self.now.cache in
+    let mid = shows (g.P.PipeLog.shown c.put.new.self.pipes) c.put.new.self.tables c.put.new.self.cache in
+    let t = shows (g.P.PipeLog.shown c.sync-in-Ok-put.new.self.pipes) c.sync-in-Ok-put.new.self.tables c.sync-in-Ok-put.new.self.cache in
+    unsynced_made c.args.batch.now c.put.new.batch c.in-Err-sync.error s mid t c.in-Err-sync.ensures.err

@@ -3,3 +3,4 @@ pub mod Listed
 pub mod Alike
 pub mod Lengths
 pub mod Causing
+pub mod Arming

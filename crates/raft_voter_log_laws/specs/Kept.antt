@@ -1,8 +1,11 @@
 -- What is told of voters that are kept.
 use Rattle.std.specs.Prelude.{◌≡◌, IsTrue, ℕ, List, None}
+use Rattle.raft_log_disk.specs.declared.handle.Fault.{Fault}
+use Rattle.raft_log_disk.specs.declared.handle.Fault.TheVariants.{DenyRead}
 use Rattle.raft_log_model_laws.specs.Meaning.Slot.{Key}
 use Rattle.raft_log_record_marks.specs.Key.{is_internal}
 use Rattle.raft_log_engine_laws.specs.Shows.{Home, LogMap, Shows}
+use Rattle.raft_log_engine_core.specs.Whole.{ArmsEngine}
 use Rattle.raft_voter_outline.specs.State.{State}
 use Rattle.raft_voter.specs.Rounds.{World}
 use Rattle.raft_voter_meaning_laws.specs.Voters.{Means}
@@ -18,3 +21,13 @@ KeptVotersAreTold = (home : Home) (s : Shows) (W : World) (voters : List (ℕ ×
 abbrev pub VotersHaveNoOwnKey : Type 0
 VotersHaveNoOwnKey = (m : LogMap) (W : World) → Means m W → (g : ℕ) (k : List ℕ) → IsTrue (is_internal k)
     → m g (Key k) ≡ None
+
+-- the fault makes no place unreadable
+abbrev pub DeniesNone : Fault → Type 0
+DeniesNone (DenyRead name place) = ⊥
+DeniesNone fault = Unit {0}
+
+-- Where a fault is armed below a store that makes no place unreadable, the store keeps its voters.
+abbrev pub ArmsKeepVoters : Type 0
+ArmsKeepVoters = (home : Home) (V : World) (fault : Fault) (s t : Shows) → DeniesNone fault → Keeps home s V
+    → ArmsEngine fault s t → Keeps home t V

@@ -11,29 +11,11 @@ here="$(cd "$1" && pwd)"
 rounds="$2"
 shift 2
 top="$(cd "$(dirname "$0")/../.." && pwd)"
-name="$(basename "$here")_bench"
 room="$(mktemp -d)"
 trap 'rm -rf "$room"' EXIT
 
-# the lines of crates.txt of these crates, and of those below them
-awk -v wanted="$*" '
-    { sub(/#.*/, ""); if (split($0, part, ":") == 2) { name = part[1]; sub(/ .*/, "", name); below[name] = part[2]; line[name] = $0 } }
-    END { count = split(wanted, todo, " ")
-          for (i = 1; i <= count; i++) if (todo[i] in line && !(todo[i] in seen)) {
-              seen[todo[i]] = 1; print line[todo[i]]
-              more = split(below[todo[i]], dep, " "); for (k = 1; k <= more; k++) todo[++count] = dep[k] } }' "$top/crates.txt" > "$room/crates.txt"
-mkdir -p "$room/crates/$name/src"
-cut -d: -f1 "$room/crates.txt" | cut -d' ' -f1 | while read -r crate; do
-    cp -r "$top/crates/$crate" "$room/crates/"
-done
-echo "$name: $*" >> "$room/crates.txt"
-cp "$here/main.rt.txt" "$room/crates/$name/src/main.rt"
-if [ -d "$here/proofs" ]; then
-    cp -r "$here/proofs" "$room/crates/$name/"
-    # (the gate refuses a proof outside a crate, so each ends in .txt here)
-    find "$room/crates/$name/proofs" -name '*.txt' | while read -r file; do mv "$file" "${file%.txt}"; done
-fi
-(cd "$room/crates/$name" && "${RT:-rt}" run > "$room/first" 2> "$room/log") || { cat "$room/log" >&2; exit 1; }
+. "$top/bench/common/build.sh"
+program="$(build_program "$here" "$room" "$@")"
 rustc --edition 2021 -O -C codegen-units=1 -o "$room/rust" "$here/rust.rs"
 
 clock=()
@@ -50,7 +32,7 @@ apart() {
 }
 for _ in $(seq "$rounds"); do
     apart "$room/rust" >> "$room/rust.out"
-    apart "$room/crates/$name/out/$name" >> "$room/rattle.out"
+    apart "$program" >> "$room/rattle.out"
 done
 awk -v unit="${UNIT:-MB/s}" -v clock="${CLOCK:-wall}" 'FNR == NR { if ($2 > rust[$1]) rust[$1] = $2; sum[$1] = $3; next }
      { if (sum[$1] != $3) { print $1 ": the sums differ"; bad = 1 }

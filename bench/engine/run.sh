@@ -1,6 +1,6 @@
 #!/usr/bin/env bash
-# An engine over the file system in memory: batches written and synced each, the log opened by one worker and by two, and
-# entries of a group fetched, in bytes per second, beside a plain Rust twin (rustc -O), in one run.
+# An engine over the file system in memory: batches written and synced each, of long entries and, ten or 1,000 at a time, of short
+# ones, the log opened, and entries of a group fetched, in bytes per second, beside a plain Rust twin (rustc -O), in one run.
 # Usage: bench/engine/run.sh [ROUNDS]; RT names the toolchain's command. Takes some 8 GB of memory.
 set -euo pipefail
 here="$(dirname "$0")"

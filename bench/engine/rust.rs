@@ -28,6 +28,7 @@ const FETCHED: u64 = 1_000;
 const READ_BLOCK: usize = 16 << 10;
 const MAX_COPIED_LEN: u64 = 128 << 10;
 const SHORT: usize = 16;
+const MANY: u64 = 1_000_000;
 const PURGED_FROM: usize = 10 << 30;
 const REWRITTEN_FROM: usize = PURGED_FROM / 10;
 /// How many files are kept for use where they aren't deleted.
@@ -480,10 +481,52 @@ fn idle(entry: &[u8], groups: u64, times: u64) -> Result<()> {
     Ok(())
 }
 
+/// How many bytes a short entry has: all as many, or 10 to 22.
+fn short_len(number: usize, uneven: bool) -> usize {
+    if uneven { 10 + number % 13 } else { SHORT }
+}
+
+/// Writes and syncs batches of short entries, the groups in turn; answers how many bytes their records have.
+fn write_short(engine: &mut Engine, entries: &[Vec<u8>]) -> Result<u64> {
+    let size = entries.len() as u64;
+    let mut batch = Batch::new();
+    let mut written = 0;
+    for number in 0..MANY / size {
+        let first = number / GROUPS * size + 1;
+        let indexes = entries.iter().zip(first..).map(|(entry, index)| EntryIndex::new(index, entry.len() as u32)).collect();
+        batch.add(number % GROUPS + 1, indexes, entries)?;
+        written += engine.write(&mut batch)?;
+    }
+    Ok(written)
+}
+
+/// Short entries are written in batches of one size, the first thousand of each group are fetched, and the log is opened.
+fn short(entry: &[u8], size: usize, uneven: bool) -> Result<()> {
+    let kind = if uneven { "-uneven" } else { "" };
+    let entries: Vec<Vec<u8>> = (0..size).map(|number| entry[..short_len(number, uneven)].to_vec()).collect();
+    let mut engine = Engine::new(KEPT)?;
+    let start = Instant::now();
+    let written = write_short(&mut engine, &entries)?;
+    report(&format!("write-{size}{kind}"), written, start, written);
+    let start = Instant::now();
+    let fetched = fetch_all(&mut engine)?;
+    report(&format!("fetch-{size}{kind}"), fetched, start, fetched);
+    let mut files = engine.close()?;
+    let start = Instant::now();
+    let tables = recover(&mut files, 1)?;
+    let sum = tables.values().map(|table| table.end() - 1).sum();
+    report(&format!("open-{size}{kind}"), written, start, sum);
+    Ok(())
+}
+
 fn main() -> Result<()> {
     let entries = entries_of();
     idle(&entries[0], 10, 100_000)?;
     idle(&entries[0], 100_000, 20)?;
+    for size in [10, 1_000] {
+        short(&entries[0], size, false)?;
+        short(&entries[0], size, true)?;
+    }
     collect(&entries, true)?;
     collect(&entries, false)?;
     let mut engine = Engine::new(KEPT)?;

@@ -15,13 +15,16 @@ use place::Place;
 use record::{
     read_footer, read_header, Command, Content, EntryIndex, Error, FileBlockHandle, FileId, Item, KeyValue, LogQueue, OpType, Result, HEADER,
 };
-use std::collections::{BTreeMap, VecDeque};
+use std::collections::{BTreeMap, HashMap, VecDeque};
 use std::time::Instant;
 
 const GROUPS: u64 = 1_000;
 const RECORDS: u64 = 500_000;
 const IN_RECORD: usize = 16;
 const SIZE: usize = 128;
+/// How many keys the lesser and the greater log of one group have, before a tenth as many Cleans; and how many begins of atomic
+/// groups without end two others have.
+const HOSTILE: [u64; 2] = [50_000, 200_000];
 
 struct HeldValue {
     bytes: Vec<u8>,
@@ -90,7 +93,7 @@ impl MemTable {
                 self.places.truncate(0);
                 self.first = 0;
                 self.rewritten = 0;
-                self.keys.values_mut().for_each(|slot| slot.held = None);
+                self.keys.clear();
                 self.cleaned = true;
                 self.compacted = false;
             }
@@ -172,6 +175,9 @@ struct GroupTable {
 
 type Tables = BTreeMap<u64, GroupTable>;
 
+/// The parts of atomic groups of Rewrite whose end wasn't read, by their numbers.
+type Pending = HashMap<Vec<u8>, Vec<Item>>;
+
 /// Whether an item is a mark of an atomic group, which says nothing of a group.
 fn is_mark(item: &Item) -> bool {
     match &item.content {
@@ -202,6 +208,14 @@ fn replay(tables: &mut Tables, items: Vec<Item>, file: u64) -> Result<()> {
     Ok(())
 }
 
+/// The number of the atomic group that a record begins, if it begins one.
+fn number_of(items: &[Item]) -> Option<Vec<u8>> {
+    match items.first() {
+        Some(Item { content: Content::KeyValue(KeyValue { value: Some(value), .. }), .. }) if is_mark(&items[0]) => Some(value[..8].to_vec()),
+        _ => None,
+    }
+}
+
 fn items_of(record: &[u8], id: FileId) -> Result<Vec<Item>> {
     let mut source = record;
     let (offset, _, len) = read_header(&mut source)?;
@@ -215,10 +229,15 @@ fn items_of(record: &[u8], id: FileId) -> Result<Vec<Item>> {
 /// The tables of these records, and what is told of each.
 fn read_part(records: &[Vec<u8>], from: usize) -> Result<(Tables, Vec<usize>)> {
     let mut tables = Tables::new();
+    let mut pending = Pending::new();
     let mut endings = Vec::new();
     for (i, record) in records.iter().enumerate() {
         let id = FileId { queue: LogQueue::Append, seq: ((from + i) >> 12) as u64 };
-        replay(&mut tables, items_of(record, id)?, id.seq)?;
+        let items = items_of(record, id)?;
+        match number_of(&items) {
+            Some(number) => pending.entry(number).or_default().extend(items),
+            None => replay(&mut tables, items, id.seq)?,
+        }
         endings.push(from + i);
     }
     Ok((tables, endings))
@@ -276,13 +295,62 @@ fn records_of() -> Result<Vec<Vec<u8>>> {
     Ok(records)
 }
 
+/// The record of one item.
+fn record_of(batch: &mut Batch, item: Item) -> Result<Vec<u8>> {
+    batch.drain(&mut Vec::new());
+    batch.items.push(item);
+    batch.populate()?;
+    batch.sign(None);
+    Ok(batch.buf.clone())
+}
+
+fn put_of(batch: &mut Batch, group: u64, key: &[u8], value: &[u8]) -> Result<Vec<u8>> {
+    let key_value = KeyValue { op_type: OpType::Put, key: key.to_vec(), value: Some(value.to_vec()), file_id: None };
+    record_of(batch, Item { group, content: Content::KeyValue(key_value) })
+}
+
+/// So many keys of one group, and then a tenth as many Cleans.
+fn cleans_of(count: u64) -> Result<Vec<Vec<u8>>> {
+    let mut batch = Batch::new();
+    let mut records = Vec::new();
+    for number in 0..count {
+        records.push(put_of(&mut batch, 1, &number.to_le_bytes(), b"1")?);
+    }
+    for _ in 0..count / 10 {
+        records.push(record_of(&mut batch, Item { group: 1, content: Content::Command(Command::Clean) })?);
+    }
+    Ok(records)
+}
+
+/// So many begins of atomic groups without end.
+fn begins_of(count: u64) -> Result<Vec<Vec<u8>>> {
+    let mut batch = Batch::new();
+    let mut mark = vec![0; 9];
+    (0..count)
+        .map(|number| {
+            mark[..8].copy_from_slice(&number.to_le_bytes());
+            put_of(&mut batch, 0, &[b'_', b'_', 1], &mark)
+        })
+        .collect()
+}
+
+/// Reads records by so many workers.
+fn measure(work: &str, records: &[Vec<u8>], workers: usize) -> Result<()> {
+    let bytes = records.iter().map(|record| record.len() as u64).sum();
+    let start = Instant::now();
+    let check = read_by(records, workers)?;
+    report(&format!("{work}-{workers}"), bytes, start, check);
+    Ok(())
+}
+
 fn main() -> Result<()> {
+    for count in HOSTILE {
+        measure(&format!("cleans-{count}"), &cleans_of(count)?, 1)?;
+        measure(&format!("begins-{count}"), &begins_of(count)?, 1)?;
+    }
     let records = records_of()?;
-    let bytes: u64 = records.iter().map(|record| record.len() as u64).sum();
     for workers in [1, 2, 4] {
-        let start = Instant::now();
-        let check = read_by(&records, workers)?;
-        report(&format!("workers-{workers}"), bytes, start, check);
+        measure("workers", &records, workers)?;
     }
     Ok(())
 }

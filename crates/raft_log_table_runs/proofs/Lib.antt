@@ -9,4 +9,5 @@ pub mod RunTurns
 pub mod RunSteps
 pub mod RunRoom
 pub mod RunReplacing
+pub mod RunPieces
 pub mod RunCopies

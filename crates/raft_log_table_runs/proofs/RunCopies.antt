@@ -1,5 +1,5 @@
 -- Entries that are read from runs, a run at a time.
-use Rattle.std.proofs.Common.{◌≡◌, ℕ, zero, suc, ◌+◌, ◌-◌, ◌*◌, ◌<◌, ◌≤◌, ◌^◌, true, List, [], ◌∷◌, ◌++◌, length, take, drop, slice_index_or, sym, ap, ◌∙◌, nat_le, arith, append_assoc, drop-drop, get_or-drop, length-drop, length-take-le}
+use Rattle.std.proofs.Common.{◌≡◌, ℕ, zero, suc, ◌+◌, ◌-◌, ◌*◌, ◌<◌, ◌≤◌, ◌^◌, Bool, true, false, List, [], ◌∷◌, ◌++◌, length, take, drop, slice_index_or, refl, sym, ap, ◌∙◌, nat_le, arith, append_assoc, drop-drop, get_or-drop, length-drop, length-take-le}
 use Rattle.std.proofs.lemmas.List.{get_or_default}
 use Rattle.raft_log_record_base.specs.declared.pipe_log.LogQueue.{LogQueue}
 use Rattle.raft_log_record_items.specs.declared.entry.EntryIndex.{EntryIndex}
@@ -7,10 +7,11 @@ use Rattle.raft_log_model_laws.proofs.Cases.{at_bool, from_le_false, from_le_tru
 use Rattle.raft_log_table_runs.specs.declared.place.Place.{Place}
 use Rattle.raft_log_table_runs.specs.declared.run.Run.{Run}
 use Rattle.raft_log_table_runs.specs.Entries.{entries_of, entry_of}
-use Rattle.raft_log_table_runs.specs.Runs.{IsFound, IsSound, counts, expand, places_of, width, widths}
+use Rattle.raft_log_table_runs.specs.Blocks.{in_block}
+use Rattle.raft_log_table_runs.specs.Runs.{IsFound, IsSound, block, counts, expand, laid, places_of, widths}
 use Rattle.raft_log_table_runs.proofs.Replacing.{take_next}
 use Rattle.raft_log_table_runs.proofs.RunLists.{Around, around, part_is, whole}
-use Rattle.raft_log_table_runs.proofs.RunSpots.{below_end, fits_each, rise, split_there}
+use Rattle.raft_log_table_runs.proofs.RunSpots.{below_end, fits_each, got_inner, got_last, no_width, rise, split_there}
 use Rattle.raft_log_table_runs.proofs.RunTurns.{all_entries, counts_more}
 
 -- the entries at places, and those at places behind them
@@ -63,10 +64,34 @@ pub record Has (rs : List Run) (at position : ℕ) : Type 0 where
   pub low : counts (take at rs) ≤ position
   pub high : position < counts (take (at + 1) rs)
 
--- A run that has the entry at a position.
-module _ (front base len position at : ℕ) (rs : List Run) (ss : List ℕ) (r : Run) (sound : IsSound front base len rs ss) (has : Has rs at position) (is : r ≡ slice_index_or rs at r) where
+-- the places of a run, by whether its entries have one length
+even_laid : (e : Bool) (r : Run) (ss : List ℕ) → e ≡ true → laid e r ss ≡ laid true r []
+even_laid true r ss h = refl
+even_laid false r ss h = absurd (let clash : false ≡ true = h in let never : ⊥ = cc in never)
+
+uneven_laid : (e : Bool) (r : Run) (ss : List ℕ) → e ≡ false → laid e r ss ≡ laid false r ss
+uneven_laid true r ss h = absurd (let clash : true ≡ false = h in let never : ⊥ = cc in never)
+uneven_laid false r ss h = refl
+
+-- the place behind so many others whose start and end were read, and the last one, whose start was read
+pub uneven_inner : (r : Run) (starts : List ℕ) (from within i o p : ℕ) (d : Place) → from + r.count ≤ length starts → within + i + 1 < r.count
+    → o ≡ slice_index_or starts (from + within + i) o → p ≡ slice_index_or starts (from + within + i + 1) p
+    → slice_index_or (laid false r (drop from starts)) (within + i) d ≡ in_block (block r) o (p - o)
+uneven_inner r starts from within i o p d all low o_is p_is =
+    got_inner false r starts from (within + i) o p d refl all low
+    (o_is ∙ ap (λ n. slice_index_or starts n o) (let same : from + within + i ≡ from + (within + i) = omega arith in same))
+    (p_is ∙ ap (λ n. slice_index_or starts n p) (let same : from + within + i + 1 ≡ from + (within + i) + 1 = omega arith in same))
+
+pub uneven_last : (r : Run) (starts : List ℕ) (from within i o : ℕ) (d : Place) → from + r.count ≤ length starts → r.count ≡ within + i + 1
+    → o ≡ slice_index_or starts (from + within + i) o → slice_index_or (laid false r (drop from starts)) (within + i) d ≡ in_block (block r) o r.size
+uneven_last r starts from within i o d all low o_is =
+    got_last false r starts from (within + i) o d refl all low
+    (o_is ∙ ap (λ n. slice_index_or starts n o) (let same : from + within + i ≡ from + (within + i) = omega arith in same))
+
+-- A run at a position of the list.
+module _ (front base len at : ℕ) (rs : List Run) (ss : List ℕ) (r : Run) (sound : IsSound front base len rs ss) (there : at < length rs) (is : r ≡ slice_index_or rs at r) where
   here : Around front base len rs ss (take at rs) r (drop (at + 1) rs)
-  here = around front base len rs ss (take at rs) r (drop (at + 1) rs) sound (split_there rs at r has.there is)
+  here = around front base len rs ss (take at rs) r (drop (at + 1) rs) sound (split_there rs at r there is)
 
   pub first_is : r.first ≡ front + counts (take at rs)
   first_is = here.first
@@ -75,33 +100,29 @@ module _ (front base len position at : ℕ) (rs : List Run) (ss : List ℕ) (r :
   starts_at = here.at
 
   pub end_is : counts (take (at + 1) rs) ≡ counts (take at rs) + r.count
-  end_is = counts_more rs at r has.there is
+  end_is = counts_more rs at r there is
 
-  pub stands : position < len
-  stands =
-      let all = here.count in
-      let end = end_is in
-      let high = has.high in omega (arith, all, end, high)
-
-  pub starts_fit : (r.at - base) + width r ≤ length ss
-  starts_fit =
+  pub starts_fit : r.even ≡ false → (r.at - base) + r.count ≤ length ss
+  starts_fit h =
       let begins = starts_at in
-      let all = here.starts in omega (arith, begins, all)
+      let all = here.starts in
+      let wide = no_width r.even r.count h in omega (arith, begins, all, wide)
 
   pub offsets_fit : r.even ≡ true → (j : ℕ) → j < r.count → r.start + j * r.size < 2 ^ 32
   offsets_fit = fits_each r.even r here.fits
 
-  -- so many places from this one on are those of the run
-  pub places_are : (i from c : ℕ) → i ≡ (front + position) - r.first → from ≡ r.at - base → i + c ≤ r.count
-      → take c (drop i (places_of r (drop from ss))) ≡ take c (drop position (expand rs ss))
-  places_are i from c e f h =
-      let first = first_is in
+  -- so many places behind others of the run
+  places_are : (i c : ℕ) → i + c ≤ r.count → take c (drop i (places_of r (drop (r.at - base) ss))) ≡ take c (drop (counts (take at rs) + i) (expand rs ss))
+  places_are i c h =
       let begins = starts_at in
-      let low = has.low in
-      let wide : from ≡ widths (take at rs) = omega (arith, f, begins) in
-      let there : counts (take at rs) + i ≡ position = omega (arith, e, first, low) in
-      ap (λ n. take c (drop i (places_of r (drop n ss)))) wide
-      ∙ sym (part_is front base len rs ss (take at rs) r (drop (at + 1) rs) here i c h) ∙ ap (λ n. take c (drop n (expand rs ss))) there
+      let wide : r.at - base ≡ widths (take at rs) = omega (arith, begins) in
+      ap (λ n. take c (drop i (places_of r (drop n ss)))) wide ∙ sym (part_is front base len rs ss (take at rs) r (drop (at + 1) rs) here i c h)
+
+  pub even_are : (i c : ℕ) → r.even ≡ true → i + c ≤ r.count → take c (drop i (laid true r [])) ≡ take c (drop (counts (take at rs) + i) (expand rs ss))
+  even_are i c e h = ap (λ l. take c (drop i l)) (sym (even_laid r.even r (drop (r.at - base) ss) e)) ∙ places_are i c h
+
+  pub uneven_are : (i c : ℕ) → r.even ≡ false → i + c ≤ r.count → take c (drop i (laid false r (drop (r.at - base) ss))) ≡ take c (drop (counts (take at rs) + i) (expand rs ss))
+  uneven_are i c e h = ap (λ l. take c (drop i l)) (sym (uneven_laid r.even r (drop (r.at - base) ss) e)) ∙ places_are i c h
 
 -- a run that was found
 pub found_has : (front base len position k : ℕ) (rs : List Run) (ss : List ℕ) → IsSound front base len rs ss → position < len → IsFound (front + position) rs k → Has rs k position

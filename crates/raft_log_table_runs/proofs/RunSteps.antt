@@ -7,29 +7,28 @@ use Rattle.raft_log_table_runs.proofs.RunLists.{length-renumbered}
 use Rattle.raft_log_table_runs.proofs.RunTurns.{renumbered_more}
 use Rattle.raft_log_table_runs.proofs.Replacing.{drop_at as drop_there}
 
-numbered_long : (old : List Run) (i : ℕ) → i ≤ length old → length (renumbered 0 0 (take i old)) ≡ i
-numbered_long old i h = length-renumbered 0 0 (take i old) ∙ length-take-le i old h
+numbered_long : (n m : ℕ) (old : List Run) (i : ℕ) → i ≤ length old → length (renumbered n m (take i old)) ≡ i
+numbered_long n m old i h = length-renumbered n m (take i old) ∙ length-take-le i old h
 
-pub same_run : (old now : List Run) (i : ℕ) (r : Run) → i < length old → now ≡ renumbered 0 0 (take i old) ++ drop i old → r ≡ slice_index_or now i r
+pub same_run : (n m : ℕ) (old now : List Run) (i : ℕ) (r : Run) → i < length old → now ≡ renumbered n m (take i old) ++ drop i old → r ≡ slice_index_or now i r
     → r ≡ slice_index_or old i r
-same_run old now i r h e is =
-    is ∙ ap (λ l. slice_index_or l i r) (e ∙ ap (λ l. renumbered 0 0 (take i old) ++ l) (drop_there i old r h))
-    ∙ get_or_at (renumbered 0 0 (take i old)) (slice_index_or old i r) (drop (i + 1) old) r i (numbered_long old i (omega arith))
+same_run n m old now i r h e is =
+    is ∙ ap (λ l. slice_index_or l i r) (e ∙ ap (λ l. renumbered n m (take i old) ++ l) (drop_there i old r h))
+    ∙ get_or_at (renumbered n m (take i old)) (slice_index_or old i r) (drop (i + 1) old) r i (numbered_long n m old i (omega arith))
 
 -- one run more under its new numbers
-pub renumber_step : (old now : List Run) (i : ℕ) (r x : Run) (first at : ℕ) → i < length old → now ≡ renumbered 0 0 (take i old) ++ drop i old
-    → r ≡ slice_index_or now i r → first ≡ counts (take i old) → at ≡ widths (take i old) → x ≡ record r { first = first; at = at }
-    → slice_set now i x ≡ renumbered 0 0 (take (i + 1) old) ++ drop (i + 1) old
-renumber_step old now i r x first at h e is f w x_is =
-    let r_is = same_run old now i r h e is in
-    let before = renumbered 0 0 (take i old) in
+pub renumber_step : (n m : ℕ) (old now : List Run) (i : ℕ) (r x : Run) (first at : ℕ) → i < length old → now ≡ renumbered n m (take i old) ++ drop i old
+    → r ≡ slice_index_or now i r → first ≡ n + counts (take i old) → at ≡ m + widths (take i old) → x ≡ record r { first = first; at = at }
+    → slice_set now i x ≡ renumbered n m (take (i + 1) old) ++ drop (i + 1) old
+renumber_step n m old now i r x first at h e is f w x_is =
+    let r_is = same_run n m old now i r h e is in
+    let before = renumbered n m (take i old) in
     ap (λ l. slice_set l i x) (e ∙ ap (λ l. before ++ l) (drop_there i old r h))
-    ∙ set_at before (slice_index_or old i r) (drop (i + 1) old) x i (numbered_long old i (omega arith))
+    ∙ set_at before (slice_index_or old i r) (drop (i + 1) old) x i (numbered_long n m old i (omega arith))
     ∙ sym (append_assoc before (x ∷ []) (drop (i + 1) old))
     ∙ ap (λ l. l ++ drop (i + 1) old)
-    (ap (λ y. before ++ (y ∷ []))
-    (x_is ∙ ap₂ (λ a b. record r { first = a; at = b }) (f ∙ (let same : counts (take i old) ≡ 0 + counts (take i old) = omega arith in same)) (w ∙ (let same : widths (take i old) ≡ 0 + widths (take i old) = omega arith in same)))
-    ∙ sym (renumbered_more 0 0 old i r h r_is))
+    (ap (λ y. before ++ (y ∷ [])) (x_is ∙ ap₂ (λ a b. record r { first = a; at = b }) f w)
+    ∙ sym (renumbered_more n m old i r h r_is))
 
 -- one run more behind others
 pub move_step : (old now more : List Run) (n m i : ℕ) (r x : Run) (first at : ℕ) → i < length more → now ≡ old ++ renumbered n m (take i more) → r ≡ slice_index_or more i r

@@ -1,12 +1,12 @@
--- Lists of runs that are joined, split, turned and numbered anew.
-use Rattle.std.proofs.Common.{◌≡◌, ℕ, suc, ◌+◌, ◌-◌, ◌<◌, ◌≤◌, ◌^◌, List, [], ◌∷◌, ◌++◌, length, take, drop, slice_index_or, refl, sym, ap, ap₂, subst, subst₂, ◌∙◌, arith, append_assoc, append-nil, length-append, length-drop, length-take-le, take-append-drop, take_all}
+-- Lists of runs that are joined, split and numbered anew.
+use Rattle.std.proofs.Common.{◌≡◌, ℕ, suc, ◌+◌, ◌-◌, ◌<◌, ◌≤◌, ◌^◌, List, [], ◌∷◌, ◌++◌, length, take, drop, slice_index_or, refl, sym, ap, ap₂, subst, subst₂, ◌∙◌, arith, append_assoc, append-nil, length-append, length-take-le, take-append-drop, take_all}
 use Rattle.std.proofs.lemmas.List.{drop_at, take_at, take_more}
 use Rattle.raft_log_table_runs.specs.declared.place.Place.{Place}
 use Rattle.raft_log_table_runs.specs.declared.run.Run.{Run}
 use Rattle.raft_log_table_runs.specs.declared.spot.Spot.{Spot}
 use Rattle.raft_log_table_runs.specs.Runs.{IsSound, StartsFit, counts, expand, head, places_of, renumbered, tail, width, width_of, widths}
 use Rattle.raft_log_table_runs.specs.Spots.{IsSpot}
-use Rattle.raft_log_table_runs.proofs.RunLists.{AreWhole, around, back_cut, back_sound, counts-append, counts-renumbered, expand-append, expand-renumbered, expand-take, front_cut, front_sound, joined, length-expand, length_le, numbered_both, renumbered_is, whole, whole-append, widths-append, widths-renumbered, widths_le}
+use Rattle.raft_log_table_runs.proofs.RunLists.{around, back_cut, back_sound, counts-append, counts-renumbered, expand-append, expand-renumbered, expand-take, front_cut, front_sound, joined, length-expand, length_le, numbered_both, renumbered_is, whole, widths-append, widths-renumbered, widths_le}
 use Rattle.raft_log_table_runs.proofs.RunSpots.{here, same_starts, split_there}
 
 -- Joined.
@@ -86,7 +86,7 @@ renumbered_sound f b front base l rs ss s fits behind = record {
 
 -- Cut at a border of runs.
 module _ (front base len : ℕ) (rs : List Run) (ss : List ℕ) (sound : IsSound front base len rs ss) (k : ℕ) where
-  parts : widths (take k rs) + widths (drop k rs) ≡ length ss
+  pub parts : widths (take k rs) + widths (drop k rs) ≡ length ss
   parts = sym (widths-append (take k rs) (drop k rs)) ∙ ap widths (take-append-drop k rs) ∙ sound.starts_are
 
   pub front_of : expand (take k rs) (take (widths (take k rs)) ss) ≡ take (counts (take k rs)) (expand rs ss)
@@ -103,44 +103,6 @@ module _ (front base len : ℕ) (rs : List Run) (ss : List ℕ) (sound : IsSound
       sym (ap (λ l. drop (counts (take k rs)) (expand l ss)) (sym (take-append-drop k rs))
       ∙ ap (drop (counts (take k rs))) (expand-append (take k rs) (drop k rs) ss)
       ∙ drop_at (expand (take k rs) ss) (expand (drop k rs) (drop (widths (take k rs)) ss)) (counts (take k rs)) (length-expand (take k rs) ss (omega (arith, all))))
-
-  pub turned : expand (renumbered 0 0 (drop k rs ++ take k rs)) (drop (widths (take k rs)) ss ++ take (widths (take k rs)) ss)
-      ≡ drop (counts (take k rs)) (expand rs ss) ++ take (counts (take k rs)) (expand rs ss)
-  turned =
-      let all = parts in
-      let long = length-drop (widths (take k rs)) ss in
-      expand-renumbered 0 0 (drop k rs ++ take k rs) (drop (widths (take k rs)) ss ++ take (widths (take k rs)) ss)
-      ∙ joined (drop k rs) (take k rs) (drop (widths (take k rs)) ss) (take (widths (take k rs)) ss) (omega (arith, long, all))
-      ∙ ap₂ ◌++◌ back_of front_of
-
-  pub turned_sound : IsSound 0 0 len (renumbered 0 0 (drop k rs ++ take k rs)) (drop (widths (take k rs)) ss ++ take (widths (take k rs)) ss)
-  turned_sound =
-      let all = parts in
-      let count = sound.count in
-      let fits = sound.fits in
-      let whole_all = subst AreWhole (sym (take-append-drop k rs)) (whole front base rs sound.numbered) in
-      let sums = counts-append (drop k rs) (take k rs) in
-      let sum = counts-append (take k rs) (drop k rs) in
-      let same = ap counts (take-append-drop k rs) in
-      let wides = widths-append (drop k rs) (take k rs) in
-      let long = length-append (drop (widths (take k rs)) ss) (take (widths (take k rs)) ss) in
-      let back = length-drop (widths (take k rs)) ss in
-      let first = length-take-le (widths (take k rs)) ss (omega (arith, all)) in
-      record {
-        numbered = renumbered_is 0 0 (drop k rs ++ take k rs) (whole-append (drop k rs) (take k rs) (whole_back (take k rs) (drop k rs) whole_all) (whole_front (take k rs) (drop k rs) whole_all));
-        count = counts-renumbered 0 0 (drop k rs ++ take k rs) ∙ omega (arith, sums, sum, same, count);
-        starts_are = widths-renumbered 0 0 (drop k rs ++ take k rs) ∙ omega (arith, wides, long, back, first, all);
-        fits = omega (arith, fits);
-        behind = omega arith;
-      }
-    where
-      whole_front : (xs ys : List Run) → AreWhole (xs ++ ys) → AreWhole xs
-      whole_front [] ys h = tt
-      whole_front (x ∷ xs) ys h = (h.0, h.1, whole_front xs ys h.2)
-
-      whole_back : (xs ys : List Run) → AreWhole (xs ++ ys) → AreWhole ys
-      whole_back [] ys h = h
-      whole_back (x ∷ xs) ys h = whole_back xs ys h.2
 
   -- where the starts of a run begin, and where they end
   pub starts_before : (r : Run) → k < length rs → r ≡ slice_index_or rs k r → r.at - base ≡ widths (take k rs)
@@ -232,22 +194,3 @@ appended front base l f b n first at rs more ss ts new left s t e h fits runs st
       joined_sound front base l first at n rs (renumbered first at more) ss ts s
           (renumbered_sound f b first at n more ts t (omega (arith, e, fits)) (omega (arith, e, h, less))) e h fits,
     )
-
--- a list that was turned
-pub turned_all : (front base len : ℕ) (rs : List Run) (ss : List ℕ) (k from : ℕ) (new : List Run) (left : List ℕ) → IsSound front base len rs ss → from ≡ widths (take k rs)
-    → new ≡ renumbered 0 0 (drop k rs ++ take k rs) → left ≡ drop from ss ++ take from ss
-    → (expand new left ≡ drop (counts (take k rs)) (expand rs ss) ++ take (counts (take k rs)) (expand rs ss)) × IsSound 0 0 len new left
-turned_all front base len rs ss k from new left s e runs starts =
-    subst₂ (λ x y. (expand x y ≡ drop (counts (take k rs)) (expand rs ss) ++ take (counts (take k rs)) (expand rs ss)) × IsSound 0 0 len x y) (sym runs)
-    (ap (λ n. drop n ss ++ take n ss) (sym e) ∙ sym starts)
-    (turned front base len rs ss s k, turned_sound front base len rs ss s k)
-
-pub turned_count : (front base len : ℕ) (rs : List Run) (ss : List ℕ) (k : ℕ) (new : List Run) → IsSound front base len rs ss → new ≡ drop k rs ++ take k rs → counts new < 2 ^ 64
-turned_count front base len rs ss k new s e =
-    let sums = counts-append (drop k rs) (take k rs) in
-    let sum = counts-append (take k rs) (drop k rs) in
-    let same = ap counts (take-append-drop k rs) in
-    let all = ap counts e in
-    let count = s.count in
-    let fits = s.fits in
-    omega (arith, sums, sum, same, all, count, fits)

@@ -79,6 +79,14 @@ pub record IsSound (front base len : ℕ) (rs : List Run) (starts : List ℕ) : 
   pub fits : front + len < 2 ^ 64
   pub behind : base ≤ front
 
+-- these runs and starts came to the end of others, numbered from these numbers on: they are so many entries, which
+-- have these places
+pub record AreAdded (first at len : ℕ) (ps : List Place) (old new : List Run) (were starts : List ℕ) (more : List Run) (kept : List ℕ) : Type 0 where
+  pub runs : new ≡ old ++ more
+  pub starts_are : starts ≡ were ++ kept
+  pub sound : IsSound first at len more kept
+  pub places : expand more kept ≡ ps
+
 -- the run in which the entry of this number is, where there is one
 pub record IsFound (number : ℕ) (rs : List Run) (k : ℕ) : Type 0 where
   pub within : k < length rs

@@ -6,8 +6,8 @@ use crate::Place;
 
 /// Entries of a group that lie one behind another in one entry block.
 ///
-/// Entries and the starts that runs keep are counted from the first ones that the list of runs ever had; so
-/// what goes at its front changes no number.
+/// Entries and the starts that runs keep are counted on from the numbers of the first ones in the list of runs;
+/// so what goes at its front changes no number behind.
 #[derive(Clone, Copy, Debug)]
 pub struct Run {
     /// The number of its first entry.

@@ -2,7 +2,7 @@
 ghost use Rattle.std.specs.Prelude.{◌≡◌, ℕ, ◌+◌, ◌*◌, ◌-◌, ◌≤◌, ◌<◌, ◌^◌, ◌++◌, [], ◌∷◌, true, length, map, take, drop, slice_get, slice_index_or, OnOk, OnErr};
 ghost use Rattle.std.specs.VecDeque.{deque_capacity, deque_len};
 ghost use Rattle.raft_log_table_runs.specs.Entries.{place_of};
-ghost use Rattle.raft_log_table_runs.specs.Blocks.{pieces, AreOnePiece};
+ghost use Rattle.raft_log_table_runs.specs.Blocks.{pieces};
 ghost use Rattle.raft_log_table_runs.specs.Runs.{counts, places_of, width, IsFound, IsSound, IsSound-prop};
 ghost use Rattle.raft_log_table_runs.specs.Spots.{IsSpot};
 
@@ -12,10 +12,16 @@ mod pieces;
 
 use crate::spot::Spot;
 use crate::{Place, Run};
-use pieces::{keep_starts, piece_len, run_of_piece};
+use pieces::push_pieces;
 use raft_log_record_items::EntryIndex;
 use std::alloc::{AllocError, Global};
 use std::collections::VecDeque;
+
+/// The numbers of the first entry and of the first start of a list that is new or empty: far from 0, since a
+/// replacement may count starts back from there.
+const FIRST: usize = 0x8000_0000_0000_0000;
+
+const FIRST_START: usize = 0x4000_0000_0000_0000;
 
 /// The places of entries one after another, as runs of entries that lie one behind another.
 ///
@@ -46,8 +52,8 @@ impl Runs {
         Runs {
             runs: VecDeque::new(alloc),
             starts: VecDeque::new(alloc),
-            front: 0,
-            base: 0,
+            front: FIRST,
+            base: FIRST_START,
             len: 0,
         }
     }
@@ -139,31 +145,10 @@ impl Runs {
         ensures front { take (deque_len self.old.runs) self.new.runs.items ≡ self.old.runs.items }
         ensures room { (m : ℕ) → HasRoom self.old (length entries.now + m) → HasRoom self.new m }
     {
-        let mut done = 0;
-        while done < entries.len() {
-            let (_, rest) = entries.split_at(done);
-            let count = piece_len(rest);
-            let (piece, _) = rest.split_at(count);
-            self.push_piece(piece);
-            done += count;
-        }
-    }
-
-    /// One piece of entries that lie one behind another comes to the end, where there is room for it.
-    fn push_piece(&mut self, piece: &[EntryIndex])
-        requires some { 0 < length piece.now }
-        requires one { AreOnePiece (map place_of piece.now) }
-        requires room { HasRoom self.old (length piece.now) }
-        ensures items { places self.new ≡ places self.old ++ map place_of piece.now }
-        ensures runs { deque_len self.new.runs ≡ deque_len self.old.runs + 1 }
-        ensures front { take (deque_len self.old.runs) self.new.runs.items ≡ self.old.runs.items }
-        ensures room { (m : ℕ) → HasRoom self.old (length piece.now + m) → HasRoom self.new m }
-    {
         let first = self.front + self.len;
-        let run = run_of_piece(piece, first, self.base + self.starts.len());
-        keep_starts(&mut self.starts, piece, run.even);
-        self.runs.push_back_reserved(run);
-        self.len += piece.len();
+        let at = self.base + self.starts.len();
+        push_pieces(&mut self.runs, &mut self.starts, entries, first, at);
+        self.len += entries.len();
     }
 
     /// Only so many first entries stay.
@@ -227,8 +212,8 @@ impl Runs {
     {
         self.runs.clear();
         self.starts.clear();
-        self.front = 0;
-        self.base = 0;
+        self.front = FIRST;
+        self.base = FIRST_START;
         self.len = 0;
     }
 }

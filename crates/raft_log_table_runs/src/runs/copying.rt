@@ -1,10 +1,10 @@
 //! Entries that are read from runs, a run at a time.
-ghost use Rattle.std.specs.Prelude.{◌≡◌, ℕ, ◌+◌, ◌*◌, ◌≤◌, ◌<◌, ◌^◌, ◌++◌, true, length, take, drop, vec_len, vec_capacity};
+ghost use Rattle.std.specs.Prelude.{◌≡◌, ℕ, ◌+◌, ◌*◌, ◌≤◌, ◌<◌, ◌^◌, ◌++◌, [], false, true, length, take, drop, vec_len, vec_capacity};
 ghost use Rattle.std.specs.VecDeque.{deque_len};
 ghost use Rattle.raft_log_table_runs.specs.Entries.{entries_of};
-ghost use Rattle.raft_log_table_runs.specs.Runs.{counts, places_of, width};
+ghost use Rattle.raft_log_table_runs.specs.Runs.{counts, laid};
 
-use super::{Runs, find, place_in};
+use super::{Runs, find};
 use crate::{Run, entry_of};
 use raft_log_record_base::LogQueue;
 use raft_log_record_items::EntryIndex;
@@ -34,64 +34,91 @@ impl Runs {
         if count == 0 {
             return;
         }
-        let mut at = find(&self.runs, self.front + position, 0);
+        let number = self.front + position;
+        let mut at = find(&self.runs, number, 0);
+        let mut within = number - self.runs[at].first;
         let mut done = 0;
         while done < count {
-            done += self.copy_run(
-                at,
-                queue,
-                index + done as u64,
-                position + done,
-                count - done,
-                entries,
-            );
+            let index = index + done as u64;
+            done += self.copy_run(at, within, count - done, queue, index, entries);
             at += 1;
+            within = 0;
         }
     }
 
-    /// Adds the entries of the places of this run from this position on, at most so many, and answers how many.
+    /// Adds the entries of this run behind so many others of it, at most so many, and answers how many.
     fn copy_run(
         &self,
         at: usize,
+        within: usize,
+        limit: usize,
         queue: LogQueue,
         index: u64,
-        position: usize,
-        limit: usize,
         entries: &mut Vec<EntryIndex>,
     ) -> usize
         requires there { at < deque_len self.now.runs }
-        requires low { counts (take at self.now.runs.items) ≤ position }
-        requires high { position < counts (take (at + 1) self.now.runs.items) }
+        requires within { counts (take at self.now.runs.items) + within
+            < counts (take (at + 1) self.now.runs.items) }
+        requires some { 0 < limit }
         requires indexes { index + limit < 2 ^ 64 }
         requires room { vec_len entries.old + limit ≤ vec_capacity entries.old }
-        ensures count { result ≤ limit }
-        ensures some { 0 < limit → 0 < result }
-        ensures end { result < limit → position + result ≡ counts (take (at + 1) self.now.runs.items) }
-        ensures items { entries.new.items ≡ entries.old.items
-            ++ entries_of queue index (take result (drop position (places self.now))) }
+        ensures count { (0 < result) × (result ≤ limit) }
+        ensures end { result < limit → counts (take at self.now.runs.items) + within + result
+            ≡ counts (take (at + 1) self.now.runs.items) }
+        ensures items { entries.new.items ≡ entries.old.items ++ entries_of queue index
+            (take result (drop (counts (take at self.now.runs.items) + within) (places self.now))) }
         ensures len { vec_len entries.new ≡ vec_len entries.old + result }
         ensures capacity { vec_capacity entries.new ≡ vec_capacity entries.old }
     {
         let run = &self.runs[at];
-        let within = self.front + position - run.first;
         let count = limit.min(run.count - within);
-        let from = run.at - self.base;
-        push_entries(
-            run,
-            &self.starts,
-            from,
-            within,
-            count,
-            queue,
-            index,
-            entries,
-        );
+        if run.even {
+            push_even(run, within, count, queue, index, entries);
+        } else {
+            let from = run.at - self.base;
+            push_uneven(
+                run,
+                &self.starts,
+                from,
+                within,
+                count,
+                queue,
+                index,
+                entries,
+            );
+        }
         count
     }
 }
 
-/// Adds so many entries of a run behind so many others. Its first start is at this position, if it has starts.
-fn push_entries(
+/// Adds so many entries of a run behind so many others, all of which have one length.
+fn push_even(
+    run: &Run,
+    within: usize,
+    count: usize,
+    queue: LogQueue,
+    index: u64,
+    entries: &mut Vec<EntryIndex>,
+)
+    requires within { within + count ≤ run.now.count }
+    requires fits { (j : ℕ) → j < run.now.count → run.now.start + j * run.now.size < 2 ^ 32 }
+    requires indexes { index + count < 2 ^ 64 }
+    requires room { vec_len entries.old + count ≤ vec_capacity entries.old }
+    ensures items { entries.new.items ≡ entries.old.items
+        ++ entries_of queue index (take count (drop within (laid true run.now []))) }
+    ensures len { vec_len entries.new ≡ vec_len entries.old + count }
+    ensures capacity { vec_capacity entries.new ≡ vec_capacity entries.old }
+{
+    for i in 0..count {
+        let offset = run.start as u64 + (within + i) as u64 * run.size as u64;
+        let place = run.place(offset as u32, run.size);
+        entries.push_reserved(entry_of(queue, index + i as u64, place));
+    }
+}
+
+/// Adds so many entries of a run behind so many others, which have different lengths: one at least. Its first
+/// start is at this position, and each start is read once.
+fn push_uneven(
     run: &Run,
     starts: &VecDeque<u32>,
     from: usize,
@@ -102,18 +129,26 @@ fn push_entries(
     entries: &mut Vec<EntryIndex>,
 )
     requires within { within + count ≤ run.now.count }
-    requires fits { run.now.even ≡ true → (j : ℕ) → j < run.now.count
-        → run.now.start + j * run.now.size < 2 ^ 32 }
-    requires there { from + width run.now ≤ length starts.now.items }
+    requires some { 0 < count }
+    requires there { from + run.now.count ≤ length starts.now.items }
     requires indexes { index + count < 2 ^ 64 }
     requires room { vec_len entries.old + count ≤ vec_capacity entries.old }
     ensures items { entries.new.items ≡ entries.old.items
-        ++ entries_of queue index (take count (drop within (places_of run.now (drop from starts.now.items)))) }
+        ++ entries_of queue index (take count (drop within (laid false run.now (drop from starts.now.items)))) }
     ensures len { vec_len entries.new ≡ vec_len entries.old + count }
     ensures capacity { vec_capacity entries.new ≡ vec_capacity entries.old }
 {
-    for i in 0..count {
-        let place = place_in(run, starts, from, within + i);
+    let first = from + within;
+    let inner = count.min(run.count - within - 1);
+    let mut start = starts[first];
+    for i in 0..inner {
+        let end = starts[first + i + 1];
+        let place = run.place(start, end.saturating_sub(start));
         entries.push_reserved(entry_of(queue, index + i as u64, place));
+        start = end;
+    }
+    if inner < count {
+        let place = run.place(start, run.size);
+        entries.push_reserved(entry_of(queue, index + inner as u64, place));
     }
 }

@@ -1,10 +1,11 @@
-//! Runs that are cut in two, turned, replaced and joined.
+//! Runs that are cut in two, replaced and joined.
 ghost use Rattle.std.specs.Prelude.{◌≡◌, ℕ, ◌+◌, ◌-◌, ◌≤◌, ◌<◌, ◌^◌, ◌++◌, ◌∷◌, length, map, take, drop};
 ghost use Rattle.std.specs.VecDeque.{deque_capacity, deque_len};
 ghost use Rattle.raft_log_table_runs.specs.Entries.{place_of};
 ghost use Rattle.raft_log_table_runs.specs.Blocks.{pieces};
-ghost use Rattle.raft_log_table_runs.specs.Runs.{counts, renumbered, widths};
+ghost use Rattle.raft_log_table_runs.specs.Runs.{counts, renumbered, widths, IsNumbered};
 
+use super::pieces::push_pieces;
 use super::{Runs, place_in};
 use crate::Run;
 use raft_log_record_items::EntryIndex;
@@ -27,13 +28,48 @@ impl Runs {
         if entries.len() == 0 {
             return;
         }
-        let len = self.len();
+        let before = self.cut(position);
         let end = self.cut(position + entries.len());
-        let behind = self.run_count() - end;
-        self.turn(end);
-        self.truncate(len - entries.len());
-        self.push(entries);
-        self.turn(behind);
+        self.replace_runs(position, before, end, entries);
+    }
+
+    /// From this position on, the places of these entries come in the stead of those of as many, which are in
+    /// the runs from one up to another.
+    ///
+    /// It takes time in the runs that go and come, and moves the runs and starts on one side of them. Where
+    /// there are more starts than before, or fewer, the starts of the runs before them are numbered anew.
+    fn replace_runs(&mut self, position: usize, before: usize, end: usize, entries: &[EntryIndex])
+        requires within { (before < end) × (end ≤ deque_len self.old.runs) }
+        requires start { counts (take before self.old.runs.items) ≡ position }
+        requires stop { counts (take end self.old.runs.items) ≡ position + length entries.now }
+        requires runs { deque_len self.old.runs + length entries.now
+            ≤ deque_capacity self.old.runs + 1 }
+        requires starts { deque_len self.old.starts + length entries.now
+            ≤ deque_capacity self.old.starts }
+        ensures items { places self.new ≡ take position (places self.old)
+            ++ (map place_of entries.now ++ drop (position + length entries.now) (places self.old)) }
+        ensures runs { deque_len self.new.runs + 1
+            ≤ deque_len self.old.runs + pieces (map place_of entries.now) }
+        ensures starts { deque_len self.new.starts
+            ≤ deque_len self.old.starts + length entries.now }
+        ensures capacities { (deque_capacity self.new.runs ≡ deque_capacity self.old.runs)
+            × (deque_capacity self.new.starts ≡ deque_capacity self.old.starts) }
+        ensures numbers { (self.new.front ≡ self.old.front) × (self.new.len ≡ self.old.len) }
+    {
+        let from = self.starts_before(before);
+        let to = self.starts_before(end);
+        turn_out(&mut self.runs, before, end);
+        turn_out(&mut self.starts, from, to);
+        let runs = self.runs.len();
+        let starts = self.starts.len();
+        let first = self.front + position;
+        let at = self.base + from;
+        push_pieces(&mut self.runs, &mut self.starts, entries, first, at);
+        let last = before + (self.runs.len() - runs);
+        let stop = from + (self.starts.len() - starts);
+        self.runs.rotate_right(last);
+        self.starts.rotate_right(stop);
+        self.base = number_anew(&mut self.runs, last, self.front, self.base, stop, to);
     }
 
     /// More places come to the end, where there is room for them.
@@ -59,13 +95,19 @@ impl Runs {
     /// Cuts the run in two in which the entry at this position isn't the first one, and answers how many
     /// runs end there or before.
     fn cut(&mut self, position: usize) -> usize
-        requires within { (0 < position) × (position ≤ length (places self.old)) }
-        requires room { HasRoom self.old 1 }
+        requires within { position ≤ length (places self.old) }
+        requires room { deque_len self.old.runs < deque_capacity self.old.runs }
         ensures items { places self.new ≡ places self.old }
         ensures runs { deque_len self.new.runs ≤ deque_len self.old.runs + 1 }
         ensures within { result ≤ deque_len self.new.runs }
         ensures end { counts (take result self.new.runs.items) ≡ position }
-        ensures room { (m : ℕ) → HasRoom self.old (1 + m) → HasRoom self.new m }
+
+        // where a run ends at or before there, one did before
+        ensures ends { (k : ℕ) → counts (take k self.old.runs.items) ≤ position
+            → counts (take k self.new.runs.items) ≡ counts (take k self.old.runs.items) }
+        ensures capacity { deque_capacity self.new.runs ≡ deque_capacity self.old.runs }
+        ensures rest { (self.new.starts ≡ self.old.starts) × (self.new.front ≡ self.old.front)
+            × (self.new.len ≡ self.old.len) }
     {
         if position == self.len {
             return self.runs.len();
@@ -80,25 +122,6 @@ impl Runs {
         let tail = spot.run.tail(spot.within, next.entry_offset);
         split_run(&mut self.runs, spot.at, head, tail);
         spot.at + 1
-    }
-
-    /// So many first runs come behind the others.
-    fn turn(&mut self, count: usize)
-        requires { count ≤ deque_len self.old.runs }
-        ensures runs { self.new.runs.items
-            ≡ renumbered 0 0 (drop count self.old.runs.items ++ take count self.old.runs.items) }
-        ensures len { deque_len self.new.runs ≡ deque_len self.old.runs }
-        ensures items { places self.new
-            ≡ drop (counts (take count self.old.runs.items)) (places self.old)
-            ++ take (counts (take count self.old.runs.items)) (places self.old) }
-        ensures room { (m : ℕ) → HasRoom self.old m → HasRoom self.new m }
-    {
-        let from = self.starts_before(count);
-        self.runs.rotate_left(count);
-        self.starts.rotate_left(from);
-        renumber(&mut self.runs);
-        self.front = 0;
-        self.base = 0;
     }
 
     /// How many starts so many first runs have.
@@ -129,16 +152,67 @@ fn split_run(runs: &mut VecDeque<Run>, at: usize, head: Run, tail: Run)
     runs.rotate_right(at + 1);
 }
 
-/// Numbers the entries and starts of runs anew, from 0 on.
-fn renumber(runs: &mut VecDeque<Run>)
-    requires { counts runs.old.items < 2 ^ 64 }
-    ensures items { runs.new.items ≡ renumbered 0 0 runs.old.items }
+/// What is from one position up to another goes, and what is behind it comes first.
+fn turn_out<T: Drop>(queue: &mut VecDeque<T>, from: usize, to: usize)
+    requires { (from ≤ to) × (to ≤ deque_len queue.old) }
+    ensures items { queue.new.items ≡ drop to queue.old.items ++ take from queue.old.items }
+    ensures len { deque_len queue.new + (to - from) ≡ deque_len queue.old }
+    ensures capacity { deque_capacity queue.new ≡ deque_capacity queue.old }
+{
+    queue.rotate_left(to);
+    let left = queue.len() - (to - from);
+    queue.truncate(left);
+}
+
+/// Numbers runs so that their starts are one behind another again: so many first runs have as many starts as
+/// this, and those behind are numbered as if it were the other number. Answers the number of the first start.
+///
+/// The runs behind keep their numbers, where the others' can be counted back from there.
+fn number_anew(
+    runs: &mut VecDeque<Run>,
+    count: usize,
+    front: usize,
+    base: usize,
+    stop: usize,
+    to: usize,
+) -> usize
+    requires count { count ≤ deque_len runs.old }
+    requires first { IsNumbered front base (take count runs.old.items) }
+    requires behind { IsNumbered (front + counts (take count runs.old.items)) (base + to)
+        (drop count runs.old.items) }
+    requires stop { stop ≡ widths (take count runs.old.items) }
+    requires numbers { (base ≤ front) × (front + counts runs.old.items < 2 ^ 64) × (base + to < 2 ^ 64) }
+    ensures items { runs.new.items ≡ renumbered front result runs.old.items }
+    ensures base { result ≤ front }
     ensures len { deque_len runs.new ≡ deque_len runs.old }
     ensures capacity { deque_capacity runs.new ≡ deque_capacity runs.old }
 {
-    let mut first = 0;
-    let mut at = 0;
-    for i in 0..runs.len() {
+    if stop == to {
+        return base;
+    }
+    let end = base + to;
+    if stop <= end && end - stop <= front {
+        renumber(runs, count, front, end - stop);
+        return end - stop;
+    }
+    let all = runs.len();
+    renumber(runs, all, front, base);
+    base
+}
+
+/// Numbers the entries and starts of so many first runs anew, from these numbers on.
+fn renumber(runs: &mut VecDeque<Run>, count: usize, first: usize, at: usize)
+    requires count { count ≤ deque_len runs.old }
+    requires numbers { (first + counts (take count runs.old.items) < 2 ^ 64)
+        × (at + widths (take count runs.old.items) < 2 ^ 64) }
+    ensures items { runs.new.items
+        ≡ renumbered first at (take count runs.old.items) ++ drop count runs.old.items }
+    ensures len { deque_len runs.new ≡ deque_len runs.old }
+    ensures capacity { deque_capacity runs.new ≡ deque_capacity runs.old }
+{
+    let mut first = first;
+    let mut at = at;
+    for i in 0..count {
         let run = runs[i];
         runs[i] = run.numbered(first, at);
         first += run.count;

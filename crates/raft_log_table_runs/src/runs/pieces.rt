@@ -1,17 +1,49 @@
 //! Pieces of entries that lie one behind another, and a run for each.
-ghost use Rattle.std.specs.Prelude.{◌≡◌, ℕ, ◌+◌, ◌*◌, ◌-◌, ◌≤◌, ◌<◌, ◌^◌, ◌++◌, true, length, map, take, drop, slice_index_or};
+ghost use Rattle.std.specs.Prelude.{◌≡◌, ℕ, ◌+◌, ◌*◌, ◌-◌, ◌≤◌, ◌<◌, ◌^◌, ◌++◌, List, true, length, map, take, drop, slice_index_or};
 ghost use Rattle.std.specs.VecDeque.{deque_capacity, deque_len};
 ghost use Rattle.raft_log_record_items.specs.declared.entry.EntryIndex.{EntryIndex};
 ghost use Rattle.raft_log_table_runs.specs.Entries.{place_of};
 ghost use Rattle.raft_log_table_runs.specs.Blocks.{follows, pieces, AreOnePiece};
-ghost use Rattle.raft_log_table_runs.specs.Runs.{places_of, start_of_entry, starts_for, width, StartsFit};
+ghost use Rattle.raft_log_table_runs.specs.Runs.{places_of, start_of_entry, starts_for, width, AreAdded, StartsFit};
 
 use crate::{Run, place_of};
 use raft_log_record_items::EntryIndex;
 use std::collections::VecDeque;
 
+/// The runs of these entries and their starts come to the end of others that have room for them, numbered from
+/// these numbers on: each piece of entries that lie one behind another is a run.
+pub(super) fn push_pieces(
+    runs: &mut VecDeque<Run>,
+    starts: &mut VecDeque<u32>,
+    entries: &[EntryIndex],
+    first: usize,
+    at: usize,
+)
+    requires runs { deque_len runs.old + length entries.now ≤ deque_capacity runs.old }
+    requires starts { deque_len starts.old + length entries.now ≤ deque_capacity starts.old }
+    requires numbers { (at ≤ first) × (first + length entries.now < 2 ^ 64) }
+    ensures added { (more : List Run) × ((kept : List ℕ)
+        × (AreAdded first at (length entries.now) (map place_of entries.now) runs.old.items runs.new.items
+        starts.old.items starts.new.items more kept
+        × (length more ≤ pieces (map place_of entries.now)))) }
+    ensures capacities { (deque_capacity runs.new ≡ deque_capacity runs.old)
+        × (deque_capacity starts.new ≡ deque_capacity starts.old) }
+{
+    let before = starts.len();
+    let mut done = 0;
+    while done < entries.len() {
+        let (_, rest) = entries.split_at(done);
+        let count = piece_len(rest);
+        let (piece, _) = rest.split_at(count);
+        let run = run_of_piece(piece, first + done, at + (starts.len() - before));
+        keep_starts(starts, piece, run.even);
+        runs.push_back_reserved(run);
+        done += count;
+    }
+}
+
 /// How many entries the first piece has: those that lie one behind another.
-pub(super) fn piece_len(entries: &[EntryIndex]) -> usize
+fn piece_len(entries: &[EntryIndex]) -> usize
     requires { 0 < length entries.now }
     ensures within { (0 < result) × (result ≤ length entries.now) }
     ensures piece { AreOnePiece (map place_of (take result entries.now)) }
@@ -38,7 +70,7 @@ fn lies_behind(before: &EntryIndex, entry: &EntryIndex) -> bool
 }
 
 /// The run of a piece, under these numbers.
-pub(super) fn run_of_piece(piece: &[EntryIndex], first: usize, at: usize) -> Run
+fn run_of_piece(piece: &[EntryIndex], first: usize, at: usize) -> Run
     requires some { 0 < length piece.now }
     requires one { AreOnePiece (map place_of piece.now) }
     ensures numbers { (result.first ≡ first) × (result.at ≡ at) × (result.count ≡ length piece.now) }
@@ -86,7 +118,7 @@ fn fit(start: u32, count: usize, size: u32) -> bool
 }
 
 /// The starts that are kept for these entries come to the end of a queue that has room for them.
-pub(super) fn keep_starts(starts: &mut VecDeque<u32>, entries: &[EntryIndex], even: bool)
+fn keep_starts(starts: &mut VecDeque<u32>, entries: &[EntryIndex], even: bool)
     requires { deque_len starts.old + length entries.now ≤ deque_capacity starts.old }
     ensures items { starts.new.items ≡ starts.old.items ++ starts_for even entries.now }
     ensures len { deque_len starts.new ≤ deque_len starts.old + length entries.now }

@@ -1,6 +1,7 @@
 use Rattle.std.proofs.Common.{◌-◌, ◌≡◌, ◌+◌, ◌≤◌, ◌<◌, ◌++◌, take, drop, vec_len, vec_capacity}
 use Rattle.raft_log_table_runs.specs.Entries.{entries_of}
 use Rattle.raft_log_table_runs.specs.RunLists.{places}
+use Rattle.raft_log_table_runs.specs.Runs.{counts}
 use Rattle.raft_log_table_runs.proofs.RunCopies.{Has}
 use Rattle.raft_log_table_runs.proofs.runs.Runs.copy_entries.Given as goal
 
@@ -11,6 +12,7 @@ invariant-loop-done l = record {
   capacity : vec_capacity l.entries ≡ vec_capacity l.fn.entries;
   within : l.done ≤ l.count;
   has : l.done < l.count → Has l.self.runs.items l.at (l.position + l.done);
+  here : l.done < l.count → counts (take l.at l.self.runs.items) + l.within ≡ l.position + l.done;
 }
 
 abbrev pub decreases-loop-done : goal.decreases-loop-done

@@ -23,6 +23,7 @@ use raft_log_record_base::{Error, LogQueue, Result};
 use raft_log_table_segments::{Factory, ReplayMachine, ReplayThreads};
 use std::alloc::Global;
 use std::io::ErrorKind;
+use std::marker::Send;
 use std::mem;
 use std::thread::Threads;
 
@@ -100,13 +101,12 @@ impl DualPipesBuilder {
     /// read is refused, which is never taken for damage; `Corruption` or `Codec` for damage that isn't
     /// tolerated; why a machine declines a record; `InvalidArgument` for an alignment; `Memory`. `Io` where a
     /// file isn't cut or synced: those before it are.
-    pub fn recover<R: Threads + Log + Sync, F: FileSystem + Sync, M: ReplayMachine, FA: Factory<M>>(
-        &mut self,
-        rt: &R,
-        alloc: Global,
-        file_system: &mut F,
-        factory: &FA,
-    ) -> Result<(M, M)>
+    pub fn recover<
+        R: Threads + Log + Sync,
+        F: FileSystem + Sync,
+        M: ReplayMachine + Send,
+        FA: Factory<M>,
+    >(&mut self, rt: &R, alloc: Global, file_system: &mut F, factory: &FA) -> Result<(M, M)>
         ensures ok { IfOk result (λ both. RecoversLog M.reads both.0 both.1 self.old self.new
             (F.disk file_system.old) (F.disk file_system.new)) }
         ensures err { IfErr result (λ error. FailsToRecoverLog M.reads M.declines self.old error
@@ -123,7 +123,7 @@ impl DualPipesBuilder {
     pub fn recover_scoped<
         R: Threads + Log + Sync,
         F: FileSystem + Sync,
-        M: ReplayMachine,
+        M: ReplayMachine + Send,
         FA: Factory<M>,
     >(&mut self, rt: &R, alloc: Global, file_system: &mut F, factory: &FA) -> Result<(M, M)>
         ensures ok { IfOk result (λ both. RecoversLog M.reads both.0 both.1 self.old self.new
@@ -141,7 +141,7 @@ impl DualPipesBuilder {
     pub fn recover_by<
         R: Threads + Log + Sync,
         F: FileSystem + Sync,
-        M: ReplayMachine,
+        M: ReplayMachine + Send,
         FA: Factory<M>,
     >(
         &mut self,
@@ -189,7 +189,7 @@ impl DualPipesBuilder {
     pub fn recover_queue<
         R: Threads + Log + Sync,
         F: FileSystem + Sync,
-        M: ReplayMachine,
+        M: ReplayMachine + Send,
         FA: Factory<M>,
     >(
         &mut self,

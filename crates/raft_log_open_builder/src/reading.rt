@@ -13,6 +13,7 @@ use raft_log_table_segments::{
     Factory, ReadSegments, ReplayMachine, ReplayThreads, replay_segments_by,
 };
 use std::alloc::Global;
+use std::marker::Send;
 use std::thread::{Threads, join};
 
 /// Reads the files of a queue by workers, each a part of them in one of these threads, and puts together what
@@ -21,7 +22,7 @@ use std::thread::{Threads, join};
 ///
 /// The error told is that of the first file that is refused: `Io` where a read is refused, `Corruption` or
 /// `Codec` for damage that isn't tolerated, or why the machine declines a record; or `Memory`.
-pub fn recover_files<F: FileSystem + Sync, M: ReplayMachine, FA: Factory<M>>(
+pub fn recover_files<F: FileSystem + Sync, M: ReplayMachine + Send, FA: Factory<M>>(
     rt: &(impl Threads + Sync),
     alloc: Global,
     threads: ReplayThreads,
@@ -59,7 +60,7 @@ pub fn recover_files<F: FileSystem + Sync, M: ReplayMachine, FA: Factory<M>>(
 pub(crate) fn recover_both<
     R: Threads + Sync,
     F: FileSystem + Sync,
-    M: ReplayMachine,
+    M: ReplayMachine + Send,
     FA: Factory<M>,
 >(
     rt: &R,

@@ -14,6 +14,7 @@ use raft_log_open_scan::RecoveryConfig;
 use raft_log_record_base::Result;
 use raft_log_table_segments::{Factory, ReplayMachine, ReplayThreads};
 use std::alloc::Global;
+use std::marker::Send;
 use std::thread::Threads;
 
 /// The files of a queue that a scan found, open, in the order of their numbers, and what a recovery has told
@@ -52,7 +53,12 @@ impl RecoveredQueue {
     /// is never taken for damage; `Corruption` or `Codec` for damage that isn't tolerated; why the machine
     /// declines a record; `InvalidArgument` for an alignment; `Memory`. `Io` where a file isn't cut or synced:
     /// those before it are.
-    pub fn recover<R: Threads + Log + Sync, F: FileSystem + Sync, M: ReplayMachine, FA: Factory<M>>(
+    pub fn recover<
+        R: Threads + Log + Sync,
+        F: FileSystem + Sync,
+        M: ReplayMachine + Send,
+        FA: Factory<M>,
+    >(
         &mut self,
         rt: &R,
         alloc: Global,

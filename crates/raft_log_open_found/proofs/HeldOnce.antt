@@ -2,7 +2,6 @@
 use Rattle.std.proofs.Common.{◌≡◌, ℕ, ◌+◌, ◌-◌, ◌≤◌, Bool, Option, Some, None, is_some, List, [], ◌∷◌, ◌++◌, length, take, map, Ok, Err, slice_index_or, refl, sym, ap, subst, ◌∙◌, arith}
 use Rattle.std.proofs.lemmas.List.{length-append}
 use Rattle.std.proofs.Math.Seq.{take-append-add}
-use Rattle.std.specs.Global.{Vec}
 use Rattle.raft_log_record_base.specs.Fault.{Fault}
 use Rattle.raft_log_record_base.specs.Fault.Fault.{corrupt}
 use Rattle.raft_log_record_base.specs.declared.errors.Error.{Error}
@@ -22,12 +21,10 @@ use Rattle.raft_log_file_reader.specs.Opening.{SaysFormat}
 use Rattle.raft_log_file_reader.specs.declared.open_file.OpenFile.{OpenFile}
 use Rattle.raft_log_table_segments.specs.Machines.{Batch, batch_in}
 use Rattle.raft_log_table_segments.specs.Segments.{HoldsOne}
-use Rattle.raft_log_open_found.specs.Behind.{items_of}
 use Rattle.raft_log_open_found.specs.Faults.{TellsIfAny}
-use Rattle.raft_log_open_found.specs.Reading.{IsTornHeader, ReadsBytes, ReadsFileAs, torn_header}
+use Rattle.raft_log_open_found.specs.Reading.{FileReading, IsTornHeader, ReadsBytes, ReadsFileAs, torn_header}
 use Rattle.raft_log_open_found.specs.Records.{ReadsBehind}
 use Rattle.raft_log_open_found.specs.Reading.ReadsBytes.{headless, headed, torn}
-use Rattle.raft_log_open_found.specs.declared.file_records.FileRecords.{FileRecords}
 use Rattle.raft_log_open_found.specs.Batches.{said}
 use Rattle.raft_log_open_found.specs.Segments.{id_of, is_at_end, HoldsFile}
 use Rattle.raft_log_open_found.specs.declared.file_ending.FileEnding.{FileEnding}
@@ -72,8 +69,8 @@ one_header content f g m n a b =
 -- ---- what a file reads as
 
 -- what two readings of a file have in common
-record AreSame (a b : FileRecords) : Type 0 where
-  batches : items_of a.batches.items ≡ items_of b.batches.items
+record AreSame (a b : FileReading) : Type 0 where
+  batches : a.batches ≡ b.batches
   format : a.format ≡ b.format
   end : a.end ≡ b.end
   damaged : is_some a.fault ≡ is_some b.fault
@@ -83,34 +80,30 @@ told_some None fault h = sym (ap is_some h)
 told_some (Some e) fault h = sym (ap is_some h.1)
 
 -- two readings behind the header of a file are alike
-read_alike : (last : Bool) (content : List ℕ) (a b : FileRecords) (file other : OpenFile) (start from m n : ℕ) (e f : Option Fault) → file.id ≡ other.id → SaysFormat content file.format start → SaysFormat content other.format from
-    → ReadsBehind last file content start (items_of a.batches.items) m e → ReadsBehind last other content from (items_of b.batches.items) n f
-    → (file.format ≡ other.format) × (items_of a.batches.items ≡ items_of b.batches.items) × (m ≡ n) × (is_some e ≡ is_some f)
+read_alike : (last : Bool) (content : List ℕ) (a b : FileReading) (file other : OpenFile) (start from m n : ℕ) (e f : Option Fault) → file.id ≡ other.id → SaysFormat content file.format start → SaysFormat content other.format from
+    → ReadsBehind last file content start a.batches m e → ReadsBehind last other content from b.batches n f
+    → (file.format ≡ other.format) × (a.batches ≡ b.batches) × (m ≡ n) × (is_some e ≡ is_some f)
 read_alike last content a b file other start from m n e f same header front behind after =
     let one = one_header content file.format other.format start from header front in
-    let there = subst (λ (k : ℕ). ReadsBehind last other content k (items_of b.batches.items) n f) (sym one.1) after in
-    let here = same_behind last file other content start n (items_of b.batches.items) f same one.0 there in
-    let both = one_behind last file content start m n (items_of a.batches.items) (items_of b.batches.items) e f behind here in
+    let there = subst (λ (k : ℕ). ReadsBehind last other content k b.batches n f) (sym one.1) after in
+    let here = same_behind last file other content start n b.batches f same one.0 there in
+    let both = one_behind last file content start m n a.batches b.batches e f behind here in
     (one.0, both.0, both.1, both.2)
 
-no_items : (bs : List (Vec LogItem)) → [] ≡ items_of bs → bs ≡ []
-no_items [] none = refl
-no_items (b ∷ bs) none = (let never : ⊥ = cc in absurd never)
-
 -- where one reading finds the header torn, so it is for the other
-also_torn : (last : Bool) (id : FileId) (content : List ℕ) (a b : FileRecords) (file other : OpenFile) (start from m n : ℕ) (e f : Option Fault) → file.id ≡ other.id → SaysFormat content file.format start → SaysFormat content other.format from
-    → ReadsBehind last file content start (items_of a.batches.items) m e → ReadsBehind last other content from (items_of b.batches.items) n f
-    → IsTornHeader last file.format a.batches.items → IsTornHeader last other.format b.batches.items
+also_torn : (last : Bool) (id : FileId) (content : List ℕ) (a b : FileReading) (file other : OpenFile) (start from m n : ℕ) (e f : Option Fault) → file.id ≡ other.id → SaysFormat content file.format start → SaysFormat content other.format from
+    → ReadsBehind last file content start a.batches m e → ReadsBehind last other content from b.batches n f
+    → IsTornHeader last file.format a.batches → IsTornHeader last other.format b.batches
 also_torn last id content a b file other start from m n e f same header front behind after (at_end, aligned, none) =
     let read = read_alike last content a b file other start from m n e f same header front behind after in (
       at_end,
       λ free. aligned (ap (λ (k : LogFileFormat). k.alignment) read.0 ∙ free),
-      no_items b.batches.items (sym (ap items_of none) ∙ read.1),
+      sym read.1 ∙ none,
     )
 
-same_bytes : (last : Bool) (id : FileId) (content : List ℕ) (a b : FileRecords) → ReadsBytes last id content a → ReadsBytes last id content b → AreSame a b
+same_bytes : (last : Bool) (id : FileId) (content : List ℕ) (a b : FileReading) → ReadsBytes last id content a → ReadsBytes last id content b → AreSame a b
 same_bytes last id content a b (headless e wrong tells none end first) (headless f bad told nothing at format) = record {
-  batches = ap items_of none ∙ sym (ap items_of nothing);
+  batches = none ∙ sym nothing;
   format = first ∙ sym format;
   end = end ∙ sym at;
   damaged = told_some a.fault (Some e) tells ∙ sym (told_some b.fault (Some f) told);
@@ -124,7 +117,7 @@ same_bytes last id content a b (headed file start n f is header behind whole tol
 same_bytes last id content a b (torn file start n f is header behind bad told at format) (headless e wrong tells none end first) =
     absurd (header_found content file.format start e header wrong)
 same_bytes last id content a b (torn file start m e is header behind bad tells end first) (torn other from n f also front after worse told at format) = record {
-  batches = ap items_of bad.2 ∙ sym (ap items_of worse.2);
+  batches = bad.2 ∙ sym worse.2;
   format = first ∙ sym format;
   end = end ∙ sym at;
   damaged = told_some a.fault (Some (corrupt torn_header)) tells ∙ sym (told_some b.fault (Some (corrupt torn_header)) told);
@@ -144,10 +137,6 @@ same_bytes last id content a b (headed file start m e is header behind whole tel
 
 -- ---- what a queue holds
 
-said_items : (id : FileId) (xs : List (Vec LogItem)) → said id xs ≡ map (batch_in id) (items_of xs)
-said_items id [] = refl
-said_items id (x ∷ xs) = ap (λ (l : List Batch). batch_in id x.items ∷ l) (said_items id xs)
-
 same_ending : (e f : FileEnding) → e.format ≡ f.format → e.end ≡ f.end → e.is_damaged ≡ f.is_damaged → e ≡ f
 same_ending e f format end damaged = ap (λ (m : LogFileFormat). record { format = m; end = e.end; is_damaged = e.is_damaged }) format
     ∙ ap (λ (n : Option ℕ). record { format = f.format; end = n; is_damaged = e.is_damaged }) end
@@ -158,8 +147,8 @@ holds_one mode queue files d k xs ys e f a b =
     let file : b.file ≡ a.file = b.reads.is a.file ∙ sym (a.reads.is a.file) in
     let there = subst (λ (o : File). ReadsFileAs (is_at_end files k) (id_of queue o) o.handle d b.read) file b.reads.reads.reads in
     let same = same_bytes (is_at_end files k) (id_of queue a.file) _ a.read b.read a.reads.reads.reads there in
-    let batches : xs ≡ ys = a.holds ∙ said_items (id_of queue a.file) a.read.batches.items ∙ ap (λ (l : List (List LogItem)). map (batch_in (id_of queue a.file)) l) same.batches
-    ∙ sym (said_items (id_of queue a.file) b.read.batches.items) ∙ ap (λ (o : File). said (id_of queue o) b.read.batches.items) (sym file) ∙ sym b.holds in (
+    let batches : xs ≡ ys = a.holds ∙ ap (λ (l : List (List LogItem)). said (id_of queue a.file) l) same.batches
+    ∙ ap (λ (o : File). said (id_of queue o) b.read.batches) (sym file) ∙ sym b.holds in (
       batches,
       same_ending e f (a.ends.format ∙ same.format ∙ sym b.ends.format) (a.ends.end ∙ same.end ∙ sym b.ends.end) (a.ends.damaged ∙ same.damaged ∙ sym b.ends.damaged),
     )

@@ -5,4 +5,4 @@ pub mod ResultLemmas
 pub mod Elsewhere
 pub mod HeldOnce
 pub mod OneReading
-pub mod Taking
+pub mod Handing

@@ -1,8 +1,5 @@
 -- A reader at work behind a file's header.
 use Rattle.std.proofs.Common.{◌≡◌, ℕ, ◌+◌, ◌<◌, ◌≤◌, inl, inr, Option, Some, None, List, [], ◌∷◌, ◌++◌, length, take, map, ◌-◌, zero, suc, refl, sym, ap, subst, ◌∙◌, arith}
-use Rattle.std.proofs.lemmas.List.{length-append, length-map}
-use Rattle.std.proofs.Math.Seq.{take-append_seam}
-use Rattle.std.specs.Global.{Vec}
 use Rattle.raft_log_record_base.specs.Fault.{Fault}
 use Rattle.raft_log_record_items.specs.declared.item.LogItem.{LogItem}
 use Rattle.raft_log_disk.specs.Disk.{Disk}
@@ -14,7 +11,7 @@ use Rattle.raft_log_file_reader.specs.Reader.{IsReading, file_of, end_of, size_i
 use Rattle.raft_log_file_reader.specs.declared.open_file.OpenFile.{OpenFile}
 use Rattle.raft_log_file_reader.specs.declared.reader.LogItemBatchFileReader.{LogItemBatchFileReader}
 use Rattle.raft_log_open_found.specs.Records.{HasRecord, HasRecords, StopsGood}
-use Rattle.raft_log_open_found.specs.Behind.{StandsAtLast, items_of}
+use Rattle.raft_log_open_found.specs.Behind.{StandsAtLast, with_noted}
 use Rattle.raft_log_open_found.specs.declared.behind.LastRecord.{LastRecord}
 
 -- a record behind others makes one more
@@ -23,10 +20,10 @@ pub records_go_on : (file : OpenFile) (content : List ℕ) (offset m n : ℕ) (x
 records_go_on file content offset m n [] items a b = (n, subst (λ (k : ℕ). HasRecord file content k items n) a b, refl)
 records_go_on file content offset m n (xs ∷ more) items a b = (a.0, a.1, records_go_on file content a.0 m n more items a.2 b)
 
--- the items of one more batch
-pub one_more : (batches : List (Vec LogItem)) (items : Vec LogItem) → items_of (batches ++ items ∷ []) ≡ items_of batches ++ items.items ∷ []
-one_more [] items = refl
-one_more (b ∷ bs) items = ap (λ (l : List (List LogItem)). b.items ∷ l) (one_more bs items)
+-- a list with one more at its end isn't empty
+pub one_at_least : {X : Type 0} (xs : List X) (x : X) → xs ++ x ∷ [] ≡ [] → ⊥
+one_at_least [] x e = absurd cc
+one_at_least (y ∷ xs) x e = absurd cc
 
 -- a reader that went on in its file has less behind it
 pub less_left : (d : Disk) (old new : LogItemBatchFileReader) (file : OpenFile) → file_of old ≡ Some file → file_of new ≡ file_of old → IsReading d new → end_of old < end_of new → left_of new < left_of old
@@ -42,21 +39,7 @@ stops_there file content end None none = inl none
 stops_there file content end (Some f) broken = inr (f, broken)
 
 -- the batches up to the one that is noted, and it, are batches
-pub all_batches : (file : OpenFile) (content : List ℕ) (offset end : ℕ) (batches : List (List LogItem)) (last : Option LastRecord) → StandsAtLast file content offset batches last end
-    → HasBatches file content offset batches end
-all_batches file content offset end batches None h = subst (λ (l : List (List LogItem)). HasBatches file content offset l end) (sym h.0) h.1
-all_batches file content offset end batches (Some last) h = subst (λ (l : List (List LogItem)). HasBatches file content offset l end) (sym h.2)
-    (batches_go_on_is file content offset last.start end h.0 h.1 h.3 h.4)
-
--- the items of the first batches
-take_items : (k : ℕ) (xs : List (Vec LogItem)) → items_of (take k xs) ≡ take k (items_of xs)
-take_items zero xs = refl
-take_items (suc k) [] = refl
-take_items (suc k) (x ∷ xs) = ap (λ (l : List (List LogItem)). x.items ∷ l) (take_items k xs)
-
--- the batches without the last one
-pub popped : (xs : List (Vec LogItem)) (n : ℕ) (before : List (List LogItem)) (items : List LogItem) → n ≡ length xs → items_of xs ≡ before ++ items ∷ [] → items_of (take (n - 1) xs) ≡ before
-popped xs n before items size split =
-    let same : length (items_of xs) ≡ length xs = length-map xs (λ (b : Vec LogItem). b.items) in
-    let len : n - 1 ≡ length before = omega (arith, size, same, ap length split, length-append before (items ∷ [])) in
-    take_items (n - 1) xs ∙ ap (take (n - 1)) split ∙ ap (λ (k : ℕ). take k (before ++ items ∷ [])) len ∙ take-append_seam before (items ∷ [])
+pub all_batches : (file : OpenFile) (content : List ℕ) (offset end : ℕ) (before : List (List LogItem)) (last : Option LastRecord) → StandsAtLast file content offset before last end
+    → HasBatches file content offset (with_noted before last) end
+all_batches file content offset end before None h = subst (λ (l : List (List LogItem)). HasBatches file content offset l end) (sym h.0) h.1
+all_batches file content offset end before (Some last) h = batches_go_on_is file content offset last.start end before last.items.items h.0 h.1

@@ -1,15 +1,13 @@
--- Batches of a file that a machine takes.
-use Rattle.std.specs.Prelude.{◌≡◌, List, [], ◌∷◌, ◌++◌}
-use Rattle.std.specs.Global.{Vec}
+-- Batches of a file that a machine is handed.
+use Rattle.std.specs.Prelude.{◌≡◌, Option, Some, None, List, [], ◌∷◌, ◌++◌, map}
 use Rattle.raft_log_record_base.specs.declared.errors.Error.{Error}
 use Rattle.raft_log_record_base.specs.declared.pipe_log.FileId.{FileId}
 use Rattle.raft_log_record_items.specs.declared.item.LogItem.{LogItem}
 use Rattle.raft_log_table_segments.specs.Machines.{Batch, batch_in}
 
 -- the batches of these items in a file
-abbrev pub said : FileId → List (Vec LogItem) → List Batch
-said id [] = []
-said id (b ∷ bs) = batch_in id b.items ∷ said id bs
+abbrev pub said : FileId → List (List LogItem) → List Batch
+said id batches = map (batch_in id) batches
 
 -- a machine that has read some batches has then read them and these
 abbrev pub TakesBatches : {M : Type 0} → (List Batch → M → Type 0) → List Batch → M → M → Type 0
@@ -22,3 +20,9 @@ pub record DeclinesSome {M : Type 0} (reads : List Batch → M → Type 0) (decl
   pub rest : List Batch
   pub split : batches ≡ first ++ rest
   pub declined : (before : List Batch) → reads before machine → declines (before ++ first) error
+
+-- a machine was handed these batches, one behind the other: it took them all, or declined one of them
+abbrev pub HasTaken : {M : Type 0} → (List Batch → M → Type 0) → (List Batch → Error → Type 0) → List Batch
+    → M → M → Option Error → Type 0
+HasTaken reads declines batches old new None = TakesBatches reads batches old new
+HasTaken reads declines batches old new (Some error) = DeclinesSome reads declines batches old error

@@ -1,7 +1,8 @@
--- What was read behind the header of a file, and a reader at work on it.
-use Rattle.std.specs.Prelude.{◌≡◌, ℕ, ◌-◌, Option, Some, None, List, [], ◌∷◌, ◌++◌, map}
-use Rattle.std.specs.Global.{Vec}
+-- What was read behind the header of a file and handed on, and a reader at work on it.
+use Rattle.std.specs.Prelude.{◌≡◌, ◌↔◌, ℕ, ◌-◌, Bool, true, IsTrue, Option, Some, None, List, [], ◌∷◌, ◌++◌}
 use Rattle.raft_log_record_base.specs.Fault.{Fault}
+use Rattle.raft_log_record_base.specs.declared.errors.Error.{Error}
+use Rattle.raft_log_record_base.specs.declared.pipe_log.FileId.{FileId}
 use Rattle.raft_log_record_items.specs.declared.item.LogItem.{LogItem}
 use Rattle.raft_log_disk.specs.Disk.{Disk}
 use Rattle.raft_log_file_reader.specs.Source.{bytes_of}
@@ -9,23 +10,24 @@ use Rattle.raft_log_file_reader.specs.Batches.{HasBatch, HasBatches, HasBlock}
 use Rattle.raft_log_file_reader.specs.Reader.{IsReading, IsInsideFile, file_of, end_of, size_in}
 use Rattle.raft_log_file_reader.specs.declared.open_file.OpenFile.{OpenFile}
 use Rattle.raft_log_file_reader.specs.declared.reader.LogItemBatchFileReader.{LogItemBatchFileReader}
+use Rattle.raft_log_table_segments.specs.Machines.{Batch}
+use Rattle.raft_log_open_found.specs.Batches.{HasTaken, said}
 use Rattle.raft_log_open_found.specs.Faults.{TellsIfAny}
-use Rattle.raft_log_open_found.specs.Records.{HasRecords}
+use Rattle.raft_log_open_found.specs.Records.{ReadsBehind}
 use Rattle.raft_log_open_found.specs.declared.behind.Behind.{Behind}
 use Rattle.raft_log_open_found.specs.declared.behind.LastRecord.{LastRecord}
 
--- the items of these batches
-abbrev pub items_of : List (Vec LogItem) → List (List LogItem)
-items_of batches = map (λ b. b.items) batches
-
--- what may be read of a file behind an offset: batches, where the last one ends, and what is wrong there
-abbrev pub ReadingsBehind : Type 1
-ReadingsBehind = OpenFile → List ℕ → ℕ → List (List LogItem) → ℕ → Option Fault → Type 0
-
--- this was read of the file behind an offset, and what is wrong is told
-abbrev pub WasReadBehind : ReadingsBehind → Disk → OpenFile → ℕ → Behind → Type 0
-WasReadBehind Reads d file offset behind = (fault : Option Fault) × TellsIfAny behind.fault fault
-    × Reads file (bytes_of file.source d) offset (items_of behind.batches.items) behind.end fault
+-- This was read behind an offset of the file, which is the last one of its queue or not: batches, which a machine
+-- was handed; where the last one ends, and what is wrong there. Of a last file is told whether there are none.
+pub record WasReadBehind {M : Type 0} (last : Bool) (reads : List Batch → M → Type 0)
+    (declines : List Batch → Error → Type 0) (id : FileId) (old new : M) (d : Disk) (file : OpenFile) (offset : ℕ)
+    (behind : Behind) : Type 0 where
+  pub batches : List (List LogItem)
+  pub fault : Option Fault
+  pub tells : TellsIfAny behind.fault fault
+  pub has : ReadsBehind last file (bytes_of file.source d) offset batches behind.end fault
+  pub bare : last ≡ true → IsTrue behind.is_bare ↔ (batches ≡ [])
+  pub taken : HasTaken reads declines (said id batches) old new behind.declined
 
 -- the reader has a file open
 abbrev pub HasFileOpen : LogItemBatchFileReader → Type 0
@@ -40,15 +42,18 @@ pub record IsAtWork (Has : OpenFile → List ℕ → ℕ → ℕ → Type 0) (d 
   pub opened : file_of reader ≡ Some file
   pub has : Has file (bytes_of file.source d) (end_of old) (end_of reader)
 
--- these batches follow one another up to an end; the last one, if there is one, begins and has its block
--- where it is noted
+-- the batches, and the one that is noted behind them
+abbrev pub with_noted : List (List LogItem) → Option LastRecord → List (List LogItem)
+with_noted before None = before
+with_noted before (Some last) = before ++ last.items.items ∷ []
+
+-- these batches follow one another, and behind them comes the one that is noted, with its place, its block and its
+-- items, up to an end; without one there are none
 abbrev pub StandsAtLast :
     OpenFile → List ℕ → ℕ → List (List LogItem) → Option LastRecord → ℕ → Type 0
-StandsAtLast file content offset batches None end = (batches ≡ []) × (end ≡ offset)
-StandsAtLast file content offset batches (Some last) end = (before : List (List LogItem))
-    × (items : List LogItem) × (batches ≡ before ++ items ∷ [])
-    × HasBatches file content offset before last.start × HasBatch file content last.start items end
-    × HasBlock file content last.start last.block
+StandsAtLast file content offset before None end = (before ≡ []) × (end ≡ offset)
+StandsAtLast file content offset before (Some last) end = HasBatches file content offset before last.start
+    × HasBatch file content last.start last.items.items end × HasBlock file content last.start last.block
 
 -- the block that is noted lies in the file
 abbrev pub LiesInside : Option LastRecord → LogItemBatchFileReader → Type 0

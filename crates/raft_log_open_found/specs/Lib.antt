@@ -1,8 +1,9 @@
 pub mod Faults
 pub mod Records
 pub mod Steps
+pub mod Batches
 pub mod Behind
 pub mod Reading
+pub mod Handed
 pub mod Tolerance
-pub mod Batches
 pub mod Segments

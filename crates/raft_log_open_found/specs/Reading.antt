@@ -1,6 +1,5 @@
 -- What a log file that was found reads as.
-use Rattle.std.specs.Prelude.{◌≡◌, ℕ, ◌⊎◌, Bool, true, Option, Some, None, List, [], length, take, Result, Err, codes}
-use Rattle.std.specs.Global.{Vec}
+use Rattle.std.specs.Prelude.{◌≡◌, ℕ, ◌⊎◌, Bool, true, Option, Some, None, List, [], length, take, Result, Err, IsTrue, codes}
 use Rattle.raft_log_record_base.specs.Fault.{Fault}
 use Rattle.raft_log_record_base.specs.Fault.Fault.{corrupt}
 use Rattle.raft_log_record_base.specs.declared.errors.Error.{Error}
@@ -17,15 +16,28 @@ use Rattle.raft_log_file_queue.specs.Layout.{IsUnaligned}
 use Rattle.raft_log_file_reader.specs.Opening.{SaysFormat}
 use Rattle.raft_log_file_reader.specs.Source.{bytes_in}
 use Rattle.raft_log_file_reader.specs.declared.open_file.OpenFile.{OpenFile}
-use Rattle.raft_log_open_found.specs.Behind.{items_of}
 use Rattle.raft_log_open_found.specs.Faults.{TellsIfAny}
 use Rattle.raft_log_open_found.specs.Records.{ReadsBehind}
-use Rattle.raft_log_open_found.specs.declared.file_records.FileRecords.{FileRecords}
+
+-- what a log file reads as, from its front on up to its end, or to what is wrong with it
+pub record FileReading : Type 0 where
+  -- what the header says; the format of a file without a header, where it has none
+  pub format : LogFileFormat
+  -- the items of the good records, in order, with the places of their entries
+  pub batches : List (List LogItem)
+  -- where the last good record ends, or the header, where there is one
+  pub end : Option ℕ
+  -- what is wrong behind that, or with the header, as it is told
+  pub fault : Option Error
 
 -- What reads as a header is a torn one: it says an alignment, which no pipe writes, and it stands in the last
 -- file of a queue, whose header may have been written when the power was cut, with no whole record behind it.
-abbrev pub IsTornHeader : Bool → LogFileFormat → List (Vec LogItem) → Type 0
+abbrev pub IsTornHeader : Bool → LogFileFormat → List (List LogItem) → Type 0
 IsTornHeader last format batches = (last ≡ true) × (IsUnaligned format → ⊥) × (batches ≡ [])
+
+-- the same, where it is told whether no record stands behind the header
+abbrev pub HasTornHeader : Bool → LogFileFormat → Bool → Type 0
+HasTornHeader last format bare = (last ≡ true) × (IsUnaligned format → ⊥) × IsTrue bare
 
 -- the text for such a header
 abbrev pub torn_header : List ℕ
@@ -33,25 +45,25 @@ torn_header = codes "log file header has an alignment, and no record behind it"
 
 -- What the bytes of a file read as, which is the last one of its queue or not: where they don't begin with a
 -- header, or with a torn one, nothing, and what is wrong with that; else what stands behind the header.
-pub data ReadsBytes (last : Bool) (id : FileId) (content : List ℕ) (read : FileRecords) : Type 0 where
+pub data ReadsBytes (last : Bool) (id : FileId) (content : List ℕ) (read : FileReading) : Type 0 where
   headless : (fault : Fault) → header_at (take 69 content) ≡ Err fault
-      → TellsIfAny read.fault (Some fault) → read.batches.items ≡ [] → read.end ≡ None
+      → TellsIfAny read.fault (Some fault) → read.batches ≡ [] → read.end ≡ None
       → read.format ≡ first_format → ReadsBytes last id content read
   torn : (file : OpenFile) (start end : ℕ) (fault : Option Fault) → file.id ≡ id
       → SaysFormat content file.format start
-      → ReadsBehind last file content start (items_of read.batches.items) end fault
-      → IsTornHeader last file.format read.batches.items
+      → ReadsBehind last file content start read.batches end fault
+      → IsTornHeader last file.format read.batches
       → TellsIfAny read.fault (Some (corrupt torn_header)) → read.end ≡ None
       → read.format ≡ first_format → ReadsBytes last id content read
   headed : (file : OpenFile) (start end : ℕ) (fault : Option Fault) → file.id ≡ id
       → SaysFormat content file.format start
-      → ReadsBehind last file content start (items_of read.batches.items) end fault
-      → (IsTornHeader last file.format read.batches.items → ⊥)
+      → ReadsBehind last file content start read.batches end fault
+      → (IsTornHeader last file.format read.batches → ⊥)
       → TellsIfAny read.fault fault → read.end ≡ Some end → read.format ≡ file.format
       → ReadsBytes last id content read
 
 -- what is read of the file by this handle, whose bytes are those that stand on the disk
-abbrev pub ReadsFileAs : Bool → FileId → Handle → Disk → FileRecords → Type 0
+abbrev pub ReadsFileAs : Bool → FileId → Handle → Disk → FileReading → Type 0
 ReadsFileAs last id handle d read = ReadsBytes last id (bytes_in (d.files handle.file)) read
 
 -- why a file isn't read: its size isn't told, or some of its bytes can't be read; or memory ran out. No fault

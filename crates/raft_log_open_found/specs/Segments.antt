@@ -7,10 +7,11 @@ use Rattle.raft_log_disk.specs.Disk.{Disk}
 use Rattle.raft_log_file_settings.specs.declared.recovery_mode.RecoveryMode.{RecoveryMode}
 use Rattle.raft_log_file_queue.specs.declared.format.File.{File}
 use Rattle.raft_log_open_found.specs.Tolerance.{FailsToReadFound, ReadsFound}
-use Rattle.raft_log_open_found.specs.declared.file_records.FileRecords.{FileRecords}
+use Rattle.raft_log_open_found.specs.Reading.{FileReading}
 use Rattle.raft_log_table_segments.specs.Machines.{Batch}
 use Rattle.raft_log_open_found.specs.Batches.{said}
-use Rattle.raft_log_open_found.specs.declared.queue_segments.FoundSegment.{FoundSegment}
+use Rattle.raft_log_open_found.specs.Handed.{WasHanded}
+use Rattle.raft_log_open_found.specs.declared.found_file.FoundFile.{FoundFile}
 use Rattle.raft_log_open_found.specs.declared.file_ending.FileEnding.{FileEnding}
 
 -- whether the file in this place is the last one
@@ -23,13 +24,13 @@ id_of queue file = record { queue = queue; seq = file.seq }
 
 -- the file is the one in this place of its queue, and reads as this
 pub record ReadsAt (mode : RecoveryMode) (queue : LogQueue) (files : List File) (d : Disk) (index : ℕ)
-    (file : File) (read : FileRecords) : Type 0 where
+    (file : File) (read : FileReading) : Type 0 where
   pub inside : index < length files
   pub is : (other : File) → file ≡ slice_index_or files index other
   pub reads : ReadsFound mode (is_at_end files index) (id_of queue file) file.handle d read
 
 -- what a recovery does with a file that reads as this
-pub record EndsAs (read : FileRecords) (ending : FileEnding) : Type 0 where
+pub record EndsAs (read : FileReading) (ending : FileEnding) : Type 0 where
   pub format : ending.format ≡ read.format
   pub end : ending.end ≡ read.end
   pub damaged : ending.is_damaged ≡ is_some read.fault
@@ -38,19 +39,19 @@ pub record EndsAs (read : FileRecords) (ending : FileEnding) : Type 0 where
 pub record HoldsFile (mode : RecoveryMode) (queue : LogQueue) (files : List File) (d : Disk) (index : ℕ)
     (batches : List Batch) (ending : FileEnding) : Type 0 where
   pub file : File
-  pub read : FileRecords
+  pub read : FileReading
   pub reads : ReadsAt mode queue files d index file read
-  pub holds : batches ≡ said (id_of queue file) read.batches.items
+  pub holds : batches ≡ said (id_of queue file) read.batches
   pub ends : EndsAs read ending
 
 -- the file in this place begins with these batches
 pub record BeginsFile (mode : RecoveryMode) (queue : LogQueue) (files : List File) (d : Disk) (index : ℕ)
     (batches : List Batch) : Type 0 where
   pub file : File
-  pub read : FileRecords
+  pub read : FileReading
   pub reads : ReadsAt mode queue files d index file read
   pub rest : List Batch
-  pub begins : said (id_of queue file) read.batches.items ≡ batches ++ rest
+  pub begins : said (id_of queue file) read.batches ≡ batches ++ rest
 
 -- why the file in this place isn't read: it can't be, or its damage isn't tolerated
 pub record RefusesFile (mode : RecoveryMode) (queue : LogQueue) (files : List File) (d : Disk) (index : ℕ)
@@ -60,12 +61,11 @@ pub record RefusesFile (mode : RecoveryMode) (queue : LogQueue) (files : List Fi
   pub is : (other : File) → file ≡ slice_index_or files index other
   pub refused : FailsToReadFound mode (is_at_end files index) (id_of queue file) file.handle d error
 
--- what was read of the file in this place
-pub record IsSegment (mode : RecoveryMode) (queue : LogQueue) (files : List File) (d : Disk) (index : ℕ)
-    (segment : FoundSegment) : Type 0 where
+-- this was found of the file in this place, and a machine was handed its records
+pub record IsSegment {M : Type 0} (mode : RecoveryMode) (queue : LogQueue) (files : List File) (d : Disk)
+    (index : ℕ) (takes : List Batch → M → Type 0) (declines : List Batch → Error → Type 0) (old new : M)
+    (found : FoundFile) : Type 0 where
   pub file : File
-  pub read : FileRecords
+  pub read : FileReading
   pub reads : ReadsAt mode queue files d index file read
-  pub id : segment.id ≡ id_of queue file
-  pub batches : segment.batches ≡ read.batches
-  pub ends : EndsAs read segment.ending
+  pub handed : WasHanded takes declines (id_of queue file) old new read found

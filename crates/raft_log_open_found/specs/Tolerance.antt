@@ -1,13 +1,12 @@
 -- Which damage of a log file is tolerated.
-use Rattle.std.specs.Prelude.{◌≡◌, ◌⊎◌, Bool, true, false, Some, None}
+use Rattle.std.specs.Prelude.{◌≡◌, ◌⊎◌, Bool, true, false, Option, Some, None}
 use Rattle.raft_log_record_base.specs.declared.errors.Error.{Error}
 use Rattle.raft_log_record_base.specs.declared.pipe_log.FileId.{FileId}
 use Rattle.raft_log_disk.specs.Disk.{Disk}
 use Rattle.raft_log_disk.specs.declared.handle.Handle.{Handle}
 use Rattle.raft_log_file_settings.specs.declared.recovery_mode.RecoveryMode.{RecoveryMode}
 use Rattle.raft_log_file_settings.specs.declared.recovery_mode.RecoveryMode.TheVariants.{AbsoluteConsistency, TolerateTailCorruption, TolerateAnyCorruption}
-use Rattle.raft_log_open_found.specs.Reading.{FailsToRead, ReadsFileAs}
-use Rattle.raft_log_open_found.specs.declared.file_records.FileRecords.{FileRecords}
+use Rattle.raft_log_open_found.specs.Reading.{FailsToRead, FileReading, ReadsFileAs}
 
 -- whether damage is tolerated of a file, which is the last one of its queue or not
 abbrev pub tolerates : RecoveryMode → Bool → Bool
@@ -16,19 +15,19 @@ tolerates TolerateTailCorruption last = last
 tolerates TolerateAnyCorruption last = true
 
 -- the file isn't damaged, or that is tolerated
-abbrev pub IsTolerated : RecoveryMode → Bool → FileRecords → Type 0
-IsTolerated mode last read = (read.fault ≡ None) ⊎ (tolerates mode last ≡ true)
+abbrev pub IsTolerated : RecoveryMode → Bool → Option Error → Type 0
+IsTolerated mode last fault = (fault ≡ None) ⊎ (tolerates mode last ≡ true)
 
 -- the file reads as this, and its damage is tolerated
 pub record ReadsFound (mode : RecoveryMode) (last : Bool) (id : FileId) (handle : Handle) (d : Disk)
-    (read : FileRecords) : Type 0 where
+    (read : FileReading) : Type 0 where
   pub reads : ReadsFileAs last id handle d read
-  pub tolerated : IsTolerated mode last read
+  pub tolerated : IsTolerated mode last read.fault
 
 -- the file is damaged, as is told, and that isn't tolerated
 pub record IsDamaged (mode : RecoveryMode) (last : Bool) (id : FileId) (handle : Handle) (d : Disk)
     (error : Error) : Type 0 where
-  pub read : FileRecords
+  pub read : FileReading
   pub reads : ReadsFileAs last id handle d read
   pub told : read.fault ≡ Some error
   pub strict : tolerates mode last ≡ false

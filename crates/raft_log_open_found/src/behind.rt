@@ -1,142 +1,173 @@
-//! Reading what stands behind the header of a log file.
+//! Reading what stands behind the header of a log file. Each record is handed on once the next one is read, so that
+//! no more than two of them are held.
 
-ghost use Rattle.std.specs.Prelude.{◌≡◌, ℕ, Option, Some, IfOk, IfErr};
+ghost use Rattle.std.specs.Prelude.{◌≡◌, ℕ, false, true, List, Option, Some, IfOk, IfErr};
 ghost use Rattle.raft_log_record_base.specs.Fault.{Fault};
+ghost use Rattle.raft_log_record_items.specs.declared.item.LogItem.{LogItem};
 ghost use Rattle.raft_log_file_reader.specs.Reader.{IsReading, file_of, end_of};
 ghost use Rattle.raft_log_file_reader.specs.Source.{bytes_of, CannotRead};
 ghost use Rattle.raft_log_file_reader.specs.declared.open_file.OpenFile.{OpenFile};
-ghost use Rattle.raft_log_open_found.specs.Behind.{HasFileOpen, LiesInside, WasReadBehind, StandsAtLast, items_of};
+ghost use Rattle.raft_log_open_found.specs.Batches.{HasTaken, said};
+ghost use Rattle.raft_log_open_found.specs.Behind.{HasFileOpen, LiesInside, StandsAtLast, WasReadBehind};
 ghost use Rattle.raft_log_open_found.specs.Faults.{TellsIfAny};
-ghost use Rattle.raft_log_open_found.specs.Records.{ReadsEarlier, ReadsLastFile, StopsGood};
+ghost use Rattle.raft_log_open_found.specs.Records.{StopsGood};
 
 use crate::steps::{Next, check_block, next_batch, next_record};
+use crate::taking::{take, take_noted};
 use raft_log_disk::FileSystem;
 use raft_log_file_reader::LogItemBatchFileReader;
-use raft_log_record_base::{Error, FileBlockHandle, Result};
+use raft_log_record_base::{Error, FileBlockHandle, FileId, Result};
 use raft_log_record_items::LogItem;
+use raft_log_table_segments::ReplayMachine;
 use std::alloc::Global;
 
-/// What stands behind the header of a log file: its good records, where the last one ends, and what is wrong
-/// behind that.
+/// What stands behind the header of a log file whose good records were handed to a machine: where the last one
+/// ends, and what is wrong behind that.
 #[derive(Drop)]
 pub(crate) struct Behind {
-    /// The items of the records.
-    pub(crate) batches: Vec<Vec<LogItem>>,
-    /// Where the last one ends, or the header.
+    /// Where the last good record ends, or the header.
     pub(crate) end: usize,
     /// What is wrong there.
     pub(crate) fault: Option<Error>,
+    /// Whether no good record stands there. It is told of the last file of a queue alone.
+    pub(crate) is_bare: bool,
+    /// What the machine declined a record with.
+    pub(crate) declined: Option<Error>,
 }
 
 /// The last record that was read.
-#[derive(Clone, Copy)]
+#[derive(Drop)]
 pub(crate) struct LastRecord {
     /// Where the record before that one ends, or the header.
     pub(crate) start: usize,
     /// Where that record's entry block lies.
     pub(crate) block: FileBlockHandle,
+    /// Its items.
+    pub(crate) items: Vec<LogItem>,
 }
 
-/// The records of the last file of a queue, up to the first one that isn't whole.
-pub(crate) fn read_last<F: FileSystem>(
+/// The records of the last file of a queue are handed on, up to the first one that isn't whole. What the machine
+/// declines ends nothing: the file is read to its end, and the first refusal is told.
+pub(crate) fn read_last<F: FileSystem, M: ReplayMachine>(
     alloc: Global,
     file_system: &F,
     reader: &mut LogItemBatchFileReader,
+    id: FileId,
+    machine: &mut M,
 ) -> Result<Behind>
     requires reading { IsReading (F.disk file_system.now) reader.old }
     requires open { HasFileOpen reader.old }
     ensures ok { (file : OpenFile) → file_of reader.old ≡ Some file
-        → IfOk result (WasReadBehind ReadsLastFile (F.disk file_system.now) file (end_of reader.old)) }
+        → IfOk result (WasReadBehind true (M.reads id.queue) (M.declines id.queue) id machine.old machine.new
+        (F.disk file_system.now) file (end_of reader.old)) }
     ensures err { (file : OpenFile) → file_of reader.old ≡ Some file
         → IfErr result (CannotRead file.source 0 (F.disk file_system.now)) }
 {
-    let mut batches = Vec::new(alloc);
+    let mut is_bare = true;
+    let mut declined = None;
     loop {
         let end = reader.valid_offset();
         match next_record(alloc, file_system, reader)? {
-            Next::Batch(items) => batches.push(items)?,
+            Next::Batch(items) => {
+                declined = take(machine, id, items, declined);
+                is_bare = false;
+            }
             Next::End => {
                 let fault = None;
                 return Ok(Behind {
-                    batches,
                     end,
                     fault,
+                    is_bare,
+                    declined,
                 });
             }
             Next::Fault(error) => {
                 let fault = Some(error);
                 return Ok(Behind {
-                    batches,
                     end,
                     fault,
+                    is_bare,
+                    declined,
                 });
             }
         }
     }
 }
 
-/// The records of a file before the last one of a queue. Their entry blocks aren't looked at, but for the one
-/// of the last record.
-pub(crate) fn read_earlier<F: FileSystem>(
+/// The records of a file before the last one of a queue are handed on. Their entry blocks aren't looked at, but for
+/// the one of the last record. What the machine declines ends nothing, as in [`read_last`].
+pub(crate) fn read_earlier<F: FileSystem, M: ReplayMachine>(
     alloc: Global,
     file_system: &F,
     reader: &mut LogItemBatchFileReader,
+    id: FileId,
+    machine: &mut M,
 ) -> Result<Behind>
     requires reading { IsReading (F.disk file_system.now) reader.old }
     requires open { HasFileOpen reader.old }
     ensures ok { (file : OpenFile) → file_of reader.old ≡ Some file
-        → IfOk result (WasReadBehind ReadsEarlier (F.disk file_system.now) file (end_of reader.old)) }
+        → IfOk result (WasReadBehind false (M.reads id.queue) (M.declines id.queue) id machine.old machine.new
+        (F.disk file_system.now) file (end_of reader.old)) }
     ensures err { (file : OpenFile) → file_of reader.old ≡ Some file
         → IfErr result (CannotRead file.source 0 (F.disk file_system.now)) }
 {
-    let mut batches = Vec::new(alloc);
+    let mut declined = None;
     let mut last = None;
     loop {
         let end = reader.valid_offset();
         match next_batch(alloc, file_system, reader)? {
             Next::Batch(items) => {
-                batches.push(items)?;
+                declined = take_noted(machine, id, last, declined);
                 let block = reader.last_block();
-                last = Some(LastRecord { start: end, block });
+                last = Some(LastRecord {
+                    start: end,
+                    block,
+                    items,
+                });
             }
             Next::End => {
-                let fault = None;
                 let read = Behind {
-                    batches,
                     end,
-                    fault,
+                    fault: None,
+                    is_bare: false,
+                    declined,
                 };
-                return check_last(alloc, file_system, reader, read, last);
+                return check_last(alloc, file_system, reader, id, machine, read, last);
             }
             Next::Fault(error) => {
-                let fault = Some(error);
                 let read = Behind {
-                    batches,
                     end,
-                    fault,
+                    fault: Some(error),
+                    is_bare: false,
+                    declined,
                 };
-                return check_last(alloc, file_system, reader, read, last);
+                return check_last(alloc, file_system, reader, id, machine, read, last);
             }
         }
     }
 }
 
-/// What was read, where the entry block of its last record is whole; else what stands before that record.
-fn check_last<F: FileSystem>(
+/// What was read, where the entry block of its last record is whole, which is handed on then; else what stands
+/// before that record.
+fn check_last<F: FileSystem, M: ReplayMachine>(
     alloc: Global,
     file_system: &F,
     reader: &mut LogItemBatchFileReader,
+    id: FileId,
+    machine: &mut M,
     read: Behind,
     last: Option<LastRecord>,
 ) -> Result<Behind>
     requires reading { IsReading (F.disk file_system.now) reader.old }
     requires inside { LiesInside last reader.old }
-    ensures ok { (file : OpenFile) (offset : ℕ) (fault : Option Fault) → file_of reader.old ≡ Some file
-        → StandsAtLast file (bytes_of file.source (F.disk file_system.now)) offset
-        (items_of read.batches.items) last read.end
+    ensures ok { (file : OpenFile) (offset : ℕ) (fault : Option Fault) (before : List (List LogItem)) (start : M)
+        → file_of reader.old ≡ Some file
+        → StandsAtLast file (bytes_of file.source (F.disk file_system.now)) offset before last read.end
         → StopsGood file (bytes_of file.source (F.disk file_system.now)) read.end fault
         → TellsIfAny read.fault fault
-        → IfOk result (WasReadBehind ReadsEarlier (F.disk file_system.now) file offset) }
+        → HasTaken (M.reads id.queue) (M.declines id.queue) (said id before) start machine.old read.declined
+        → IfOk result (WasReadBehind false (M.reads id.queue) (M.declines id.queue) id start machine.new
+        (F.disk file_system.now) file offset) }
     ensures err { (file : OpenFile) → file_of reader.old ≡ Some file
         → IfErr result (CannotRead file.source 0 (F.disk file_system.now)) }
 {
@@ -144,15 +175,20 @@ fn check_last<F: FileSystem>(
         return Ok(read);
     };
     match check_block(alloc, file_system, reader, record.block)? {
-        None => Ok(read),
-        Some(error) => {
-            let mut batches = read.batches;
-            batches.pop();
+        None => {
+            let declined = take(machine, id, record.items, read.declined);
             Ok(Behind {
-                batches,
-                end: record.start,
-                fault: Some(error),
+                end: read.end,
+                fault: read.fault,
+                is_bare: read.is_bare,
+                declined,
             })
         }
+        Some(error) => Ok(Behind {
+            end: record.start,
+            fault: Some(error),
+            is_bare: read.is_bare,
+            declined: read.declined,
+        }),
     }
 }

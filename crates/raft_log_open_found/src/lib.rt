@@ -6,15 +6,16 @@
 mod behind;
 mod damage;
 pub mod file_ending;
-pub mod file_records;
+pub mod found_file;
 pub mod laws;
 pub mod queue_segments;
 pub mod reading;
 mod steps;
+mod taking;
 pub mod tolerance;
 
 pub use file_ending::FileEnding;
-pub use file_records::FileRecords;
+pub use found_file::{FoundFile, ListedFile};
 pub use queue_segments::QueueSegments;
 pub use reading::read_file;
 pub use tolerance::{read_found, tolerates};

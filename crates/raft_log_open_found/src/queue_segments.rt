@@ -5,13 +5,13 @@ ghost use Rattle.raft_log_file_queue.specs.declared.format.File.{File};
 ghost use Rattle.raft_log_open_found.specs.Segments.{is_at_end};
 
 use crate::file_ending::FileEnding;
+use crate::found_file::{FoundFile, ListedFile};
 use crate::read_found;
 use raft_log_disk::FileSystem;
 use raft_log_file_queue::File;
 use raft_log_file_reader::LogItemBatchFileReader;
 use raft_log_file_settings::RecoveryMode;
 use raft_log_record_base::{FileId, LogQueue, Result};
-use raft_log_record_items::LogItem;
 use raft_log_table_segments::{ReplayMachine, ReplaySource};
 use std::alloc::Global;
 
@@ -64,68 +64,54 @@ impl<'a, F: FileSystem + Sync> ReplaySource for QueueSegments<'a, F> {
         index: usize,
         machine: &mut M,
     ) -> Result<FileEnding> {
-        let FoundSegment {
-            id,
-            batches,
-            ending,
-        } = self.read_segment(index)?;
-        for items in batches {
-            machine.replay(items, id)?;
+        let FoundFile {
+            format,
+            end,
+            fault,
+            declined,
+        } = self.read_segment(index, machine)?;
+        match declined {
+            Some(error) => Err(error),
+            None => Ok(FileEnding {
+                format,
+                end,
+                is_damaged: fault.is_some(),
+            }),
         }
-        Ok(ending)
     }
 }
 
-/// What was read of a file.
-#[derive(Drop)]
-struct FoundSegment {
-    /// Which file it is.
-    id: FileId,
-    /// The items of its records.
-    batches: Vec<Vec<LogItem>>,
-    /// What a recovery does with it.
-    ending: FileEnding,
-}
-
 impl<'a, F: FileSystem> QueueSegments<'a, F> {
-    ghost use Rattle.std.specs.Prelude.{◌≡◌, ◌<◌, length, IfOk, IfErr};
+    ghost use Rattle.std.specs.Prelude.{◌<◌, length, IfOk, IfErr};
     ghost use Rattle.raft_log_open_found.specs.Segments.{IsSegment, RefusesFile};
 
-    /// Reads the file in this place.
-    fn read_segment(&self, index: usize) -> Result<FoundSegment>
+    /// Reads the file in this place, and hands a machine its records.
+    fn read_segment<M: ReplayMachine>(&self, index: usize, machine: &mut M) -> Result<FoundFile>
         requires { index < length self.now.files.now }
         ensures ok { IfOk result (IsSegment self.now.mode self.now.queue self.now.files.now
-            (F.disk self.now.file_system.now) index) }
-        ensures queue { IfOk result (λ segment. segment.id.queue ≡ self.now.queue) }
+            (F.disk self.now.file_system.now) index (M.reads self.now.queue) (M.declines self.now.queue)
+            machine.old machine.new) }
         ensures err { IfErr result (RefusesFile self.now.mode self.now.queue self.now.files.now
             (F.disk self.now.file_system.now) index) }
     {
         let file = file_at(self.files, index);
-        let is_last = is_at_end(self.files, index);
-        let id = FileId {
-            queue: self.queue,
-            seq: file.seq,
+        let listed = ListedFile {
+            id: FileId {
+                queue: self.queue,
+                seq: file.seq,
+            },
+            handle: file.handle,
+            is_last: is_at_end(self.files, index),
         };
         let mut reader = LogItemBatchFileReader::new(self.alloc, self.read_block_size);
-        let read = read_found(
+        read_found(
             self.alloc,
             self.file_system,
             &mut reader,
             self.mode,
-            id,
-            file.handle,
-            is_last,
-        )?;
-        let ending = FileEnding {
-            format: read.format,
-            end: read.end,
-            is_damaged: read.fault.is_some(),
-        };
-        Ok(FoundSegment {
-            id,
-            batches: read.batches,
-            ending,
-        })
+            listed,
+            machine,
+        )
     }
 }
 

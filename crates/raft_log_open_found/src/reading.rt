@@ -1,73 +1,76 @@
 //! Reading a log file that was found.
 
-ghost use Rattle.std.specs.Prelude.{◌≡◌, ◌↔◌, [], Some, None, IfOk, IfErr, IsTrue};
+ghost use Rattle.std.specs.Prelude.{◌≡◌, ◌↔◌, None, Some, IfOk, IfErr, IsTrue};
 ghost use Rattle.raft_log_record_base.specs.Fault.Fault.{corrupt};
 ghost use Rattle.raft_log_record_base.specs.declared.errors.Error.TheVariants.{Memory};
 ghost use Rattle.raft_log_file_reader.specs.Reader.{IsReading, file_of, end_of};
 ghost use Rattle.raft_log_file_reader.specs.Source.{CannotRead};
 ghost use Rattle.raft_log_file_reader.specs.declared.open_file.OpenFile.{OpenFile};
 ghost use Rattle.raft_log_open_found.specs.Behind.{HasFileOpen, WasReadBehind};
-ghost use Rattle.raft_log_open_found.specs.Records.{ReadsBehind};
 ghost use Rattle.raft_log_open_found.specs.Faults.{TellsFault};
-ghost use Rattle.raft_log_open_found.specs.Reading.{FailsToRead, IsTornHeader, ReadsFileAs, torn_header};
+ghost use Rattle.raft_log_open_found.specs.Reading.{FailsToRead, FileReading, HasTornHeader, ReadsFileAs, torn_header};
+ghost use Rattle.raft_log_open_found.specs.Handed.{WasHanded};
 ghost use Rattle.raft_log_file_format.specs.Header.{first_format};
 
 use crate::behind::{Behind, read_earlier, read_last};
 use crate::damage::damage;
-use crate::file_records::FileRecords;
-use raft_log_disk::{FileSystem, Handle};
+use crate::found_file::{FoundFile, ListedFile};
+use raft_log_disk::FileSystem;
 use raft_log_file_format::LogFileFormat;
 use raft_log_file_reader::LogItemBatchFileReader;
 use raft_log_record_base::{Error, FileId, Result};
-use raft_log_record_items::LogItem;
+use raft_log_table_segments::ReplayMachine;
 use std::alloc::Global;
 
-/// Reads a log file: its records up to its end, or to the first one that is damaged. Of the last file of a
-/// queue each record's entry block is looked at, of the others that of the last record alone, as their
-/// records were durable before the next file began. Nothing is changed.
+/// Reads a log file, and hands a machine its records up to its end, or to the first one that is damaged, each once
+/// the next one is read. Of the last file of a queue each record's entry block is looked at, of the others that of
+/// the last record alone, as their records were durable before the next file began. Nothing is changed.
 ///
 /// A last file whose header has an alignment, and no record behind it, reads as one without a header: a power
 /// cut tore the header's write.
 ///
-/// `Io` where a read is refused, which is never told as damage; `Memory`.
-pub fn read_file<F: FileSystem>(
+/// `Io` where a read is refused, which is never told as damage; `Memory`. What the machine declines is told with
+/// what was found.
+pub fn read_file<F: FileSystem, M: ReplayMachine>(
     alloc: Global,
     file_system: &F,
     reader: &mut LogItemBatchFileReader,
-    id: FileId,
-    handle: Handle,
-    is_last: bool,
-) -> Result<FileRecords>
-    ensures ok { IfOk result (ReadsFileAs is_last id handle (F.disk file_system.now)) }
-    ensures err { IfErr result (FailsToRead handle (F.disk file_system.now)) }
+    file: ListedFile,
+    machine: &mut M,
+) -> Result<FoundFile>
+    ensures ok { IfOk result (λ found. (reading : FileReading)
+        × ReadsFileAs file.is_last file.id file.handle (F.disk file_system.now) reading
+        × WasHanded (M.reads file.id.queue) (M.declines file.id.queue) file.id machine.old machine.new reading
+        found) }
+    ensures err { IfErr result (FailsToRead file.handle (F.disk file_system.now)) }
 {
-    match reader.open(alloc, file_system, id, handle) {
+    match reader.open(alloc, file_system, file.id, file.handle) {
         Ok(format) => {
-            let behind = read_behind(alloc, file_system, reader, is_last)?;
-            if is_torn_header(is_last, format, &behind.batches) {
+            let behind = read_behind(alloc, file_system, reader, file, machine)?;
+            if has_torn_header(file.is_last, format, behind.is_bare) {
                 let fault = torn_header(alloc)?;
-                return Ok(without_header(alloc, fault));
+                return Ok(without_header(fault, behind.declined));
             }
-            Ok(FileRecords {
+            Ok(FoundFile {
                 format,
-                batches: behind.batches,
                 end: Some(behind.end),
                 fault: behind.fault,
+                declined: behind.declined,
             })
         }
         Err(error) => {
             let fault = damage(error)?;
-            Ok(without_header(alloc, fault))
+            Ok(without_header(fault, None))
         }
     }
 }
 
 /// Whether what reads as a header is what a torn write left of one: in the last file of a queue, with an
 /// alignment, and without a record behind it.
-fn is_torn_header(is_last: bool, format: LogFileFormat, batches: &[Vec<LogItem>]) -> bool
-    ensures { IsTrue result ↔ IsTornHeader is_last format batches.now }
+fn has_torn_header(is_last: bool, format: LogFileFormat, is_bare: bool) -> bool
+    ensures { IsTrue result ↔ HasTornHeader is_last format is_bare }
 {
-    is_last && format.alignment != 0 && batches.is_empty()
+    is_last && format.alignment != 0 && is_bare
 }
 
 /// What is wrong with such a header. `Memory`.
@@ -79,38 +82,40 @@ fn torn_header(alloc: Global) -> Result<Error>
     Ok(Error::Corruption(told))
 }
 
-/// What a file without a header reads as.
-fn without_header(alloc: Global, fault: Error) -> FileRecords
+/// What is found of a file without a header.
+fn without_header(fault: Error, declined: Option<Error>) -> FoundFile
     ensures format { result.format ≡ first_format }
-    ensures batches { result.batches.items ≡ [] }
     ensures end { result.end ≡ None }
     ensures fault { result.fault ≡ Some fault }
+    ensures declined { result.declined ≡ declined }
 {
-    FileRecords {
+    FoundFile {
         format: LogFileFormat::default(),
-        batches: Vec::new(alloc),
         end: None,
         fault: Some(fault),
+        declined,
     }
 }
 
-/// The records behind the header of the file that is open.
-fn read_behind<F: FileSystem>(
+/// The records behind the header of the file that is open are handed on.
+fn read_behind<F: FileSystem, M: ReplayMachine>(
     alloc: Global,
     file_system: &F,
     reader: &mut LogItemBatchFileReader,
-    is_last: bool,
+    file: ListedFile,
+    machine: &mut M,
 ) -> Result<Behind>
     requires reading { IsReading (F.disk file_system.now) reader.old }
     requires open { HasFileOpen reader.old }
-    ensures ok { (file : OpenFile) → file_of reader.old ≡ Some file
-        → IfOk result (WasReadBehind (ReadsBehind is_last) (F.disk file_system.now) file (end_of reader.old)) }
-    ensures err { (file : OpenFile) → file_of reader.old ≡ Some file
-        → IfErr result (CannotRead file.source 0 (F.disk file_system.now)) }
+    ensures ok { (opened : OpenFile) → file_of reader.old ≡ Some opened
+        → IfOk result (WasReadBehind file.is_last (M.reads file.id.queue) (M.declines file.id.queue) file.id
+        machine.old machine.new (F.disk file_system.now) opened (end_of reader.old)) }
+    ensures err { (opened : OpenFile) → file_of reader.old ≡ Some opened
+        → IfErr result (CannotRead opened.source 0 (F.disk file_system.now)) }
 {
-    if is_last {
-        read_last(alloc, file_system, reader)
+    if file.is_last {
+        read_last(alloc, file_system, reader, file.id, machine)
     } else {
-        read_earlier(alloc, file_system, reader)
+        read_earlier(alloc, file_system, reader, file.id, machine)
     }
 }

@@ -1,14 +1,17 @@
 //! Which damage of a log file is tolerated.
 
 ghost use Rattle.std.specs.Prelude.{◌≡◌, false, Some, IfOk, IfErr};
+ghost use Rattle.raft_log_open_found.specs.Handed.{WasHanded};
+ghost use Rattle.raft_log_open_found.specs.Reading.{FileReading};
 ghost use Rattle.raft_log_open_found.specs.Tolerance.{FailsToReadFound, IsTolerated, ReadsFound, tolerates};
 
-use crate::file_records::FileRecords;
+use crate::found_file::{FoundFile, ListedFile};
 use crate::reading::read_file;
-use raft_log_disk::{FileSystem, Handle};
+use raft_log_disk::FileSystem;
 use raft_log_file_reader::LogItemBatchFileReader;
 use raft_log_file_settings::RecoveryMode;
-use raft_log_record_base::{FileId, Result};
+use raft_log_record_base::Result;
+use raft_log_table_segments::ReplayMachine;
 use std::alloc::Global;
 
 /// Whether a recovery goes on behind a damaged file, which is the last one of its queue or not.
@@ -22,48 +25,51 @@ pub fn tolerates(mode: RecoveryMode, is_last: bool) -> bool
     }
 }
 
-/// Reads a log file: its records up to its end, or to the first one that is damaged. Nothing is changed.
+/// Reads a log file, and hands a machine its records up to its end, or to the first one that is damaged. Nothing is
+/// changed.
 ///
 /// `Io` where a read is refused, which is never told as damage; `Corruption` or `Codec` for damage that isn't
-/// tolerated; `Memory`.
-pub fn read_found<F: FileSystem>(
+/// tolerated; `Memory`. What the machine declines is told with what was found.
+pub fn read_found<F: FileSystem, M: ReplayMachine>(
     alloc: Global,
     file_system: &F,
     reader: &mut LogItemBatchFileReader,
     mode: RecoveryMode,
-    id: FileId,
-    handle: Handle,
-    is_last: bool,
-) -> Result<FileRecords>
-    ensures ok { IfOk result (ReadsFound mode is_last id handle (F.disk file_system.now)) }
-    ensures err { IfErr result (FailsToReadFound mode is_last id handle (F.disk file_system.now)) }
+    file: ListedFile,
+    machine: &mut M,
+) -> Result<FoundFile>
+    ensures ok { IfOk result (λ found. (reading : FileReading)
+        × ReadsFound mode file.is_last file.id file.handle (F.disk file_system.now) reading
+        × WasHanded (M.reads file.id.queue) (M.declines file.id.queue) file.id machine.old machine.new reading
+        found) }
+    ensures err { IfErr result (FailsToReadFound mode file.is_last file.id file.handle (F.disk file_system.now)) }
 {
-    let read = read_file(alloc, file_system, reader, id, handle, is_last)?;
-    accept(mode, is_last, read)
+    let found = read_file(alloc, file_system, reader, file, machine)?;
+    accept(mode, file.is_last, found)
 }
 
-/// What was read of a file, where it isn't damaged or that is tolerated; else its damage is refused with.
-fn accept(mode: RecoveryMode, is_last: bool, read: FileRecords) -> Result<FileRecords>
-    ensures ok { IfOk result (λ same. (same ≡ read) × IsTolerated mode is_last read) }
+/// What was found of a file, where it isn't damaged or that is tolerated; else its damage is refused with.
+fn accept(mode: RecoveryMode, is_last: bool, found: FoundFile) -> Result<FoundFile>
+    ensures ok { IfOk result (λ same. (same ≡ found) × IsTolerated mode is_last found.fault) }
     ensures err { IfErr result
-        (λ error. (read.fault ≡ Some error) × (tolerates mode is_last ≡ false)) }
+        (λ error. (found.fault ≡ Some error) × (tolerates mode is_last ≡ false)) }
 {
     if tolerates(mode, is_last) {
-        return Ok(read);
+        return Ok(found);
     }
-    let FileRecords {
+    let FoundFile {
         format,
-        batches,
         end,
         fault,
-    } = read;
+        declined,
+    } = found;
     match fault {
         Some(error) => Err(error),
-        None => Ok(FileRecords {
+        None => Ok(FoundFile {
             format,
-            batches,
             end,
             fault: None,
+            declined,
         }),
     }
 }

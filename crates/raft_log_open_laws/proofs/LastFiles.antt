@@ -21,10 +21,9 @@ use Rattle.raft_log_engine_laws.specs.raft_log_file_layout.specs.Layout.{IsRecor
 use Rattle.raft_log_engine_laws.specs.raft_log_file_layout.specs.declared.record.LogRecord.{LogRecord}
 use Rattle.raft_log_file_reader.specs.Batches.{context_of}
 use Rattle.raft_log_file_reader.specs.declared.open_file.OpenFile.{OpenFile}
-use Rattle.raft_log_open_found.specs.Behind.{items_of}
+use Rattle.raft_log_open_found.specs.Reading.{FileReading}
 use Rattle.raft_log_open_found.specs.Records.{HasRecords, ReadsLastFile}
 use Rattle.raft_log_open_found.specs.Reading.ReadsBytes.{headless, headed, torn}
-use Rattle.raft_log_open_found.specs.declared.file_records.FileRecords.{FileRecords}
 use Rattle.raft_log_open_laws.specs.Records.{AreBatchesOf}
 use Rattle.raft_log_open_laws.specs.FileReading.{LastFileIsRead, ReadsRecords, ReadsTo, context_in}
 use Rattle.raft_log_open_laws.proofs.Places.{next_record, stops_whole}
@@ -91,12 +90,12 @@ records_behind file header content offset end (items ∷ more) says none has =
     }
 
 -- a file with a header
-read_records : (directories : List (List ℕ)) (id : FileId) (content : List ℕ) (read : FileRecords) (file : OpenFile) (start end : ℕ) (fault : Option Fault) (header rest : List ℕ) → file.id ≡ id → IsFileHeader header file.format
-    → content ≡ header ++ rest → start ≡ length header → ReadsLastFile file content start (items_of read.batches.items) end fault → read.format ≡ file.format → read.format.alignment ≡ 0
+read_records : (directories : List (List ℕ)) (id : FileId) (content : List ℕ) (read : FileReading) (file : OpenFile) (start end : ℕ) (fault : Option Fault) (header rest : List ℕ) → file.id ≡ id → IsFileHeader header file.format
+    → content ≡ header ++ rest → start ≡ length header → ReadsLastFile file content start read.batches end fault → read.format ≡ file.format → read.format.alignment ≡ 0
     → ReadsRecords directories id content read end
 read_records directories id content read file start end fault header rest same says splits starts reads format none =
     let free : file.format.alignment ≡ 0 = ap (λ (f : LogFileFormat). f.alignment) (sym format) ∙ none in
-    let behind = records_behind file header content start end (items_of read.batches.items) says free reads.0 in
+    let behind = records_behind file header content start end read.batches says free reads.0 in
     let numbered : file.id.seq ≡ id.seq = ap (λ (i : FileId). i.seq) same in
     let context : context_of file ≡ context_in id read.format = ap (λ (i : FileId). record { id = i; version = file.format.version }) same ∙ ap (λ (f : LogFileFormat). record { id = id; version = f.version }) (sym format) in
     let here : Reads (IsRecordIn file.id.seq header) (length header) behind.records content = record {
@@ -111,16 +110,16 @@ read_records directories id content read file start end fault header rest same s
       records = behind.records;
       reads = subst (λ (n : ℕ). Reads (IsRecordIn n header) (length header) behind.records content) numbered here;
       ends = omega (arith, behind.ends, starts);
-      batches = subst (λ (c : LogFileContext). AreBatchesOf c (length header) (items_of read.batches.items) behind.records) context
-          (subst (λ (k : ℕ). AreBatchesOf (context_of file) k (items_of read.batches.items) behind.records) starts behind.said);
+      batches = subst (λ (c : LogFileContext). AreBatchesOf c (length header) read.batches behind.records) context
+          (subst (λ (k : ℕ). AreBatchesOf (context_of file) k read.batches behind.records) starts behind.said);
     }
 
 -- what was read with its end is how far its pipe takes it to be read
-read_to : (directories : List (List ℕ)) (id : FileId) (file : File) (read : FileRecords) (end : ℕ) → ReadsRecords directories id file.content read end → IsReadTo (log_format id.queue directories) id.seq (Some end) file
+read_to : (directories : List (List ℕ)) (id : FileId) (file : File) (read : FileReading) (end : ℕ) → ReadsRecords directories id file.content read end → IsReadTo (log_format id.queue directories) id.seq (Some end) file
 read_to directories id file read end r = (r.header, r.records, r.begins, r.reads, r.ends)
 
 -- what is told of a last file that was read to here
-abbrev Told : List (List ℕ) → FileId → File → FileRecords → Option ℕ → Type 0
+abbrev Told : List (List ℕ) → FileId → File → FileReading → Option ℕ → Type 0
 Told directories id file read end = ReadsTo directories id file.content read end × IsReadTo (log_format id.queue directories) id.seq end file
 
 pub last_file_is_read : LastFileIsRead

@@ -18,7 +18,6 @@ use Rattle.raft_log_file_reader.specs.Batches.{HasBatch, HasBatches, context_of}
 use Rattle.raft_log_file_reader.specs.Laws.{EndsBehind}
 use Rattle.raft_log_file_reader.specs.declared.open_file.OpenFile.{OpenFile}
 use Rattle.raft_log_file_reader.proofs.Readings.{batches_go_on_is}
-use Rattle.raft_log_open_found.specs.Behind.{items_of}
 use Rattle.raft_log_open_found.specs.Faults.{TellsIfAny}
 use Rattle.raft_log_open_found.specs.Records.{IsRecordTorn, ReadsEarlier, StopsGood}
 use Rattle.raft_log_open_found.specs.Records.ReadsEarlier.{none as read_none, good as read_good, torn as read_torn}
@@ -122,10 +121,10 @@ finished_file_is_read directories id past file read is (headed log_file start en
       all = ap (λ (k : ℕ). drop k file.content) starts ∙ ap (λ (l : List ℕ). drop (length past.header) l) content ∙ drop_at past.header (spelled past.records) (length past.header) refl;
     } in
     let inside : start ≤ length file.content = omega (arith, starts, ap length content, length-append past.header (spelled past.records)) in
-    let whole = earlier_read log_file past.header file.content start end (items_of read.batches.items) past.records fault h inside reads in
+    let whole = earlier_read log_file past.header file.content start end read.batches past.records fault h inside reads in
     record {
       sound = nothing_told read.fault fault whole.sound tells;
       end = is_end ∙ ap (λ (k : ℕ). Some k) (whole.ends ∙ ap (λ (k : ℕ). k + length (spelled past.records)) starts);
-      batches = subst (λ (c : LogFileContext). AreBatchesOf c (length past.header) (items_of read.batches.items) past.records) context
-          (subst (λ (k : ℕ). AreBatchesOf (context_of log_file) k (items_of read.batches.items) past.records) starts whole.batches);
+      batches = subst (λ (c : LogFileContext). AreBatchesOf c (length past.header) read.batches past.records) context
+          (subst (λ (k : ℕ). AreBatchesOf (context_of log_file) k read.batches past.records) starts whole.batches);
     }

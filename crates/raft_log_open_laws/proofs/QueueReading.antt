@@ -1,7 +1,6 @@
 -- What recovery reads of the files of a queue that rests on a disk are the batches of the queue.
 use Rattle.std.proofs.Common.{◌≡◌, ℕ, zero, suc, ◌+◌, ◌-◌, ◌<◌, ◌≤◌, ◌==◌, Bool, true, false, Option, Some, None, List, [], ◌∷◌, ◌++◌, length, inl, inr, refl, sym, ap, ap₂, subst, ◌∙◌, append_assoc, append-nil, arith}
 use Rattle.std.specs.Prelude.{slice_index_or}
-use Rattle.std.specs.Global.{Vec}
 use Rattle.std.proofs.lemmas.List.{length-append}
 use Rattle.std.proofs.lemmas.Bool.Decides.{nat_tests}
 use Rattle.raft_log_record_base.specs.declared.pipe_log.FileId.{FileId}
@@ -26,10 +25,8 @@ use Rattle.raft_log_file_pipe.specs.Files.{IsSpan}
 use Rattle.raft_log_file_pipe.specs.Opening.{first_number}
 use Rattle.raft_log_file_pipe.proofs.Lists.{path_numbered, span_end}
 use Rattle.raft_log_file_reader.specs.Source.{bytes_in}
-use Rattle.raft_log_open_found.specs.Behind.{items_of}
-use Rattle.raft_log_open_found.specs.Reading.{ReadsBytes}
+use Rattle.raft_log_open_found.specs.Reading.{FileReading, ReadsBytes}
 use Rattle.raft_log_open_found.specs.Reading.ReadsBytes.{headless, headed, torn}
-use Rattle.raft_log_open_found.specs.declared.file_records.FileRecords.{FileRecords}
 use Rattle.raft_log_table_segments.specs.Machines.{Batch}
 use Rattle.raft_log_table_segments.specs.Segments.{all_batches}
 use Rattle.raft_log_table_segments.specs.Sources.{HoldEach}
@@ -66,9 +63,9 @@ at_end : (done : List File) (f : File) → is_at_end (done ++ f ∷ []) (length 
 at_end done f = ap (λ (n : ℕ). n == 1) (left_behind done (f ∷ []))
 
 -- the batches of a file are of its items
-said_in : (id : FileId) (bs : List (Vec LogItem)) → said id bs ≡ batches_in id.seq (items_of bs)
+said_in : (id : FileId) (bs : List (List LogItem)) → said id bs ≡ batches_in id.seq bs
 said_in id [] = refl
-said_in id (b ∷ bs) = ap (λ (l : List Batch). record { file = id.seq; items = b.items } ∷ l) (said_in id bs)
+said_in id (b ∷ bs) = ap (λ (l : List Batch). record { file = id.seq; items = b } ∷ l) (said_in id bs)
 
 -- Headers of one format are as long.
 magic_long : length magic ≡ 53
@@ -108,19 +105,19 @@ module _ (queue : LogQueue) (directories : List (List ℕ)) (some : 0 < length d
   name_there path id named = ap (λ (names : List ℕ → Option ℕ). names path) (sym left.stands.names) ∙ named
 
   -- a finished one
-  past_read : (f : File) → f.reserved ≡ false → d.names (path_of (log_paths queue directories) f) ≡ Some f.handle.file → f.seq < q.last → (read : FileRecords)
+  past_read : (f : File) → f.reserved ≡ false → d.names (path_of (log_paths queue directories) f) ≡ Some f.handle.file → f.seq < q.last → (read : FileReading)
       → ReadsBytes false (id_of queue f) (bytes_in (d.files f.handle.file)) read → read.format.alignment ≡ 0
-      → AreOfFile queue f.seq (q.older f.seq).header (q.older f.seq).records (said (id_of queue f) read.batches.items)
+      → AreOfFile queue f.seq (q.older f.seq).header (q.older f.seq).records (said (id_of queue f) read.batches)
   past_read f listed named below read reads aligned =
       let bound = left.stands.bound in
       let path = path_of (log_paths queue directories) f in
       let past = left.stands.older f.seq f.handle.file path below (path_at f listed (omega (arith, below, bound))) (name_there path f.handle.file named) in
       let whole = finished_file_is_read directories (id_of queue f) (q.older f.seq) past.file read past.has
       (subst (λ (o : Option DiskFile). ReadsBytes false (id_of queue f) (bytes_in o) read) past.is reads) aligned in
-      record { format = read.format; items = items_of read.batches.items; is = said_in (id_of queue f) read.batches.items; are = whole.batches }
+      record { format = read.format; items = read.batches; is = said_in (id_of queue f) read.batches; are = whole.batches }
 
   -- the last one
-  module _ (f : File) (listed : f.reserved ≡ false) (number : f.seq ≡ q.last) (named : d.names (path_of (log_paths queue directories) f) ≡ Some f.handle.file) (read : FileRecords)
+  module _ (f : File) (listed : f.reserved ≡ false) (number : f.seq ≡ q.last) (named : d.names (path_of (log_paths queue directories) f) ≡ Some f.handle.file) (read : FileReading)
       (reads : ReadsBytes true (id_of queue f) (bytes_in (d.files f.handle.file)) read) (aligned : read.format.alignment ≡ 0) where
     abbrev path : List ℕ
     path = path_of (log_paths queue directories) f
@@ -159,7 +156,7 @@ module _ (queue : LogQueue) (directories : List (List ℕ)) (some : 0 < length d
             ap length one ∙ header_long begins.header log_file.format begins.says ∙ ap (λ (k : LogFileFormat). length (header_bytes k)) (sym format)
 
     by_end : (end : Option ℕ) → read.end ≡ end → ReadsTo directories (id_of queue f) content read end → (header : List ℕ) → ((end : ℕ) → read.end ≡ Some end → header ≡ header_bytes read.format)
-        → AreOfFile queue f.seq header (recent q) (said (id_of queue f) read.batches.items)
+        → AreOfFile queue f.seq header (recent q) (said (id_of queue f) read.batches)
     by_end None is (none, nothing) header known = elim left.stands.file.has.reads [
       | inl (no_records, no_header) ↦ record {
         format = read.format;
@@ -177,19 +174,19 @@ module _ (queue : LogQueue) (directories : List (List ℕ)) (some : 0 < length d
           let there = subst (λ (n : ℕ). Reads (F.IsFrame n header) (length header) (recent q) content) (sym number) records in
           let here = subst (λ (h : List ℕ). Reads (F.IsFrame f.seq h) (length h) (recent q) content) one there in
           let same : to.records ≡ recent q = reads_unique (F.IsFrame f.seq to.header) frames (length to.header) (recent q) to.records content here to.reads in
-          moved_to queue f.seq to.header front (recent q) (said (id_of queue f) read.batches.items) (format_long to.header end is to.begins ∙ ap length (sym (known end is))) (record {
+          moved_to queue f.seq to.header front (recent q) (said (id_of queue f) read.batches) (format_long to.header end is to.begins ∙ ap length (sym (known end is))) (record {
             format = read.format;
-            items = items_of read.batches.items;
-            is = said_in (id_of queue f) read.batches.items;
-            are = subst (λ (ws : List (Written LogRecord)). AreBatchesOf (context_in (id_of queue f) read.format) (length to.header) (items_of read.batches.items) ws) same to.batches;
+            items = read.batches;
+            is = said_in (id_of queue f) read.batches;
+            are = subst (λ (ws : List (Written LogRecord)). AreBatchesOf (context_in (id_of queue f) read.format) (length to.header) read.batches ws) same to.batches;
           }))
     ]
 
-    pub last_read : (header : List ℕ) → ((end : ℕ) → read.end ≡ Some end → header ≡ header_bytes read.format) → AreOfFile queue f.seq header (recent q) (said (id_of queue f) read.batches.items)
+    pub last_read : (header : List ℕ) → ((end : ℕ) → read.end ≡ Some end → header ≡ header_bytes read.format) → AreOfFile queue f.seq header (recent q) (said (id_of queue f) read.batches)
     last_read header known = by_end read.end refl told header known
 
   -- a file in its place
-  file_is : (done rest : List File) (f file : File) (read : FileRecords) → ReadsAt mode queue (done ++ f ∷ rest) d (length done) file read → file ≡ f
+  file_is : (done rest : List File) (f file : File) (read : FileReading) → ReadsAt mode queue (done ++ f ∷ rest) d (length done) file read → file ≡ f
   file_is done rest f file read at = at.is f ∙ index_of done rest f f
 
   -- What was read of the files from one place on.
@@ -231,8 +228,8 @@ module _ (queue : LogQueue) (directories : List (List ℕ)) (some : 0 < length d
         ending = e;
         ends = refl;
         of_last = λ header given.
-            subst (λ (l : List Batch). AreOfFile queue q.last header (recent q) l) (ap (λ (x : File). said (id_of queue x) h.read.batches.items) (sym same) ∙ sym h.holds)
-            (subst (λ (i : ℕ). AreOfFile queue i header (recent q) (said (id_of queue last) h.read.batches.items)) number (there header (known header given)));
+            subst (λ (l : List Batch). AreOfFile queue q.last header (recent q) l) (ap (λ (x : File). said (id_of queue x) h.read.batches) (sym same) ∙ sym h.holds)
+            (subst (λ (i : ℕ). AreOfFile queue i header (recent q) (said (id_of queue last) h.read.batches)) number (there header (known header given)));
       }
   rest_read done (f ∷ rest) last n span listed number named k at [] [] holds long aligned = (let none : 0 ≡ length (f ∷ rest) + 1 = long in absurd (omega (arith, none)))
   rest_read done (f ∷ rest) last n span listed number named k at [] (e ∷ es) holds long aligned = absurd holds
@@ -259,8 +256,8 @@ module _ (queue : LogQueue) (directories : List (List ℕ)) (some : 0 < length d
           bs,
           later.finished,
           refl,
-          subst (λ (l : List Batch). AreOfFile queue n (q.older n).header (q.older n).records l) (ap (λ (x : File). said (id_of queue x) h.read.batches.items) (sym same) ∙ sym h.holds)
-              (subst (λ (i : ℕ). AreOfFile queue i (q.older i).header (q.older i).records (said (id_of queue f) h.read.batches.items)) seq there),
+          subst (λ (l : List Batch). AreOfFile queue n (q.older n).header (q.older n).records l) (ap (λ (x : File). said (id_of queue x) h.read.batches) (sym same) ∙ sym h.holds)
+              (subst (λ (i : ℕ). AreOfFile queue i (q.older i).header (q.older i).records (said (id_of queue f) h.read.batches)) seq there),
           later.of_finished,
         );
         front = e ∷ later.front;

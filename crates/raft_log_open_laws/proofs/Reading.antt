@@ -18,8 +18,7 @@ use Rattle.raft_log_engine_laws.specs.raft_log_file_layout.specs.declared.record
 use Rattle.raft_log_file_pipe.specs.Files.{IsSpan}
 use Rattle.raft_log_file_pipe.proofs.Lists.{path_numbered, span_end}
 use Rattle.raft_log_file_reader.specs.Source.{bytes_in}
-use Rattle.raft_log_open_found.specs.Reading.{ReadsBytes}
-use Rattle.raft_log_open_found.specs.declared.file_records.FileRecords.{FileRecords}
+use Rattle.raft_log_open_found.specs.Reading.{FileReading, ReadsBytes}
 use Rattle.raft_log_table_segments.specs.Machines.{Batch}
 use Rattle.raft_log_table_segments.specs.Sources.{HoldEach}
 use Rattle.raft_log_open_found.specs.Segments.{id_of, is_at_end, HoldsFile}
@@ -77,7 +76,7 @@ module _ (queue : LogQueue) (directories : List (List ℕ)) (some : 0 < length d
       let path = path_of (log_paths queue directories) f in
       left.stands.alone path f.handle.file (subst (λ (n : ℕ). F.IsPath n path) number (path_at f listed (omega (arith, number, bound)))) (name_there path f.handle.file named)
 
-  past_sound : (f : File) → f.reserved ≡ false → d.names (path_of (log_paths queue directories) f) ≡ Some f.handle.file → f.seq < q.files.last → (read : FileRecords)
+  past_sound : (f : File) → f.reserved ≡ false → d.names (path_of (log_paths queue directories) f) ≡ Some f.handle.file → f.seq < q.files.last → (read : FileReading)
       → ReadsBytes false (id_of queue f) (bytes_in (d.files f.handle.file)) read → read.format.alignment ≡ 0 → read.fault ≡ None
   past_sound f listed named below read reads aligned =
       let bound = left.stands.bound in
@@ -85,7 +84,7 @@ module _ (queue : LogQueue) (directories : List (List ℕ)) (some : 0 < length d
       let past = left.stands.older f.seq f.handle.file path below (path_at f listed (omega (arith, below, bound))) (name_there path f.handle.file named) in
       (finished_file_is_read directories (id_of queue f) (q.files.older f.seq) past.file read past.has (subst (λ (o : Option DiskFile). ReadsBytes false (id_of queue f) (bytes_in o) read) past.is reads) aligned).sound
 
-  last_told : (f : File) → f.reserved ≡ false → f.seq ≡ q.files.last → d.names (path_of (log_paths queue directories) f) ≡ Some f.handle.file → (read : FileRecords)
+  last_told : (f : File) → f.reserved ≡ false → f.seq ≡ q.files.last → d.names (path_of (log_paths queue directories) f) ≡ Some f.handle.file → (read : FileReading)
       → ReadsBytes true (id_of queue f) (bytes_in (d.files f.handle.file)) read → read.format.alignment ≡ 0 → (e : FileEnding) → e.end ≡ read.end → e.format ≡ read.format → ReadsAsTold (log_layout queue directories) q d f e
   last_told f listed number named read reads aligned e end_is format_is =
       let is : d.files f.handle.file ≡ Some left.stands.file.file = ap d.files (last_is f listed number named) ∙ left.stands.file.is in

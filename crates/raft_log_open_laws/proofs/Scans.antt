@@ -7,8 +7,7 @@ use Rattle.raft_log_engine_laws.specs.raft_log_file_layout.specs.Layout.{log_for
 use Rattle.raft_log_file_pipe.specs.Files.{Listed, AllKept, IsSpan}
 use Rattle.raft_log_file_pipe.specs.Opening.{HasOwnHeader, first_number}
 use Rattle.raft_log_file_reader.specs.Source.{bytes_in}
-use Rattle.raft_log_open_found.specs.Reading.{ReadsBytes}
-use Rattle.raft_log_open_found.specs.declared.file_records.FileRecords.{FileRecords}
+use Rattle.raft_log_open_found.specs.Reading.{FileReading, ReadsBytes}
 use Rattle.raft_log_open_laws.specs.Scanned.{ReadFilesAreScanned, with_format}
 use Rattle.raft_log_open_laws.proofs.Headers.{header_is_written}
 use Rattle.raft_log_open_laws.proofs.LastFiles.{last_file_is_read}
@@ -24,7 +23,7 @@ there None not = absurd (not refl)
 there (Some file) not = (file, refl)
 
 -- the header of a file is its format's
-own_header : (directories : List (List ℕ)) (id : FileId) (last : Listed) (d : Disk) (read : FileRecords) (file : File) (end : Option ℕ) → d.files last.handle.file ≡ Some file → read.end ≡ end
+own_header : (directories : List (List ℕ)) (id : FileId) (last : Listed) (d : Disk) (read : FileReading) (file : File) (end : Option ℕ) → d.files last.handle.file ≡ Some file → read.end ≡ end
     → ReadsBytes true id file.content read → read.format.alignment ≡ 0 → HasOwnHeader (log_format id.queue directories) end (with_format read.format last) d
 own_header directories id last d read file None is ends reads aligned = tt
 own_header directories id last d read file (Some end) is ends reads aligned =

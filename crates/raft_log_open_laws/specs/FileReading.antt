@@ -12,9 +12,7 @@ use Rattle.raft_log_file_format.specs.Header.{header_bytes}
 use Rattle.raft_log_file_format.specs.declared.header.LogFileFormat.{LogFileFormat}
 use Rattle.raft_log_engine_laws.specs.raft_log_file_layout.specs.Layout.{log_format}
 use Rattle.raft_log_engine_laws.specs.raft_log_file_layout.specs.declared.record.LogRecord.{LogRecord}
-use Rattle.raft_log_open_found.specs.Behind.{items_of}
-use Rattle.raft_log_open_found.specs.Reading.{ReadsBytes}
-use Rattle.raft_log_open_found.specs.declared.file_records.FileRecords.{FileRecords}
+use Rattle.raft_log_open_found.specs.Reading.{FileReading, ReadsBytes}
 use Rattle.raft_log_open_laws.specs.Records.{AreBatchesOf}
 
 -- the file as its records need to know it, where it is written in this format
@@ -24,26 +22,26 @@ context_in id format = record { id = id; version = format.version }
 -- A file with a header: what was read are its records behind that, up to where the last one ends, and none
 -- begins there.
 pub record ReadsRecords (directories : List (List ℕ)) (id : FileId) (content : List ℕ)
-    (read : FileRecords) (end : ℕ) : Type 0 where
+    (read : FileReading) (end : ℕ) : Type 0 where
   pub header : List ℕ
   pub begins : HasHeader (log_format id.queue directories) header content
   pub records : List (Written LogRecord)
   pub reads : Reads ((log_format id.queue directories).IsFrame id.seq header) (length header) records content
   pub ends : end ≡ length header + length (spelled records)
-  pub batches : AreBatchesOf (context_in id read.format) (length header) (items_of read.batches.items) records
+  pub batches : AreBatchesOf (context_in id read.format) (length header) read.batches records
 
 -- What the last file of a queue reads as: without a header it has no batch and no end; else its batches are
 -- its records.
-abbrev pub ReadsTo : List (List ℕ) → FileId → List ℕ → FileRecords → Option ℕ → Type 0
+abbrev pub ReadsTo : List (List ℕ) → FileId → List ℕ → FileReading → Option ℕ → Type 0
 ReadsTo directories id content read None =
     ((header : List ℕ) → HasHeader (log_format id.queue directories) header content → ⊥)
-    × (read.batches.items ≡ [])
+    × (read.batches ≡ [])
 ReadsTo directories id content read (Some end) = ReadsRecords directories id content read end
 
 -- The last file of a queue reads as its records, or as none without a header; and up to where its pipe takes
 -- it to be read.
 abbrev pub LastFileIsRead : Type 0
-LastFileIsRead = (directories : List (List ℕ)) (id : FileId) (file : File) (read : FileRecords)
+LastFileIsRead = (directories : List (List ℕ)) (id : FileId) (file : File) (read : FileReading)
     → ReadsBytes true id file.content read → read.format.alignment ≡ 0
     → ReadsTo directories id file.content read read.end
     × IsReadTo (log_format id.queue directories) id.seq read.end file
@@ -51,18 +49,18 @@ LastFileIsRead = (directories : List (List ℕ)) (id : FileId) (file : File) (re
 -- The header of a file that has one is the one that its format is written with.
 abbrev pub HeaderIsWritten : Type 0
 HeaderIsWritten = (directories : List (List ℕ)) (last : Bool) (id : FileId) (content : List ℕ)
-    (read : FileRecords) (end : ℕ) → ReadsBytes last id content read → read.format.alignment ≡ 0
+    (read : FileReading) (end : ℕ) → ReadsBytes last id content read → read.format.alignment ≡ 0
     → read.end ≡ Some end → HasHeader (log_format id.queue directories) (header_bytes read.format) content
 
 -- a file that was finished reads whole: all of its records, and nothing is wrong with it
-pub record ReadsWhole (id : FileId) (past : Past LogRecord) (read : FileRecords) : Type 0 where
+pub record ReadsWhole (id : FileId) (past : Past LogRecord) (read : FileReading) : Type 0 where
   pub sound : read.fault ≡ None
   pub end : read.end ≡ Some (length past.header + length (spelled past.records))
   pub batches : AreBatchesOf (context_in id read.format) (length past.header)
-      (items_of read.batches.items) past.records
+      read.batches past.records
 
 -- Each file before the last one reads whole, once a pipe has finished it.
 abbrev pub FinishedFileIsRead : Type 0
 FinishedFileIsRead = (directories : List (List ℕ)) (id : FileId) (past : Past LogRecord) (file : File)
-    (read : FileRecords) → IsPast (log_format id.queue directories) id.seq past file
+    (read : FileReading) → IsPast (log_format id.queue directories) id.seq past file
     → ReadsBytes false id file.content read → read.format.alignment ≡ 0 → ReadsWhole id past read

@@ -13,8 +13,7 @@ use Rattle.raft_log_file_queue.specs.Layout.{path_of}
 use Rattle.raft_log_file_pipe.specs.Files.{Listed, AllKept, IsSpan}
 use Rattle.raft_log_file_pipe.specs.Laws as pipes
 use Rattle.raft_log_file_pipe.specs.Opening.{first_number}
-use Rattle.raft_log_open_found.specs.Reading.{ReadsFileAs}
-use Rattle.raft_log_open_found.specs.declared.file_records.FileRecords.{FileRecords}
+use Rattle.raft_log_open_found.specs.Reading.{FileReading, ReadsFileAs}
 use Rattle.raft_log_open_scan.specs.Scanned.{IsQueueIn}
 use Rattle.raft_log_open_scan.specs.declared.file_kind.FileKind.{FileKind}
 use Rattle.raft_log_open_scan.specs.declared.file_kind.FileKind.TheVariants as kinds
@@ -47,7 +46,7 @@ ScannedFilesAreSpanned = (queue : LogQueue) (directories : List (List ℕ)) (mod
 -- follows of a stopped pipe is so of what a scan answers and a recovery reads.
 abbrev pub ReadFilesAreScanned : Type 0
 ReadFilesAreScanned = (queue : LogQueue) (directories : List (List ℕ)) (d : Disk) (earlier : List Listed)
-    (last : Listed) (read : FileRecords) (kept : List Listed) → IsSound d
+    (last : Listed) (read : FileReading) (kept : List Listed) → IsSound d
     → AreSpanned queue directories earlier last d
     → ReadsFileAs true (record { queue = queue; seq = last.seq }) last.handle d read
     → read.format.alignment ≡ 0

@@ -7,11 +7,10 @@ ghost use Rattle.raft_log_table_segments.specs.Machines.{Batch, DeclinesBatch, D
 
 use raft_log_record_base::{FileId, LogQueue, Result};
 use raft_log_record_items::LogItem;
-use std::marker::Send;
 
 /// What takes the batches of a queue, one behind the other. A machine whose call was refused may only be
 /// dropped: nothing is said of it.
-pub trait ReplayMachine: Send + Drop + Sized {
+pub trait ReplayMachine: Drop + Sized {
     // The machine has read these batches of a queue.
     ghost reads: { LogQueue → List Batch → Self → Type 0 };
 

@@ -8,6 +8,7 @@ use crate::segments::{ReadSegments, chunk_count, chunk_size, replay_segments};
 use crate::source::ReplaySource;
 use raft_log_record_base::Result;
 use std::alloc::Global;
+use std::marker::Send;
 use std::thread::{Threads, map_indices};
 
 /// Which threads read the chunks of a queue. What is read is the same by either.
@@ -23,7 +24,7 @@ pub enum ReplayThreads {
 /// Reads the segments of a queue as `replay_segments` does, by these threads.
 ///
 /// Refused as `replay_segments` is.
-pub fn replay_segments_by<S: ReplaySource, M: ReplayMachine, FA: Factory<M>>(
+pub fn replay_segments_by<S: ReplaySource, M: ReplayMachine + Send, FA: Factory<M>>(
     rt: &(impl Threads + Sync),
     alloc: Global,
     threads: ReplayThreads,
@@ -49,7 +50,7 @@ pub fn replay_segments_by<S: ReplaySource, M: ReplayMachine, FA: Factory<M>>(
 /// in the thread that wanted it.
 ///
 /// Refused as `replay_segments` is.
-pub fn replay_segments_scoped<S: ReplaySource, M: ReplayMachine, FA: Factory<M>>(
+pub fn replay_segments_scoped<S: ReplaySource, M: ReplayMachine + Send, FA: Factory<M>>(
     rt: &(impl Threads + Sync),
     alloc: Global,
     source: &S,

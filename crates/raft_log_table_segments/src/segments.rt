@@ -9,6 +9,7 @@ use crate::source::ReplaySource;
 use raft_log_record_base::Result;
 use rayon::prelude::*;
 use std::alloc::Global;
+use std::marker::Send;
 use std::thread::Threads;
 
 /// What comes of segments that were read.
@@ -25,7 +26,7 @@ pub struct ReadSegments<M, E> {
 /// is read.
 ///
 /// The error told is that of the first segment that is refused; nothing else comes of a refusal.
-pub fn replay_segments<S: ReplaySource, M: ReplayMachine, FA: Factory<M>>(
+pub fn replay_segments<S: ReplaySource, M: ReplayMachine + Send, FA: Factory<M>>(
     rt: &(impl Threads + Sync),
     alloc: Global,
     source: &S,

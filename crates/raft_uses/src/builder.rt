@@ -10,16 +10,16 @@ use raft_log_open_builder::DualPipesBuilder;
 use raft_log_record_base::Result;
 use raft_log_table_segments::{Factory, ReplayMachine};
 use std::alloc::Global;
+use std::marker::Send;
 use std::thread::Threads;
 
 /// Reads the log of these settings into machines, that of Append and that of Rewrite.
-pub fn read_into<R: Threads + Log + Sync, F: FileSystem + Sync, M: ReplayMachine, A: Factory<M>>(
-    rt: &R,
-    alloc: Global,
-    config: Config,
-    file_system: &mut F,
-    factory: &A,
-) -> Result<(M, M)>
+pub fn read_into<
+    R: Threads + Log + Sync,
+    F: FileSystem + Sync,
+    M: ReplayMachine + Send,
+    A: Factory<M>,
+>(rt: &R, alloc: Global, config: Config, file_system: &mut F, factory: &A) -> Result<(M, M)>
     ensures ok { IfOk result (λ both. ReadsInto M.reads config both.0 both.1
         (F.disk file_system.old) (F.disk file_system.new)) }
 {

@@ -1,11 +1,17 @@
-use Rattle.raft_log_open_found.specs.Behind.{IsAtWork, LiesInside, StandsAtLast, items_of}
+use Rattle.std.proofs.Common.{List}
+use Rattle.raft_log_record_items.specs.declared.item.LogItem.{LogItem}
 use Rattle.raft_log_file_reader.specs.Reader.{left_of}
+use Rattle.raft_log_open_found.specs.Batches.{HasTaken, said}
+use Rattle.raft_log_open_found.specs.Behind.{IsAtWork, LiesInside, StandsAtLast}
 use Rattle.raft_log_open_found.proofs.behind.read_earlier.Given as goal
 
--- the batches so far follow one another up to where the reader is, and the last one is noted
-abbrev pub invariant-loop-batches : goal.invariant-loop-batches
-invariant-loop-batches g l = IsAtWork (λ file content offset end. StandsAtLast file content offset (items_of l.batches.items) l.last end)
-    (g.F.FileSystem.disk l.file_system) l.fn.reader l.reader × LiesInside l.last l.reader
+-- the batches so far follow one another up to where the reader is, the last one is noted, and those before it were
+-- handed on
+abbrev pub invariant-loop-last : goal.invariant-loop-last
+invariant-loop-last g l = (before : List (List LogItem))
+    × IsAtWork (λ file content offset end. StandsAtLast file content offset before l.last end) (g.F.FileSystem.disk l.file_system) l.fn.reader l.reader
+    × LiesInside l.last l.reader
+    × HasTaken (g.M.ReplayMachine.reads l.id.queue) (g.M.ReplayMachine.declines l.id.queue) (said l.id before) l.fn.machine l.machine l.declined
 
-abbrev pub decreases-loop-batches : goal.decreases-loop-batches
-decreases-loop-batches g l = left_of l.reader
+abbrev pub decreases-loop-last : goal.decreases-loop-last
+decreases-loop-last g l = left_of l.reader

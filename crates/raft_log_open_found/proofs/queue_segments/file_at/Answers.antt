@@ -1,4 +1,4 @@
-use Rattle.raft_log_open_found.proofs.Taking.{one_item}
+use Rattle.raft_log_open_found.proofs.Handing.{one_item}
 use Rattle.raft_log_open_found.proofs.queue_segments.file_at.Goals as goal
 
 pub returns : goal.returns

@@ -23,8 +23,8 @@ pub record SaysCompact (g index : ℕ) (b : Batch) : Type 0 where
   pub entries : b.entries ≡ []
   pub fills : b.state ≡ Filling
 
--- a batch was written that says that a group's entries below an index go; to the files nothing was done but
--- that its record was, so that it isn't synced
+-- a batch was written that says that a group's entries below an index go; to the files nothing was done but that
+-- its record was, before which Append may have gone on in its next file: it isn't synced
 abbrev pub WritesCompact : ℕ → ℕ → Shows → Shows → Type 0
 WritesCompact g index s t = (b : Batch) × SaysCompact g index b × Writes b false s t
     × WritesRecord b s.pipes t.pipes

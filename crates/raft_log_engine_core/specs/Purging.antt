@@ -47,13 +47,14 @@ pub record CountsBrought (config : Config) (d : Disk) (counts : PurgeCounts) : T
   pub stats : counts.stats ≡ added Rewrite written no_entries
 
 -- what is counted where a purge of expired files was refused: nothing, of an engine that had failed; else what stood
--- in Rewrite before where a queue is past its threshold, and after that no round
-abbrev pub StopsCountingIfPast : Thresholds → Shows → MemTables → PurgeCounts → PurgeCounts → Type 0
-StopsCountingIfPast thresholds s m old new = (new ≡ old) ⊎ CountsIfPast thresholds s.pipes m old new
+-- in Rewrite before where a queue is past its threshold, and after that by where it was refused
+abbrev pub StopsCountingIfPast : Thresholds → MemTables → PurgeCounts → PurgeCounts → Shows → Shows → Type 0
+StopsCountingIfPast thresholds m old new s t = (new ≡ old) ⊎ CountsIfPast thresholds m old new s t
 
--- what is counted where Rewrite wasn't rewritten: nothing, or what stood there before, and behind it no round
-abbrev pub StopsCounting : MemTables → PurgeCounts → PurgeCounts → Type 0
-StopsCounting m old new = (new ≡ old) ⊎ CountsAndKeeps m old new
+-- what is counted where Rewrite wasn't rewritten: nothing, or what stood there before, and then by where it was
+-- refused
+abbrev pub StopsCounting : MemTables → PurgeCounts → PurgeCounts → Shows → Shows → Type 0
+StopsCounting m old new s t = (new ≡ old) ⊎ CountsAndKeeps m old new s t
 
 -- what is counted where Append wasn't rewritten: nothing, or what stood in Rewrite before
 abbrev pub MayCountStanding : MemTables → PurgeCounts → PurgeCounts → Type 0

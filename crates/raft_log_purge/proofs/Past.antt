@@ -31,7 +31,7 @@ use Rattle.raft_log_purge_parts.specs.raft_log_engine_laws.proofs.Settling.{fail
 use Rattle.raft_log_purge_parts.specs.raft_log_engine_laws.proofs.Raising.{raise_refused, raised}
 use Rattle.raft_log_purge_rules.specs.Watermarks.{first_at}
 use Rattle.raft_log_file_pair.specs.LastFile.{last_of}
-use Rattle.raft_log_purge_parts.specs.Files.{IsLeastOf}
+use Rattle.raft_log_table_all.specs.Walking.{IsLeastOf}
 use Rattle.raft_log_purge_parts.specs.Groups.{Rewrites, RewritesGroups, StopsAtGroups, StopsRewriting}
 use Rattle.raft_log_purge_parts.specs.Moving.{IsRewrittenTo}
 use Rattle.raft_log_purge_parts.specs.Rewriting.{OweNothing}
@@ -155,10 +155,7 @@ nothing_lost gate error s other reason = record {
   cause = λ low home log h. reason low;
 }
 
--- for want of memory, or of a number behind the gate
-pub none_lost_for_memory : (gate : ℕ) (error : Error) (s : Shows) → error ≡ errors.Memory → FailsToLoseTo gate error s s
-none_lost_for_memory gate error s memory = nothing_lost gate error s (memory_is_none error memory) (λ low. subst (λ (e : Error). HasFileReason e s s) (sym memory) tt)
-
+-- for want of a number behind the gate
 pub none_behind : (gate : ℕ) (s : Shows) → 2 ^ 64 ≤ gate + 1 → FailsToLoseTo gate errors.NumberRange s s
 none_behind gate s high = nothing_lost gate errors.NumberRange s (λ is. let never : ⊥ = cc in never) (λ low. (InAppend, omega (arith, high, low)))
 

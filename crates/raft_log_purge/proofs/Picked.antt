@@ -10,7 +10,7 @@ use Rattle.raft_log_table_lists.specs.Shown.{Shown}
 use Rattle.raft_log_table_one.proofs.Leasts.{front_is_least}
 use Rattle.raft_log_table_all.specs.declared.mem_tables.MemTables.{MemTables}
 use Rattle.raft_log_table_all.specs.Tables.{shown_of}
-use Rattle.raft_log_table_all.specs.Walking.{ListsGroups}
+use Rattle.raft_log_table_all.specs.Walking.{IsLeastOf, ListsGroups}
 use Rattle.raft_log_file_pair.specs.Pipes.{LogPipes}
 use Rattle.raft_log_file_pair.specs.Calls.{FailsToPurgeQueue, PurgesQueue, TellsFailure}
 use Rattle.raft_log_file_pair.specs.Numbers.{EndsNumbersBelow}
@@ -23,7 +23,6 @@ use Rattle.raft_log_purge_parts.specs.raft_log_engine_laws.proofs.Settling.{sett
 use Rattle.raft_log_purge_parts.specs.raft_log_engine_laws.proofs.Raising.{raise_refused, raised}
 use Rattle.raft_log_purge_rules.specs.Watermarks.{first_at}
 use Rattle.raft_log_file_pair.specs.LastFile.{last_of}
-use Rattle.raft_log_purge_parts.specs.Files.{IsLeastOf}
 use Rattle.raft_log_purge_parts.specs.Groups.{StopsRewriting}
 use Rattle.raft_log_purge_parts.specs.Marks.{CarriesMarks}
 use Rattle.raft_log_purge_parts.specs.Moving.{IsRewrittenTo}
@@ -41,15 +40,6 @@ use Rattle.raft_log_purge.proofs.Past.{left_or_held}
 use Rattle.raft_log_purge.proofs.Whole.{after_sync, at_most_last, held_or_left, synced_owe_nothing}
 
 -- Files go.
-
--- none went, for want of memory
-pub none_gone : (error : Error) (s : Shows) → error ≡ errors.Memory → FailsToLoseBelow error s s
-none_gone error s memory = record {
-  tells = λ lived. tells_nothing error s.pipes lived (memory_is_none error memory);
-  later = same_later s.pipes.disk;
-  remains = λ owes home m h. inl (settled_held home s m h);
-  cause = λ home log h. subst (λ (e : Error). HasFileReason e s s) (sym memory) tt;
-}
 
 module _ (held : Option ℕ) (least : ℕ) (m : MemTables) (v : LogPipes) (old : BlockCache) (is : IsLeastOf Append (up_to held (last_of InAppend v)) m least) where
   abbrev before : Shows
@@ -191,11 +181,11 @@ module _ (s carried : Shows) (carries : CarriesMarks s carried) where
       settles = λ home log h. loses.keeps owe_none home log (settled_there home log h);
     }
 
-    pub whole_picked : (held : Option ℕ) (m : MemTables) (t : Shows) (q : Result (Unit {0}) Error) → OnOk q (LosesBelow held m copied t) → OnOk q (RewritesPicked test gate held m s t)
+    pub whole_picked : {A : Type 0} (held : Option ℕ) (m : MemTables) (t : Shows) (q : Result A Error) → OnOk q (LosesBelow held m copied t) → OnOk q (RewritesPicked test gate held m s t)
     whole_picked held m t (Ok x) loses = picked_rewritten held m t loses
     whole_picked held m t (Err e) loses = tt
 
-    pub whole_unpicked : (t : Shows) (q : Result (Unit {0}) Error) → IfErr q (λ error. FailsToLoseBelow error copied t) → IfErr q (λ error. FailsToPurgeAppend error s t)
+    pub whole_unpicked : {A : Type 0} (t : Shows) (q : Result A Error) → IfErr q (λ error. FailsToLoseBelow error copied t) → IfErr q (λ error. FailsToPurgeAppend error s t)
     whole_unpicked t (Ok x) stops = tt
     whole_unpicked t (Err e) stops = stopped_there e t stops
 

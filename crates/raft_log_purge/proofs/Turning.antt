@@ -32,7 +32,8 @@ use Rattle.raft_log_purge_parts.specs.raft_log_engine_laws.proofs.Keeping.{holds
 use Rattle.raft_log_purge_parts.specs.raft_log_engine_laws.specs.Settled.{HoldsSettled}
 use Rattle.raft_log_purge_parts.specs.raft_log_engine_laws.specs.Quiet.{TurnLeavesHeld}
 use Rattle.raft_log_purge_parts.specs.raft_log_engine_laws.proofs.Settling.{failed_sync, rewrite_rotates, settled_held, sync_settles_log, turn_refused}
-use Rattle.raft_log_purge_parts.specs.Files.{FailsToLoseFiles, IsLeastOf, LosesFiles, RemainsSettled}
+use Rattle.raft_log_table_all.specs.Walking.{IsLeastOf}
+use Rattle.raft_log_purge_parts.specs.Files.{FailsToLoseFiles, LosesFiles, RemainsSettled}
 use Rattle.raft_log_purge_parts.specs.Stale.{written_file}
 use Rattle.raft_log_purge_parts.proofs.Grouping.{among}
 use Rattle.raft_log_purge_parts.proofs.PartExits.{alive_ok, later_on, same_later, tells_err}

@@ -8,6 +8,7 @@ use Rattle.raft_log_record_base.specs.declared.errors.Error.TheVariants as error
 use Rattle.raft_log_record_base.specs.declared.pipe_log.LogQueue.TheVariants.{Append}
 use Rattle.raft_log_directory_laws.specs.Calls.Which.{InAppend, InRewrite}
 use Rattle.raft_log_table_all.specs.declared.mem_tables.MemTables.{MemTables}
+use Rattle.raft_log_table_all.specs.Walking.{IsLeastOf}
 use Rattle.raft_log_file_pair.specs.Pipes.{LogPipes, Said, is_failed}
 use Rattle.raft_log_file_pair.specs.Calls.{RotatesQueue, SyncsQueue}
 use Rattle.raft_log_purge_parts.specs.raft_log_engine_laws.specs.Shows.{Home, LogMap, Shows, has_failed}
@@ -17,7 +18,6 @@ use Rattle.raft_log_purge_rules.specs.Watermarks.{first_at}
 use Rattle.raft_log_file_pair.specs.LastFile.{last_of}
 use Rattle.raft_log_purge_parts.specs.Parts.{StaysInFile}
 use Rattle.raft_log_purge_parts.specs.Marks.{CarriesMarks}
-use Rattle.raft_log_purge_parts.specs.Files.{IsLeastOf}
 use Rattle.raft_log_purge_parts.specs.Groups.{Rewrites}
 use Rattle.raft_log_purge_parts.specs.Moving.{IsRewrittenTo}
 use Rattle.raft_log_purge_parts.specs.Reasons.{HasFileReason, HasReason}

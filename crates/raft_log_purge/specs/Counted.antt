@@ -7,7 +7,7 @@ use Rattle.raft_log_purge_parts.specs.raft_log_engine_laws.specs.Shows.{Shows}
 use Rattle.raft_log_purge_rules.specs.declared.thresholds.Thresholds.{Thresholds}
 use Rattle.raft_log_purge_rules.specs.Watermarks.{IsAnyPast}
 use Rattle.raft_log_purge.specs.Counting.{CountsIf, CountsStanding}
-use Rattle.raft_log_purge.specs.ExpiredFiles.{KeepsCounts, PurgesExpired}
+use Rattle.raft_log_purge.specs.ExpiredFiles.{KeepsCounts, PurgesExpired, StopsAtRewrite}
 use Rattle.raft_log_purge.specs.declared.expired_files.PurgeCounts.{PurgeCounts}
 
 -- Expired files were purged, and just these groups are answered: where a queue is past its threshold, what stands
@@ -23,13 +23,13 @@ pub record PurgesAndCounts (hold_back : LogPipes → Option ℕ → Type 0) (thr
   pub second : CountsIf past after purged new
 
 -- what is counted where that was refused
-pub record CountsIfPast (thresholds : Thresholds) (v : LogPipes) (before : MemTables) (old new : PurgeCounts)
+pub record CountsIfPast (thresholds : Thresholds) (before : MemTables) (old new : PurgeCounts) (s t : Shows)
     : Type 0 where
   pub past : Bool
-  pub tells : IsTrue past ↔ IsAnyPast thresholds v
+  pub tells : IsTrue past ↔ IsAnyPast thresholds s.pipes
   pub counted : PurgeCounts
   pub first : CountsIf past before old counted
-  pub kept : KeepsCounts counted new
+  pub kept : KeepsCounts thresholds before counted new s t
 
 -- Where Rewrite was rewritten: what stood there was counted before, and then what stands no more was counted no
 -- more.
@@ -40,7 +40,8 @@ pub record CountsAndResets (before : MemTables) (old new : PurgeCounts) : Type 0
   pub rounds : new.rounds ≡ old.rounds
 
 -- what is counted where Rewrite wasn't
-pub record CountsAndKeeps (before : MemTables) (old new : PurgeCounts) : Type 0 where
+pub record CountsAndKeeps (before : MemTables) (old new : PurgeCounts) (s t : Shows) : Type 0 where
   pub counted : PurgeCounts
   pub first : CountsStanding before old counted
-  pub kept : KeepsCounts counted new
+  pub stats : StopsAtRewrite before counted.stats new.stats s t
+  pub rounds : new.rounds ≡ old.rounds

@@ -6,7 +6,8 @@ use Rattle.raft_log_record_base.specs.declared.errors.Error.TheVariants as error
 use Rattle.raft_log_record_base.specs.declared.pipe_log.LogQueue.TheVariants.{Append}
 use Rattle.raft_log_directory_laws.specs.Calls.Which.{InAppend}
 use Rattle.raft_log_table_all.specs.declared.mem_tables.MemTables.{MemTables}
-use Rattle.raft_log_table_all.specs.Walking.{ListsGroups}
+use Rattle.raft_log_table_all.specs.Owing.{AreOwed}
+use Rattle.raft_log_table_all.specs.Walking.{IsLeastOf, ListsGroups}
 use Rattle.raft_log_purge_parts.specs.raft_log_engine_laws.specs.Shows.{Home, LogMap, Shows, has_failed}
 use Rattle.raft_log_purge_parts.specs.raft_log_engine_laws.specs.Holding.{Holds, IsLeftAt}
 use Rattle.raft_log_purge_parts.specs.raft_log_engine_laws.specs.Settled.{HoldsSettled}
@@ -17,7 +18,6 @@ use Rattle.raft_log_file_pair.specs.LastFile.{last_of}
 use Rattle.raft_log_purge_rules.specs.declared.rounds.Rounds.{Rounds}
 use Rattle.raft_log_purge_rules.specs.Behind.{round_behind}
 use Rattle.raft_log_purge_rules.specs.Picking.{answers_at, asks_at, count_of, rewrites_at}
-use Rattle.raft_log_purge_parts.specs.Files.{IsLeastOf}
 use Rattle.raft_log_purge_parts.specs.Marks.{CarriesMarks}
 use Rattle.raft_log_purge_parts.specs.Moving.{IsRewrittenTo}
 use Rattle.raft_log_purge_parts.specs.Reasons.{GivesReason, HasFileReason}
@@ -32,12 +32,14 @@ abbrev pub CountsRound : Watermarks → MemTables → Rounds → Rounds → Type
 CountsRound marks m old new =
     (g : ℕ) → count_of new g ≡ round_behind (asks_at marks m g) (count_of old g)
 
--- the groups were picked by the rules, of what the tables had, with so many rounds before
+-- the groups were picked by the rules, of what the tables had, with so many rounds before, and the marks are those
+-- that were owed
 pub record PicksGroups (marks : Watermarks) (restated : Bool) (m : MemTables) (old : Rounds)
     (picked : PickedGroups) : Type 0 where
   pub answered : ListsGroups (answers_at (Some marks) restated m) picked.answered.items
   pub rewritten : ListsGroups (rewrites_at marks (count_of old) m) picked.rewritten.items
   pub rounds : CountsRound marks m old picked.rounds
+  pub owed : AreOwed m picked.marks.items
 
 -- Append's files.
 

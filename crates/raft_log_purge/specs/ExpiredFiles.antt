@@ -18,6 +18,7 @@ use Rattle.raft_log_purge.specs.RewriteQueue.{RewritesRewrite, reset_counts}
 use Rattle.raft_log_purge.specs.declared.expired_files.PurgeCounts.{PurgeCounts}
 use Rattle.raft_log_purge.specs.Append.{FailsToRewriteAppend}
 use Rattle.raft_log_purge.specs.Expired.{PurgesIfPast}
+use Rattle.raft_log_purge.specs.Garbage.{CountsRefused}
 
 -- Rewrite was rewritten exactly where it is past its threshold and enough of it is garbage; else nothing is
 -- done. The tables are those before and after.
@@ -66,11 +67,30 @@ pub record PurgesExpired (hold_back : LogPipes → Option ℕ → Type 0) (thres
 abbrev pub FailsToPurgeExpired : Error → Shows → Shows → Type 0
 FailsToPurgeExpired error s t = FailsToRewriteAppend error s t
 
--- what stands no more in Rewrite is counted as it was, or no more
-abbrev pub KeepsOrResets : GlobalStats → GlobalStats → Type 0
-KeepsOrResets old new = (new ≡ old) ⊎ (new ≡ reset_counts old)
+-- What is counted where it was refused.
 
--- what is counted where a purge was refused: no round; and of Rewrite as it was, or behind it was rewritten
-pub record KeepsCounts (old new : PurgeCounts) : Type 0 where
+-- what is counted of Rewrite where Append wasn't synced, or was, and then Rewrite's rewrite was refused: `before`
+-- are the tables before that
+abbrev pub StopsAtRewrite : MemTables → GlobalStats → GlobalStats → Shows → Shows → Type 0
+StopsAtRewrite before old new s t = ((t.tables ≡ s.tables) × (new ≡ old))
+    ⊎ ((synced : LogPipes) × SyncsQueue InAppend s.pipes synced
+    × CountsRefused before old new (record s { pipes = synced }) t)
+
+-- what is counted of Rewrite where Append's purge was refused: Rewrite was rewritten before, where it is to be
+pub record StopsAtAppend (thresholds : Thresholds) (before : MemTables) (old new : GlobalStats) (s : Shows)
+    : Type 0 where
+  pub synced : LogPipes
+  pub syncs : SyncsQueue InAppend s.pipes synced
+  pub restated : Bool
+  pub between : MemTables
+  pub pipes : LogPipes
+  pub cache : BlockCache
+  pub rewrites : RewritesIfPast thresholds old new before between restated
+      (record s { pipes = synced }) (shows pipes between cache)
+
+-- what is counted where a purge was refused: no round; and of Rewrite by where it was
+pub record KeepsCounts (thresholds : Thresholds) (before : MemTables) (old new : PurgeCounts) (s t : Shows)
+    : Type 0 where
   pub rounds : new.rounds ≡ old.rounds
-  pub stats : KeepsOrResets old.stats new.stats
+  pub stats : StopsAtRewrite before old.stats new.stats s t
+      ⊎ StopsAtAppend thresholds before old.stats new.stats s

@@ -3,7 +3,9 @@ pub mod Expired
 pub mod ExpiredFiles
 pub mod Counted
 pub mod Counting
+pub mod Standing
 pub mod Free
+pub mod Garbage
 pub mod RewriteQueue
 -- libraries below, passed on to who stands on this one
 pub use Rattle.raft_log_purge_parts.specs.raft_log_file_pair

@@ -25,7 +25,7 @@ ghost use Rattle.raft_log_purge.specs.Append.{
 use log::Log;
 use raft_log_file_pair::PipeLog;
 use raft_log_purge_parts::raft_log_file_blocks::BlockCache;
-use raft_log_purge_parts::{least_file, rewrite_groups, rewrite_marks};
+use raft_log_purge_parts::{rewrite_groups, rewrite_marks};
 use raft_log_record_base::{Error, FileId, FileSeq, LogQueue, Result};
 use raft_log_table_all::MemTables;
 use std::alloc::Global;
@@ -188,7 +188,7 @@ fn purge_past<P: PipeLog, L: Log>(
         return Err(Error::NumberRange);
     };
     let (first, last) = pipes.file_span(LogQueue::Append);
-    let least = least_file(tables, LogQueue::Append, last)?;
+    let least = tables.least_file(LogQueue::Append, last);
     let seq = past.max(least);
     if seq <= first {
         return Ok(());

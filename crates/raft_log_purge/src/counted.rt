@@ -18,6 +18,7 @@ ghost use Rattle.raft_log_purge.specs.Counting.{CountsStanding, CountsTwice};
 ghost use Rattle.raft_log_purge.specs.ExpiredFiles.{FailsToPurgeExpired, SyncsAndRewrites};
 
 use crate::append::rewrite_append_queue;
+use crate::expired::Purged;
 use crate::expired_files::{PurgeCounts, purge_expired_files, sync_and_rewrite};
 use log::Log;
 use raft_log_file_pair::PipeLog;
@@ -29,7 +30,8 @@ use std::alloc::Global;
 
 /// Purges both queues as `purge_expired_files` does. Where neither is past its threshold, nothing is counted.
 ///
-/// Refused, what stands in Rewrite was counted before where a queue is past its threshold, and no round is counted.
+/// Refused, what stands in Rewrite was counted before where a queue is past its threshold, and then no more than
+/// `purge_expired_files` counts.
 pub fn purge_and_count<P: PipeLog, L: Log>(
     alloc: Global,
     rt: &L,
@@ -44,23 +46,23 @@ pub fn purge_and_count<P: PipeLog, L: Log>(
         (shows (P.shown pipes.old) tables.old cache.old) (shows (P.shown pipes.new) tables.new cache.new)) }
     ensures err { IfErr result (λ error. FailsToPurgeExpired error
         (shows (P.shown pipes.old) tables.old cache.old) (shows (P.shown pipes.new) tables.new cache.new)) }
-    ensures kept { OnErr result (CountsIfPast thresholds.now (P.shown pipes.old) tables.old
-        counts.old counts.new) }
+    ensures kept { OnErr result (CountsIfPast thresholds.now tables.old counts.old counts.new
+        (shows (P.shown pipes.old) tables.old cache.old) (shows (P.shown pipes.new) tables.new cache.new)) }
     ensures rests { IsAtRest tables.old → IsAtRest tables.new }
     ensures numbered { counts.old.number ≤ counts.new.number }
 {
     let past = is_any_past(thresholds, pipes);
     counts.count_if(past, tables);
-    let purged = purge_expired_files(alloc, rt, thresholds, pipes, tables, cache, counts);
-    if purged.is_ok() {
-        counts.count_if(past, tables);
-    }
-    purged
+    let Purged { answered, standing } = purge_expired_files(
+        alloc, rt, thresholds, pipes, tables, cache, counts,
+    )?;
+    counts.count_behind(past, standing, tables);
+    Ok(answered)
 }
 
 /// Syncs Append and rewrites Rewrite as `sync_and_rewrite` does.
 ///
-/// Refused, what stands in Rewrite was counted before.
+/// Refused, what stands in Rewrite was counted before, and then what `sync_and_rewrite` counts.
 pub fn rewrite_and_count<P: PipeLog, L: Log>(
     alloc: Global,
     rt: &L,
@@ -74,7 +76,8 @@ pub fn rewrite_and_count<P: PipeLog, L: Log>(
     ensures err { IfErr result (λ error. FailsToPurgeExpired error
         (shows (P.shown pipes.old) tables.old cache.old) (shows (P.shown pipes.new) tables.new cache.new)) }
     ensures reset { OnOk result (CountsAndResets tables.old counts.old counts.new) }
-    ensures kept { OnErr result (CountsAndKeeps tables.old counts.old counts.new) }
+    ensures kept { OnErr result (CountsAndKeeps tables.old counts.old counts.new
+        (shows (P.shown pipes.old) tables.old cache.old) (shows (P.shown pipes.new) tables.new cache.new)) }
     ensures rests { IsAtRest tables.old → IsAtRest tables.new }
     ensures numbered { counts.old.number ≤ counts.new.number }
 {

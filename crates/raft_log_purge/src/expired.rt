@@ -4,7 +4,10 @@
 ghost use Rattle.std.specs.Prelude.{◌≡◌, ◌==◌, IfErr, IfOk, OnErr, OnOk};
 ghost use Rattle.std.specs.List.{list_any};
 ghost use Rattle.raft_log_purge_parts.specs.raft_log_engine_laws.specs.Shows.{shows};
+ghost use Rattle.raft_log_table_all.specs.Owing.{AreOwed};
 ghost use Rattle.raft_log_table_all.specs.Tables.{IsAtRest};
+ghost use Rattle.raft_log_table_all.specs.Walking.{Stand};
+ghost use Rattle.raft_log_purge.specs.Standing.{StandIfTold};
 ghost use Rattle.raft_log_purge.specs.Expired.{
   FailsToLoseBelow,
   FailsToPurgeAppend,
@@ -18,23 +21,35 @@ ghost use Rattle.raft_log_purge.specs.Expired.{
 use crate::append::{rewrite_synced, up_to};
 use log::Log;
 use raft_log_file_pair::PipeLog;
+use raft_log_purge_parts::carry_marks;
 use raft_log_purge_parts::raft_log_file_blocks::BlockCache;
-use raft_log_purge_parts::{least_file, rewrite_marks};
 use raft_log_purge_rules::{
-    GroupLists, Rounds, Thresholds, Watermarks, answered_groups, append_watermarks, picked_groups,
-    takes_append,
+    GroupLists, Rounds, Survey, Thresholds, Watermarks, answered_groups, append_watermarks,
+    survey_groups, takes_append,
 };
 use raft_log_record_base::{FileId, FileSeq, LogQueue, Result};
+use raft_log_record_items::LogItem;
 use raft_log_table_all::MemTables;
 use std::alloc::{AllocError, Global};
 
-/// The groups that a purge of Append picks, from the least up.
+/// What a purge answers, and what it counted on its way.
+#[derive(Drop)]
+pub struct Purged {
+    /// The groups that it answers, from the least up.
+    pub answered: Vec<u64>,
+    /// How many entries and values stand in Rewrite behind it, where it counted them.
+    pub standing: Option<u64>,
+}
+
+/// The groups that a purge of Append picks, from the least up, and the marks that it carries.
 #[derive(Drop)]
 pub struct PickedGroups {
     /// The groups that the purge answers: it asks them to be compacted, or they have many entries in Rewrite.
     pub answered: Vec<u64>,
     /// The groups that the purge rewrites itself.
     pub rewritten: Vec<u64>,
+    /// The marks that are owed to Rewrite.
+    pub marks: Vec<LogItem>,
     /// In how many purges in a row each group was asked, this one among them.
     pub rounds: Rounds,
 }
@@ -57,18 +72,22 @@ pub fn purge_append<P: PipeLog, L: Log>(
     rounds: &mut Rounds,
     held: Option<FileSeq>,
     restated: bool,
-) -> Result<Vec<u64>>
-    ensures ok { IfOk result (λ groups. PurgesIfPast thresholds.now held restated tables.old tables.new
-        rounds.old rounds.new groups.items
+) -> Result<Purged>
+    ensures ok { IfOk result (λ purged. PurgesIfPast thresholds.now held restated tables.old tables.new
+        rounds.old rounds.new purged.answered.items
         (shows (P.shown pipes.old) tables.old cache.old) (shows (P.shown pipes.new) tables.new cache.new)) }
     ensures err { IfErr result (λ error. FailsToPurgeAppend error
         (shows (P.shown pipes.old) tables.old cache.old) (shows (P.shown pipes.new) tables.new cache.new)) }
+    ensures standing { IfOk result (λ purged. StandIfTold purged.standing tables.new) }
     ensures uncounted { OnErr result (rounds.new ≡ rounds.old) }
     ensures rests { IsAtRest tables.old → IsAtRest tables.new }
 {
     if !takes_append(thresholds, pipes) {
         let answered = answered_groups(alloc, tables, None, restated)?;
-        return Ok(answered);
+        return Ok(Purged {
+            answered,
+            standing: None,
+        });
     }
     purge_by_rules(alloc, rt, pipes, tables, cache, rounds, held, restated)
 }
@@ -83,33 +102,38 @@ fn purge_by_rules<P: PipeLog, L: Log>(
     rounds: &mut Rounds,
     held: Option<FileSeq>,
     restated: bool,
-) -> Result<Vec<u64>>
-    ensures ok { IfOk result (λ groups. PurgesAppend held restated tables.old tables.new
-        rounds.old rounds.new groups.items
+) -> Result<Purged>
+    ensures ok { IfOk result (λ purged. PurgesAppend held restated tables.old tables.new
+        rounds.old rounds.new purged.answered.items
         (shows (P.shown pipes.old) tables.old cache.old) (shows (P.shown pipes.new) tables.new cache.new)) }
     ensures err { IfErr result (λ error. FailsToPurgeAppend error
         (shows (P.shown pipes.old) tables.old cache.old) (shows (P.shown pipes.new) tables.new cache.new)) }
+    ensures standing { IfOk result (λ purged. StandIfTold purged.standing tables.new) }
     ensures uncounted { OnErr result (rounds.new ≡ rounds.old) }
     ensures rests { IsAtRest tables.old → IsAtRest tables.new }
 {
     let watermarks = append_watermarks(pipes);
     let picked = pick_groups(alloc, tables, &watermarks, rounds, restated)?;
     let gate = watermarks.rewrite;
-    rewrite_picked(
+    let standing = rewrite_picked(
         alloc,
         rt,
         pipes,
         tables,
         cache,
         picked.rewritten.as_slice(),
+        picked.marks.as_slice(),
         gate,
         held,
     )?;
     *rounds = picked.rounds;
-    Ok(picked.answered)
+    Ok(Purged {
+        answered: picked.answered,
+        standing: Some(standing),
+    })
 }
 
-/// Picks groups by the rules.
+/// Picks groups by the rules, and takes the marks that are owed, by one walk over the groups.
 fn pick_groups(
     alloc: Global,
     tables: &MemTables,
@@ -119,20 +143,23 @@ fn pick_groups(
 ) -> Result<PickedGroups, AllocError>
     ensures { IfOk result (PicksGroups watermarks.now restated tables.now rounds.now) }
 {
+    let Survey { picked, marks, .. } = survey_groups(alloc, tables, watermarks, rounds, restated)?;
     let GroupLists {
         asked,
         rewritten,
         answered,
-    } = picked_groups(alloc, tables, watermarks, rounds, restated)?;
+    } = picked;
     let next = rounds.behind(alloc, asked.as_slice())?;
     Ok(PickedGroups {
         answered,
         rewritten,
+        marks,
         rounds: next,
     })
 }
 
-/// Carries the marks, rewrites these groups up to a file, syncs Rewrite, and takes files out of Append's span.
+/// Carries the marks that are owed, rewrites these groups up to a file, syncs Rewrite, and takes files out of
+/// Append's span. The answer is how many entries and values stand in Rewrite then.
 fn rewrite_picked<P: PipeLog, L: Log>(
     alloc: Global,
     rt: &L,
@@ -140,22 +167,25 @@ fn rewrite_picked<P: PipeLog, L: Log>(
     tables: &mut MemTables,
     cache: &mut BlockCache,
     groups: &[u64],
+    marks: &[LogItem],
     gate: FileSeq,
     held: Option<FileSeq>,
-) -> Result<()>
+) -> Result<u64>
+    requires { AreOwed tables.old marks.now }
     ensures ok { OnOk result (RewritesPicked (λ g. list_any (λ k. k == g) groups.now) gate held tables.new
         (shows (P.shown pipes.old) tables.old cache.old) (shows (P.shown pipes.new) tables.new cache.new)) }
     ensures err { IfErr result (λ error. FailsToPurgeAppend error
         (shows (P.shown pipes.old) tables.old cache.old) (shows (P.shown pipes.new) tables.new cache.new)) }
+    ensures standing { IfOk result (Stand tables.new) }
     ensures rests { IsAtRest tables.old → IsAtRest tables.new }
 {
-    rewrite_marks(alloc, rt, pipes, tables)?;
+    carry_marks(alloc, rt, pipes, tables, marks)?;
     rewrite_synced(alloc, rt, pipes, tables, cache, groups, gate)?;
     purge_below(alloc, rt, pipes, tables, cache, held)
 }
 
 /// Takes Append's files below the least that is in use out of its span, none from the last one on, nor from the
-/// one that is held back.
+/// one that is held back. The answer is how many entries and values stand in Rewrite, counted by the same walk.
 ///
 /// `Memory`: nothing is done. `Failed`: a file wasn't deleted.
 fn purge_below<P: PipeLog, L: Log>(
@@ -165,20 +195,21 @@ fn purge_below<P: PipeLog, L: Log>(
     tables: &MemTables,
     cache: &mut BlockCache,
     held: Option<FileSeq>,
-) -> Result<()>
+) -> Result<u64>
     ensures ok { OnOk result (LosesBelow held tables.now
         (shows (P.shown pipes.old) tables.now cache.old) (shows (P.shown pipes.new) tables.now cache.new)) }
     ensures err { IfErr result (λ error. FailsToLoseBelow error
         (shows (P.shown pipes.old) tables.now cache.old) (shows (P.shown pipes.new) tables.now cache.new)) }
+    ensures standing { IfOk result (Stand tables.now) }
 {
     let (first, last) = pipes.file_span(LogQueue::Append);
-    let least = least_file(tables, LogQueue::Append, up_to(held, last))?;
+    let (least, standing) = tables.least_and_standing(LogQueue::Append, up_to(held, last));
     if least <= first {
-        return Ok(());
+        return Ok(standing);
     }
     cache.clear();
     match pipes.purge_to(alloc, rt, FileId::new(LogQueue::Append, least)) {
-        Ok(_) => Ok(()),
+        Ok(_) => Ok(standing),
         Err(error) => Err(error),
     }
 }

@@ -5,17 +5,19 @@ ghost use Rattle.raft_log_record_base.specs.declared.pipe_log.LogQueue.TheVarian
 ghost use Rattle.raft_log_file_pair.specs.HoldingBack.{PipesHoldBack};
 ghost use Rattle.raft_log_purge_parts.specs.raft_log_engine_laws.specs.Shows.{shows};
 ghost use Rattle.raft_log_table_all.specs.Tables.{IsAtRest};
+ghost use Rattle.raft_log_purge.specs.Garbage.{CountsRefused};
 ghost use Rattle.raft_log_purge.specs.RewriteQueue.{FailsToRewriteRewrite, reset_counts};
+ghost use Rattle.raft_log_purge.specs.Standing.{StandIfTold};
 ghost use Rattle.raft_log_purge.specs.ExpiredFiles.{
   FailsToPurgeExpired,
   KeepsCounts,
-  KeepsOrResets,
   PurgesExpired,
   RewritesIfPast,
+  StopsAtRewrite,
   SyncsAndRewrites,
 };
 
-use crate::expired::purge_append;
+use crate::expired::{Purged, purge_append};
 use crate::rewrite_queue::rewrite_rewrite_queue;
 use log::Log;
 use raft_log_file_pair::PipeLog;
@@ -41,7 +43,8 @@ impl PurgeCounts {
     ghost use Rattle.raft_log_purge_rules.specs.Picking.{count_of};
     ghost use Rattle.raft_log_record_base.specs.declared.pipe_log.LogQueue.TheVariants.{Rewrite};
     ghost use Rattle.raft_log_table_one.specs.Stats.{added, no_entries};
-    ghost use Rattle.raft_log_purge.specs.Counting.{CountsIf, CountsStanding};
+    ghost use Rattle.raft_log_purge.specs.Counting.{counted, CountsIf, CountsStanding};
+    ghost use Rattle.raft_log_purge.specs.Standing.{StandIfTold};
 
     /// So many entries and values were written to Rewrite before; nothing else was counted yet.
     pub fn new(alloc: Global, written: u64) -> PurgeCounts
@@ -64,6 +67,15 @@ impl PurgeCounts {
         ensures { CountsStanding tables.now self.old self.new }
     {
         let standing = tables.standing_count();
+        self.count_to(standing);
+    }
+
+    /// Brings the counts to so much that stands in Rewrite.
+    fn count_to(&mut self, standing: u64)
+        ensures stats { self.new.stats ≡ counted standing self.old.stats }
+        ensures rounds { self.new.rounds ≡ self.old.rounds }
+        ensures number { self.new.number ≡ self.old.number }
+    {
         let live = self.stats.live_entries(LogQueue::Rewrite);
         self.stats
             .add(LogQueue::Rewrite, standing.saturating_sub(live));
@@ -79,16 +91,27 @@ impl PurgeCounts {
             self.count_standing(tables);
         }
     }
+
+    /// Brings the counts to what stands in Rewrite, if that is wanted: to so much, where it was counted before.
+    pub(crate) fn count_behind(&mut self, wanted: bool, standing: Option<u64>, tables: &MemTables)
+        requires { StandIfTold standing tables.now }
+        ensures { CountsIf wanted tables.now self.old self.new }
+    {
+        match standing {
+            Some(standing) if wanted => self.count_to(standing),
+            _ => self.count_if(wanted, tables),
+        }
+    }
 }
 
 /// Purges both queues where they are past their thresholds: Append is synced; Rewrite is rewritten where enough
 /// of it is garbage; then Append's marks are carried, the groups that the rules have are rewritten, and files
 /// go, none that whoever listens holds back. The answer is the groups that are asked to be compacted, from the
-/// least up; where Rewrite was rewritten, those that have many entries there too. The map stays, and nothing is
-/// pending.
+/// least up; where Rewrite was rewritten, those that have many entries there too; and how much stands in Rewrite
+/// then, where Append was purged. The map stays, and nothing is pending.
 ///
-/// Refused is what a sync, a rotation, the marks, what is copied, and files that go refuse: the map stays, and
-/// no round is counted.
+/// Refused is what a sync, a rotation, the marks, what is copied, and files that go refuse: the map stays, no
+/// round is counted, and the old copies of what was written to Rewrite again are counted as garbage.
 pub fn purge_expired_files<P: PipeLog, L: Log>(
     alloc: Global,
     rt: &L,
@@ -97,13 +120,15 @@ pub fn purge_expired_files<P: PipeLog, L: Log>(
     tables: &mut MemTables,
     cache: &mut BlockCache,
     counts: &mut PurgeCounts,
-) -> Result<Vec<u64>>
-    ensures ok { IfOk result (λ groups. PurgesExpired (PipesHoldBack P.shown P.holds_back Append)
-        thresholds.now tables.old tables.new counts.old counts.new groups.items
+) -> Result<Purged>
+    ensures ok { IfOk result (λ purged. PurgesExpired (PipesHoldBack P.shown P.holds_back Append)
+        thresholds.now tables.old tables.new counts.old counts.new purged.answered.items
         (shows (P.shown pipes.old) tables.old cache.old) (shows (P.shown pipes.new) tables.new cache.new)) }
     ensures err { IfErr result (λ error. FailsToPurgeExpired error
         (shows (P.shown pipes.old) tables.old cache.old) (shows (P.shown pipes.new) tables.new cache.new)) }
-    ensures kept { OnErr result (KeepsCounts counts.old counts.new) }
+    ensures standing { IfOk result (λ purged. StandIfTold purged.standing tables.new) }
+    ensures kept { OnErr result (KeepsCounts thresholds.now tables.old counts.old counts.new
+        (shows (P.shown pipes.old) tables.old cache.old) (shows (P.shown pipes.new) tables.new cache.new)) }
     ensures rests { IsAtRest tables.old → IsAtRest tables.new }
     ensures numbered { counts.old.number ≤ counts.new.number }
 {
@@ -133,7 +158,8 @@ fn purge_rewrite<P: PipeLog, L: Log>(
         (shows (P.shown pipes.old) tables.old cache.old) (shows (P.shown pipes.new) tables.new cache.new)) }
     ensures err { IfErr result (λ error. FailsToRewriteRewrite error
         (shows (P.shown pipes.old) tables.old cache.old) (shows (P.shown pipes.new) tables.new cache.new)) }
-    ensures kept { OnErr result (KeepsOrResets stats.old stats.new) }
+    ensures kept { OnErr result (CountsRefused tables.old stats.old stats.new
+        (shows (P.shown pipes.old) tables.old cache.old) (shows (P.shown pipes.new) tables.new cache.new)) }
     ensures rests { IsAtRest tables.old → IsAtRest tables.new }
     ensures numbered { number.old ≤ number.new }
 {
@@ -147,7 +173,8 @@ fn purge_rewrite<P: PipeLog, L: Log>(
 /// Syncs Append, and rewrites Rewrite, whatever its size is: what stands there is written again, and its old
 /// files go.
 ///
-/// Refused is what a sync, a rotation, what is written again, and files that go refuse: the map stays.
+/// Refused is what a sync, a rotation, what is written again, and files that go refuse: the map stays, and the old
+/// copies of the groups that were written again are counted as garbage.
 pub fn sync_and_rewrite<P: PipeLog, L: Log>(
     alloc: Global,
     rt: &L,
@@ -162,7 +189,8 @@ pub fn sync_and_rewrite<P: PipeLog, L: Log>(
     ensures err { IfErr result (λ error. FailsToPurgeExpired error
         (shows (P.shown pipes.old) tables.old cache.old) (shows (P.shown pipes.new) tables.new cache.new)) }
     ensures reset { OnOk result (stats.new ≡ reset_counts stats.old) }
-    ensures kept { OnErr result (KeepsOrResets stats.old stats.new) }
+    ensures kept { OnErr result (StopsAtRewrite tables.old stats.old stats.new
+        (shows (P.shown pipes.old) tables.old cache.old) (shows (P.shown pipes.new) tables.new cache.new)) }
     ensures rests { IsAtRest tables.old → IsAtRest tables.new }
     ensures numbered { number.old ≤ number.new }
 {

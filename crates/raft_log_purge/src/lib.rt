@@ -8,11 +8,12 @@ pub mod append;
 pub mod counted;
 pub mod expired;
 pub mod expired_files;
+mod garbage;
 pub mod laws;
 pub mod rewrite_queue;
 
 pub use counted::{purge_and_count, rewrite_and_count, rewrite_append_and_count};
-pub use expired::purge_append;
+pub use expired::{Purged, purge_append};
 pub use expired_files::PurgeCounts;
 pub use raft_log_purge_parts;
 pub use raft_log_purge_parts::raft_log_file_blocks;

@@ -1,10 +1,13 @@
 //! Rewrite is rewritten: what stands there is written again, and its old files go.
 
-ghost use Rattle.std.specs.Prelude.{◌≡◌, ◌≤◌, ◌⊎◌, IfErr, OnErr, OnOk};
+ghost use Rattle.std.specs.Prelude.{◌≡◌, ◌≤◌, IfErr, OnErr, OnOk};
 ghost use Rattle.raft_log_purge_parts.specs.raft_log_engine_laws.specs.Shows.{shows};
-ghost use Rattle.raft_log_table_all.specs.Tables.{IsAtRest};
+ghost use Rattle.raft_log_table_all.specs.Tables.{IsAtRest, has_table};
+ghost use Rattle.raft_log_table_all.specs.Walking.{ListsGroups};
+ghost use Rattle.raft_log_purge.specs.Garbage.{CountsRefused};
 ghost use Rattle.raft_log_purge.specs.RewriteQueue.{FailsToRewriteRewrite, RestatesAll, RewritesRewrite, reset_counts};
 
+use crate::garbage::count_restated;
 use log::Log;
 use raft_log_file_pair::PipeLog;
 use raft_log_purge_parts::purge_stale;
@@ -20,8 +23,9 @@ use std::alloc::Global;
 /// number is the one that the next atomic group gets, and is counted on.
 ///
 /// Nothing of Append may be pending, for the map to stay: its caller has synced it. Refused, the map stays
-/// too: what a rotation, `restate_groups`, a sync and `purge_stale` refuse. The counts are reset once all is
-/// synced.
+/// too: `Memory` before anything is done, then what a rotation, `restate_groups`, a sync and `purge_stale`
+/// refuse. The counts are reset once all is synced; where it isn't, the old copies of the groups that were
+/// restated are counted as garbage, and what was written of a group that wasn't is not.
 pub fn rewrite_rewrite_queue<P: PipeLog, L: Log>(
     alloc: Global,
     rt: &L,
@@ -37,26 +41,35 @@ pub fn rewrite_rewrite_queue<P: PipeLog, L: Log>(
         (shows (P.shown pipes.old) tables.old cache.old) (shows (P.shown pipes.new) tables.new cache.new)) }
     ensures rests { IsAtRest tables.old → IsAtRest tables.new }
     ensures reset { OnOk result (stats.new ≡ reset_counts stats.old) }
-    ensures kept { OnErr result ((stats.new ≡ stats.old) ⊎ (stats.new ≡ reset_counts stats.old)) }
+    ensures kept { OnErr result (CountsRefused tables.old stats.old stats.new
+        (shows (P.shown pipes.old) tables.old cache.old) (shows (P.shown pipes.new) tables.new cache.new)) }
     ensures counted { number.old ≤ number.new }
 {
+    let groups = tables.known_groups()?;
+    let (_begin, former) = pipes.file_span(LogQueue::Rewrite);
     pipes.rotate(alloc, rt, LogQueue::Rewrite)?;
-    restate_all(alloc, rt, pipes, tables, cache, number)?;
+    let known = groups.as_slice();
+    if let Err(error) = restate_all(alloc, rt, pipes, tables, cache, known, number) {
+        count_restated(stats, tables, known, former);
+        return Err(error);
+    }
     stats.reset_rewrite_counters();
     let (_first, last) = pipes.file_span(LogQueue::Rewrite);
     purge_stale(alloc, rt, pipes, tables, cache, LogQueue::Rewrite, last)?;
     Ok(())
 }
 
-/// Restates all groups, and syncs Rewrite.
+/// Restates all groups, which these are, and syncs Rewrite.
 fn restate_all<P: PipeLog, L: Log>(
     alloc: Global,
     rt: &L,
     pipes: &mut P,
     tables: &mut MemTables,
     cache: &mut BlockCache,
+    groups: &[u64],
     number: &mut u64,
 ) -> Result<()>
+    requires { ListsGroups (has_table tables.old) groups.now }
     ensures ok { OnOk result (RestatesAll
         (shows (P.shown pipes.old) tables.old cache.old) (shows (P.shown pipes.new) tables.new cache.new)) }
     ensures err { IfErr result (λ error. FailsToRewriteRewrite error
@@ -64,7 +77,6 @@ fn restate_all<P: PipeLog, L: Log>(
     ensures rests { IsAtRest tables.old → IsAtRest tables.new }
     ensures counted { number.old ≤ number.new }
 {
-    let groups = tables.known_groups()?;
-    restate_groups(alloc, rt, pipes, tables, cache, groups.as_slice(), number)?;
+    restate_groups(alloc, rt, pipes, tables, cache, groups, number)?;
     pipes.sync(rt, LogQueue::Rewrite)
 }

@@ -1,5 +1,5 @@
 -- From the least file in use on a queue has all that stands in it.
-use Rattle.std.proofs.Common.{◌≡◌, ◌⊎◌, ◌+◌, ◌-◌, ◌<◌, ◌≤◌, ◌==◌, ◌||◌, ℕ, Bool, true, false, List, [], ◌∷◌, ◌++◌, length, map, take, get_or, Option, Some, None, option_map, is_some, if◌then◌else◌, bytes_eq, inl, inr, refl, sym, ap, subst, max, min, nat_le, ◌∙◌, arith}
+use Rattle.std.proofs.Common.{◌≡◌, ◌⊎◌, ◌+◌, ◌-◌, ◌<◌, ◌≤◌, ◌==◌, ◌||◌, ℕ, Bool, true, false, List, [], ◌∷◌, ◌++◌, length, map, take, get_or, Option, Some, None, option_map, if◌then◌else◌, bytes_eq, inl, inr, refl, sym, ap, subst, max, min, nat_le, ◌∙◌, arith}
 use Rattle.std.specs.Prelude.{Result, Ok, Err, IfErr, IfOk, OnOk}
 use Rattle.std.specs.List.{list_any}
 use Rattle.std.specs.BTreeMap.{get}
@@ -22,8 +22,8 @@ use Rattle.raft_log_engine_laws.specs.raft_log_table_one.specs.Table.{Raw, shown
 use Rattle.raft_log_engine_laws.specs.raft_log_table_one.proofs.Leasts.{front_is_least, least_in_append, least_in_rewrite, nothing_in_rewrite, place_there}
 use Rattle.raft_log_table_all.specs.declared.group_table.GroupTable.{GroupTable}
 use Rattle.raft_log_table_all.specs.declared.mem_tables.MemTables.{MemTables}
-use Rattle.raft_log_table_all.specs.Tables.{has_table, raw_of, shown_in, shown_of}
-use Rattle.raft_log_table_all.specs.Walking.{ListsGroups}
+use Rattle.raft_log_table_all.specs.Tables.{shown_in, shown_of}
+use Rattle.raft_log_table_all.specs.Walking.{IsLeastOf, least_in}
 use Rattle.raft_log_disk.specs.Causes.{IsLater}
 use Rattle.raft_log_table_lists.specs.declared.group_files.GroupFiles.{GroupFiles}
 use Rattle.raft_log_file_pipe.specs.Purging.{IsInSpan}
@@ -37,9 +37,8 @@ use Rattle.raft_log_engine_laws.specs.Shows.{Home, LogMap, Shows, sense, shows}
 use Rattle.raft_log_engine_laws.specs.Settled.{HoldsSettled}
 use Rattle.raft_log_engine_laws.specs.Raising.{MayBegin, PurgeLeavesHeld}
 use Rattle.raft_log_engine_laws.proofs.Raising.{raise_refused, raised}
-use Rattle.raft_log_purge_parts.specs.Files.{FailsToLoseFiles, IsLeastIn, IsLeastOf, LosesFiles, MayLoseFiles, RemainsSettled, least_in}
+use Rattle.raft_log_purge_parts.specs.Files.{FailsToLoseFiles, LosesFiles, MayLoseFiles, RemainsSettled}
 use Rattle.raft_log_purge_parts.proofs.PartExits.{alive_ok, same_later, tells_err}
-use Rattle.raft_log_purge_parts.proofs.Reasons.{memory_is_none, tells_nothing}
 use Rattle.raft_log_purge_parts.proofs.Spanned.{lose_reason}
 
 -- Group by group.
@@ -58,28 +57,6 @@ among_more g xs i d x lt is h =
       | inl before ↦ inl before
       | inr now ↦ inr (grind (arith, now))
     ]
-
--- a group of which a file is in use is listed
-in_table : (queue : LogQueue) (o : Option GroupTable) (n : ℕ) → least_in queue (option_map (λ t. t.table) o) ≡ Some n → is_some o ≡ true
-in_table queue None n h = no_word n h
-in_table queue (Some t) n h = refl
-
-pub listed_least : (queue : LogQueue) (m : MemTables) (groups : List ℕ) → ListsGroups (has_table m) groups → (g n : ℕ) → least_in queue (raw_of m g) ≡ Some n → list_any (λ k. k == g) groups ≡ true
-listed_least queue m groups lists g n h = lists.exact g ∙ in_table queue (get nat_cmp m.groups g) n h
-
-module _ (queue : LogQueue) (m : MemTables) where
-  -- one group more
-  pub below_more : (xs : List ℕ) (i d x least next : ℕ) → i < length xs → x ≡ get_or xs i d → ((g n : ℕ) → list_any (λ k. k == g) (take i xs) ≡ true → least_in queue (raw_of m g) ≡ Some n → least ≤ n)
-      → next ≤ least → ((n : ℕ) → least_in queue (raw_of m x) ≡ Some n → next ≤ n) → (g n : ℕ) → list_any (λ k. k == g) (take (i + 1) xs) ≡ true → least_in queue (raw_of m g) ≡ Some n → next ≤ n
-  below_more xs i d x least next lt is so_far low one g n among h = elim (among_more g xs i d x lt is among) [
-    | inl before ↦ (let a = so_far g n before h in omega (arith, a, low))
-    | inr same ↦ one n (subst (λ (k : ℕ). least_in queue (raw_of m k) ≡ Some n) (sym same) h)
-  ]
-
-  pub exact_more : (limit least next x : ℕ) → (least ≡ limit) ⊎ ((g : ℕ) × IsLeastIn queue m g least) → (next ≡ least) ⊎ IsLeastIn queue m x next → (next ≡ limit) ⊎ ((g : ℕ) × IsLeastIn queue m g next)
-  exact_more limit least next x so_far (inr here) = inr (x, here)
-  exact_more limit least next x (inl all) (inl same) = inl (same ∙ all)
-  exact_more limit least next x (inr there) (inl same) = inr (there.0, subst (IsLeastIn queue m there.0) (sym same) there.1)
 
 -- Where no file of Append is in use, nothing stands there.
 
@@ -207,15 +184,6 @@ module _ (queue : LogQueue) (limit : ℕ) (m : MemTables) (v w : LogPipes) (old 
         (raise_refused (which_of queue) home (shows v m old) (shows w m new) log least error h (begins home log h owes) refl none call);
     cause = λ home log h. lose_reason queue limit least home error (shows v m old) (shows w m new) h.state is.limited above h.runs call ends;
   }
-
--- the least file wasn't told: memory ran out
-pub none_told : (queue : LogQueue) (limit : ℕ) (e : Shows) → FailsToLoseFiles queue limit errors.Memory e e
-none_told queue limit e = record {
-  tells = λ lived. tells_nothing errors.Memory e.pipes lived (memory_is_none errors.Memory refl);
-  later = same_later e.pipes.disk;
-  remains = λ home log h owes. h;
-  cause = λ home log h. inl tt;
-}
 
 -- a file in use is older than the span: none goes
 pub none_older : (queue : LogQueue) (limit : ℕ) (m : MemTables) (v : LogPipes) (old new : BlockCache) → new.place ≡ None → (least : ℕ) → IsLeastOf queue limit m least → least < (pipe_at (which_of queue) (files_of v)).first_seq

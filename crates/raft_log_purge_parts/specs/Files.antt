@@ -1,5 +1,5 @@
 -- Files that are no longer needed go.
-use Rattle.std.specs.Prelude.{◌≡◌, ◌↔◌, ◌⊎◌, ◌≤◌, ◌-◌, IsTrue, ℕ, max, None, Option, Some, false, []}
+use Rattle.std.specs.Prelude.{◌≡◌, ◌↔◌, ◌⊎◌, ◌-◌, IsTrue, ℕ, max, None, false, []}
 use Rattle.raft_log_disk.specs.Causes.{IsLater}
 use Rattle.raft_log_record_base.specs.declared.errors.Error.{Error}
 use Rattle.raft_log_record_base.specs.declared.errors.Error.TheVariants as errors
@@ -9,31 +9,14 @@ use Rattle.raft_log_directory_laws.specs.Calls.{Which}
 use Rattle.raft_log_directory_laws.specs.Calls.Which.{InAppend, InRewrite}
 use Rattle.raft_log_file_pipe.specs.Purging.{IsInSpan}
 use Rattle.raft_log_table_lists.specs.Shown.{Shown, whereabouts}
-use Rattle.raft_log_engine_laws.specs.raft_log_table_one.specs.Files.{IsMinFile, min_file}
-use Rattle.raft_log_engine_laws.specs.raft_log_table_one.specs.Table.{Raw}
 use Rattle.raft_log_table_all.specs.declared.mem_tables.MemTables.{MemTables}
-use Rattle.raft_log_table_all.specs.Tables.{raw_of, shown_of}
+use Rattle.raft_log_table_all.specs.Walking.{IsLeastOf}
 use Rattle.raft_log_file_pair.specs.State.{pipe_at}
 use Rattle.raft_log_file_pair.specs.Pipes.{files_of, which_of}
 use Rattle.raft_log_engine_laws.specs.Shows.{Home, LogMap, Shows, has_failed}
 use Rattle.raft_log_engine_laws.specs.Holding.{IsLeftAt}
 use Rattle.raft_log_engine_laws.specs.Settled.{HoldsSettled}
 use Rattle.raft_log_purge_parts.specs.Reasons.{HasFileReason}
-
--- the least file of a queue in which a group has something, if it has a table, and there is one
-abbrev pub least_in : LogQueue → Option Raw → Option ℕ
-least_in queue None = None
-least_in queue (Some t) = min_file queue t
-
--- this is the least file of a queue in which a group has something, as its table answers it and by what shows
-abbrev pub IsLeastIn : LogQueue → MemTables → ℕ → ℕ → Type 0
-IsLeastIn queue m g n = (least_in queue (raw_of m g) ≡ Some n) × IsMinFile queue (shown_of m g) (Some n)
-
--- the least file of a queue in which any group has something, where that is below the limit, else the limit
-pub record IsLeastOf (queue : LogQueue) (limit : ℕ) (m : MemTables) (least : ℕ) : Type 0 where
-  pub limited : least ≤ limit
-  pub below : (g n : ℕ) → least_in queue (raw_of m g) ≡ Some n → least ≤ n
-  pub exact : (least ≡ limit) ⊎ ((g : ℕ) × IsLeastIn queue m g least)
 
 -- what is asked of the tables before files of a queue go: of Append, that no mark is owed
 abbrev pub MayLoseFiles : Which → (ℕ → Shown) → Type 0

@@ -1,14 +1,19 @@
 -- Marks that are owed to Rewrite are carried there.
-use Rattle.std.specs.Prelude.{◌≡◌, ℕ, Bool, false, []}
+use Rattle.std.specs.Prelude.{◌≡◌, ℕ, Bool, false, List, []}
 use Rattle.raft_log_disk.specs.Causes.{IsLater}
+use Rattle.raft_log_record_base.specs.declared.errors.Error.{Error}
+use Rattle.raft_log_record_items.specs.declared.item.LogItem.{LogItem}
 use Rattle.raft_log_table_lists.specs.Shown.{Shown}
 use Rattle.raft_log_table_lists.specs.Bridge.{unmarked}
+use Rattle.raft_log_table_all.specs.declared.mem_tables.MemTables.{MemTables}
+use Rattle.raft_log_table_all.specs.Owing.{AreOwed}
+use Rattle.raft_log_table_all.specs.Tables.{shown_of}
 use Rattle.raft_log_file_pair.specs.Pipes.{LogPipes, is_failed}
 use Rattle.raft_log_file_blocks.specs.declared.block_cache.BlockCache.{BlockCache}
-use Rattle.raft_log_engine_laws.specs.Shows.{Home, LogMap, Shows, has_failed}
+use Rattle.raft_log_engine_laws.specs.Shows.{Home, LogMap, Shows, has_failed, shows}
 use Rattle.raft_log_engine_laws.specs.Holding.{Holds}
 use Rattle.raft_log_engine_laws.specs.Settled.{HoldsSettled}
-use Rattle.raft_log_purge_parts.specs.Parts.{StaysInFile}
+use Rattle.raft_log_purge_parts.specs.Parts.{PartIsRefused, StaysInFile}
 
 -- an engine with these pipes, tables that show this, these groups that count, and this block
 abbrev pub showing : LogPipes → (ℕ → Shown) → (ℕ → Bool) → BlockCache → Shows
@@ -22,6 +27,15 @@ pub record WritesMarks (tables : ℕ → Shown) (v w : LogPipes) : Type 0 where
   pub holds : (counts : ℕ → Bool) (cache : BlockCache) (home : Home) (m : LogMap)
       → Holds home (showing v tables counts cache) m []
       → Holds home (showing w (λ g. unmarked (tables g)) counts cache) m []
+
+-- the marks of tables that owe just these stand in Rewrite
+abbrev pub WritesItems : List LogItem → LogPipes → LogPipes → Type 0
+WritesItems items v w = (m : MemTables) → AreOwed m items → WritesMarks (shown_of m) v w
+
+-- the marks of tables that owe just these were refused
+abbrev pub ItemsAreRefused : List LogItem → Error → LogPipes → LogPipes → Type 0
+ItemsAreRefused items error v w = (m : MemTables) → AreOwed m items → (cache : BlockCache)
+    → PartIsRefused error (shows v m cache) (shows w m cache)
 
 -- The marks are carried: they stand in Rewrite, synced, and no group owes one any more. The map stays, and
 -- nothing of the log is pending.

@@ -23,10 +23,10 @@ pub mod syncing;
 pub mod taking;
 
 pub use copies::write_copies;
-pub use files::{least_file, purge_stale};
+pub use files::purge_stale;
 pub use groups::{rewrite_group, rewrite_groups};
 pub use keys::copy_keys;
-pub use marks::rewrite_marks;
+pub use marks::{carry_marks, rewrite_marks};
 pub use raft_log_file_blocks;
 pub use rewriting::copy_entries;
 pub use stale::purge_all_stale;

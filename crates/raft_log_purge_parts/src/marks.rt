@@ -2,14 +2,14 @@
 //! owed no more.
 
 ghost use Rattle.std.specs.Prelude.{◌≡◌, ◌∷◌, [], IfErr, IfOk, OnErr, OnOk};
-ghost use Rattle.raft_log_record_base.specs.declared.errors.Error.TheVariants as errors;
 ghost use Rattle.raft_log_record_marks.specs.Meaning.{tagged_items};
 ghost use Rattle.raft_log_engine_laws.specs.Shows.{shows};
 ghost use Rattle.raft_log_file_blocks.specs.declared.block_cache.BlockCache.{BlockCache};
 ghost use Rattle.raft_log_record_batches.specs.declared.log_batch.BatchState.TheVariants.{Filling};
-ghost use Rattle.raft_log_table_all.specs.Tables.{shown_of, IsAtRest};
-ghost use Rattle.raft_log_purge_parts.specs.Marks.{CarriesMarks, WritesMarks};
-ghost use Rattle.raft_log_purge_parts.specs.Owed.{AddsSame, SaysMarks, SaysSame};
+ghost use Rattle.raft_log_table_all.specs.Owing.{AreOwed};
+ghost use Rattle.raft_log_table_all.specs.Tables.{IsAtRest};
+ghost use Rattle.raft_log_purge_parts.specs.Marks.{CarriesMarks, ItemsAreRefused, WritesItems};
+ghost use Rattle.raft_log_purge_parts.specs.Owed.{AddsSame, SaysSame};
 ghost use Rattle.raft_log_purge_parts.specs.Parts.{PartIsRefused};
 ghost use Rattle.raft_log_purge_parts.specs.Refusals.{AreUnmarked};
 
@@ -40,24 +40,48 @@ pub fn rewrite_marks<P: PipeLog, L: Log>(
     ensures owed { OnErr result (tables.new ≡ tables.old) }
     ensures rests { IsAtRest tables.old → IsAtRest tables.new }
 {
-    write_marks(alloc, rt, pipes, tables)?;
+    let marks = tables.owed_marks()?;
+    carry_marks(alloc, rt, pipes, tables, marks.as_slice())
+}
+
+/// Carries the marks that are owed to Rewrite, as `rewrite_marks` does, where they were read from the tables
+/// before.
+///
+/// `Full`: nothing is done. `Io`, `TryAgain`, `NumberRange`, `Memory`: the record was refused. In each of these
+/// cases the marks are owed still. `Failed`: nothing is taken any more.
+pub fn carry_marks<P: PipeLog, L: Log>(
+    alloc: Global,
+    rt: &L,
+    pipes: &mut P,
+    tables: &mut MemTables,
+    marks: &[LogItem],
+) -> Result<()>
+    requires { AreOwed tables.old marks.now }
+    ensures ok { OnOk result ((cache : BlockCache) → CarriesMarks
+        (shows (P.shown pipes.old) tables.old cache) (shows (P.shown pipes.new) tables.new cache)) }
+    ensures err { IfErr result (λ error. (cache : BlockCache) → PartIsRefused error
+        (shows (P.shown pipes.old) tables.old cache) (shows (P.shown pipes.new) tables.new cache)) }
+    ensures owed { OnErr result (tables.new ≡ tables.old) }
+    ensures rests { IsAtRest tables.old → IsAtRest tables.new }
+{
+    write_marks(alloc, rt, pipes, marks)?;
     pipes.sync(rt, LogQueue::Rewrite)?;
     tables.clear_marks();
     Ok(())
 }
 
-/// Writes the marks that are owed, if there are any.
+/// Writes marks that are owed, if there are any.
 fn write_marks<P: PipeLog, L: Log>(
     alloc: Global,
     rt: &L,
     pipes: &mut P,
-    tables: &MemTables,
+    marks: &[LogItem],
 ) -> Result<()>
-    ensures ok { OnOk result (WritesMarks (shown_of tables.now) (P.shown pipes.old) (P.shown pipes.new)) }
-    ensures err { IfErr result (λ error. (cache : BlockCache) → PartIsRefused error
-        (shows (P.shown pipes.old) tables.now cache) (shows (P.shown pipes.new) tables.now cache)) }
+    ensures ok { OnOk result (WritesItems marks.now (P.shown pipes.old) (P.shown pipes.new)) }
+    ensures err { IfErr result (λ error.
+        ItemsAreRefused marks.now error (P.shown pipes.old) (P.shown pipes.new)) }
 {
-    let batch = marks_batch(alloc, tables)?;
+    let batch = marks_batch(alloc, marks)?;
     if batch.is_empty() {
         return Ok(());
     }
@@ -66,14 +90,14 @@ fn write_marks<P: PipeLog, L: Log>(
     Ok(())
 }
 
-/// A batch of the marks that are owed. It is refused for want of memory alone.
-fn marks_batch(alloc: Global, tables: &MemTables) -> Result<LogBatch>
-    ensures ok { IfOk result (SaysMarks (shown_of tables.now)) }
-    ensures errors { IfErr result (λ error. error ≡ errors.Memory) }
+/// A batch that says what these marks say. Of marks that are owed it is refused for want of memory alone.
+fn marks_batch(alloc: Global, marks: &[LogItem]) -> Result<LogBatch>
+    ensures ok { IfOk result (SaysSame marks.now) }
+    ensures bare { IfOk result (λ batch. batch.entries ≡ []) }
+    ensures errors { IfErr result (λ error. AreUnmarked marks.now error) }
 {
-    let marks = tables.owed_marks()?;
     let mut batch = LogBatch::with_capacity(alloc, marks.len())?;
-    add_marks(alloc, &mut batch, marks.as_slice())?;
+    add_marks(alloc, &mut batch, marks)?;
     Ok(batch)
 }
 

@@ -84,15 +84,13 @@ answered_known marks restated m g = answered_has_table marks restated (get nat_c
 pub rewritten_known : (marks : Watermarks) (counts : ℕ → ℕ) (m : MemTables) (g : ℕ) → rewrites_at marks counts m g ≡ true → has_table m g ≡ true
 rewritten_known marks counts m g = rewritten_has_table marks (counts g) (get nat_cmp m.groups g)
 
-pub all_are_picked : {E : Type 0} (r : Result GroupLists E) (marks : Watermarks) (counts : ℕ → ℕ) (restated : Bool) (m : MemTables) (gs now : List ℕ) → now ≡ gs → ListsGroups (has_table m) gs
-    → IfOk r (PicksOf marks counts restated m now) → IfOk r (ListsPicked marks counts restated m)
-all_are_picked (Ok a) marks counts restated m gs now same lists is =
-    let of : PicksOf marks counts restated m gs a = subst (λ (l : List ℕ). PicksOf marks counts restated m l a) same is in record {
-      asked = subst (ListsGroups (asks_at marks m)) (sym of.asked) (picked (asks_at marks m) (has_table m) gs (asked_known marks m) lists);
-      rewritten = subst (ListsGroups (rewrites_at marks counts m)) (sym of.rewritten) (picked (rewrites_at marks counts m) (has_table m) gs (rewritten_known marks counts m) lists);
-      answered = subst (ListsGroups (answers_at (Some marks) restated m)) (sym of.answered) (picked (answers_at (Some marks) restated m) (has_table m) gs (answered_known (Some marks) restated m) lists);
-    }
-all_are_picked (Err e) marks counts restated m gs now same lists is = tt
+pub all_are_picked : (marks : Watermarks) (counts : ℕ → ℕ) (restated : Bool) (m : MemTables) (gs : List ℕ) (lists : GroupLists) → ListsGroups (has_table m) gs → PicksOf marks counts restated m gs lists
+    → ListsPicked marks counts restated m lists
+all_are_picked marks counts restated m gs lists all of = record {
+  asked = subst (ListsGroups (asks_at marks m)) (sym of.asked) (picked (asks_at marks m) (has_table m) gs (asked_known marks m) all);
+  rewritten = subst (ListsGroups (rewrites_at marks counts m)) (sym of.rewritten) (picked (rewrites_at marks counts m) (has_table m) gs (rewritten_known marks counts m) all);
+  answered = subst (ListsGroups (answers_at (Some marks) restated m)) (sym of.answered) (picked (answers_at (Some marks) restated m) (has_table m) gs (answered_known (Some marks) restated m) all);
+}
 
 -- one group more
 

@@ -3,3 +3,4 @@ pub mod Watermarks
 pub mod Behind
 pub mod Rules
 pub mod Picking
+pub mod Surveying

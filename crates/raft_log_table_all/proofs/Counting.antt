@@ -31,6 +31,10 @@ pub record HasCounted (all rest : List (ℕ × GroupTable)) (count : ℕ) : Type
   pub each : StandInTables done ns
   pub sum : count ≡ min (sum_by (λ k. k) ns) (2 ^ 64 - 1)
 
+-- before the first table nothing was counted
+pub counts_none : (all rest : List (ℕ × GroupTable)) → rest ≡ all → HasCounted all rest 0
+counts_none all rest is = record { done = []; front = is; ns = []; each = tt; sum = omega arith }
+
 pub counts_one_more : (all rest next : List (ℕ × GroupTable)) (count more new : ℕ) (e : ℕ × GroupTable) → rest ≡ e ∷ next → StandIn (shown_in (Some e.1)) more
     → new ≡ min (count + more) (2 ^ 64 - 1) → HasCounted all rest count → HasCounted all next new
 counts_one_more all rest next count more new e is one sum h =
@@ -44,7 +48,7 @@ counts_one_more all rest next count more new e is one sum h =
     }
 
 -- each of these tables is the one that is found for its group
-abbrev AreFound : List (ℕ × GroupTable) → List (ℕ × GroupTable) → Type 0
+abbrev pub AreFound : List (ℕ × GroupTable) → List (ℕ × GroupTable) → Type 0
 AreFound all es = AllByRecursion (λ (e : ℕ × GroupTable). found all e.0 ≡ Some e.1) es
 
 found_behind : (e : ℕ × GroupTable) (es sub : List (ℕ × GroupTable)) → found es e.0 ≡ None → AreFound es sub → AreFound (e ∷ es) sub
@@ -59,7 +63,7 @@ found_behind e es (x ∷ sub) none h = (
     never : None ≡ Some x.1 → ⊥
     never p = cc p
 
-all_found : (es : List (ℕ × GroupTable)) → AllOnce es → AreFound es es
+pub all_found : (es : List (ℕ × GroupTable)) → AllOnce es → AreFound es es
 all_found [] once = tt
 all_found (e ∷ es) once = (found_first e es, found_behind e es es once.0 (all_found es once.1))
 

@@ -12,6 +12,7 @@ pub mod Moved
 pub mod Copies
 pub mod Owed
 pub mod Counting
+pub mod Leasts
 pub mod Carrying
 pub mod Ending
 mod Fitting

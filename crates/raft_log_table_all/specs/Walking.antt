@@ -1,14 +1,17 @@
 -- Lists of groups, and what is counted of all of them.
-use Rattle.std.specs.Prelude.{◌≡◌, ◌-◌, ◌^◌, ℕ, ◌==◌, min, Bool, false, ◌||◌, List, [], ◌∷◌, Option, Some, None, sum_by}
+use Rattle.std.specs.Prelude.{◌≡◌, ◌⊎◌, ◌≤◌, ◌-◌, ◌^◌, ℕ, ◌==◌, min, Bool, false, ◌||◌, List, [], ◌∷◌, Option, Some, None, sum_by}
 use Rattle.std.specs.BTreeMap.{get}
 use Rattle.std.specs.List.{list_any}
 use Rattle.std.specs.List.Sorted.{IsStrictlySortedBy}
 use Rattle.std.specs.Ordering.{nat_cmp}
+use Rattle.raft_log_record_base.specs.declared.pipe_log.LogQueue.{LogQueue}
 use Rattle.raft_log_table_lists.specs.Shown.{Shown}
+use Rattle.raft_log_table_one.specs.Files.{IsMinFile, min_file}
 use Rattle.raft_log_table_one.specs.Reads.{StandIn}
+use Rattle.raft_log_table_one.specs.Table.{Raw, shown}
 use Rattle.raft_log_table_all.specs.declared.group_table.GroupTable.{GroupTable}
 use Rattle.raft_log_table_all.specs.declared.mem_tables.MemTables.{MemTables}
-use Rattle.raft_log_table_all.specs.Tables.{has_table, shown_of}
+use Rattle.raft_log_table_all.specs.Tables.{has_table, raw_of, shown_of}
 
 -- the numbers are those of all groups that pass the test: each of them once, from the least up
 pub record ListsGroups (test : ℕ → Bool) (gs : List ℕ) : Type 0 where
@@ -34,3 +37,22 @@ StandInEach v gs ns = ⊥
 abbrev pub Stand : MemTables → ℕ → Type 0
 Stand m n = (gs : List ℕ) × ListsGroups (has_table m) gs
     × ((ns : List ℕ) × StandInEach (shown_of m) gs ns × (n ≡ min (sum_by (λ k. k) ns) (2 ^ 64 - 1)))
+
+-- the least file of a queue in which a group has something, if it has a table, and there is one
+abbrev pub least_in : LogQueue → Option Raw → Option ℕ
+least_in queue None = None
+least_in queue (Some t) = min_file queue t
+
+-- this is the least file of a queue in which this table has something, as it answers it and by what shows
+abbrev pub IsLeastInTable : LogQueue → Raw → ℕ → Type 0
+IsLeastInTable queue t n = (min_file queue t ≡ Some n) × IsMinFile queue (shown t) (Some n)
+
+-- this is the least file of a queue in which a group has something, as its table answers it and by what shows
+abbrev pub IsLeastIn : LogQueue → MemTables → ℕ → ℕ → Type 0
+IsLeastIn queue m g n = (least_in queue (raw_of m g) ≡ Some n) × IsMinFile queue (shown_of m g) (Some n)
+
+-- the least file of a queue in which any group has something, where that is below the limit, else the limit
+pub record IsLeastOf (queue : LogQueue) (limit : ℕ) (m : MemTables) (least : ℕ) : Type 0 where
+  pub limited : least ≤ limit
+  pub below : (g n : ℕ) → least_in queue (raw_of m g) ≡ Some n → least ≤ n
+  pub exact : (least ≡ limit) ⊎ ((g : ℕ) × IsLeastIn queue m g least)

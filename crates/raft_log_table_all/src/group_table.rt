@@ -63,6 +63,13 @@ impl GroupTable {
         }
     }
 
+    /// The table.
+    pub fn table(&self) -> &MemTable
+        ensures { result.now ≡ self.now.table }
+    {
+        &self.table
+    }
+
     /// Makes room for an item that is to be written. Refused or not, nothing shows.
     pub(crate) fn prepare(&mut self, content: &LogItemContent) -> Result<()>
         ensures shows { shown self.new.table ≡ shown self.old.table }
@@ -257,7 +264,7 @@ impl GroupTable {
     }
 
     /// Adds the marks that this table owes to Rewrite, of a group of this number. Refused, some are added.
-    pub(crate) fn add_owed(&self, group: u64, items: &mut Vec<LogItem>) -> Result<(), AllocError>
+    pub fn add_owed(&self, group: u64, items: &mut Vec<LogItem>) -> Result<(), AllocError>
         ensures { OnOk result (AddsOwed group (shown self.now.table) items.old.items items.new.items) }
     {
         self.add_commands(group, items)?;

@@ -7,4 +7,5 @@ pub mod laws;
 pub mod mem_tables;
 pub mod views;
 
+pub use group_table::GroupTable;
 pub use mem_tables::MemTables;

@@ -18,7 +18,8 @@ use std::alloc::Global;
 
 impl<P: PipeLog> LogEngine<P> {
     /// Writes that a group's entries below an index go, and answers how many do; nothing is written for a
-    /// group without entries. It isn't synced, and nothing else is done to the files.
+    /// group without entries. It isn't synced: nothing is done to the files but that its record is written, before
+    /// which Append may go on in its next file.
     ///
     /// `Failed` of an engine that has failed. `Memory` before anything is done. Then what `write` refuses.
     pub fn compact_to<L: Log>(&mut self, rt: &L, raft_group_id: u64, index: u64) -> Result<u64>

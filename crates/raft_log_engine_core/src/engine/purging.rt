@@ -37,7 +37,8 @@ impl<P: PipeLog> LogEngine<P> {
     /// in all groups: what was written there and stands no more is garbage. Else this is a sync of Append alone.
     ///
     /// `Failed` of an engine that has failed. Then what a sync, a rotation, the marks, what is copied, and
-    /// files that go refuse: the map stays, and no round is counted.
+    /// files that go refuse: the map stays, no round is counted, and the old copies of the groups that were
+    /// written to Rewrite again are counted as garbage.
     pub fn purge_expired_files<L: Log>(&mut self, rt: &L) -> Result<Vec<u64>>
         ensures ok { IfOk result (λ groups. PurgesAndCounts (PipesHoldBack P.shown P.holds_back Append)
             self.old.thresholds self.old.tables self.new.tables self.old.counts self.new.counts groups.items
@@ -45,8 +46,8 @@ impl<P: PipeLog> LogEngine<P> {
         ensures lived { OnOk result (Lives (shows_of P.shown self.old)) }
         ensures err { IfErr result (StopsPurgingExpired
             (shows_of P.shown self.old) (shows_of P.shown self.new)) }
-        ensures kept { OnErr result (StopsCountingIfPast self.old.thresholds (shows_of P.shown self.old)
-            self.old.tables self.old.counts self.new.counts) }
+        ensures kept { OnErr result (StopsCountingIfPast self.old.thresholds self.old.tables
+            self.old.counts self.new.counts (shows_of P.shown self.old) (shows_of P.shown self.new)) }
         ensures sizes { self.new.thresholds ≡ self.old.thresholds }
     {
         if self.is_failed() {
@@ -67,7 +68,7 @@ impl<P: PipeLog> LogEngine<P> {
     /// and its old files go. The map stays, and nothing is pending.
     ///
     /// `Failed` of an engine that has failed. Then what a sync, a rotation, what is written, and files that go
-    /// refuse: the map stays.
+    /// refuse: the map stays, and the old copies of the groups that were written again are counted as garbage.
     pub fn must_rewrite_rewrite_queue<L: Log>(&mut self, rt: &L) -> Result<()>
         ensures ok { OnOk result (SyncsAndRewrites self.new.tables
             (shows_of P.shown self.old) (shows_of P.shown self.new)) }
@@ -75,7 +76,8 @@ impl<P: PipeLog> LogEngine<P> {
         ensures err { IfErr result (StopsPurgingExpired
             (shows_of P.shown self.old) (shows_of P.shown self.new)) }
         ensures reset { OnOk result (CountsAndResets self.old.tables self.old.counts self.new.counts) }
-        ensures kept { OnErr result (StopsCounting self.old.tables self.old.counts self.new.counts) }
+        ensures kept { OnErr result (StopsCounting self.old.tables self.old.counts self.new.counts
+            (shows_of P.shown self.old) (shows_of P.shown self.new)) }
         ensures sizes { self.new.thresholds ≡ self.old.thresholds }
     {
         if self.is_failed() {

@@ -1,11 +1,18 @@
 //! The groups that have a table, in the order of their numbers, and what is counted of them.
-ghost use Rattle.std.specs.Prelude.{◌≡◌, option_copied, IfOk};
+ghost use Rattle.std.specs.Prelude.{◌≡◌, ◌⊎◌, ◌≤◌, ℕ, Some, option_copied, IfOk};
+ghost use Rattle.std.specs.BTreeMap.{keys};
+ghost use Rattle.std.specs.List.Sorted.{IsStrictlySortedBy};
+ghost use Rattle.std.specs.Ordering.{nat_cmp};
+ghost use Rattle.raft_log_table_one.specs.Files.{min_file};
 ghost use Rattle.raft_log_table_all.specs.Tables.{counts, has_table, raw_of};
-ghost use Rattle.raft_log_table_all.specs.Walking.{is_listed, ListsGroups, Stand};
+ghost use Rattle.raft_log_table_all.specs.Walking.{is_listed, IsLeastInTable, IsLeastOf, ListsGroups, Stand};
 
 use super::MemTables;
+use crate::group_table::GroupTable;
+use raft_log_record_base::{FileSeq, LogQueue};
 use raft_log_table_one::MemTable;
 use std::alloc::AllocError;
+use std::collections::btree_map::Iter;
 
 impl MemTables {
     /// The numbers of the groups that count, from the least up.
@@ -31,6 +38,14 @@ impl MemTables {
         Some(&found.table)
     }
 
+    /// The tables of all groups, by the groups' numbers from the least up, whether the groups count or not.
+    pub fn iter(&self) -> Iter<'_, u64, GroupTable>
+        ensures rest { result ≡ self.now.groups.entries }
+        ensures ordered { IsStrictlySortedBy nat_cmp (keys self.now.groups) }
+    {
+        self.groups.iter()
+    }
+
     /// How many entries and values of all groups stand in Rewrite, at most 2^64 - 1. It takes time in all
     /// keys of all groups, and no memory.
     pub fn standing_count(&self) -> u64
@@ -41,6 +56,33 @@ impl MemTables {
             count = count.saturating_add(table.table.standing_count());
         }
         count
+    }
+
+    /// The least file of a queue in which any group has something, where that is below the limit, else the
+    /// limit. It takes one walk over the groups, and no memory.
+    pub fn least_file(&self, queue: LogQueue, limit: FileSeq) -> FileSeq
+        ensures { IsLeastOf queue limit self.now result }
+    {
+        let mut least = limit;
+        for (_, table) in self.groups.iter() {
+            least = lesser_in(&table.table, queue, least);
+        }
+        least
+    }
+
+    /// The least file of a queue, as `least_file` answers it, and how many entries and values stand in Rewrite,
+    /// as `standing_count` does: both by one walk over the groups.
+    pub fn least_and_standing(&self, queue: LogQueue, limit: FileSeq) -> (FileSeq, u64)
+        ensures least { IsLeastOf queue limit self.now result.0 }
+        ensures standing { Stand self.now result.1 }
+    {
+        let mut least = limit;
+        let mut standing: u64 = 0;
+        for (_, table) in self.groups.iter() {
+            least = lesser_in(&table.table, queue, least);
+            standing = standing.saturating_add(table.table.standing_count());
+        }
+        (least, standing)
     }
 
     /// The numbers of all groups that have a table, or only of those that count.
@@ -54,5 +96,17 @@ impl MemTables {
             }
         }
         Ok(groups)
+    }
+}
+
+/// The least file of a queue in which this table has something, where that is below this one, else this one.
+fn lesser_in(table: &MemTable, queue: LogQueue, least: FileSeq) -> FileSeq
+    ensures limited { result ≤ least }
+    ensures below { (n : ℕ) → min_file queue table.now ≡ Some n → result ≤ n }
+    ensures exact { (result ≡ least) ⊎ IsLeastInTable queue table.now result }
+{
+    match table.min_file_seq(queue) {
+        Some(file) if file < least => file,
+        _ => least,
     }
 }

@@ -1,5 +1,4 @@
 use Rattle.std.proofs.Common.{◌≡◌, ◌+◌, ◌<◌, ℕ, max, ap₂, subst, arith}
-use Rattle.std.proofs.lemmas.Result.{err_from_is_err_and}
 use Rattle.raft_log_record_base.specs.declared.pipe_log.FileId.{FileId}
 use Rattle.raft_log_record_base.specs.declared.pipe_log.LogQueue.{LogQueue}
 use Rattle.raft_log_record_base.specs.declared.pipe_log.LogQueue.TheVariants.{Append}
@@ -7,19 +6,13 @@ use Rattle.raft_log_directory_laws.specs.Calls.Which.{InAppend}
 use Rattle.raft_log_file_pair.specs.Pipes.{which_of}
 use Rattle.raft_log_file_pair.specs.Calls.{FailsToPurgeQueue, PurgesQueue}
 use Rattle.raft_log_file_pair.specs.Numbers.{EndsNumbersBelow}
-use Rattle.raft_log_purge_parts.specs.raft_log_engine_laws.specs.Shows.{shows}
 use Rattle.raft_log_purge_rules.specs.Watermarks.{first_at}
-use Rattle.raft_log_purge_parts.specs.Files.{IsLeastOf}
-use Rattle.raft_log_purge.proofs.Past.{lost_to, none_lost_for_memory, not_lost_to}
+use Rattle.raft_log_table_all.specs.Walking.{IsLeastOf}
+use Rattle.raft_log_purge.proofs.Past.{lost_to, not_lost_to}
 use Rattle.raft_log_purge.proofs.append.purge_past.Goals as goal
 
 abbrev file_of : LogQueue → ℕ → FileId
 file_of q n = record { queue = q; seq = n }
-
-pub returns-in_err-least-clause-err : goal.returns-in_err-least-clause-err
-returns-in_err-least-clause-err g c =
-    let p = err_from_is_err_and c.from_residual.result c.from_residual.ensures.1 in
-    rw p.1 (none_lost_for_memory c.args.gate p.0 (shows (g.P.PipeLog.shown c.args.pipes.now) c.args.tables.now c.args.cache.now) p.2)
 
 pub returns-in-Ok-clause-ok : goal.returns-in-Ok-clause-ok
 returns-in-Ok-clause-ok g c =
@@ -29,10 +22,10 @@ returns-in-Ok-clause-ok g c =
     let ends = c.file_span-first.ensures in
     let named : ◌≡◌ {A = FileId} c.new.result (record { queue = Append; seq = c.max-seq.result }) = ap₂ file_of c.new.ensures.queue c.new.ensures.seq in
     let call = subst (λ (f : FileId). PurgesQueue (which_of f.queue) f.seq v w) named e.ok in
-    let least = subst (λ (n : ℕ). IsLeastOf Append n c.args.tables.now c.in_ok-least.least) ends.last c.in_ok-least.ensures in
-    let is : c.max-seq.result ≡ max (c.args.gate + 1) c.in_ok-least.least = omega (arith, c.in-Some.ensures, c.max-seq.ensures) in
+    let least = subst (λ (n : ℕ). IsLeastOf Append n c.args.tables.now c.least_file-least.result) ends.last c.least_file-least.ensures in
+    let is : c.max-seq.result ≡ max (c.args.gate + 1) c.least_file-least.result = omega (arith, c.in-Some.ensures, c.max-seq.ensures) in
     let low : first_at InAppend v < c.max-seq.result = omega (arith, ends.first, c.if-seq-first.false) in
-    lost_to c.args.gate c.in_ok-least.least c.max-seq.result c.args.tables.now v c.args.cache.now least is w c.clear.new.self c.clear.ensures e.later c.in-Ok.field-0 e.fails low call
+    lost_to c.args.gate c.least_file-least.result c.max-seq.result c.args.tables.now v c.args.cache.now least is w c.clear.new.self c.clear.ensures e.later c.in-Ok.field-0 e.fails low call
 
 pub returns-in-Err-clause-err : goal.returns-in-Err-clause-err
 returns-in-Err-clause-err g c =
@@ -43,7 +36,7 @@ returns-in-Err-clause-err g c =
     let named : ◌≡◌ {A = FileId} c.new.result (record { queue = Append; seq = c.max-seq.result }) = ap₂ file_of c.new.ensures.queue c.new.ensures.seq in
     let call = subst (λ (f : FileId). FailsToPurgeQueue (which_of f.queue) f.seq c.in-Err.error v w) named e.err in
     let ends = subst (λ (f : FileId). EndsNumbersBelow (which_of f.queue) c.in-Err.error v) named e.range in
-    let least = subst (λ (n : ℕ). IsLeastOf Append n c.args.tables.now c.in_ok-least.least) span.last c.in_ok-least.ensures in
-    let is : c.max-seq.result ≡ max (c.args.gate + 1) c.in_ok-least.least = omega (arith, c.in-Some.ensures, c.max-seq.ensures) in
+    let least = subst (λ (n : ℕ). IsLeastOf Append n c.args.tables.now c.least_file-least.result) span.last c.least_file-least.ensures in
+    let is : c.max-seq.result ≡ max (c.args.gate + 1) c.least_file-least.result = omega (arith, c.in-Some.ensures, c.max-seq.ensures) in
     let above : first_at InAppend v < c.max-seq.result = omega (arith, span.first, c.if-seq-first.false) in
-    not_lost_to c.args.gate c.in_ok-least.least c.max-seq.result c.args.tables.now v c.args.cache.now least is w c.clear.new.self c.clear.ensures e.later {A = ℕ} c.in-Err.error e.fails above call ends
+    not_lost_to c.args.gate c.least_file-least.result c.max-seq.result c.args.tables.now v c.args.cache.now least is w c.clear.new.self c.clear.ensures e.later {A = ℕ} c.in-Err.error e.fails above call ends

@@ -6,10 +6,12 @@ use Rattle.raft_log_purge.proofs.expired.pick_groups.Goals as goal
 
 pub returns : goal.returns
 returns c =
-    let lists = c.in_ok-asked.ensures in record {
+    let seen = c.in_ok-picked.ensures in
+    let lists = seen.picks in record {
       answered = lists.answered;
       rewritten = lists.rewritten;
       rounds = λ g.
           c.in_ok-next.ensures g
           ∙ ap (λ (b : Bool). round_behind b (count_of c.args.rounds.now g)) (ap (λ (l : List ℕ). list_any (λ k. k == g) l) c.as_slice.ensures.value ∙ lists.asked.exact g);
+      owed = seen.owed;
     }

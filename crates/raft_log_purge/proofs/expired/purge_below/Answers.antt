@@ -1,5 +1,4 @@
 use Rattle.std.proofs.Common.{◌≡◌, ◌<◌, ◌∙◌, ℕ, ap, ap₂, subst, arith}
-use Rattle.std.proofs.lemmas.Result.{err_from_is_err_and}
 use Rattle.raft_log_record_base.specs.declared.pipe_log.FileId.{FileId}
 use Rattle.raft_log_record_base.specs.declared.pipe_log.LogQueue.{LogQueue}
 use Rattle.raft_log_record_base.specs.declared.pipe_log.LogQueue.TheVariants.{Append}
@@ -7,29 +6,23 @@ use Rattle.raft_log_directory_laws.specs.Calls.Which.{InAppend}
 use Rattle.raft_log_file_pair.specs.Pipes.{which_of}
 use Rattle.raft_log_file_pair.specs.Calls.{FailsToPurgeQueue, PurgesQueue}
 use Rattle.raft_log_file_pair.specs.Numbers.{EndsNumbersBelow}
-use Rattle.raft_log_purge_parts.specs.raft_log_engine_laws.specs.Shows.{shows}
 use Rattle.raft_log_purge_rules.specs.Watermarks.{first_at}
 use Rattle.raft_log_file_pair.specs.LastFile.{last_of}
-use Rattle.raft_log_purge_parts.specs.Files.{IsLeastOf}
+use Rattle.raft_log_table_all.specs.Walking.{IsLeastOf}
 use Rattle.raft_log_purge.specs.Append.{up_to}
-use Rattle.raft_log_purge.proofs.Picked.{lost_below, none_below, none_gone, not_lost_below}
+use Rattle.raft_log_purge.proofs.Picked.{lost_below, none_below, not_lost_below}
 use Rattle.raft_log_purge.proofs.expired.purge_below.Goals as goal
 
 abbrev file_of : LogQueue → ℕ → FileId
 file_of q n = record { queue = q; seq = n }
-
-pub returns-in_err-least-clause-err : goal.returns-in_err-least-clause-err
-returns-in_err-least-clause-err g c =
-    let p = err_from_is_err_and c.from_residual.result c.from_residual.ensures.1 in
-    rw p.1 (none_gone p.0 (shows (g.P.PipeLog.shown c.args.pipes.now) c.args.tables.now c.args.cache.now) p.2)
 
 pub returns-then-least-first-clause-ok : goal.returns-then-least-first-clause-ok
 returns-then-least-first-clause-ok g c =
     let v = g.P.PipeLog.shown c.args.pipes.now in
     let ends = c.file_span-first.ensures in
     let limit : c.up_to.result ≡ up_to c.args.held (last_of InAppend v) = c.up_to.ensures ∙ ap (up_to c.args.held) ends.last in
-    let least = subst (λ (n : ℕ). IsLeastOf Append n c.args.tables.now c.in_ok-least.least) limit c.in_ok-least.ensures in
-    none_below c.args.held c.in_ok-least.least c.args.tables.now v c.args.cache.now least (omega (arith, ends.first, c.if-least-first.true))
+    let least = subst (λ (n : ℕ). IsLeastOf Append n c.args.tables.now c.least_and_standing-least.result.0) limit c.least_and_standing-least.ensures.least in
+    none_below c.args.held c.least_and_standing-least.result.0 c.args.tables.now v c.args.cache.now least (omega (arith, ends.first, c.if-least-first.true))
 
 pub returns-in-Ok-clause-ok : goal.returns-in-Ok-clause-ok
 returns-in-Ok-clause-ok g c =
@@ -38,11 +31,11 @@ returns-in-Ok-clause-ok g c =
     let e = c.in-Ok.ensures in
     let ends = c.file_span-first.ensures in
     let limit : c.up_to.result ≡ up_to c.args.held (last_of InAppend v) = c.up_to.ensures ∙ ap (up_to c.args.held) ends.last in
-    let least = subst (λ (n : ℕ). IsLeastOf Append n c.args.tables.now c.in_ok-least.least) limit c.in_ok-least.ensures in
-    let named : ◌≡◌ {A = FileId} c.new.result (record { queue = Append; seq = c.in_ok-least.least }) = ap₂ file_of c.new.ensures.queue c.new.ensures.seq in
+    let least = subst (λ (n : ℕ). IsLeastOf Append n c.args.tables.now c.least_and_standing-least.result.0) limit c.least_and_standing-least.ensures.least in
+    let named : ◌≡◌ {A = FileId} c.new.result (record { queue = Append; seq = c.least_and_standing-least.result.0 }) = ap₂ file_of c.new.ensures.queue c.new.ensures.seq in
     let call = subst (λ (f : FileId). PurgesQueue (which_of f.queue) f.seq v w) named e.ok in
-    let low : first_at InAppend v < c.in_ok-least.least = omega (arith, ends.first, c.if-least-first.false) in
-    lost_below c.args.held c.in_ok-least.least c.args.tables.now v c.args.cache.now least w c.clear.new.self c.clear.ensures e.later c.in-Ok.field-0 e.fails low call
+    let low : first_at InAppend v < c.least_and_standing-least.result.0 = omega (arith, ends.first, c.if-least-first.false) in
+    lost_below c.args.held c.least_and_standing-least.result.0 c.args.tables.now v c.args.cache.now least w c.clear.new.self c.clear.ensures e.later c.in-Ok.field-0 e.fails low call
 
 pub returns-in-Err-clause-err : goal.returns-in-Err-clause-err
 returns-in-Err-clause-err g c =
@@ -51,9 +44,9 @@ returns-in-Err-clause-err g c =
     let e = c.in-Err.ensures in
     let span = c.file_span-first.ensures in
     let limit : c.up_to.result ≡ up_to c.args.held (last_of InAppend v) = c.up_to.ensures ∙ ap (up_to c.args.held) span.last in
-    let least = subst (λ (n : ℕ). IsLeastOf Append n c.args.tables.now c.in_ok-least.least) limit c.in_ok-least.ensures in
-    let named : ◌≡◌ {A = FileId} c.new.result (record { queue = Append; seq = c.in_ok-least.least }) = ap₂ file_of c.new.ensures.queue c.new.ensures.seq in
+    let least = subst (λ (n : ℕ). IsLeastOf Append n c.args.tables.now c.least_and_standing-least.result.0) limit c.least_and_standing-least.ensures.least in
+    let named : ◌≡◌ {A = FileId} c.new.result (record { queue = Append; seq = c.least_and_standing-least.result.0 }) = ap₂ file_of c.new.ensures.queue c.new.ensures.seq in
     let call = subst (λ (f : FileId). FailsToPurgeQueue (which_of f.queue) f.seq c.in-Err.error v w) named e.err in
     let ends = subst (λ (f : FileId). EndsNumbersBelow (which_of f.queue) c.in-Err.error v) named e.range in
-    let above : first_at InAppend v < c.in_ok-least.least = omega (arith, span.first, c.if-least-first.false) in
-    not_lost_below c.args.held c.in_ok-least.least c.args.tables.now v c.args.cache.now least w c.clear.new.self c.clear.ensures e.later {A = ℕ} c.in-Err.error e.fails above call ends
+    let above : first_at InAppend v < c.least_and_standing-least.result.0 = omega (arith, span.first, c.if-least-first.false) in
+    not_lost_below c.args.held c.least_and_standing-least.result.0 c.args.tables.now v c.args.cache.now least w c.clear.new.self c.clear.ensures e.later {A = ℕ} c.in-Err.error e.fails above call ends

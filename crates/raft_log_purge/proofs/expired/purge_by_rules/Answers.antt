@@ -1,6 +1,7 @@
-use Rattle.std.proofs.Common.{◌≡◌, ℕ, List, subst}
+use Rattle.std.proofs.Common.{◌≡◌, ℕ, List, subst, sym}
 use Rattle.std.proofs.lemmas.Result.{err_from_is_err_and}
 use Rattle.raft_log_purge_parts.specs.raft_log_engine_laws.specs.Shows.{shows}
+use Rattle.raft_log_table_all.specs.Owing.{AreOwed}
 use Rattle.raft_log_purge_rules.specs.declared.watermarks.Watermarks.{Watermarks}
 use Rattle.raft_log_purge_rules.specs.Watermarks.{watermarks_of}
 use Rattle.raft_log_purge_rules.specs.Picking.{count_of, rewrites_at}
@@ -14,10 +15,13 @@ returns-in_err-picked-clause-err g c =
     let p = err_from_is_err_and c.from_residual.result c.from_residual.ensures.1 in
     rw p.1 (nothing_purged p.0 (shows (g.P.PipeLog.shown c.args.pipes.now) c.args.tables.now c.args.cache.now) p.2)
 
-pub returns-in_err-rewrite_picked-clause-err : goal.returns-in_err-rewrite_picked-clause-err
-returns-in_err-rewrite_picked-clause-err g c =
-    let p = err_from_is_err_and c.from_residual-in_err-rewrite_picked.result c.from_residual-in_err-rewrite_picked.ensures.1 in
-    rw (p.1, p.2) c.in_err-rewrite_picked.ensures.err
+pub returns-in_err-standing-clause-err : goal.returns-in_err-standing-clause-err
+returns-in_err-standing-clause-err g c =
+    let p = err_from_is_err_and c.from_residual-in_err-standing.result c.from_residual-in_err-standing.ensures.1 in
+    rw (p.1, p.2) c.in_err-standing.ensures.err
+
+pub rewrite_picked-requires : goal.rewrite_picked-requires
+rewrite_picked-requires g c = subst (AreOwed c.args.tables.now) (sym c.as_slice-2.ensures.value) c.in_ok-picked.ensures.owed
 
 pub returns-clause-ok : goal.returns-clause-ok
 returns-clause-ok g c =
@@ -29,7 +33,7 @@ returns-clause-ok g c =
     let picked = c.in_ok-picked.picked in
     let is : c.append_watermarks-watermarks.result ≡ watermarks_of v = c.append_watermarks-watermarks.ensures in
     let picks = subst (λ (w : Watermarks). PicksGroups w c.args.restated m c.args.rounds.now picked) is c.in_ok-picked.ensures in
-    let listed = subst (λ (l : List ℕ). RewritesPicked (among l) c.append_watermarks-watermarks.result.rewrite c.args.held after s t) c.as_slice.ensures.value c.in_ok-rewrite_picked.ensures.ok in
+    let listed = subst (λ (l : List ℕ). RewritesPicked (among l) c.append_watermarks-watermarks.result.rewrite c.args.held after s t) c.as_slice.ensures.value c.in_ok-standing.ensures.ok in
     let done = subst (λ (w : Watermarks). RewritesPicked (among picked.rewritten.items) w.rewrite c.args.held after s t) is listed in
     record {
       answered = picks.answered;

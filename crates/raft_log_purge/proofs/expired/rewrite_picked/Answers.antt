@@ -4,34 +4,34 @@ use Rattle.raft_log_purge_parts.proofs.Grouping.{among}
 use Rattle.raft_log_purge.proofs.Picked.{marks_refused, not_rewritten, whole_picked, whole_unpicked}
 use Rattle.raft_log_purge.proofs.expired.rewrite_picked.Goals as goal
 
-pub returns-in_err-rewrite_marks-clause-err : goal.returns-in_err-rewrite_marks-clause-err
-returns-in_err-rewrite_marks-clause-err g c =
+pub returns-in_err-carry_marks-clause-err : goal.returns-in_err-carry_marks-clause-err
+returns-in_err-carry_marks-clause-err g c =
     let s = shows (g.P.PipeLog.shown c.args.pipes.now) c.args.tables.now c.args.cache.now in
-    let t = shows (g.P.PipeLog.shown c.rewrite_marks.new.pipes) c.rewrite_marks.new.tables c.args.cache.now in
+    let t = shows (g.P.PipeLog.shown c.carry_marks.new.pipes) c.carry_marks.new.tables c.args.cache.now in
     let p = err_from_is_err_and c.from_residual.result c.from_residual.ensures.1 in
-    rw (p.1, p.2) (marks_refused c.in_err-rewrite_marks.field-0.0 s t (c.in_err-rewrite_marks.ensures.err c.args.cache.now))
+    rw (p.1, p.2) (marks_refused c.in_err-carry_marks.field-0.0 s t (c.in_err-carry_marks.ensures.err c.args.cache.now))
 
 pub returns-in_err-rewrite_synced-clause-err : goal.returns-in_err-rewrite_synced-clause-err
 returns-in_err-rewrite_synced-clause-err g c =
     let s = shows (g.P.PipeLog.shown c.args.pipes.now) c.args.tables.now c.args.cache.now in
-    let carried = shows (g.P.PipeLog.shown c.rewrite_marks.new.pipes) c.rewrite_marks.new.tables c.args.cache.now in
+    let carried = shows (g.P.PipeLog.shown c.carry_marks.new.pipes) c.carry_marks.new.tables c.args.cache.now in
     let t = shows (g.P.PipeLog.shown c.rewrite_synced.new.pipes) c.rewrite_synced.new.tables c.rewrite_synced.new.cache in
     let p = err_from_is_err_and c.from_residual-in_err-rewrite_synced.result c.from_residual-in_err-rewrite_synced.ensures.1 in
     rw (p.1, p.2)
-    (not_rewritten s carried (c.in_ok-rewrite_marks.ensures.ok c.args.cache.now) (among c.args.groups.now) c.args.gate c.in_err-rewrite_synced.field-0.0 t c.in_err-rewrite_synced.ensures.err)
+    (not_rewritten s carried (c.in_ok-carry_marks.ensures.ok c.args.cache.now) (among c.args.groups.now) c.args.gate c.in_err-rewrite_synced.field-0.0 t c.in_err-rewrite_synced.ensures.err)
 
 pub returns-clause-ok : goal.returns-clause-ok
 returns-clause-ok g c =
     let s = shows (g.P.PipeLog.shown c.args.pipes.now) c.args.tables.now c.args.cache.now in
-    let carried = shows (g.P.PipeLog.shown c.rewrite_marks.new.pipes) c.rewrite_marks.new.tables c.args.cache.now in
+    let carried = shows (g.P.PipeLog.shown c.carry_marks.new.pipes) c.carry_marks.new.tables c.args.cache.now in
     let copied = shows (g.P.PipeLog.shown c.rewrite_synced.new.pipes) c.rewrite_synced.new.tables c.rewrite_synced.new.cache in
     let t = shows (g.P.PipeLog.shown c.purge_below.new.pipes) c.rewrite_synced.new.tables c.purge_below.new.cache in
-    whole_picked s carried (c.in_ok-rewrite_marks.ensures.ok c.args.cache.now) (among c.args.groups.now) c.args.gate copied c.in_ok-rewrite_synced.ensures.ok c.args.held c.rewrite_synced.new.tables t c.purge_below.result c.purge_below.ensures.ok
+    whole_picked s carried (c.in_ok-carry_marks.ensures.ok c.args.cache.now) (among c.args.groups.now) c.args.gate copied c.in_ok-rewrite_synced.ensures.ok c.args.held c.rewrite_synced.new.tables t c.purge_below.result c.purge_below.ensures.ok
 
 pub returns-clause-err : goal.returns-clause-err
 returns-clause-err g c =
     let s = shows (g.P.PipeLog.shown c.args.pipes.now) c.args.tables.now c.args.cache.now in
-    let carried = shows (g.P.PipeLog.shown c.rewrite_marks.new.pipes) c.rewrite_marks.new.tables c.args.cache.now in
+    let carried = shows (g.P.PipeLog.shown c.carry_marks.new.pipes) c.carry_marks.new.tables c.args.cache.now in
     let copied = shows (g.P.PipeLog.shown c.rewrite_synced.new.pipes) c.rewrite_synced.new.tables c.rewrite_synced.new.cache in
     let t = shows (g.P.PipeLog.shown c.purge_below.new.pipes) c.rewrite_synced.new.tables c.purge_below.new.cache in
-    whole_unpicked s carried (c.in_ok-rewrite_marks.ensures.ok c.args.cache.now) (among c.args.groups.now) c.args.gate copied c.in_ok-rewrite_synced.ensures.ok t c.purge_below.result c.purge_below.ensures.err
+    whole_unpicked s carried (c.in_ok-carry_marks.ensures.ok c.args.cache.now) (among c.args.groups.now) c.args.gate copied c.in_ok-rewrite_synced.ensures.ok t c.purge_below.result c.purge_below.ensures.err

@@ -1,5 +1,5 @@
-use Rattle.std.proofs.Common.{refl}
-use Rattle.std.proofs.lemmas.Result.{err_from_is_err_and}
+use Rattle.std.proofs.Common.{inl, inr, refl}
+use Rattle.std.proofs.lemmas.Result.{err_from_is_err_and, on_err_weaker}
 use Rattle.raft_log_record_base.specs.declared.pipe_log.LogQueue.TheVariants.{Append}
 use Rattle.raft_log_file_pair.specs.HoldingBack.{PipesHoldBack}
 use Rattle.raft_log_purge_parts.specs.raft_log_engine_laws.specs.Shows.{shows}
@@ -34,7 +34,7 @@ returns-clause-ok g c =
     let after = c.purge_append.new.tables in
     let t = shows (g.P.PipeLog.shown c.purge_append.new.pipes) after c.purge_append.new.cache in
     whole_purged s synced e.ok e.later (alive_ok c.in_ok-sync.field-0 synced e.fails) c.args.thresholds.now c.args.counts.now.stats c.purge_rewrite.new.stats c.args.tables.now between c.in_ok-restated.restated v c.purge_rewrite.new.cache c.in_ok-restated.ensures.ok
-    c.purge_append.result (λ groups. groups.items) (PipesHoldBack g.P.PipeLog.shown g.P.PipeLog.holds_back Append) c.first_file_not_ready_for_purge-held.result (c.purge_rewrite.new.pipes, refl, c.first_file_not_ready_for_purge-held.ensures) after c.args.counts.now (record { rounds = c.purge_append.new.rounds; stats = c.purge_rewrite.new.stats; number = c.purge_rewrite.new.number }) t refl refl c.purge_append.ensures.ok
+    c.purge_append.result (λ purged. purged.answered.items) (PipesHoldBack g.P.PipeLog.shown g.P.PipeLog.holds_back Append) c.first_file_not_ready_for_purge-held.result (c.purge_rewrite.new.pipes, refl, c.first_file_not_ready_for_purge-held.ensures) after c.args.counts.now (record { rounds = c.purge_append.new.rounds; stats = c.purge_rewrite.new.stats; number = c.purge_rewrite.new.number }) t refl refl c.purge_append.ensures.ok
 
 pub returns-clause-err : goal.returns-clause-err
 returns-clause-err g c =
@@ -46,3 +46,28 @@ returns-clause-err g c =
     let t = shows (g.P.PipeLog.shown c.purge_append.new.pipes) c.purge_append.new.tables c.purge_append.new.cache in
     whole_unpurged s synced e.ok e.later (alive_ok c.in_ok-sync.field-0 synced e.fails) c.args.thresholds.now c.args.counts.now.stats c.purge_rewrite.new.stats c.args.tables.now between c.in_ok-restated.restated v c.purge_rewrite.new.cache c.in_ok-restated.ensures.ok
     t c.purge_append.result c.purge_append.ensures.err
+
+pub returns-in_err-sync-clause-kept : goal.returns-in_err-sync-clause-kept
+returns-in_err-sync-clause-kept g c =
+    let p = err_from_is_err_and c.from_residual.result c.from_residual.ensures.1 in
+    rw p.1 (record { rounds = refl; stats = inl (inl (refl, refl)) })
+
+pub returns-in_err-restated-clause-kept : goal.returns-in_err-restated-clause-kept
+returns-in_err-restated-clause-kept g c =
+    let p = err_from_is_err_and c.from_residual-in_err-restated.result c.from_residual-in_err-restated.ensures.1 in
+    rw p.1 (record { rounds = refl; stats = inl (inr (g.P.PipeLog.shown c.sync.new.self, c.in_ok-sync.ensures.ok, c.in_err-restated.ensures.kept)) })
+
+pub returns-clause-kept : goal.returns-clause-kept
+returns-clause-kept g c =
+    on_err_weaker c.purge_append.result (λ uncounted. record {
+      rounds = uncounted;
+      stats = inr (record {
+        synced = g.P.PipeLog.shown c.sync.new.self;
+        syncs = c.in_ok-sync.ensures.ok;
+        restated = c.in_ok-restated.restated;
+        between = c.purge_rewrite.new.tables;
+        pipes = g.P.PipeLog.shown c.purge_rewrite.new.pipes;
+        cache = c.purge_rewrite.new.cache;
+        rewrites = c.in_ok-restated.ensures.ok;
+      });
+    }) c.purge_append.ensures.uncounted

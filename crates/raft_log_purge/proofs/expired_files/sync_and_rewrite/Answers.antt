@@ -1,4 +1,5 @@
-use Rattle.std.proofs.lemmas.Result.{err_from_is_err_and}
+use Rattle.std.proofs.Common.{inl, inr, refl}
+use Rattle.std.proofs.lemmas.Result.{err_from_is_err_and, on_err_weaker}
 use Rattle.raft_log_purge_parts.specs.raft_log_engine_laws.specs.Shows.{shows}
 use Rattle.raft_log_purge_parts.proofs.PartExits.{alive_ok}
 use Rattle.raft_log_purge.proofs.Expiring.{whole_restated, whole_unrestated}
@@ -27,3 +28,12 @@ returns-clause-err g c =
     let synced = g.P.PipeLog.shown c.sync.new.self in
     let t = shows (g.P.PipeLog.shown c.rewrite_rewrite_queue.new.pipes) c.rewrite_rewrite_queue.new.tables c.rewrite_rewrite_queue.new.cache in
     whole_unrestated s synced e.ok e.later (alive_ok c.in_ok-sync.field-0 synced e.fails) t c.rewrite_rewrite_queue.result c.rewrite_rewrite_queue.ensures.err
+
+pub returns-in_err-sync-clause-kept : goal.returns-in_err-sync-clause-kept
+returns-in_err-sync-clause-kept g c =
+    let p = err_from_is_err_and c.from_residual.result c.from_residual.ensures.1 in
+    rw p.1 (inl (refl, refl))
+
+pub returns-clause-kept : goal.returns-clause-kept
+returns-clause-kept g c =
+    on_err_weaker c.rewrite_rewrite_queue.result (λ kept. inr (g.P.PipeLog.shown c.sync.new.self, c.in_ok-sync.ensures.ok, kept)) c.rewrite_rewrite_queue.ensures.kept

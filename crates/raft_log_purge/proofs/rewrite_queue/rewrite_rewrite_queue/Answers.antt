@@ -1,25 +1,53 @@
-use Rattle.std.proofs.Common.{refl}
+use Rattle.std.proofs.Common.{ℕ, List, inl, inr, refl, sym, subst}
 use Rattle.std.proofs.lemmas.Result.{err_from_is_err_and}
+use Rattle.raft_log_table_all.specs.Tables.{has_table, shown_of}
+use Rattle.raft_log_table_all.specs.Walking.{ListsGroups}
+use Rattle.raft_log_purge_parts.specs.Restated.{last_file}
 use Rattle.raft_log_purge_parts.specs.raft_log_engine_laws.specs.Shows.{shows}
 use Rattle.raft_log_purge_parts.proofs.PartExits.{alive_ok}
-use Rattle.raft_log_purge.proofs.Turning.{not_lost, not_restated, not_turned, rewritten}
+use Rattle.raft_log_purge.specs.Garbage.{CountsGarbage}
+use Rattle.raft_log_purge.proofs.Turning.{none_restated_yet, not_lost, not_restated, not_turned, rewritten}
 use Rattle.raft_log_purge.proofs.rewrite_queue.rewrite_rewrite_queue.Goals as goal
+
+pub returns-in_err-groups-clause-err : goal.returns-in_err-groups-clause-err
+returns-in_err-groups-clause-err g c =
+    let p = err_from_is_err_and c.from_residual.result c.from_residual.ensures.1 in
+    rw p.1 (none_restated_yet p.0 (shows (g.P.PipeLog.shown c.args.pipes.now) c.args.tables.now c.args.cache.now) p.2)
+
+pub returns-in_err-groups-clause-kept : goal.returns-in_err-groups-clause-kept
+returns-in_err-groups-clause-kept g c =
+    let p = err_from_is_err_and c.from_residual.result c.from_residual.ensures.1 in
+    rw p.1 (inl (refl, refl))
 
 pub returns-in_err-rotate-clause-err : goal.returns-in_err-rotate-clause-err
 returns-in_err-rotate-clause-err g c =
     let e = c.in_err-rotate.ensures in
     let s = shows (g.P.PipeLog.shown c.args.pipes.now) c.args.tables.now c.args.cache.now in
-    let p = err_from_is_err_and c.from_residual.result c.from_residual.ensures.1 in
+    let p = err_from_is_err_and c.from_residual-in_err-rotate.result c.from_residual-in_err-rotate.ensures.1 in
     rw (p.1, p.2) (not_turned c.in_err-rotate.field-0.0 s (g.P.PipeLog.shown c.rotate.new.self) e.fails e.later e.err e.range)
 
-pub returns-in_err-restate_all-clause-err : goal.returns-in_err-restate_all-clause-err
-returns-in_err-restate_all-clause-err g c =
+pub returns-in_err-rotate-clause-kept : goal.returns-in_err-rotate-clause-kept
+returns-in_err-rotate-clause-kept g c =
+    let p = err_from_is_err_and c.from_residual-in_err-rotate.result c.from_residual-in_err-rotate.ensures.1 in
+    rw p.1 (inl (refl, refl))
+
+pub returns-in-Err-clause-err : goal.returns-in-Err-clause-err
+returns-in-Err-clause-err g c =
     let e = c.in_ok-rotate.ensures in
     let s = shows (g.P.PipeLog.shown c.args.pipes.now) c.args.tables.now c.args.cache.now in
     let turned = g.P.PipeLog.shown c.rotate.new.self in
     let t = shows (g.P.PipeLog.shown c.restate_all.new.pipes) c.restate_all.new.tables c.restate_all.new.cache in
-    let p = err_from_is_err_and c.from_residual-in_err-restate_all.result c.from_residual-in_err-restate_all.ensures.1 in
-    rw (p.1, p.2) (not_restated s turned e.ok e.later (alive_ok c.in_ok-rotate.field-0 turned e.fails) c.in_err-restate_all.field-0.0 t c.in_err-restate_all.ensures.err)
+    not_restated s turned e.ok e.later (alive_ok c.in_ok-rotate.field-0 turned e.fails) c.in-Err.error t c.in-Err.ensures.err
+
+-- what was restated stands past the former last file
+pub returns-in-Err-clause-kept : goal.returns-in-Err-clause-kept
+returns-in-Err-clause-kept g c =
+    let s = shows (g.P.PipeLog.shown c.args.pipes.now) c.args.tables.now c.args.cache.now in
+    let v = shown_of c.restate_all.new.tables in
+    let known = c.as_slice-known.result.now in
+    let counted = subst (λ (n : ℕ). CountsGarbage n v known c.args.stats.now c.count_restated.new.stats) c.file_span-begin.ensures.last c.count_restated.ensures in
+    let all = subst (λ (l : List ℕ). CountsGarbage (last_file s) v l c.args.stats.now c.count_restated.new.stats) c.as_slice-known.ensures.value counted in
+    inr (inl (c.in_ok-groups.groups.items, c.in_ok-groups.ensures, all))
 
 pub returns-in_err-purge_stale-clause-err : goal.returns-in_err-purge_stale-clause-err
 returns-in_err-purge_stale-clause-err g c =
@@ -31,7 +59,20 @@ returns-in_err-purge_stale-clause-err g c =
     let t = shows (g.P.PipeLog.shown c.purge_stale.new.pipes) m c.purge_stale.new.cache in
     let p = err_from_is_err_and c.from_residual-in_err-purge_stale.result c.from_residual-in_err-purge_stale.ensures.1 in
     rw (p.1, p.2)
-    (not_lost s turned e.ok e.later (alive_ok c.in_ok-rotate.field-0 turned e.fails) restated c.in_ok-restate_all.ensures.ok _ c.in_err-purge_stale.field-0.0 t c.file_span-first.ensures.last refl c.in_err-purge_stale.ensures.err)
+    (not_lost s turned e.ok e.later (alive_ok c.in_ok-rotate.field-0 turned e.fails) restated c.in_default.ensures.ok _ c.in_err-purge_stale.field-0.0 t c.file_span-first.ensures.last refl c.in_err-purge_stale.ensures.err)
+
+pub returns-in_err-purge_stale-clause-kept : goal.returns-in_err-purge_stale-clause-kept
+returns-in_err-purge_stale-clause-kept g c =
+    let m = c.restate_all.new.tables in
+    let p = err_from_is_err_and c.from_residual-in_err-purge_stale.result c.from_residual-in_err-purge_stale.ensures.1 in
+    rw p.1 (inr (inr (record {
+      turned = g.P.PipeLog.shown c.rotate.new.self;
+      turns = c.in_ok-rotate.ensures.ok;
+      restated = shows (g.P.PipeLog.shown c.restate_all.new.pipes) m c.restate_all.new.cache;
+      restates = c.in_default.ensures.ok;
+      tables = refl;
+      stats = c.reset_rewrite_counters.ensures;
+    })))
 
 pub returns-clause-ok : goal.returns-clause-ok
 returns-clause-ok g c =
@@ -41,4 +82,7 @@ returns-clause-ok g c =
     let m = c.restate_all.new.tables in
     let restated = shows (g.P.PipeLog.shown c.restate_all.new.pipes) m c.restate_all.new.cache in
     let t = shows (g.P.PipeLog.shown c.purge_stale.new.pipes) m c.purge_stale.new.cache in
-    rewritten s turned e.ok e.later (alive_ok c.in_ok-rotate.field-0 turned e.fails) restated c.in_ok-restate_all.ensures.ok m c.in_ok-purge_stale.field-0 _ t refl c.file_span-first.ensures.last refl refl c.in_ok-purge_stale.ensures.ok
+    rewritten s turned e.ok e.later (alive_ok c.in_ok-rotate.field-0 turned e.fails) restated c.in_default.ensures.ok m c.in_ok-purge_stale.field-0 _ t refl c.file_span-first.ensures.last refl refl c.in_ok-purge_stale.ensures.ok
+
+pub restate_all-requires : goal.restate_all-requires
+restate_all-requires g c = subst (ListsGroups (has_table c.args.tables.now)) (sym c.as_slice-known.ensures.value) c.in_ok-groups.ensures

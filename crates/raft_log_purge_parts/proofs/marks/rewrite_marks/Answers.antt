@@ -1,22 +1,17 @@
+use Rattle.std.proofs.Common.{subst, sym}
 use Rattle.std.proofs.lemmas.Result.{err_from_is_err_and}
-use Rattle.raft_log_table_all.proofs.Segments.{unmarked_rests}
-use Rattle.raft_log_purge_parts.proofs.PartExits.{marks_are_carried, marks_are_unsynced}
+use Rattle.raft_log_engine_laws.specs.Shows.{shows}
+use Rattle.raft_log_table_all.specs.Owing.{AreOwed}
+use Rattle.raft_log_purge_parts.proofs.PartExits.{refused_unmade}
+use Rattle.raft_log_purge_parts.proofs.Reasons.{memory_reason, memory_unmade}
 use Rattle.raft_log_purge_parts.proofs.marks.rewrite_marks.Goals as goal
 
-pub returns-in_err-sync-clause-err : goal.returns-in_err-sync-clause-err
-returns-in_err-sync-clause-err g c =
-    let e = c.in_err-sync.ensures in
-    let p = err_from_is_err_and c.from_residual-in_err-sync.result c.from_residual-in_err-sync.ensures.1 in
-    rw (p.1, p.2) (λ cache.
-    marks_are_unsynced c.args.tables.now c.args.tables.now (g.P.PipeLog.shown c.args.pipes.now) (g.P.PipeLog.shown c.write_marks.new.pipes) (g.P.PipeLog.shown c.sync.new.self) c.in_ok-write_marks.ensures.ok e.later
-    {A = Unit {0}} c.in_err-sync.field-0.0 cache e.error e.fails e.err)
+pub returns-in_err-marks-clause-err : goal.returns-in_err-marks-clause-err
+returns-in_err-marks-clause-err g c =
+    let p = err_from_is_err_and c.from_residual.result c.from_residual.ensures.1 in
+    rw p.1 (λ cache.
+    let s = shows (g.P.PipeLog.shown c.args.pipes.now) c.args.tables.now cache in
+    refused_unmade p.0 s (memory_unmade p.0 p.2) (λ home m h. memory_reason home m p.0 s s p.2))
 
-pub returns-clause-ok : goal.returns-clause-ok
-returns-clause-ok g c =
-    let e = c.in_ok-sync.ensures in
-    λ cache.
-    marks_are_carried c.args.tables.now c.clear_marks.new.self (g.P.PipeLog.shown c.args.pipes.now) (g.P.PipeLog.shown c.write_marks.new.pipes) (g.P.PipeLog.shown c.sync.new.self) c.in_ok-write_marks.ensures.ok e.later
-    c.in_ok-sync.field-0 cache e.fails e.ok c.clear_marks.ensures.shows c.clear_marks.ensures.counts
-
-pub returns-clause-rests : goal.returns-clause-rests
-returns-clause-rests g c = unmarked_rests c.args.tables.now c.clear_marks.new.self c.clear_marks.ensures.shows c.clear_marks.ensures.promises
+pub carry_marks-requires : goal.carry_marks-requires
+carry_marks-requires g c = subst (AreOwed c.args.tables.now) (sym c.as_slice.ensures.value) c.in_ok-marks.ensures

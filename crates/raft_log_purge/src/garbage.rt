@@ -1,0 +1,50 @@
+//! What a refused rewrite of Rewrite leaves is counted: of a group that was restated the old copies are garbage.
+
+ghost use Rattle.raft_log_table_all.specs.Tables.{shown_of};
+ghost use Rattle.raft_log_purge.specs.Garbage.{CountsGarbage, CountsPast, StandsPast};
+
+use raft_log_record_base::{FileSeq, LogQueue};
+use raft_log_table_all::MemTables;
+use raft_log_table_one::GlobalStats;
+
+/// Counts what stands of these groups past a file of Rewrite as written there again: as much is garbage.
+pub(crate) fn count_restated(
+    stats: &mut GlobalStats,
+    tables: &MemTables,
+    groups: &[u64],
+    file: FileSeq,
+)
+    ensures { CountsGarbage file (shown_of tables.now) groups.now stats.old stats.new }
+{
+    let count = count_past(tables, groups, file);
+    stats.add(LogQueue::Rewrite, count);
+    stats.delete(LogQueue::Rewrite, count);
+}
+
+/// How many entries and values stand in Rewrite of these groups as `standing_past` counts them, at most 2^64 - 1.
+fn count_past(tables: &MemTables, groups: &[u64], file: FileSeq) -> u64
+    ensures { CountsPast file (shown_of tables.now) groups.now result }
+{
+    let mut count: u64 = 0;
+    for group in groups {
+        count = count.saturating_add(standing_past(tables, *group, file));
+    }
+    count
+}
+
+/// How many entries and values of a group stand in Rewrite, if all of them lie past this file there; else 0.
+fn standing_past(tables: &MemTables, group: u64, file: FileSeq) -> u64
+    ensures { StandsPast file (shown_of tables.now group) result }
+{
+    let Some(table) = tables.known_table(group) else {
+        return 0;
+    };
+    let Some(least) = table.min_file_seq(LogQueue::Rewrite) else {
+        return 0;
+    };
+    if least > file {
+        table.standing_count()
+    } else {
+        0
+    }
+}

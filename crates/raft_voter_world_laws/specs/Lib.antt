@@ -1,4 +1,5 @@
 pub mod Independent
+pub mod Alike
 pub mod Causes
 pub mod Readers
 pub mod Examples

@@ -1,0 +1,4 @@
+//! Stores of voters tell what voters in memory tell: a law over both.
+#![tactic(auto)]
+
+pub mod plain;

@@ -170,9 +170,12 @@ fn main() -> Result<()> {
     let start = Instant::now();
     let tables = recover(&mut files)?;
     report("open-engine", OPENED_ENTRIES, start, tables.len() as u64);
+    drop(tables);
     let start = Instant::now();
     let tables = recover(&mut files)?;
+    let recovered = Instant::now();
     let outlines = read_outlines(&files, &tables)?;
     report("open-store", OPENED_ENTRIES, start, outlines.values().map(Outline::last_index).sum());
+    report("outlines", OPENED_GROUPS, recovered, outlines.len() as u64);
     Ok(())
 }

@@ -50,6 +50,15 @@ end-unrolled (r ∷ rs) b h =
     ∙ ap (λ n. n + length (unrolled r.last rs)) (length-replicate (r.last - b) (r.term, [])) in
     omega (arith, ltb-true b r.last parts.0, end-unrolled rs r.last parts.1, size)
 
+-- each run has an entry, so where there is no entry there is no run
+pub none_unrolled : (rs : List Run) (b : ℕ) → are_runs b rs ≡ true → unrolled b rs ≡ [] → length rs ≡ 0
+none_unrolled [] b h e = refl
+none_unrolled (r ∷ rs) b h e =
+    let parts = and_parts (nat_lt b r.last) (are_runs r.last rs) h in
+    let none : length (unrolled b (r ∷ rs)) ≡ 0 = ap length e in
+    let whole : b + length (unrolled b (r ∷ rs)) ≡ end_of r.last rs = end-unrolled (r ∷ rs) b h in
+    absurd (omega (arith, none, whole, ltb-true b r.last parts.0, end_above rs r.last parts.1))
+
 pub unrolled-append : (xs ys : List Run) (b : ℕ) → unrolled b (xs ++ ys) ≡ unrolled b xs ++ unrolled (end_of b xs) ys
 unrolled-append [] ys b = refl
 unrolled-append (x ∷ xs) ys b =

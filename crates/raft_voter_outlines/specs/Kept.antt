@@ -1,10 +1,7 @@
 -- The outlines of the voters of many groups.
-use Rattle.std.specs.Prelude.{◌≡◌, ℕ, Option, None, Some}
+use Rattle.std.specs.Prelude.{ℕ, Option, None, Some}
 use Rattle.std.specs.BTreeMap.{get}
 use Rattle.std.specs.Ordering.{nat_cmp}
-use Rattle.raft_voter_messages.specs.declared.request.Request.{Request}
-use Rattle.raft_voter_outline.specs.declared.outline.decision.Change.{Change}
-use Rattle.raft_voter_outline.specs.Decisions.{HasRunRoom}
 use Rattle.raft_voter_outline.specs.Outlines.{Outlined}
 use Rattle.raft_voter_outline.specs.State.{State, fresh}
 use Rattle.raft_voter_outlines.specs.declared.outlines.Outlines.{Outlines}
@@ -21,12 +18,3 @@ kept_or_fresh (Some o) = o.voter
 -- the outline of each group
 abbrev pub outlines_in : Outlines → ℕ → State
 outlines_in outlines = λ g. kept_or_fresh (kept_of outlines g)
-
--- what is kept has room for a change
-abbrev pub KeepsRoom : Option Outlined → Change → Request → Type 0
-KeepsRoom None c q = ⊥
-KeepsRoom (Some o) c q = HasRunRoom c.write q o.room
-
--- a group's outline is kept, with room for a change
-abbrev pub HasRoom : Outlines → ℕ → Change → Request → Type 0
-HasRoom outlines g c q = KeepsRoom (kept_of outlines g) c q

@@ -1,8 +1,9 @@
 //! Outlines by their groups.
-ghost use Rattle.std.specs.Prelude.{◌≡◌, ◌==◌, ℕ, false, MatchOption, None, OnErr, OnOk, Some};
+ghost use Rattle.std.specs.Prelude.{◌≡◌, ◌==◌, ℕ, false, IfOk, MatchOption, None, OnErr, OnOk, Some};
+ghost use Rattle.std.specs.Borrow.{sem};
 ghost use Rattle.raft_voter_outline.specs.Outlines.{Decides, without_bytes};
 
-use raft_voter_outline::{Change, Decision, Memory, Outline, Request};
+use raft_voter_outline::{Decision, Memory, Outline, Request};
 use std::alloc::Global;
 use std::collections::BTreeMap;
 
@@ -14,10 +15,10 @@ pub struct Outlines {
 }
 
 impl Outlines {
-    ghost use Rattle.raft_voter_outline.specs.Decisions.{OutlineBecomes};
-    ghost use Rattle.raft_voter_outline.specs.Outlines.{ChangesEach};
     ghost use Rattle.raft_voter_outline.specs.State.{fresh};
-    ghost use Rattle.raft_voter_outlines.specs.Kept.{kept_of, outlines_in, HasRoom};
+    ghost use Rattle.raft_voter_outlines.specs.Kept.{kept_of, outlines_in};
+    ghost use Rattle.raft_voter_outlines.specs.Lending.{LendsOutline};
+    ghost use Rattle.raft_voter_outlines.specs.Pairs.{outlines_of};
 
     /// Outlines of fresh voters.
     pub fn new(alloc: Global) -> Outlines
@@ -25,14 +26,6 @@ impl Outlines {
     {
         let kept = BTreeMap::new(alloc);
         Outlines { alloc, kept }
-    }
-
-    /// The outline that is kept of a group's voter.
-    pub fn get(&self, group: u64) -> Option<&Outline>
-        ensures { MatchOption result (kept_of self.now group ≡ None)
-            (λ outline. kept_of self.now group ≡ Some outline.now) }
-    {
-        self.kept.get(&group)
     }
 
     /// Keeps an outline as that of a group's voter. Where memory is refused, the voters are as they were.
@@ -48,6 +41,15 @@ impl Outlines {
         }
     }
 
+    /// Outlines that are listed with their groups; of several with one group the last counts. Their tree is full, which
+    /// one isn't where they are put one by one. While it is made, the pairs take their memory twice.
+    pub fn from_pairs(alloc: Global, pairs: Vec<(u64, Outline)>) -> Result<Outlines, Memory>
+        ensures { IfOk result (λ outlines. (g : ℕ) → outlines_in outlines g ≡ outlines_of pairs.items g) }
+    {
+        let kept = BTreeMap::from_iter(alloc, pairs)?;
+        Ok(Outlines { alloc, kept })
+    }
+
     /// What the outline of a group's voter decides of a request.
     pub fn decide(&self, group: u64, request: &Request) -> Decision
         ensures decides { Decides (outlines_in self.now group) request.now result }
@@ -61,26 +63,13 @@ impl Outlines {
         }
     }
 
-    /// Makes room for a change of a group's voter, so that it can be made. Refused or not, the voters are as
-    /// they were.
-    pub fn reserve(&mut self, group: u64, change: &Change, request: &Request) -> Result<(), Memory>
-        ensures ok { OnOk result (HasRoom self.new group change.now request.now) }
-        ensures same { (g : ℕ) → outlines_in self.new g ≡ outlines_in self.old g }
+    /// The outline that is kept of a group's voter, to be changed: what is left there is that voter's outline.
+    pub fn get_mut(&mut self, group: u64) -> Option<&mut Outline>
+        ensures* lends { sem 𝓛 (LendsOutline self.entry group result) }
+        ensures value { MatchOption result (kept_of self.old group ≡ None)
+            (λ outline. kept_of self.old group ≡ Some outline.now) }
     {
-        let outline = self.kept.entry(group)?.or_insert(Outline::new(self.alloc));
-        outline.reserve(change, request)
-    }
-
-    /// Makes a change that was decided for a request of a group's voter, for which there is room.
-    pub fn apply(&mut self, group: u64, change: &Change, request: &Request)
-        requires decided { ChangesEach (outlines_in self.old group) request.now change.now }
-        requires room { HasRoom self.old group change.now request.now }
-        ensures own { OutlineBecomes (outlines_in self.old group) request.now (outlines_in self.new group) }
-        ensures others { (g : ℕ) → (g == group) ≡ false → outlines_in self.new g ≡ outlines_in self.old g }
-    {
-        if let Some(outline) = self.kept.get_mut(&group) {
-            outline.apply(change, request);
-        }
+        self.kept.get_mut(&group)
     }
 }
 

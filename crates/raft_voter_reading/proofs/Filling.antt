@@ -123,6 +123,13 @@ one_outline s g gs all os us known added is = subst (λ (l : List ℕ). Outlines
           | inr same ↦ fresh_outline s h (os h) (known.others h apart) (subst (λ (k : ℕ). Tells s (λ m. IsVoid (m k))) (sym same) none.1)
         ]
 
+-- of other outlines that are the same group by group
+pub outlines_same : (s : Shows) (gs : List ℕ) (os us : ℕ → State) → OutlinesOf s gs os → ((g : ℕ) → us g ≡ os g) → OutlinesOf s gs us
+outlines_same s gs os us known same = record {
+  read = λ g at. subst (λ (o : State). Tells s (λ m. HasOutline o (m g))) (sym (same g)) (known.read g at);
+  others = λ g at. same g ∙ known.others g at;
+}
+
 pub outlines_read : (s : Shows) (gs all : List ℕ) (os : ℕ → State) → IsBareWhereUncounted s → ListsGroups s.counts gs → all ≡ gs → OutlinesOf s all os → ReadsVoters s os
 outlines_read s gs all os bare listed whole known = λ home m h.
     let each : (g : ℕ) → HasOutline (os g) (m g) = λ g. by_group g (cases_Bool (is_among g all)) home m h in

@@ -58,3 +58,9 @@ placed_on s t g base next end stays placed above some =
     let ends = placed (omega (arith, above, some)) in
     let same : t.tables g ≡ s.tables g = ap (λ (e : Shows). e.tables g) stays.same in
     subst (λ (v : Shown). (v.first ≤ next) × (end ≤ v.first + length v.places)) (sym same) (omega (arith, ends.0, above), ends.1)
+
+-- tables that had entries up to an end have those below an earlier one
+pub placed_below : (v : Shown) (from to end : ℕ) → AreIn v from end → from < to → to ≤ end → AreIn v from to
+placed_below v from to end placed some reach = λ less.
+    let ends = placed (omega (arith, some, reach)) in
+    (ends.0, omega (arith, ends.1, reach))

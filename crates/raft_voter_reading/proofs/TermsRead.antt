@@ -1,5 +1,5 @@
 -- Terms that were read, and what they tell of a group.
-use Rattle.std.proofs.Common.{◌≡◌, ◌∙◌, ℕ, zero, suc, ◌+◌, ◌<◌, ◌≤◌, ◌^◌, List, [], ◌∷◌, ◌++◌, length, map, take, get_or, slice_get, Option, Some, None, refl, sym, ap, subst, inr, arith, add-zero, append_assoc, length-append, length-take}
+use Rattle.std.proofs.Common.{◌≡◌, ◌∙◌, ℕ, zero, suc, ◌+◌, ◌-◌, ◌<◌, ◌≤◌, ◌^◌, List, [], ◌∷◌, ◌++◌, length, map, take, get_or, slice_get, Option, Some, None, refl, sym, ap, subst, inr, arith, add-zero, append-nil, append_assoc, length-append, length-take}
 use Rattle.std.proofs.lemmas.List.{length-map, map-append, take_more}
 use Rattle.raft_log_model_laws.specs.Groups.{taken}
 use Rattle.raft_log_engine_laws.specs.raft_log_table_one.specs.Reads.{AreIn}
@@ -26,7 +26,7 @@ use Rattle.raft_voter_reading.specs.Groups.{ReadsHead}
 use Rattle.raft_voter_reading.specs.Listing.{HasOutline}
 use Rattle.raft_voter_reading.specs.Numbers.{numbers_in, term_told}
 use Rattle.raft_voter_reading.specs.Reading.{IsUnreadFor, Tells}
-use Rattle.raft_voter_reading.specs.Terms.{AreNotTold, AreTold, HasTerm, HasUntold, HaveTerms, KnowsTerms, ReadsTerms, alone}
+use Rattle.raft_voter_reading.specs.Terms.{AddsTerms, AddsTold, AreNotTold, AreTold, HasTerm, HasUntold, HaveTerms, KnowsTerms, ReadsTerms, alone}
 use Rattle.raft_voter_reading.proofs.Holding.{run_is}
 use Rattle.raft_voter_reading.proofs.Numbers.{entry_told, entry_untold}
 use Rattle.raft_voter_reading.proofs.Pieces.{comes, length-read}
@@ -80,7 +80,7 @@ module _ (s t : Shows) (g from to count : ℕ) (max : Option ℕ) (old hs slice 
   heads_are : slice ≡ fetched_from_none.messages
   heads_are = same ∙ fetched_from_none.adds
 
-  pub terms_read : (ts : List ℕ) → IsCounted s → from < to → AreIn (s.tables g) from to → AreTold from slice ts → ReadsTerms s g from to ts
+  terms_read : (ts : List ℕ) → IsCounted s → from < to → AreIn (s.tables g) from to → AreTold from slice ts → ReadsTerms s g from to ts
   terms_read ts counted some inside told =
       let own = subst (λ (l : List EntryHead). AreTold from l ts) heads_are told in
       let count_is : length fetched_from_none.entries ≡ length ts =
@@ -90,6 +90,23 @@ module _ (s t : Shows) (g from to count : ℕ) (max : Option ℕ) (old hs slice 
         have = λ home m h. have_of (taken m []) g from fetched_from_none.messages ts (fetched_from_none.exact home m [] h) own;
         some = fit.0;
         within = omega (arith, fit.1, some);
+      }
+
+  -- how many were fetched
+  pub heads_fetched : IsCounted s → from < to → AreIn (s.tables g) from to → (0 < length slice) × (length slice ≤ to - from)
+  heads_fetched counted some inside =
+      let count_is : length fetched_from_none.entries ≡ length slice = sym fetched_from_none.counts.1 ∙ fetched_from_none.counts.0 ∙ ap length (sym heads_are) in
+      comes s g from to count max (length slice) counted some inside fetched_from_none.entries fetched_from_none.read count_is
+
+  pub terms_added : (end n : ℕ) (o p : State) → to ≤ end → IsCounted s → from < to → AreIn (s.tables g) from to → AddsTold from slice o p → n ≡ length slice → AddsTerms s g from end n o p
+  terms_added end n o p reach counted some inside added is =
+      let read : ReadsTerms s g from to added.terms = terms_read added.terms counted some inside added.told in
+      let size = length-told from slice added.terms added.told in
+      record {
+        terms = added.terms;
+        read = record { have = read.have; some = read.some; within = omega (arith, read.within, reach) };
+        number = is ∙ size;
+        now = added.now;
       }
 
   pub terms_unread : (cause : Unread) → AreNotTold g from slice cause → IsUnreadFor cause s
@@ -110,7 +127,7 @@ told_behind i j [] (u ∷ us) h t told at one = absurd (let no : ⊥ = cc in no)
 told_behind i j (x ∷ xs) [] h t told at one = absurd told
 told_behind i j (x ∷ xs) (u ∷ us) h t told at one = (told.0, told_behind (i + 1) j xs us h t told.1 (omega (arith, at)) one)
 
-pub one_told : (first i index : ℕ) (hs : List EntryHead) (d : EntryHead) (before after : List ℕ) (t : ℕ) → i < length hs → index ≡ first + i
+one_told : (first i index : ℕ) (hs : List EntryHead) (d : EntryHead) (before after : List ℕ) (t : ℕ) → i < length hs → index ≡ first + i
     → AreTold first (take i hs) before → after ≡ before ++ t ∷ [] → term_told index (get_or hs i d).numbers ≡ Some t → AreTold first (take (i + 1) hs) after
 one_told first i index hs d before after t lt at told now one =
     let h : EntryHead = get_or hs i d in
@@ -120,6 +137,37 @@ one_told first i index hs d before after t lt at told now one =
     let P : List EntryHead → Type 0 = λ l. AreTold first l after in
     let Q : List ℕ → Type 0 = λ l. AreTold first (take i hs ++ h ∷ []) l in
     subst P (sym all) (subst Q (sym now) next)
+
+pub none_added : (first : ℕ) (hs : List EntryHead) (o p : State) → hs ≡ [] → p ≡ o → AddsTold first hs o p
+none_added first hs o p none same = record {
+  terms = [];
+  told = subst (λ (l : List EntryHead). AreTold first l []) (sym none) refl;
+  now = same ∙ ap (λ l. record o { log = l }) (sym (append-nil o.log));
+}
+
+pub one_added : (first i index : ℕ) (hs : List EntryHead) (d : EntryHead) (o p q : State) (t : ℕ) → i < length hs → index ≡ first + i
+    → AddsTold first (take i hs) o p → term_told index (get_or hs i d).numbers ≡ Some t → q ≡ record p { log = p.log ++ (t, []) ∷ [] } → AddsTold first (take (i + 1) hs) o q
+one_added first i index hs d o p q t lt at known one now =
+    let some : List ℕ = known.terms in
+    let all : alone (some ++ t ∷ []) ≡ alone some ++ (t, []) ∷ [] = map-append (λ (x : ℕ). (x, [])) some (t ∷ []) in
+    record {
+      terms = some ++ t ∷ [];
+      told = one_told first i index hs d some (some ++ t ∷ []) t lt at known.told refl one;
+      now = now ∙ ap (λ (v : State). record v { log = v.log ++ (t, []) ∷ [] }) known.now
+          ∙ ap (λ l. record o { log = l }) (append_assoc o.log (alone some) ((t, []) ∷ []))
+          ∙ ap (λ l. record o { log = o.log ++ l }) (sym all);
+    }
+
+-- there is room for one term more
+pub term_fits : (first i : ℕ) (hs : List EntryHead) (o p : State) → i < length hs → o.base_index + length o.log + length hs < 2 ^ 63 → AddsTold first (take i hs) o p
+    → p.base_index + length p.log + 1 < 2 ^ 63
+term_fits first i hs o p lt small known =
+    let base = ap (λ (v : State). v.base_index) known.now in
+    let log = ap (λ (v : State). length v.log) known.now ∙ length-append o.log (alone known.terms) in
+    let terms = length-map {B = ℕ × List ℕ} known.terms (λ (x : ℕ). (x, [])) in
+    let told = length-told first (take i hs) known.terms known.told in
+    let some = length-take i hs in
+    omega (arith, base, log, terms, told, some, small, lt)
 
 head_at : (hs : List EntryHead) (i : ℕ) (h : EntryHead) → i < length hs → h ≡ get_or hs i h → slice_get hs i ≡ Some h
 head_at [] i h lt is = absurd (omega (arith, lt))
@@ -150,16 +198,16 @@ have_on : (grp : Group) (i j : ℕ) (ts us : List ℕ) → HaveTerms grp i ts �
 have_on grp i j [] us h at k = let here : j ≡ i = omega (arith, at) in subst (λ (n : ℕ). HaveTerms grp n us) here k
 have_on grp i j (t ∷ ts) us h at k = (h.0, have_on grp (i + 1) j ts us h.1 (omega (arith, at)) k)
 
-pub more_terms : (s t : Shows) (g : ℕ) (state : VoterState) (next end after : ℕ) (o p : State) (us slice : List ℕ) → StaysButBlock s t → KnowsTerms s g state next o
-    → ReadsTerms t g next end us → slice ≡ us → p ≡ record o { log = o.log ++ alone slice } → after ≡ next + length us → KnowsTerms s g state after p
-more_terms s t g state next end after o p us slice stays known piece same now at = record {
-  terms = known.terms ++ us;
+pub more_terms : (s t : Shows) (g : ℕ) (state : VoterState) (next end after count : ℕ) (o p : State) → StaysButBlock s t → KnowsTerms s g state next o
+    → AddsTerms t g next end count o p → after ≡ next + count → KnowsTerms s g state after p
+more_terms s t g state next end after count o p stays known piece at = record {
+  terms = known.terms ++ piece.terms;
   have = λ home m h.
-      have_on (m g) (state.base_index + 1) next known.terms us (known.have home m h) known.count (told_before (λ m. HaveTerms (m g) next us) s t stays piece.have home m h);
-  count = let size = length-append known.terms us in omega (arith, size, known.count, at);
-  is = now ∙ ap (λ (l : List ℕ). record o { log = o.log ++ alone l }) same
-      ∙ ap (λ (v : State). record v { log = v.log ++ alone us }) known.is
-      ∙ ap (λ l. with_log state l) (sym (map-append (λ (t : ℕ). (t, [])) known.terms us));
+      have_on (m g) (state.base_index + 1) next known.terms piece.terms (known.have home m h) known.count
+      (told_before (λ m. HaveTerms (m g) next piece.terms) s t stays piece.read.have home m h);
+  count = let size = length-append known.terms piece.terms in omega (arith, size, known.count, piece.number, at);
+  is = piece.now ∙ ap (λ (v : State). record v { log = v.log ++ alone piece.terms }) known.is
+      ∙ ap (λ l. with_log state l) (sym (map-append (λ (t : ℕ). (t, [])) known.terms piece.terms));
 }
 
 -- entries that stand in a group, and their terms
@@ -202,25 +250,3 @@ outline_held s g head o known knows = λ home m h.
       small = omega (arith, size, all.size, knows.count, known.ends.small);
     } in
     (read_voter head.state all.entries, inr (read_groups_hold_voters (m g) head.state all.entries as_read), knows.is ∙ ap (λ l. with_log head.state l) (sym all.terms))
-
--- One term more.
-
-pub term_more : (o p q : State) (ts : List ℕ) (t i : ℕ) → i < length ts → t ≡ get_or ts i 0 → p ≡ record o { log = o.log ++ alone (take i ts) }
-    → q ≡ record p { log = p.log ++ (t, []) ∷ [] } → q ≡ record o { log = o.log ++ alone (take (i + 1) ts) }
-term_more o p q ts t i lt is before now =
-    let some : List ℕ = take i ts in
-    let all : alone (take (i + 1) ts) ≡ alone some ++ (t, []) ∷ [] =
-    ap (λ (l : List ℕ). alone l) (take_more ts i 0 lt ∙ ap (λ (x : ℕ). some ++ x ∷ []) (sym is)) ∙ map-append (λ (x : ℕ). (x, [])) some (t ∷ []) in
-    now ∙ ap (λ (v : State). record v { log = v.log ++ (t, []) ∷ [] }) before
-    ∙ ap (λ l. record o { log = l }) (append_assoc o.log (alone some) ((t, []) ∷ []))
-    ∙ ap (λ l. record o { log = o.log ++ l }) (sym all)
-
--- there is room for one term more
-pub term_fits : (o p : State) (ts : List ℕ) (i : ℕ) → i < length ts → o.base_index + length o.log + length ts < 2 ^ 63 → p ≡ record o { log = o.log ++ alone (take i ts) }
-    → p.base_index + length p.log + 1 < 2 ^ 63
-term_fits o p ts i lt small is =
-    let base = ap (λ (v : State). v.base_index) is in
-    let log = ap (λ (v : State). length v.log) is ∙ length-append o.log (alone (take i ts)) in
-    let terms = length-map {B = ℕ × List ℕ} (take i ts) (λ (x : ℕ). (x, [])) in
-    let some = length-take i ts in
-    omega (arith, base, log, terms, some, small, lt)

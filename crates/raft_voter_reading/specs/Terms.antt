@@ -1,5 +1,5 @@
 -- Terms of a group's entries, as they are read without the entries' own bytes.
-use Rattle.std.specs.Prelude.{◌≡◌, ◌+◌, ◌≤◌, ◌<◌, ℕ, List, [], ◌∷◌, length, map, slice_get, None, Some}
+use Rattle.std.specs.Prelude.{◌≡◌, ◌+◌, ◌≤◌, ◌<◌, ℕ, List, [], ◌∷◌, ◌++◌, length, map, slice_get, None, Some}
 use Rattle.raft_log_model_laws.specs.Meaning.Slot.{Index}
 use Rattle.raft_log_model_laws.specs.Meaning.Content.{Entry}
 use Rattle.raft_log_engine_laws.specs.Shows.{Shows}
@@ -53,15 +53,28 @@ AreNotTold g first hs causes.Memory = Unit {0}
 
 -- What is known.
 
+-- the entries of a log that is known by its terms alone
+abbrev pub alone : List ℕ → List (ℕ × List ℕ)
+alone ts = map (λ t. (t, [])) ts
+
+-- the terms that the heads tell, the first of the entry at this index, come behind the entries of a log
+pub record AddsTold (first : ℕ) (hs : List EntryHead) (o p : State) : Type 0 where
+  pub terms : List ℕ
+  pub told : AreTold first hs terms
+  pub now : p ≡ record o { log = o.log ++ alone terms }
+
 -- the terms of some entries of a group were read from an index on, of at least one and all below an end
 pub record ReadsTerms (e : Shows) (g first end : ℕ) (ts : List ℕ) : Type 0 where
   pub have : Tells e (λ m. HaveTerms (m g) first ts)
   pub some : 0 < length ts
   pub within : first + length ts ≤ end
 
--- the entries of a log that is known by its terms alone
-abbrev pub alone : List ℕ → List (ℕ × List ℕ)
-alone ts = map (λ t. (t, [])) ts
+-- so many terms were read of a group's entries from an index on, all below an end, and come behind the entries of a log
+pub record AddsTerms (e : Shows) (g first end count : ℕ) (o p : State) : Type 0 where
+  pub terms : List ℕ
+  pub read : ReadsTerms e g first end terms
+  pub number : count ≡ length terms
+  pub now : p ≡ record o { log = o.log ++ alone terms }
 
 -- the terms of the entries below an index were read, and this is the outline of a voter with these alone
 pub record KnowsTerms (e : Shows) (g : ℕ) (s : VoterState) (next : ℕ) (o : State) : Type 0 where

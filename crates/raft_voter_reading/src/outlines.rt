@@ -1,27 +1,27 @@
 //! The outlines of all voters.
-ghost use Rattle.std.specs.Prelude.{◌≡◌, ◌+◌, ◌++◌, ◌<◌, ◌^◌, length, IfErr, IfOk, OnOk};
+ghost use Rattle.std.specs.Prelude.{IfErr, IfOk, OnOk};
 ghost use Rattle.raft_log_engine_laws.specs.Fetching.{StaysButBlock};
 ghost use Rattle.raft_log_engine_core.specs.Reads.{shows_of};
-ghost use Rattle.raft_voter_outline.specs.State.{last_index};
 ghost use Rattle.raft_voter_outlines.specs.Kept.{outlines_in};
+ghost use Rattle.raft_voter_outlines.specs.Pairs.{outlines_of};
 ghost use Rattle.raft_voter_reading.specs.Groups.{ReadsHead};
 ghost use Rattle.raft_voter_reading.specs.Listing.{AddsOutline, TellsOutline};
 ghost use Rattle.raft_voter_reading.specs.Reading.{IsUnreadFor, ReadsVoters};
-ghost use Rattle.raft_voter_reading.specs.Terms.{KnowsTerms, alone};
+ghost use Rattle.raft_voter_reading.specs.Terms.{KnowsTerms};
 
 use crate::Unread;
 use crate::heads::{Head, read_head};
 use crate::terms::read_terms_piece;
 use raft_log_engine_core::LogEngine;
 use raft_log_file_pair::PipeLog;
-use raft_voter_messages::Memory;
 use raft_voter_outline::Outline;
 use raft_voter_outlines::Outlines;
 use std::alloc::Global;
 
 /// The outline of each group's voter, as an engine's log tells it that was just opened: whatever map the log
 /// is, it means voters, and these are their outlines. Of the entries the indexes and the terms are read, in pieces
-/// and not kept, so memory is wanted for the outlines and a piece alone; each block of entries is read once.
+/// and not kept, so memory is wanted for a piece and for the outlines alone, of which there are two copies at most
+/// while they are put into their tree; each block of entries is read once.
 ///
 /// `Foreign`: what stands in this group is no voter's. `Engine`: the engine has failed, or didn't read a block
 /// of entries. `Memory`. Answered or refused, the engine is as it was, but for the block that it read last.
@@ -38,29 +38,34 @@ pub fn read_outlines<P: PipeLog>(
         Ok(groups) => groups,
         Err(refusal) => return Err(Unread::from_refusal(refusal)),
     };
-    let mut outlines = Outlines::new(alloc);
+    let Ok(mut pairs) = Vec::with_capacity(alloc, groups.len()) else {
+        return Err(Unread::Memory);
+    };
     for group in groups.as_slice() {
-        read_into(alloc, engine, *group, &mut outlines)?;
+        read_into(alloc, engine, *group, &mut pairs)?;
     }
+    let Ok(outlines) = Outlines::from_pairs(alloc, pairs) else {
+        return Err(Unread::Memory);
+    };
     Ok(outlines)
 }
 
-/// The outline of a group's voter is read and kept, if something stands in the group.
+/// The outline of a group's voter is read and comes behind the others, if something stands in the group.
 fn read_into<P: PipeLog>(
     alloc: Global,
     engine: &mut LogEngine<P>,
     group: u64,
-    outlines: &mut Outlines,
+    pairs: &mut Vec<(u64, Outline)>,
 ) -> Result<(), Unread>
     ensures ok { OnOk result (AddsOutline (shows_of P.shown engine.old) group
-        (outlines_in outlines.old) (outlines_in outlines.new)) }
+        (outlines_of pairs.old.items) (outlines_of pairs.new.items)) }
     ensures err { IfErr result (λ cause. IsUnreadFor cause (shows_of P.shown engine.old)) }
     ensures stays { StaysButBlock (shows_of P.shown engine.old) (shows_of P.shown engine.new) }
 {
     let Some(outline) = read_outline(alloc, engine, group)? else {
         return Ok(());
     };
-    let Ok(()) = outlines.put(group, outline) else {
+    let Ok(()) = pairs.push((group, outline)) else {
         return Err(Unread::Memory);
     };
     Ok(())
@@ -99,25 +104,8 @@ fn read_terms<P: PipeLog>(
     let mut outline = Outline::at_base(alloc, &head.state);
     let mut next = head.state.base_index + 1;
     while next < head.end {
-        let terms = read_terms_piece(alloc, engine, group, next, head.end)?;
-        let Ok(()) = push_terms(&mut outline, terms.as_slice()) else {
-            return Err(Unread::Memory);
-        };
-        next += terms.len() as u64;
+        let count = read_terms_piece(alloc, engine, group, next, head.end, &mut outline)?;
+        next += count;
     }
     Ok(outline)
-}
-
-/// More entries of a voter's log, right behind the last one, of these terms.
-fn push_terms(outline: &mut Outline, terms: &[u64]) -> Result<(), Memory>
-    requires { last_index outline.old.voter + length terms.now < 2 ^ 63 }
-    ensures { OnOk result (outline.new.voter
-        ≡ record outline.old.voter { log = outline.old.voter.log ++ alone terms.now }) }
-{
-    for term in terms {
-        let Ok(()) = outline.push(*term) else {
-            return Err(Memory);
-        };
-    }
-    Ok(())
 }

@@ -1,56 +1,86 @@
 //! Terms of a group's entries, in pieces.
-ghost use Rattle.std.specs.Prelude.{◌<◌, IfErr, IfOk};
+ghost use Rattle.std.specs.Prelude.{◌+◌, ◌-◌, ◌<◌, ◌≤◌, ◌^◌, length, IfErr, IfOk, OnOk};
 ghost use Rattle.raft_log_engine_laws.specs.Fetching.{StaysButBlock};
 ghost use Rattle.raft_log_engine_laws.specs.raft_log_table_one.specs.Reads.{AreIn};
 ghost use Rattle.raft_log_engine_core.specs.Reads.{shows_of};
+ghost use Rattle.raft_voter_outline.specs.State.{last_index};
 ghost use Rattle.raft_voter_reading.specs.Reading.{IsUnreadFor};
-ghost use Rattle.raft_voter_reading.specs.Terms.{AreNotTold, AreTold, ReadsTerms};
+ghost use Rattle.raft_voter_reading.specs.Terms.{AddsTerms, AddsTold, AreNotTold};
 
 use crate::Unread;
-use crate::entries::PIECE_BYTES;
 use crate::entry_head::{EntryHead, EntryHeads};
 use raft_log_engine_core::LogEngine;
 use raft_log_file_pair::PipeLog;
+use raft_voter_outline::Outline;
 use std::alloc::Global;
 
-/// The terms of a group's entries from one index on, all below another: of one at least, and of as many as have
-/// the bytes of a piece together. The entries' own bytes aren't copied.
+/// Of so many entries the terms are read at once at most.
+const PIECE_ENTRIES: u64 = 1024;
+
+/// The terms of a group's entries from one index on, all below another, come into the outline of its voter, and
+/// the answer is of how many: of one at least, and of no more than a piece has. The entries' own bytes aren't
+/// copied, so a piece takes the same memory however long they are. Refused, whyever, the outline is of no use.
 pub fn read_terms_piece<P: PipeLog>(
     alloc: Global,
     engine: &mut LogEngine<P>,
     group: u64,
     from: u64,
     end: u64,
-) -> Result<Vec<u64>, Unread>
+    outline: &mut Outline,
+) -> Result<u64, Unread>
     requires some { from < end }
     requires placed { AreIn ((shows_of P.shown engine.old).tables group) from end }
-    ensures ok { IfOk result (λ terms.
-        ReadsTerms (shows_of P.shown engine.old) group from end terms.items) }
+    requires small { last_index outline.old.voter + (end - from) < 2 ^ 63 }
+    ensures ok { IfOk result (λ count. AddsTerms (shows_of P.shown engine.old) group from end count
+        outline.old.voter outline.new.voter) }
     ensures err { IfErr result (λ cause. IsUnreadFor cause (shows_of P.shown engine.old)) }
     ensures stays { StaysButBlock (shows_of P.shown engine.old) (shows_of P.shown engine.new) }
 {
+    let to = piece_end(from, end);
     let mut heads: Vec<EntryHead> = Vec::new(alloc);
-    match engine.fetch_entries_to::<EntryHeads>(group, from, end, Some(PIECE_BYTES), &mut heads) {
-        Ok(_) => terms_in(alloc, group, from, heads.as_slice()),
+    match engine.fetch_entries_to::<EntryHeads>(group, from, to, None, &mut heads) {
+        Ok(_) => {
+            push_terms(outline, group, from, heads.as_slice())?;
+            Ok(heads.len() as u64)
+        }
         Err(refusal) => Err(Unread::from_refusal(refusal)),
     }
 }
 
-/// The terms that heads of a group's entries tell, the first at this index.
-fn terms_in(alloc: Global, group: u64, first: u64, heads: &[EntryHead]) -> Result<Vec<u64>, Unread>
-    ensures ok { IfOk result (λ terms. AreTold first heads.now terms.items) }
+/// Where a piece of the entries from one index on ends, which stand below another.
+fn piece_end(from: u64, end: u64) -> u64
+    requires { from < end }
+    ensures some { from < result }
+    ensures within { result ≤ end }
+    ensures short { result ≤ from + 1024 }
+{
+    if end - from <= PIECE_ENTRIES {
+        return end;
+    }
+    from + PIECE_ENTRIES
+}
+
+/// The terms that heads of a group's entries tell, the first at this index, come into the outline of its voter,
+/// right behind its last entry.
+fn push_terms(
+    outline: &mut Outline,
+    group: u64,
+    first: u64,
+    heads: &[EntryHead],
+) -> Result<(), Unread>
+    requires { last_index outline.old.voter + length heads.now < 2 ^ 63 }
+    ensures ok { OnOk result (AddsTold first heads.now outline.old.voter outline.new.voter) }
     ensures err { IfErr result (AreNotTold group first heads.now) }
 {
-    let mut terms = Vec::new(alloc);
     let mut index = first;
     for head in heads {
         let Some(term) = head.term_at(index) else {
             return Err(Unread::Foreign(group));
         };
-        let Ok(()) = terms.push(term) else {
+        let Ok(()) = outline.push(term) else {
             return Err(Unread::Memory);
         };
         index += 1;
     }
-    Ok(terms)
+    Ok(())
 }

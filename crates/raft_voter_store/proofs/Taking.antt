@@ -1,7 +1,9 @@
 -- One request: each exit is a call of one law.
-use Rattle.std.proofs.Common.{◌≡◌, ℕ, ◌<◌, ◌^◌, Bool, true, false, if◌then◌else◌, List, [], map, Option, Some, None, refl, sym, subst, inl, inr, ◌∙◌, arith}
+use Rattle.std.proofs.Common.{◌≡◌, ℕ, ◌<◌, ◌^◌, ◌==◌, Bool, true, false, if◌then◌else◌, List, [], map, Option, Some, None, refl, sym, ap, subst, inl, inr, ◌∙◌, arith}
 use Rattle.std.proofs.Math.Path.{fun_ext}
-use Rattle.std.specs.Prelude.{◌⊎◌}
+use Rattle.std.specs.Prelude.{◌⊎◌, OnSome}
+use Rattle.std.specs.Borrow.{MutBor}
+use Rattle.std.proofs.lemmas.Bool.{cases_Bool}
 use Rattle.raft_log_record_base.specs.declared.errors.Error.{Error}
 use Rattle.raft_log_record_base.specs.declared.errors.Error.TheVariants as errors
 use Rattle.raft_log_record_items.specs.declared.raw_message.RawMessage.{RawMessage}
@@ -18,9 +20,13 @@ use Rattle.raft_voter_messages.specs.declared.request.Request.TheVariants.{Read}
 use Rattle.raft_voter_messages.specs.Ranges.{in_range}
 use Rattle.raft_voter_outline.specs.declared.outline.decision.Answer.TheVariants as answers
 use Rattle.raft_voter_outline.specs.declared.outline.decision.Change.{Change}
-use Rattle.raft_voter_outline.specs.Outlines.{ChangesEach, IsReplyOfEach, LeavesEach}
+use Rattle.raft_voter_outline.specs.Decisions.{OutlineBecomes}
+use Rattle.raft_voter_outline.specs.Outlines.{ChangesEach, IsReplyOfEach, LeavesEach, Outlined}
 use Rattle.raft_voter_outline.specs.Rules.{next, next_in_range}
-use Rattle.raft_voter_outline.specs.State.{State}
+use Rattle.raft_voter_outline.specs.State.{State, fresh}
+use Rattle.raft_voter_outlines.specs.declared.outlines.Outlines.{Outlines}
+use Rattle.raft_voter_outlines.specs.Kept.{kept_of, kept_or_fresh, outlines_in}
+use Rattle.raft_voter_outlines.specs.Lending.{HasOutline}
 use Rattle.raft_voter.specs.Laws.{AreReadAs}
 use Rattle.raft_voter_standing_laws.specs.Laws.{IsBare}
 use Rattle.raft_voter_standing_laws.specs.Reads.{IsCounted, IsRaw, ReadsNone}
@@ -30,6 +36,8 @@ use Rattle.raft_voter_standing_laws.proofs.Fetching.{fetched_entries_are_read, u
 use Rattle.raft_voter_standing_laws.proofs.Serving.{read_requests_are_served, written_requests_are_served}
 use Rattle.raft_voter_standing_laws.proofs.Turning.{unmade_requests_are_turned_down, unread_requests_are_turned_down, unwritten_requests}
 use Rattle.raft_voter_store.specs.Taking.{FailsToTake}
+use Rattle.raft_voter_store.specs.Writing.{FailsToWriteChange}
+use Rattle.raft_voter_store.specs.Writing.FailsToWriteChange.{unsaid, unwritten}
 
 -- Changes.
 
@@ -45,6 +53,58 @@ write_failed q c b error s t os ws same alive changes says short refused = (fun_
 pub unmade : (q : ℕ × Request) (error : Error) (s : Shows) (os ws : ℕ → State) → error ≡ errors.Memory → ((g : ℕ) → ws g ≡ os g) → has_failed s ≡ false → FailsToTake q error s s os ws
 unmade q error s os ws is same alive =
     (fun_ext same, inl (subst (λ (e : Error). TurnedDown q e s s os) (sym is) (unmade_requests_are_turned_down q s os alive)))
+
+pub unwritten_fails : (q : ℕ × Request) (c : Change) (error : Error) (s t : Shows) (os ws : ℕ → State) → ((g : ℕ) → ws g ≡ os g) → has_failed s ≡ false → ChangesEach (os q.0) q.1 c → FailsToWriteChange q c error s t
+    → FailsToTake q error s t os ws
+unwritten_fails q c error s t os ws same alive changes (unsaid is stays) = subst (λ (x : Shows). FailsToTake q error s x os ws) (sym stays) (unmade q error s os ws is same alive)
+unwritten_fails q c error s t os ws same alive changes (unwritten b says short refused) = write_failed q c b error s t os ws same alive changes says short refused
+
+-- Outlines that are lent.
+
+-- the outline that is kept is that of the group's voter
+pub kept_is : (outlines : Outlines) (g : ℕ) (o : Outlined) → kept_of outlines g ≡ Some o → o.voter ≡ outlines_in outlines g
+kept_is outlines g o is = sym (ap kept_or_fresh is)
+
+-- an outline was lent
+pub has_lent : (r : Option (MutBor Outlined)) (o : MutBor Outlined) {P : Type 0} → r ≡ Some o → OnSome r P → P
+has_lent r o {P} is has = subst (λ (x : Option (MutBor Outlined)). OnSome x P) is has
+
+pub steps_lent : (q : ℕ × Request) (old new : Outlines) (o w : Outlined) → kept_of old q.0 ≡ Some o → HasOutline q.0 old new w → OutlineBecomes o.voter q.1 w.voter
+    → StepsOutlines q (outlines_in old) (outlines_in new)
+steps_lent q old new o w is has becomes = record {
+  own = subst (λ (v : State). OutlineBecomes v q.1 (outlines_in new q.0)) (kept_is old q.0 o is) (subst (λ (v : State). OutlineBecomes o.voter q.1 v) (sym has.own) becomes);
+  others = has.others;
+}
+
+equal_if : (a b : ℕ) → (a == b) ≡ true → a ≡ b
+equal_if a b h = grind (arith, h)
+
+-- where the voters were as they were before, they step from those
+pub steps_over : (q : ℕ × Request) (os us ws : ℕ → State) → ((g : ℕ) → us g ≡ os g) → StepsOutlines q us ws → StepsOutlines q os ws
+steps_over q os us ws same steps = record {
+  own = subst (λ (v : State). OutlineBecomes v q.1 (ws q.0)) (same q.0) steps.own;
+  others = λ g f. steps.others g f ∙ same g;
+}
+
+pub same_lent : (group : ℕ) (old new : Outlines) (o w : Outlined) → kept_of old group ≡ Some o → HasOutline group old new w → w.voter ≡ o.voter → (g : ℕ) → outlines_in new g ≡ outlines_in old g
+same_lent group old new o w is has same g =
+    elim (cases_Bool (g == group)) [
+      | inl t ↦ subst (λ (j : ℕ). outlines_in new j ≡ outlines_in old j) (sym (equal_if g group t)) (has.own ∙ same ∙ kept_is old group o is)
+      | inr f ↦ has.others g f
+    ]
+
+-- the voter of a group of which no outline is kept is a fresh one
+pub fresh_unkept : (outlines : Outlines) (group : ℕ) → kept_of outlines group ≡ None → outlines_in outlines group ≡ fresh
+fresh_unkept outlines group none = ap kept_or_fresh none
+
+-- a fresh outline was kept as that of a fresh voter
+pub same_put : (group : ℕ) (old new : Outlines) (put : State) → outlines_in old group ≡ fresh → put ≡ fresh → outlines_in new group ≡ put → ((g : ℕ) → (g == group) ≡ false → outlines_in new g ≡ outlines_in old g)
+    → (g : ℕ) → outlines_in new g ≡ outlines_in old g
+same_put group old new put was is own others g =
+    elim (cases_Bool (g == group)) [
+      | inl t ↦ subst (λ (j : ℕ). outlines_in new j ≡ outlines_in old j) (sym (equal_if g group t)) (own ∙ is ∙ sym was)
+      | inr f ↦ others g f
+    ]
 
 -- Entries.
 

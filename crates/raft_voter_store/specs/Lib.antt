@@ -3,3 +3,4 @@ pub mod Upkeep
 pub mod Rounds
 pub mod Service
 pub mod Opening
+pub mod Writing

@@ -8,5 +8,6 @@
 mod entries;
 mod saying;
 mod store;
+mod writing;
 
 pub use store::{LogVoterStore, StoreRefused, VoterStore};

@@ -5,38 +5,15 @@ ghost use Rattle.raft_log_record_frames.specs.Record.{record_len};
 ghost use Rattle.raft_voter_outline.specs.Outlines.{ChangesEach};
 ghost use Rattle.raft_voter_standing_laws.specs.Laws.{IsBare};
 ghost use Rattle.raft_voter_standing_laws.specs.Requests.{SaysChange};
-ghost use Rattle.raft_voter_outlines.specs.Kept.{outlines_in};
 
 use raft_log_engine::{LogBatch, Result};
 use raft_voter_outline::{Change, Outline, Request};
-use raft_voter_outlines::Outlines;
 use raft_voter_records::fill_change;
 use std::alloc::Global;
 
-/// Makes of a batch, whatever it held, the one that says a change which a group's outline decided for a request.
-/// Memory may run out.
+/// Makes of a batch, whatever it held, the one that says a change which an outline decided for a request. Memory may
+/// run out.
 pub fn say_change(
-    batch: &mut LogBatch,
-    alloc: Global,
-    outlines: &Outlines,
-    group: u64,
-    change: &Change,
-    request: &Request,
-) -> Result<()>
-    requires bare { IsBare (outlines_in outlines.now group) }
-    requires decided { ChangesEach (outlines_in outlines.now group) request.now change.now }
-    ensures says { OnOk result (SaysChange group request.now change.now batch.new) }
-    ensures short { OnOk result (record_len batch.new.items batch.new.entries < 2 ^ 56) }
-    ensures errors { IfErr result (λ e. e ≡ errors.Memory) }
-{
-    match outlines.get(group) {
-        Some(outline) => refill(batch, alloc, outline, group, change, request),
-        None => refill(batch, alloc, &Outline::new(alloc), group, change, request),
-    }
-}
-
-/// Makes of a batch the one that says a change which an outline decided for a request. Memory may run out.
-fn refill(
     batch: &mut LogBatch,
     alloc: Global,
     outline: &Outline,

@@ -1,5 +1,5 @@
 //! Voters whose log an engine keeps.
-ghost use Rattle.std.specs.Prelude.{◌≡◌, ℕ, false, IfErr, IfOk};
+ghost use Rattle.std.specs.Prelude.{◌≡◌, ℕ, false, IfErr, IfOk, OnErr, OnOk};
 ghost use Rattle.raft_log_engine_core.specs.Reads.{shows_of};
 
 mod forking;
@@ -9,13 +9,13 @@ mod service;
 mod upkeep;
 
 use crate::entries::read_entries;
-use crate::saying::say_change;
+use crate::writing::write_change;
 use log::Log;
 pub use opening::{StoreRefused, VoterStore};
 use raft_log_engine::{Error, LogBatch, LogEngine, PipeLog, Result};
 use raft_log_record_items::{RawEntries, RawMessage};
 use raft_voter_messages::{Reply, Request};
-use raft_voter_outline::{Answer, Change, Decision};
+use raft_voter_outline::{Answer, Change, Decision, Outline};
 use raft_voter_outlines::Outlines;
 use std::alloc::{AllocError, Global};
 
@@ -44,9 +44,10 @@ impl<P: PipeLog> LogVoterStore<P> {
     ghost use Rattle.raft_voter_outline.specs.Outlines.{ChangesEach, IsReplyOfEach};
     ghost use Rattle.raft_voter_outline.specs.State.{fresh};
     ghost use Rattle.raft_voter_standing_laws.specs.Laws.{IsBare};
-    ghost use Rattle.raft_voter_standing_laws.specs.Requests.{Served};
+    ghost use Rattle.raft_voter_standing_laws.specs.Requests.{Served, StepsOutlines};
     ghost use Rattle.raft_voter_outlines.specs.Kept.{outlines_in};
     ghost use Rattle.raft_voter_store.specs.Taking.{FailsToTake};
+    ghost use Rattle.raft_voter_store.specs.Writing.{FailsToWriteChange, WritesChange};
 
     /// A store over an engine in whose log nothing stands: each group's voter is a fresh one.
     pub fn over_fresh(alloc: Global, engine: LogEngine<P>) -> LogVoterStore<P>
@@ -109,27 +110,84 @@ impl<P: PipeLog> LogVoterStore<P> {
         let Ok(mut batch) = or_new(self.alloc, self.batch.take()) else {
             return Err(Error::Memory);
         };
-        match say_change(
-            &mut batch,
-            self.alloc,
-            &self.outlines,
-            group,
-            change,
-            request,
-        ) {
-            Ok(()) => {}
-            Err(error) => return Err(error),
-        }
-        let Ok(()) = self.outlines.reserve(group, change, request) else {
-            return Err(Error::Memory);
-        };
-        match self.engine.write(rt, &mut batch, false) {
-            Ok(_) => {
-                self.outlines.apply(group, change, request);
+        match self.put_change(rt, &mut batch, group, change, request) {
+            Ok(()) => {
                 self.batch = Some(batch);
                 Ok(Taken { reply, wrote: true })
             }
             Err(error) => Err(error),
+        }
+    }
+
+    /// What was decided for a request is written by way of this batch, and its group's outline makes the change.
+    fn put_change<R: Log>(
+        &mut self,
+        rt: &R,
+        batch: &mut LogBatch,
+        group: u64,
+        change: &Change,
+        request: &Request,
+    ) -> Result<()>
+        requires bare { IsBare (outlines_in self.old.outlines group) }
+        requires decided { ChangesEach (outlines_in self.old.outlines group) request.now change.now }
+        ensures ok { OnOk result (WritesChange (group, request.now) change.now
+            (shows_of P.shown self.old.engine) (shows_of P.shown self.new.engine)) }
+        ensures steps { OnOk result (StepsOutlines (group, request.now)
+            (outlines_in self.old.outlines) (outlines_in self.new.outlines)) }
+        ensures err { IfErr result (λ error. FailsToWriteChange (group, request.now) change.now error
+            (shows_of P.shown self.old.engine) (shows_of P.shown self.new.engine)) }
+        ensures same { OnErr result ((g : ℕ) → outlines_in self.new.outlines g ≡ outlines_in self.old.outlines g) }
+    {
+        match self.outlines.get_mut(group) {
+            Some(outline) => write_change(
+                rt,
+                self.alloc,
+                &mut self.engine,
+                batch,
+                outline,
+                group,
+                change,
+                request,
+            ),
+            None => self.put_first(rt, batch, group, change, request),
+        }
+    }
+
+    /// The same where no outline of the group is kept: a fresh one is, before anything is written.
+    fn put_first<R: Log>(
+        &mut self,
+        rt: &R,
+        batch: &mut LogBatch,
+        group: u64,
+        change: &Change,
+        request: &Request,
+    ) -> Result<()>
+        requires fresh { outlines_in self.old.outlines group ≡ fresh }
+        requires bare { IsBare (outlines_in self.old.outlines group) }
+        requires decided { ChangesEach (outlines_in self.old.outlines group) request.now change.now }
+        ensures ok { OnOk result (WritesChange (group, request.now) change.now
+            (shows_of P.shown self.old.engine) (shows_of P.shown self.new.engine)) }
+        ensures steps { OnOk result (StepsOutlines (group, request.now)
+            (outlines_in self.old.outlines) (outlines_in self.new.outlines)) }
+        ensures err { IfErr result (λ error. FailsToWriteChange (group, request.now) change.now error
+            (shows_of P.shown self.old.engine) (shows_of P.shown self.new.engine)) }
+        ensures same { OnErr result ((g : ℕ) → outlines_in self.new.outlines g ≡ outlines_in self.old.outlines g) }
+    {
+        let Ok(()) = self.outlines.put(group, Outline::new(self.alloc)) else {
+            return Err(Error::Memory);
+        };
+        match self.outlines.get_mut(group) {
+            Some(outline) => write_change(
+                rt,
+                self.alloc,
+                &mut self.engine,
+                batch,
+                outline,
+                group,
+                change,
+                request,
+            ),
+            None => Err(Error::Memory),
         }
     }
 

@@ -55,7 +55,7 @@ impl Outline {
         ensures err { OnErr result (self.new.voter ≡ self.old.voter) }
         ensures errors { OnErr result (self.old.room ≡ 0) }
     {
-        self.terms.reserve(1)?;
+        self.terms.reserve_one(term)?;
         self.terms.push(term);
         Ok(())
     }

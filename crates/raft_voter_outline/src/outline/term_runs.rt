@@ -1,5 +1,5 @@
 //! The terms of a log's entries, without the entries.
-ghost use Rattle.std.specs.Prelude.{◌≡◌, ℕ, ◌+◌, ◌-◌, ◌^◌, ◌<◌, ◌≤◌, ◌++◌, ◌∷◌, ◌⊎◌, [], IsTrue, None, take, drop, length, slice_get, vec_capacity, vec_len, OnOk, OnErr};
+ghost use Rattle.std.specs.Prelude.{◌≡◌, ℕ, ◌+◌, ◌-◌, ◌^◌, ◌<◌, ◌≤◌, ◌++◌, ◌∷◌, ◌⊎◌, [], IsTrue, None, take, drop, length, max, slice_get, vec_capacity, vec_len, OnOk, OnErr};
 ghost use Rattle.std.specs.Option.{option_map};
 ghost use Rattle.raft_voter_outline.specs.Runs.{are_runs, bare, runs_behind, runs_below, top_term};
 
@@ -141,14 +141,36 @@ impl TermRuns {
         self.clear(base);
     }
 
-    /// Makes room for so many more runs. Where memory is refused, all is as it was.
+    /// Makes room for so many more runs: where there is none yet, for just these, as most logs keep to one term.
+    /// Where memory is refused, all is as it was.
     pub fn reserve(&mut self, count: usize) -> Result<(), Memory>
         ensures base { self.new.base ≡ self.old.base }
         ensures log { self.new.log ≡ self.old.log }
         ensures ok { OnOk result (count ≤ self.new.room) }
+        ensures first { OnOk result (self.old.log ≡ [] → self.new.room ≡ max self.old.room count) }
         ensures err { OnErr result (self.old.room < count) }
     {
+        if self.runs.is_empty() {
+            self.runs.reserve_exact(count)?;
+            return Ok(());
+        }
         self.runs.reserve(count)?;
+        Ok(())
+    }
+
+    /// Makes room for one more entry, of this term: none where it joins the last run. Where memory is refused, all is
+    /// as it was.
+    pub fn reserve_one(&mut self, term: u64) -> Result<(), Memory>
+        ensures base { self.new.base ≡ self.old.base }
+        ensures log { self.new.log ≡ self.old.log }
+        ensures ok { OnOk result (runs_behind (top_term self.old.log) ((term, []) ∷ []) ≤ self.new.room) }
+        ensures first { OnOk result (self.old.log ≡ [] → self.new.room ≡ max self.old.room 1) }
+        ensures joins { runs_behind (top_term self.old.log) ((term, []) ∷ []) ≡ 0 → self.new.room ≡ self.old.room }
+        ensures err { OnErr result (self.old.room ≡ 0) }
+    {
+        if self.last_term() != Some(term) {
+            return self.reserve(1);
+        }
         Ok(())
     }
 

@@ -1,4 +1,4 @@
-use Rattle.std.proofs.Common.{◌≡◌, ◌∷◌, ◌≤◌, List, ℕ, length, sym, arith, rules}
+use Rattle.std.proofs.Common.{◌≡◌, ◌∷◌, ◌≤◌, length, sym, arith, rules}
 use Rattle.raft_voter_reading.proofs.Numbers.{numbers_are}
 use Rattle.raft_voter_reading.proofs.entry_head.numbers_in.Goals as goal
 

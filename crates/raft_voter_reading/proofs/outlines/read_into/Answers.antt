@@ -1,7 +1,8 @@
-use Rattle.std.proofs.Common.{Option, refl, inr, subst}
+use Rattle.std.proofs.Common.{◌++◌, ◌∷◌, [], Option, refl, inr, subst}
 use Rattle.raft_log_engine_core.specs.Reads.{shows_of}
 use Rattle.raft_voter_outline.specs.Outlines.{Outlined}
-use Rattle.raft_voter_outlines.specs.Kept.{outlines_in}
+use Rattle.raft_voter_outlines.specs.Pairs.{outlines_of}
+use Rattle.raft_voter_outlines.proofs.Pairs.{pushed_others, pushed_own}
 use Rattle.raft_voter_reading.specs.Listing.{TellsOutline}
 use Rattle.raft_voter_reading.proofs.Filling.{outline_kept}
 use Rattle.raft_voter_reading.proofs.outlines.read_into.Goals as goal
@@ -14,5 +15,8 @@ returns-in_default-clause-ok g c =
 pub returns-clause-ok : goal.returns-clause-ok
 returns-clause-ok g c =
     let s = shows_of g.P.PipeLog.shown c.args.engine.now in
-    outline_kept s c.args.group (outlines_in c.args.outlines.now) (outlines_in c.put.new.self) c.in-Some.outline.voter
-    (subst (λ (x : Option Outlined). TellsOutline s c.args.group x) c.in-Some.is c.in_ok-outline.ensures.ok) c.in-Ok.ensures.own c.in-Ok.ensures.others
+    let ps = c.args.pairs.now.items in
+    let x = c.args.group in
+    let o = c.in-Some.outline in
+    rw c.in-Ok.ensures.items (outline_kept s x (outlines_of ps) (outlines_of (ps ++ (x, o) ∷ [])) o.voter
+    (subst (λ (y : Option Outlined). TellsOutline s x y) c.in-Some.is c.in_ok-outline.ensures.ok) (pushed_own ps x o) (λ h apart. pushed_others ps x h o apart))

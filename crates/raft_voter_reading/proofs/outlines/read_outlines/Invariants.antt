@@ -1,7 +1,7 @@
 use Rattle.std.proofs.Common.{take}
 use Rattle.raft_log_engine_core.specs.Reads.{shows_of}
 use Rattle.raft_log_engine_laws.specs.Fetching.{StaysButBlock}
-use Rattle.raft_voter_outlines.specs.Kept.{outlines_in}
+use Rattle.raft_voter_outlines.specs.Pairs.{outlines_of}
 use Rattle.raft_voter_reading.proofs.Filling.{OutlinesOf}
 use Rattle.raft_voter_reading.proofs.outlines.read_outlines.Given as goal
 
@@ -9,5 +9,5 @@ use Rattle.raft_voter_reading.proofs.outlines.read_outlines.Given as goal
 abbrev pub invariant-loop-group : goal.invariant-loop-group
 invariant-loop-group g l = record {
   stays : StaysButBlock (shows_of g.P.PipeLog.shown l.initial.engine) (shows_of g.P.PipeLog.shown l.engine);
-  known : OutlinesOf (shows_of g.P.PipeLog.shown l.initial.engine) (take l.group-index l.group-items) (outlines_in l.outlines);
+  known : OutlinesOf (shows_of g.P.PipeLog.shown l.initial.engine) (take l.group-index l.group-items) (outlines_of l.pairs.items);
 }

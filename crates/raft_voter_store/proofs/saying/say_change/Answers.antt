@@ -1,6 +1,6 @@
 use Rattle.std.proofs.lemmas.Result.{on_ok_weaker}
 use Rattle.raft_voter_store.proofs.Filling.{filled_says, filled_short, fresh_of}
-use Rattle.raft_voter_store.proofs.saying.refill.Goals as goal
+use Rattle.raft_voter_store.proofs.saying.say_change.Goals as goal
 
 pub returns-clause-says : goal.returns-clause-says
 returns-clause-says c =

@@ -72,24 +72,46 @@ impl Found {
         }
     }
 
-    /// Syncs files, and adds them with their bytes. Each is read whole by one of the threads of `rayon`.
+    /// Syncs files, and adds them with their bytes.
     pub fn load_files<R: Threads + Sync>(
         &mut self,
         rt: &R,
         paths: &[String],
         opened: Vec<File>,
     ) -> io::Result<()> {
-        let alloc = self.storage.alloc;
-        let contents = opened
-            .par_iter()
-            .with_min_len(1)
-            .map(|file: &File| -> io::Result<Vec<u8>> { content_of(alloc, file) })
-            .collect::<Vec<_>>(rt, alloc)?;
+        let contents = contents_of(rt, self.storage.alloc, &opened)?;
         for ((path, file), content) in paths.iter().zip(opened).zip(contents) {
-            self.add_file(path.as_str(), file, content?)?;
+            self.add_file(path.as_str(), file, content)?;
         }
         Ok(())
     }
+}
+
+/// The bytes of files, each of which is synced first, and read whole by a thread. `rayon` has two threads for
+/// each processor; each of them has one more beside it, so that no file of a few waits for another one.
+fn contents_of<R: Threads + Sync>(
+    rt: &R,
+    alloc: Global,
+    opened: &[File],
+) -> io::Result<Vec<Vec<u8>>> {
+    let pairs = opened
+        .par_chunks(2)
+        .with_min_len(1)
+        .map(|pair: &[File]| -> io::Result<Vec<Vec<u8>>> { pair_of(rt, alloc, pair) })
+        .collect::<Vec<_>>(rt, alloc)?;
+    let mut contents = Vec::with_capacity(alloc, opened.len())?;
+    for pair in pairs {
+        contents.append(&mut pair?)?;
+    }
+    Ok(contents)
+}
+
+/// The bytes of two files, read side by side.
+fn pair_of<R: Threads + Sync>(rt: &R, alloc: Global, pair: &[File]) -> io::Result<Vec<Vec<u8>>> {
+    pair.par_iter()
+        .with_min_len(1)
+        .map(|file: &File| -> io::Result<Vec<u8>> { content_of(alloc, file) })
+        .collect::<io::Result<Vec<_>>>(rt, alloc)?
 }
 
 /// Puts other bytes into a file that is there, as synced ones.

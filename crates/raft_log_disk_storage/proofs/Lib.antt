@@ -17,3 +17,4 @@ pub mod Fronts
 pub mod Listings
 pub mod Growing
 pub mod Zeros
+pub mod Behind

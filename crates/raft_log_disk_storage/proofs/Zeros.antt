@@ -9,7 +9,7 @@ use Rattle.raft_log_disk.specs.Disk.{Change, Wrote, ShortenedTo, GrewTo, zeros, 
 use Rattle.raft_log_disk.proofs.ChangeLaws.{overwritten_torn}
 use Rattle.raft_log_disk_storage.proofs.Growing.{length-grown, length-written}
 
-get_or-grown : (size : ℕ) (old : List ℕ) (i : ℕ) → get_or (grown size old) i 0 ≡ get_or old i 0
+pub get_or-grown : (size : ℕ) (old : List ℕ) (i : ℕ) → get_or (grown size old) i 0 ≡ get_or old i 0
 get_or-grown size old i =
     let gap : ℕ = size - length old in
     elim (cases_lt i (length old)) [
@@ -64,7 +64,7 @@ spliced_outside at bytes old i out =
           ∙ (ap (λ (n : ℕ). get_or room n 0) reached ∙ get_or-grown end old i)))
     ]
 
-overwritten_outside : (at : ℕ) (bytes old : List ℕ) (i : ℕ) → (i < at) ⊎ (at + length bytes ≤ i) → get_or (overwritten at bytes old) i 0 ≡ get_or old i 0
+pub overwritten_outside : (at : ℕ) (bytes old : List ℕ) (i : ℕ) → (i < at) ⊎ (at + length bytes ≤ i) → get_or (overwritten at bytes old) i 0 ≡ get_or old i 0
 overwritten_outside at [] old i out = refl
 overwritten_outside at (b ∷ bs) old i out = spliced_outside at (b ∷ bs) old i out
 

@@ -1,3 +1,4 @@
+pub mod Zeros
 pub mod Former
 pub mod Changes
 pub mod Held

@@ -6,7 +6,7 @@ ghost use Rattle.raft_log_disk.specs.Disk.{grown, overwritten};
 use std::alloc::AllocError;
 
 // Fills up with zeros to a size. Without memory nothing changes.
-fn grow_to(bytes: &mut Vec<u8>, size: usize) -> Result<(), AllocError>
+pub(crate) fn grow_to(bytes: &mut Vec<u8>, size: usize) -> Result<(), AllocError>
     ensures { bytes.new.items ≡ (if is_ok result then grown size bytes.old.items else bytes.old.items) }
 {
     if bytes.len() < size {

@@ -1,31 +1,35 @@
-//! A file's bytes, of which the zeros at the end are only counted.
+//! A file's bytes, of which the zeros at the end are only counted, or wait for what is put over them.
 ghost use Rattle.std.specs.Prelude.{◌≡◌, ◌+◌, ◌-◌, ◌++◌, ◌<◌, ◌≤◌, ◌^◌, min, take, drop, length, OnOk, OnErr, IfOk};
 ghost use Rattle.raft_log_disk.specs.Disk.{grown, overwritten};
 
-use crate::bytes::{are_zeros, copy_out, overwrite};
+use crate::bytes::{are_zeros, copy_out, grow_to, overwrite};
 use std::alloc::{AllocError, Global};
 use std::marker::Model;
 
 // Each file is shorter than this.
 const LIMIT: usize = 1 << 63;
 
-/// A file's bytes, which contracts see as a list. Those behind the last one that was written are zeros and
-/// stand nowhere: room is kept for them, and a write puts its bytes there over nothing.
+/// A file's bytes, which contracts see as a list. Behind the last one that was written are zeros. Those that
+/// were allocated stand nowhere: room is kept for them. Those that were written stand in memory, so that what
+/// is written over them later waits for none. Either way a write puts its bytes there over nothing.
 #[derive(Debug, Drop)]
 pub struct Content {
     front: Vec<u8>,
+    // How many bytes there are before the zeros.
+    written: usize,
     size: usize,
 }
 
 impl Model for Content {
     ghost use Rattle.std.specs.Prelude.{ℕ, ◌<◌, ◌≤◌, ◌^◌, List, vec_len};
     ghost use Rattle.raft_log_disk.specs.Disk.{grown};
+    ghost use Rattle.raft_log_disk_storage.specs.Zeros.{HasZerosBehind};
 
     ghost Value = { List ℕ };
 
     ghost view = { λ c. grown c.size c.front.items };
 
-    ghost invariant = { λ c. (vec_len c.front ≤ c.size) × (c.size < 2 ^ 63) };
+    ghost invariant = { λ c. (vec_len c.front ≤ c.size) × ((c.size < 2 ^ 63) × HasZerosBehind c.written c.front.items) };
 }
 
 impl Content {
@@ -34,7 +38,11 @@ impl Content {
         ensures { result ≡ bytes.items }
     {
         let size = bytes.len();
-        Content { front: bytes, size }
+        Content {
+            front: bytes,
+            written: size,
+            size,
+        }
     }
 
     // The same bytes once more, with room for the zeros at their end.
@@ -42,9 +50,14 @@ impl Content {
         ensures { IfOk result (λ copy. copy ≡ self.now) }
     {
         let mut front = Vec::with_capacity(alloc, self.size)?;
-        front.extend_from_slice(&self.front)?;
+        front.extend_from_slice(self.front())?;
+        let written = front.len();
         let size = self.size;
-        Ok(Content { front, size })
+        Ok(Content {
+            front,
+            written,
+            size,
+        })
     }
 
     // How many bytes there are.
@@ -61,7 +74,7 @@ impl Content {
         ensures within { length result.now ≤ length self.now }
         ensures short { length result.now < 2 ^ 63 }
     {
-        &self.front
+        &self.front[..self.written]
     }
 
     // Copies the bytes from `offset` on until the room is full or they end, and answers how many.
@@ -93,18 +106,30 @@ impl Content {
     }
 
     // Puts bytes over the ones that stand from `offset` on, with zeros in a gap. Without memory nothing changes.
-    // A write of zeros behind the bytes at the front is counted too, as a growth is.
+    // Zeros behind the bytes at the front stay behind them.
     pub(crate) fn write(&mut self, offset: usize, over: &[u8]) -> Result<(), AllocError>
         requires { offset + length over.now < 2 ^ 64 }
         ensures ok { OnOk result (self.new ≡ overwritten offset over.now self.old) }
         ensures err { OnErr result (self.new ≡ self.old) }
     {
         let end = offset + over.len();
-        if self.front.len() <= offset && end < LIMIT && are_zeros(over) {
-            return self.grow(end);
+        if self.written <= offset && end < LIMIT && are_zeros(over) {
+            return self.fill(end);
         }
         overwrite(&mut self.front, offset, over)?;
+        self.written = self.written.max(end.min(self.front.len()));
         self.size = self.size.max(self.front.len());
+        Ok(())
+    }
+
+    // Fills up with zeros to a size, all of which stand in memory then. Without memory nothing changes.
+    fn fill(&mut self, size: usize) -> Result<(), AllocError>
+        requires { size < 2 ^ 63 }
+        ensures ok { OnOk result (self.new ≡ grown size self.old) }
+        ensures err { OnErr result (self.new ≡ self.old) }
+    {
+        grow_to(&mut self.front, size)?;
+        self.size = self.size.max(size);
         Ok(())
     }
 
@@ -113,6 +138,7 @@ impl Content {
         ensures { self.new ≡ take size self.old }
     {
         self.front.truncate(size);
+        self.written = self.written.min(size);
         self.size = self.size.min(size);
     }
 

@@ -1,6 +1,8 @@
 -- Both queues are purged: the exits, put together of what each half told.
-use Rattle.std.proofs.Common.{◌≡◌, ℕ, Bool, true, false, List, [], Option, inl, inr, sym, subst}
+use Rattle.std.proofs.Common.{◌≡◌, ℕ, Bool, true, false, List, [], Option, inl, inr, sym, ap, subst}
+use Rattle.std.proofs.lemmas.Bool.{false≢true}
 use Rattle.std.specs.Prelude.{Result, Ok, Err, IfErr, IfOk, OnOk}
+use Rattle.std.specs.Result.{result_ok}
 use Rattle.raft_log_model_laws.specs.Groups.{taken}
 use Rattle.raft_log_disk.specs.Causes.{IsLater}
 use Rattle.raft_log_record_base.specs.declared.errors.Error.{Error}
@@ -15,12 +17,17 @@ use Rattle.raft_log_purge_parts.specs.raft_log_engine_laws.specs.Holding.{Holds}
 use Rattle.raft_log_purge_parts.specs.raft_log_engine_laws.proofs.Settling.{settled_held}
 use Rattle.raft_log_purge_rules.specs.declared.thresholds.Thresholds.{Thresholds}
 use Rattle.raft_log_purge_rules.specs.declared.rounds.Rounds.{Rounds}
+use Rattle.raft_log_purge_rules.specs.Picking.{count_of}
+use Rattle.raft_log_purge_rules.specs.Surveying.{Surveys, SurveysIfTold}
+use Rattle.raft_log_purge_rules.specs.declared.survey.Survey.{Survey}
+use Rattle.raft_log_purge_rules.specs.declared.watermarks.Watermarks.{Watermarks}
 use Rattle.raft_log_purge_parts.proofs.PartExits.{later_on, same_later}
 use Rattle.raft_log_purge_parts.proofs.Reasons.{reason_after}
 use Rattle.raft_log_purge.specs.RewriteQueue.{FailsToRewriteRewrite, RewritesRewrite}
 use Rattle.raft_log_purge.specs.declared.expired_files.PurgeCounts.{PurgeCounts}
 use Rattle.raft_log_purge.specs.Append.{FailsToRewriteAppend}
 use Rattle.raft_log_purge.specs.Expired.{FailsToPurgeAppend, PurgesIfPast}
+use Rattle.raft_log_purge.specs.Counting.{CountsIf}
 use Rattle.raft_log_purge.specs.ExpiredFiles.{PurgesExpired, RewritesIfPast, SyncsAndRewrites}
 use Rattle.raft_log_purge.proofs.Whole.{held_behind, on_the_map}
 
@@ -48,6 +55,26 @@ purged_well thresholds held restated before after old new groups s t (inl (takes
   holds = λ home log h. settled_held home t log (purges.rewrites.settles home log h);
 }
 purged_well thresholds held restated before after old new groups s t (inr (leaves, lets)) = subst (GoesWell s) (sym lets.same) (goes_nowhere s)
+
+-- counting counts no round
+same_rounds : (wanted : Bool) (m : MemTables) (old new : PurgeCounts) → CountsIf wanted m old new → new.rounds ≡ old.rounds
+same_rounds true m old new counts = counts.rounds
+same_rounds false m old new same = ap (λ (k : PurgeCounts). k.rounds) same
+
+-- what was seen is so behind counting
+pub seen_behind : (wanted : Bool) (m : MemTables) (old new : PurgeCounts) (seen : Option Survey) → CountsIf wanted m old new → SurveysIfTold (count_of old.rounds) m seen → SurveysIfTold (count_of new.rounds) m seen
+seen_behind wanted m old new seen counts h = subst (λ (r : Rounds). SurveysIfTold (count_of r) m seen) (sym (same_rounds wanted m old new counts)) h
+
+-- what was seen up to watermarks, if anything was, is told with them
+pub seen_told : {E : Type 0} (marks : Watermarks) (counts : ℕ → ℕ) (m : MemTables) (q : Result Survey E) → IfOk q (Surveys marks counts false m) → SurveysIfTold counts m (result_ok q)
+seen_told marks counts m (Ok seen) h = subst (λ (w : Watermarks). Surveys w counts false m seen) (sym h.upto) h
+seen_told marks counts m (Err e) h = tt
+
+-- where Rewrite wasn't rewritten, what was seen of the tables is so
+pub still_surveyed : (thresholds : Thresholds) (old new : GlobalStats) (before after : MemTables) (restated : Bool) (s t : Shows) (counts : ℕ → ℕ) (known : Option Survey)
+    → RewritesIfPast thresholds old new before after restated s t → SurveysIfTold counts before known → restated ≡ false → SurveysIfTold counts after known
+still_surveyed thresholds old new before after true s t counts known rewrites seen not = absurd (false≢true (sym not))
+still_surveyed thresholds old new before after false s t counts known (leaves, tables, same, stats) seen not = subst (λ (m : MemTables). SurveysIfTold counts m known) (sym tables) seen
 
 module _ (s : Shows) (synced : LogPipes) (syncs : SyncsQueue InAppend s.pipes synced) (later : IsLater s.pipes.disk synced.disk) (lives : is_failed synced ≡ false) where
   abbrev behind : Shows

@@ -28,7 +28,6 @@ use Rattle.raft_log_purge_parts.specs.Marks.{CarriesMarks}
 use Rattle.raft_log_purge_parts.specs.Moving.{IsRewrittenTo}
 use Rattle.raft_log_purge_parts.specs.Parts.{PartIsRefused}
 use Rattle.raft_log_purge_parts.specs.Rewriting.{OweNothing}
-use Rattle.raft_log_purge_parts.specs.Reasons.{HasFileReason}
 use Rattle.raft_log_purge_parts.proofs.Grouping.{among, part_wider}
 use Rattle.raft_log_purge_parts.proofs.Leasts.{queue_may_begin}
 use Rattle.raft_log_purge_parts.proofs.PartExits.{alive_ok, later_on, same_later, tells_err}

@@ -52,9 +52,9 @@ pub fn purge_and_count<P: PipeLog, L: Log>(
     ensures numbered { counts.old.number ≤ counts.new.number }
 {
     let past = is_any_past(thresholds, pipes);
-    counts.count_if(past, tables);
+    let seen = counts.count_and_survey(alloc, past, thresholds, pipes, tables);
     let Purged { answered, standing } = purge_expired_files(
-        alloc, rt, thresholds, pipes, tables, cache, counts,
+        alloc, rt, thresholds, pipes, tables, cache, counts, seen,
     )?;
     counts.count_behind(past, standing, tables);
     Ok(answered)

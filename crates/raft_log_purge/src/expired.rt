@@ -1,12 +1,15 @@
 //! Append is purged once its files are past their threshold: some groups are asked to be compacted, others are
 //! rewritten, and then files go.
 
-ghost use Rattle.std.specs.Prelude.{◌≡◌, ◌==◌, IfErr, IfOk, OnErr, OnOk};
+ghost use Rattle.std.specs.Prelude.{◌≡◌, ◌==◌, false, IfErr, IfOk, IsSome, OnErr, OnOk};
 ghost use Rattle.std.specs.List.{list_any};
 ghost use Rattle.raft_log_purge_parts.specs.raft_log_engine_laws.specs.Shows.{shows};
 ghost use Rattle.raft_log_table_all.specs.Owing.{AreOwed};
 ghost use Rattle.raft_log_table_all.specs.Tables.{IsAtRest};
 ghost use Rattle.raft_log_table_all.specs.Walking.{Stand};
+ghost use Rattle.raft_log_purge_rules.specs.Picking.{count_of};
+ghost use Rattle.raft_log_purge_rules.specs.Surveying.{SurveysIfTold};
+ghost use Rattle.raft_log_purge_rules.specs.Watermarks.{TakesAppend};
 ghost use Rattle.raft_log_purge.specs.Standing.{StandIfTold};
 ghost use Rattle.raft_log_purge.specs.Expired.{
   FailsToLoseBelow,
@@ -25,7 +28,7 @@ use raft_log_purge_parts::carry_marks;
 use raft_log_purge_parts::raft_log_file_blocks::BlockCache;
 use raft_log_purge_rules::{
     GroupLists, Rounds, Survey, Thresholds, Watermarks, answered_groups, append_watermarks,
-    survey_groups, takes_append,
+    survey_groups, survey_unless_known, takes_append,
 };
 use raft_log_record_base::{FileId, FileSeq, LogQueue, Result};
 use raft_log_record_items::LogItem;
@@ -60,6 +63,8 @@ pub struct PickedGroups {
 /// groups that are asked to be compacted, from the least up, and the round is counted; and where Rewrite was
 /// rewritten before, the groups that have many entries there too.
 ///
+/// A survey that was made of the tables before spares a walk over the groups, where Rewrite wasn't rewritten since.
+///
 /// Refused is `Memory` before anything is done, then what `rewrite_marks`, `rewrite_groups`, a sync and files
 /// that go refuse: the map stays, and no round is counted.
 pub fn purge_append<P: PipeLog, L: Log>(
@@ -72,7 +77,9 @@ pub fn purge_append<P: PipeLog, L: Log>(
     rounds: &mut Rounds,
     held: Option<FileSeq>,
     restated: bool,
+    known: Option<Survey>,
 ) -> Result<Purged>
+    requires { restated ≡ false → SurveysIfTold (count_of rounds.old) tables.old known }
     ensures ok { IfOk result (λ purged. PurgesIfPast thresholds.now held restated tables.old tables.new
         rounds.old rounds.new purged.answered.items
         (shows (P.shown pipes.old) tables.old cache.old) (shows (P.shown pipes.new) tables.new cache.new)) }
@@ -89,7 +96,29 @@ pub fn purge_append<P: PipeLog, L: Log>(
             standing: None,
         });
     }
-    purge_by_rules(alloc, rt, pipes, tables, cache, rounds, held, restated)
+    purge_by_rules(
+        alloc, rt, pipes, tables, cache, rounds, held, restated, known,
+    )
+}
+
+/// What a purge of Append has to know of all groups, where Append is past its threshold and Rewrite wasn't
+/// rewritten: none where memory is short.
+pub(crate) fn survey_if_past<P: PipeLog>(
+    alloc: Global,
+    thresholds: &Thresholds,
+    pipes: &P,
+    tables: &MemTables,
+    rounds: &Rounds,
+) -> Option<Survey>
+    ensures past { IsSome result → TakesAppend thresholds.now (P.shown pipes.now) }
+    ensures seen { SurveysIfTold (count_of rounds.now) tables.now result }
+{
+    if takes_append(thresholds, pipes) {
+        let watermarks = append_watermarks(pipes);
+        survey_groups(alloc, tables, &watermarks, rounds, false).ok()
+    } else {
+        None
+    }
 }
 
 /// Purges Append, whatever its size is.
@@ -102,7 +131,9 @@ fn purge_by_rules<P: PipeLog, L: Log>(
     rounds: &mut Rounds,
     held: Option<FileSeq>,
     restated: bool,
+    known: Option<Survey>,
 ) -> Result<Purged>
+    requires { restated ≡ false → SurveysIfTold (count_of rounds.old) tables.old known }
     ensures ok { IfOk result (λ purged. PurgesAppend held restated tables.old tables.new
         rounds.old rounds.new purged.answered.items
         (shows (P.shown pipes.old) tables.old cache.old) (shows (P.shown pipes.new) tables.new cache.new)) }
@@ -113,7 +144,7 @@ fn purge_by_rules<P: PipeLog, L: Log>(
     ensures rests { IsAtRest tables.old → IsAtRest tables.new }
 {
     let watermarks = append_watermarks(pipes);
-    let picked = pick_groups(alloc, tables, &watermarks, rounds, restated)?;
+    let picked = pick_groups(alloc, tables, &watermarks, rounds, restated, known)?;
     let gate = watermarks.rewrite;
     let standing = rewrite_picked(
         alloc,
@@ -133,17 +164,22 @@ fn purge_by_rules<P: PipeLog, L: Log>(
     })
 }
 
-/// Picks groups by the rules, and takes the marks that are owed, by one walk over the groups.
+/// Picks groups by the rules, and takes the marks that are owed: by what was seen of the groups before, or by one
+/// walk over them.
 fn pick_groups(
     alloc: Global,
     tables: &MemTables,
     watermarks: &Watermarks,
     rounds: &Rounds,
     restated: bool,
+    known: Option<Survey>,
 ) -> Result<PickedGroups, AllocError>
+    requires { restated ≡ false → SurveysIfTold (count_of rounds.now) tables.now known }
     ensures { IfOk result (PicksGroups watermarks.now restated tables.now rounds.now) }
 {
-    let Survey { picked, marks, .. } = survey_groups(alloc, tables, watermarks, rounds, restated)?;
+    let Survey { picked, marks, .. } = survey_unless_known(
+        alloc, tables, watermarks, rounds, restated, known,
+    )?;
     let GroupLists {
         asked,
         rewritten,

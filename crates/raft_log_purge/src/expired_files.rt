@@ -5,6 +5,8 @@ ghost use Rattle.raft_log_record_base.specs.declared.pipe_log.LogQueue.TheVarian
 ghost use Rattle.raft_log_file_pair.specs.HoldingBack.{PipesHoldBack};
 ghost use Rattle.raft_log_purge_parts.specs.raft_log_engine_laws.specs.Shows.{shows};
 ghost use Rattle.raft_log_table_all.specs.Tables.{IsAtRest};
+ghost use Rattle.raft_log_purge_rules.specs.Picking.{count_of};
+ghost use Rattle.raft_log_purge_rules.specs.Surveying.{SurveysIfTold};
 ghost use Rattle.raft_log_purge.specs.Garbage.{CountsRefused};
 ghost use Rattle.raft_log_purge.specs.RewriteQueue.{FailsToRewriteRewrite, reset_counts};
 ghost use Rattle.raft_log_purge.specs.Standing.{StandIfTold};
@@ -17,12 +19,12 @@ ghost use Rattle.raft_log_purge.specs.ExpiredFiles.{
   SyncsAndRewrites,
 };
 
-use crate::expired::{Purged, purge_append};
+use crate::expired::{Purged, purge_append, survey_if_past};
 use crate::rewrite_queue::rewrite_rewrite_queue;
 use log::Log;
 use raft_log_file_pair::PipeLog;
 use raft_log_purge_parts::raft_log_file_blocks::BlockCache;
-use raft_log_purge_rules::{Rounds, Thresholds, takes_rewrite};
+use raft_log_purge_rules::{Rounds, Survey, Thresholds, takes_rewrite};
 use raft_log_record_base::{LogQueue, Result};
 use raft_log_table_all::MemTables;
 use raft_log_table_one::GlobalStats;
@@ -45,6 +47,7 @@ impl PurgeCounts {
     ghost use Rattle.raft_log_table_one.specs.Stats.{added, no_entries};
     ghost use Rattle.raft_log_purge.specs.Counting.{counted, CountsIf, CountsStanding};
     ghost use Rattle.raft_log_purge.specs.Standing.{StandIfTold};
+    ghost use Rattle.raft_log_purge_rules.specs.Surveying.{SurveysIfTold};
 
     /// So many entries and values were written to Rewrite before; nothing else was counted yet.
     pub fn new(alloc: Global, written: u64) -> PurgeCounts
@@ -92,6 +95,32 @@ impl PurgeCounts {
         }
     }
 
+    /// Brings the counts to what stands in Rewrite, if that is wanted. Where Append is past its threshold, the same
+    /// walk over the groups makes the survey for its purge, which is answered; else, and where memory is short,
+    /// there is none.
+    pub(crate) fn count_and_survey<P: PipeLog>(
+        &mut self,
+        alloc: Global,
+        wanted: bool,
+        thresholds: &Thresholds,
+        pipes: &P,
+        tables: &MemTables,
+    ) -> Option<Survey>
+        ensures counted { CountsIf wanted tables.now self.old self.new }
+        ensures seen { SurveysIfTold (count_of self.new.rounds) tables.now result }
+    {
+        match survey_if_past(alloc, thresholds, pipes, tables, &self.rounds) {
+            Some(seen) => {
+                self.count_behind(wanted, Some(seen.standing), tables);
+                Some(seen)
+            }
+            None => {
+                self.count_if(wanted, tables);
+                None
+            }
+        }
+    }
+
     /// Brings the counts to what stands in Rewrite, if that is wanted: to so much, where it was counted before.
     pub(crate) fn count_behind(&mut self, wanted: bool, standing: Option<u64>, tables: &MemTables)
         requires { StandIfTold standing tables.now }
@@ -110,6 +139,8 @@ impl PurgeCounts {
 /// least up; where Rewrite was rewritten, those that have many entries there too; and how much stands in Rewrite
 /// then, where Append was purged. The map stays, and nothing is pending.
 ///
+/// A survey that was made of the tables before spares a walk over the groups, where Rewrite isn't rewritten.
+///
 /// Refused is what a sync, a rotation, the marks, what is copied, and files that go refuse: the map stays, no
 /// round is counted, and the old copies of what was written to Rewrite again are counted as garbage.
 pub fn purge_expired_files<P: PipeLog, L: Log>(
@@ -120,7 +151,9 @@ pub fn purge_expired_files<P: PipeLog, L: Log>(
     tables: &mut MemTables,
     cache: &mut BlockCache,
     counts: &mut PurgeCounts,
+    known: Option<Survey>,
 ) -> Result<Purged>
+    requires { SurveysIfTold (count_of counts.old.rounds) tables.old known }
     ensures ok { IfOk result (λ purged. PurgesExpired (PipesHoldBack P.shown P.holds_back Append)
         thresholds.now tables.old tables.new counts.old counts.new purged.answered.items
         (shows (P.shown pipes.old) tables.old cache.old) (shows (P.shown pipes.new) tables.new cache.new)) }
@@ -138,7 +171,7 @@ pub fn purge_expired_files<P: PipeLog, L: Log>(
     let held = pipes.first_file_not_ready_for_purge(LogQueue::Append);
     let rounds = &mut counts.rounds;
     purge_append(
-        alloc, rt, thresholds, pipes, tables, cache, rounds, held, restated,
+        alloc, rt, thresholds, pipes, tables, cache, rounds, held, restated, known,
     )
 }
 

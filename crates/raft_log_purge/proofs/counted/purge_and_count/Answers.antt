@@ -6,8 +6,8 @@ pub returns-clause-ok : goal.returns-clause-ok
 returns-clause-ok g c = record {
   past = c.is_any_past-past.result;
   tells = c.is_any_past-past.ensures;
-  counted = c.count_if.new.self;
-  first = c.count_if.ensures;
+  counted = c.count_and_survey-seen.new.self;
+  first = c.count_and_survey-seen.ensures.counted;
   purged = c.purge_expired_files.new.counts;
   purges = c.in_ok-answered.ensures.ok;
   second = c.count_behind.ensures;
@@ -24,7 +24,7 @@ returns-in_err-answered-clause-kept g c =
     rw p.1 (record {
       past = c.is_any_past-past.result;
       tells = c.is_any_past-past.ensures;
-      counted = c.count_if.new.self;
-      first = c.count_if.ensures;
+      counted = c.count_and_survey-seen.new.self;
+      first = c.count_and_survey-seen.ensures.counted;
       kept = c.in_err-answered.ensures.kept;
     })

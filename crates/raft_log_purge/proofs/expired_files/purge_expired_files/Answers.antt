@@ -4,9 +4,18 @@ use Rattle.raft_log_record_base.specs.declared.pipe_log.LogQueue.TheVariants.{Ap
 use Rattle.raft_log_file_pair.specs.HoldingBack.{PipesHoldBack}
 use Rattle.raft_log_purge_parts.specs.raft_log_engine_laws.specs.Shows.{shows}
 use Rattle.raft_log_purge_parts.proofs.PartExits.{alive_ok}
-use Rattle.raft_log_purge.proofs.Expiring.{not_restated, whole_purged, whole_unpurged}
+use Rattle.raft_log_purge_rules.specs.Picking.{count_of}
+use Rattle.raft_log_purge.proofs.Expiring.{not_restated, still_surveyed, whole_purged, whole_unpurged}
 use Rattle.raft_log_purge.proofs.Whole.{append_unsynced}
 use Rattle.raft_log_purge.proofs.expired_files.purge_expired_files.Goals as goal
+
+pub purge_append-requires : goal.purge_append-requires
+purge_append-requires g c = λ not.
+    let s = shows (g.P.PipeLog.shown c.args.pipes.now) c.args.tables.now c.args.cache.now in
+    let behind = shows (g.P.PipeLog.shown c.sync.new.self) c.args.tables.now c.args.cache.now in
+    let t = shows (g.P.PipeLog.shown c.purge_rewrite.new.pipes) c.purge_rewrite.new.tables c.purge_rewrite.new.cache in
+    still_surveyed c.args.thresholds.now c.args.counts.now.stats c.purge_rewrite.new.stats c.args.tables.now c.purge_rewrite.new.tables c.in_ok-restated.restated behind t (count_of c.args.counts.now.rounds) c.args.known
+    c.in_ok-restated.ensures.ok c.requires not
 
 pub returns-in_err-sync-clause-err : goal.returns-in_err-sync-clause-err
 returns-in_err-sync-clause-err g c =

@@ -314,7 +314,7 @@ fn cleans_of(count: u64) -> Result<Vec<Vec<u8>>> {
     let mut batch = Batch::new();
     let mut records = Vec::new();
     for number in 0..count {
-        records.push(put_of(&mut batch, 1, &number.to_le_bytes(), b"1")?);
+        records.push(put_of(&mut batch, 1, &number.to_be_bytes(), b"1")?);
     }
     for _ in 0..count / 10 {
         records.push(record_of(&mut batch, Item { group: 1, content: Content::Command(Command::Clean) })?);

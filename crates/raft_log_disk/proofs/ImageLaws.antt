@@ -8,10 +8,10 @@ use Rattle.std.proofs.Common.{refl, sym, ◌∙◌, ap, subst, arith, inl, inr}
 use Rattle.std.proofs.Math.ListN.{set}
 use Rattle.std.proofs.lemmas.List.{ext_get_or, get_or-set_other, length-set}
 use Rattle.std.proofs.lemmas.List.Elements.{All-nil, All-contains, All-weaker}
-use Rattle.std.proofs.lemmas.Bool.{cases_lt}
+use Rattle.std.proofs.lemmas.Bool.{cases_lt, false≢true}
 use std.Path.{fun_ext}
 use Rattle.raft_log_disk.specs.Disk.{Change, File, Disk, at_rest, file_limit}
-use Rattle.raft_log_disk.specs.Laws.{SyncedFileHasOneImage, NamedIsUsed, ImagesStay}
+use Rattle.raft_log_disk.specs.Laws.{SyncedFileHasOneImage, NamedIsUsed, AbsentHoldsNoName, ImagesStay}
 use Rattle.raft_log_disk.specs.Calls.{with_marks, counted, at_stop, flushed}
 use Rattle.raft_log_disk.specs.Image.{Touches, Spares, end_of, IsLeft, IsFileImage, IsImage, IsSoundFile, IsSound, as_it_stands, IsAllSynced}
 
@@ -159,6 +159,7 @@ image_is_sound d image sound is = record {
   named = λ path id at none. sound.named path id (name_of path id at) (file_there (d.files id) (image.files id) (is.files id) none);
   one_name = λ a b id at_a at_b. sound.one_name a b id (name_of a id at_a) (name_of b id at_b);
   apart = λ path id at. ap (λ (f : List ℕ → Bool). f path) is.directories ∙ sound.apart path id (name_of path id at);
+  home = λ q path id at inside. ap (λ (f : List ℕ → Bool). f q) is.directories ∙ sound.home q path id (name_of path id at) inside;
   fresh = λ id above. file_absent (d.files id) (image.files id) (is.files id) (sound.fresh id (subst (λ (n : ℕ). n ≤ id) is.unused above));
   files = λ id. file_sound (d.files id) (image.files id) (sound.files id) (is.files id);
 }
@@ -169,6 +170,14 @@ image_is_sound d image sound is = record {
 -- a name leads to a number that was given
 pub named_is_used : NamedIsUsed
 named_is_used d path id sound at = elim (cases_lt id d.unused) [ inl less ↦ less | inr above ↦ absurd (sound.named path id at (sound.fresh id above)) ]
+
+-- no name lies in a directory that isn't there
+pub absent_holds_no_name : AbsentHoldsNoName
+absent_holds_no_name d directory path sound absent inside = by_name (d.names path) refl
+  where
+    by_name : (o : Option ℕ) → d.names path ≡ o → d.names path ≡ None
+    by_name None none = none
+    by_name (Some id) named = absurd (false≢true (sym absent ∙ sound.home directory path id named inside))
 
 -- what a stop may leave doesn't depend on marks, counts and stops
 images_alike : (d e image : Disk) → d.directories ≡ e.directories → d.names ≡ e.names → d.files ≡ e.files → d.unused ≡ e.unused → IsImage d image → IsImage e image

@@ -1,4 +1,5 @@
 pub mod Updates
+pub mod PathLaws
 pub mod ImageLaws
 pub mod ChangeLaws
 pub mod SoundLaws

@@ -7,11 +7,12 @@ use Rattle.std.proofs.Common.{refl, sym, ◌∙◌, ap, subst, arith, inl, inr, 
 use Rattle.std.proofs.lemmas.List.Elements.{All-nil, All-push}
 use Rattle.std.proofs.lemmas.Bool.{cases_eq, cases_Bool}
 use Rattle.std.proofs.lemmas.Slice.Eq.{bytes_eq-Decides}
-use Rattle.raft_log_disk.specs.Disk.{Change, File, Disk, at_rest, with_file, file_limit}
+use Rattle.raft_log_disk.specs.Disk.{Change, File, Disk, HasDirectory, IsPathIn, at_rest, with_file, file_limit}
 use Rattle.raft_log_disk.specs.Image.{end_of, IsSoundFile, IsSound}
 use Rattle.raft_log_disk.specs.Calls.{with_change, after_change, flushed, created, deleted, without, renamed, with_directory, with_marks, counted, at_stop, InPart}
 use Rattle.raft_log_disk.proofs.ImageLaws.{left_at_rest, rest_sound}
 use Rattle.raft_log_disk.proofs.ChangeLaws.{part_may, left_changed, changed_in_part}
+use Rattle.raft_log_disk.proofs.PathLaws.{home_there}
 use Rattle.raft_log_disk.proofs.Updates.{name_case, file_case, file_here, file_apart}
 
 pub empty_sound : IsSoundFile (at_rest [])
@@ -40,6 +41,7 @@ sound_with_file d id old next sound is fine = record {
   named = λ path j at none. elim (file_case d.files id (Some next) j None none) [ inl here ↦ cc (here.1) | inr there ↦ sound.named path j at there.1 ];
   one_name = sound.one_name;
   apart = sound.apart;
+  home = sound.home;
   fresh = λ j above. file_apart d.files id (Some next) j (λ same. cc (sound.fresh j above)) ∙ sound.fresh j above;
   files = λ j file at. elim (file_case d.files id (Some next) j (Some file) at) [
     | inl here ↦ (let same : next ≡ file = cc (here.1) in subst IsSoundFile same fine)
@@ -49,17 +51,17 @@ sound_with_file d id old next sound is fine = record {
 
 -- after a failure, at a stop, and with other marks
 pub sound_counted : (error : ErrorKind) (d : Disk) → IsSound d → IsSound (counted error d)
-sound_counted error d sound = record { named = sound.named; one_name = sound.one_name; apart = sound.apart; fresh = sound.fresh; files = sound.files }
+sound_counted error d sound = record { named = sound.named; one_name = sound.one_name; apart = sound.apart; home = sound.home; fresh = sound.fresh; files = sound.files }
 
 pub sound_at_stop : (d : Disk) → IsSound d → IsSound (at_stop d)
-sound_at_stop d sound = record { named = sound.named; one_name = sound.one_name; apart = sound.apart; fresh = sound.fresh; files = sound.files }
+sound_at_stop d sound = record { named = sound.named; one_name = sound.one_name; apart = sound.apart; home = sound.home; fresh = sound.fresh; files = sound.files }
 
 pub sound_with_marks : (marks : ℕ → ℕ → Bool) (d : Disk) → IsSound d → IsSound (with_marks marks d)
-sound_with_marks marks d sound = record { named = sound.named; one_name = sound.one_name; apart = sound.apart; fresh = sound.fresh; files = sound.files }
+sound_with_marks marks d sound = record { named = sound.named; one_name = sound.one_name; apart = sound.apart; home = sound.home; fresh = sound.fresh; files = sound.files }
 
 -- with a new file
-pub sound_created : (d : Disk) (path : List ℕ) → IsSound d → d.names path ≡ None → d.directories path ≡ false → IsSound (created path d)
-sound_created d path sound free apart = record {
+pub sound_created : (d : Disk) (path : List ℕ) → IsSound d → d.names path ≡ None → d.directories path ≡ false → HasDirectory path d → IsSound (created path d)
+sound_created d path sound free apart home = record {
   named = λ p j at none. elim (file_case d.files d.unused (Some (at_rest [])) j None none) [
     | inl here ↦ cc (here.1)
     | inr there ↦ elim (name_case d.names path (Some d.unused) p (Some j) at) [
@@ -81,6 +83,10 @@ sound_created d path sound free apart = record {
     | inl new ↦ ap d.directories new.0 ∙ apart
     | inr old ↦ sound.apart p j old.1
   ];
+  home = λ q p j at inside. elim (name_case d.names path (Some d.unused) p (Some j) at) [
+    | inl new ↦ home_there q path d home (subst (IsPathIn q) new.0 inside)
+    | inr old ↦ sound.home q p j old.1 inside
+  ];
   fresh = λ j above. file_apart d.files d.unused (Some (at_rest [])) j (λ same. omega (arith, same)) ∙ sound.fresh j (omega arith);
   files = λ j file at. elim (file_case d.files d.unused (Some (at_rest [])) j (Some file) at) [
     | inl new ↦ (let same : at_rest [] ≡ file = cc (new.1) in subst IsSoundFile same empty_sound)
@@ -98,6 +104,7 @@ sound_deleted d path id sound is = record {
       sound.named p j old.1 (sym (file_apart d.files id None j (λ same. old.0 (sound.one_name p path j old.1 (is ∙ ap Some (sym same))))) ∙ none);
   one_name = λ a b j at_a at_b. sound.one_name a b j (kept a j at_a).1 (kept b j at_b).1;
   apart = λ p j at. sound.apart p j (kept p j at).1;
+  home = λ q p j at. sound.home q p j (kept p j at).1;
   fresh = λ j above. elim (cases_eq j id) [
     | inl same ↦ subst (λ (q : ℕ). update nat_eq d.files id None q ≡ None) (sym same) (file_here d.files id None)
     | inr apart ↦ file_apart d.files id None j apart ∙ sound.fresh j above
@@ -128,8 +135,8 @@ without_none (Some id) files j none = elim (cases_eq j id) [
 ]
 
 -- with a file under another name
-pub sound_renamed : (d : Disk) (from to : List ℕ) (id : ℕ) → IsSound d → d.names from ≡ Some id → d.directories to ≡ false → IsSound (renamed from to id d)
-sound_renamed d from to id sound is apart = record {
+pub sound_renamed : (d : Disk) (from to : List ℕ) (id : ℕ) → IsSound d → d.names from ≡ Some id → d.directories to ≡ false → HasDirectory to d → IsSound (renamed from to id d)
+sound_renamed d from to id sound is apart home = record {
   named = λ p j at none. elim (moved p j at) [
     | inl new ↦ sound.named from id is (sym (file_here (without (d.names to) d.files) id (d.files id))
         ∙ subst (λ (q : ℕ). update nat_eq (without (d.names to) d.files) id (d.files id) q ≡ None) (sym new.1) none)
@@ -148,6 +155,10 @@ sound_renamed d from to id sound is apart = record {
     ]
   ];
   apart = λ p j at. elim (moved p j at) [ inl new ↦ ap d.directories new.0 ∙ apart | inr old ↦ sound.apart p j old.2 ];
+  home = λ q p j at inside. elim (moved p j at) [
+    | inl new ↦ home_there q to d home (subst (IsPathIn q) new.0 inside)
+    | inr old ↦ sound.home q p j old.2 inside
+  ];
   fresh = λ j above. elim (cases_eq j id) [
     | inl same ↦ subst (λ (q : ℕ). update nat_eq (without (d.names to) d.files) id (d.files id) q ≡ None) (sym same)
         (file_here (without (d.names to) d.files) id (d.files id) ∙ sound.fresh id (omega (arith, same)))
@@ -176,5 +187,9 @@ sound_with_directory d path sound free = record {
   apart = λ p j at. elim (cases_Bool (bytes_eq path p)) [
     | inl hit ↦ (let same : path ≡ p = (bytes_eq-Decides path p).0 hit in let none : d.names p ≡ None = ap d.names (sym same) ∙ free in cc (none, at))
     | inr miss ↦ ap (λ (b : Bool). cond b true (d.directories p)) miss ∙ sound.apart p j at
+  ];
+  home = λ q p j at inside. elim (cases_Bool (bytes_eq path q)) [
+    | inl hit ↦ ap (λ (b : Bool). cond b true (d.directories q)) hit
+    | inr miss ↦ ap (λ (b : Bool). cond b true (d.directories q)) miss ∙ sound.home q p j at inside
   ];
 }

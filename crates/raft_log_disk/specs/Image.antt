@@ -1,8 +1,8 @@
 -- What a stop at this moment may leave.
-use Rattle.std.specs.Prelude.{◌≡◌, ℕ, ◌+◌, ◌<◌, ◌≤◌, false, Option, Some, None, List, [], length, slice_index}
+use Rattle.std.specs.Prelude.{◌≡◌, ℕ, ◌+◌, ◌<◌, ◌≤◌, true, false, Option, Some, None, List, [], length, slice_index}
 use Rattle.std.specs.List.{All}
 use Rattle.std.specs.Option.{option_map}
-use Rattle.raft_log_disk.specs.Disk.{Change, Wrote, ShortenedTo, GrewTo, File, Disk, at_rest, file_limit}
+use Rattle.raft_log_disk.specs.Disk.{Change, Wrote, ShortenedTo, GrewTo, File, Disk, IsPathIn, at_rest, file_limit}
 use Rattle.raft_log_disk.specs.Calls.{flushed}
 
 -- a change touches each place of a written range, and each one from the size on to which it shortens
@@ -56,12 +56,14 @@ pub record IsSoundFile (file : File) : Type 0 where
   pub short : length file.synced < file_limit
   pub ends : All (λ change. end_of change < file_limit) file.changes
 
--- A disk is sound if a name has a file and no file has two names, no path is a file's and a directory's, a
--- new file's number was never used, and each file is sound.
+-- A disk is sound if a name has a file and no file has two names, no path is a file's and a directory's, no
+-- name lies in a directory that isn't there, a new file's number was never used, and each file is sound.
 pub record IsSound (d : Disk) : Type 0 where
   pub named : (path : List ℕ) (id : ℕ) → d.names path ≡ Some id → d.files id ≡ None → ⊥
   pub one_name : (a b : List ℕ) (id : ℕ) → d.names a ≡ Some id → d.names b ≡ Some id → a ≡ b
   pub apart : (path : List ℕ) (id : ℕ) → d.names path ≡ Some id → d.directories path ≡ false
+  pub home : (directory path : List ℕ) (id : ℕ) → d.names path ≡ Some id → IsPathIn directory path
+      → d.directories directory ≡ true
   pub fresh : (id : ℕ) → d.unused ≤ id → d.files id ≡ None
   pub files : (id : ℕ) (file : File) → d.files id ≡ Some file → IsSoundFile file
 

@@ -3,7 +3,7 @@ use Rattle.std.specs.Prelude.{◌≡◌, ℕ, ◌<◌, Bool, false, Some, None, 
 use Rattle.std.specs.List.{Contains}
 use Rattle.std.specs.declared.io.ErrorKind.{ErrorKind}
 use Rattle.std.proofs.Math.ListN.{set}
-use Rattle.raft_log_disk.specs.Disk.{Change, File, Disk, at_rest, with_file, file_limit}
+use Rattle.raft_log_disk.specs.Disk.{Change, File, Disk, IsPathIn, HasDirectory, at_rest, with_file, file_limit}
 use Rattle.raft_log_disk.specs.Image.{Touches, end_of, IsLeft, IsImage, IsSound, as_it_stands, IsAllSynced}
 use Rattle.raft_log_disk.specs.Calls.{with_change, flushed, created, deleted, renamed, with_directory, with_marks, counted, at_stop, InPart, IsRight, RefusedChange, RefusedWhole}
 use Rattle.raft_log_disk.specs.Causes.{HasCause, Fails, IsUndisturbed}
@@ -76,11 +76,11 @@ pub record CallsKeepSound : Type 0 where
   pub sync : (d : Disk) (id : ℕ) (file : File) → IsSound d → d.files id ≡ Some file
       → IsSound (with_file id (Some (flushed file)) d)
   pub create : (d : Disk) (path : List ℕ) → IsSound d → d.names path ≡ None → d.directories path ≡ false
-      → IsSound (created path d)
+      → HasDirectory path d → IsSound (created path d)
   pub delete : (d : Disk) (path : List ℕ) (id : ℕ) → IsSound d → d.names path ≡ Some id
       → IsSound (deleted path id d)
   pub rename : (d : Disk) (from to : List ℕ) (id : ℕ) → IsSound d → d.names from ≡ Some id
-      → d.directories to ≡ false → IsSound (renamed from to id d)
+      → d.directories to ≡ false → HasDirectory to d → IsSound (renamed from to id d)
   pub directory : (d : Disk) (path : List ℕ) → IsSound d → d.names path ≡ None
       → IsSound (with_directory path d)
   pub failure : (error : ErrorKind) (d : Disk) → IsSound d → IsSound (counted error d)
@@ -89,6 +89,11 @@ pub record CallsKeepSound : Type 0 where
 -- a name leads to a number that was given
 abbrev pub NamedIsUsed : Type 0
 NamedIsUsed = (d : Disk) (path : List ℕ) (id : ℕ) → IsSound d → d.names path ≡ Some id → id < d.unused
+
+-- no name lies in a directory that isn't there
+abbrev pub AbsentHoldsNoName : Type 0
+AbsentHoldsNoName = (d : Disk) (directory path : List ℕ) → IsSound d → d.directories directory ≡ false
+    → IsPathIn directory path → d.names path ≡ None
 
 -- What a stop may leave doesn't depend on marks, on counted failures and their kinds, nor on whether the file
 -- system has stopped.

@@ -183,7 +183,7 @@ pub trait FileSystem {
         ensures err { OnErr result (disk self.new ≡ disk self.old) }
         ensures cause { IfErr result (IsUnarmed (disk self.old)) };
 
-    /// No file has two names, a name has a file, a new file's number was never used, and each file's content
-    /// is one of what a crash may leave.
+    /// No file has two names, a name has a file and lies in a directory that is there, a new file's number was
+    /// never used, and each file's content is one of what a crash may leave.
     ghost sound: { (system : Self) → IsSound (disk system) };
 }

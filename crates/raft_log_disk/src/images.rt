@@ -1,6 +1,6 @@
 //! Laws of what a crash may leave.
 
-ghost use Rattle.raft_log_disk.specs.Laws.{StandsIsImage, SyncedIsOnlyImage, SyncedFileHasOneImage, ImageOfImage, ImageIsSound, AnyByteLeft, ImagesStay, NamedIsUsed};
+ghost use Rattle.raft_log_disk.specs.Laws.{StandsIsImage, SyncedIsOnlyImage, SyncedFileHasOneImage, ImageOfImage, ImageIsSound, AnyByteLeft, ImagesStay, NamedIsUsed, AbsentHoldsNoName};
 
 /// A crash may leave the files as they stand.
 pub fn stands_is_an_image()
@@ -40,4 +40,9 @@ pub fn images_stay()
 /// A name leads to a number that was given, so a new file's number is none that a name leads to.
 pub fn names_lead_to_used_numbers()
     ensures { NamedIsUsed }
+{}
+
+/// A directory that isn't there holds no name, so none of a file that a crash left.
+pub fn absent_directories_hold_no_name()
+    ensures { AbsentHoldsNoName }
 {}

@@ -1,9 +1,10 @@
 -- A path's directory ends before its last slash.
-use Rattle.std.specs.Prelude.{◌≡◌, ℕ, ◌+◌, ◌-◌, ◌<◌, ◌≤◌, List, [], ◌∷◌, ◌++◌, length, suc}
+use Rattle.std.specs.Prelude.{◌≡◌, ℕ, ◌+◌, ◌-◌, ◌<◌, ◌≤◌, List, ◌∷◌, ◌++◌, length, suc}
 use Rattle.std.proofs.Common.{refl, sym, ◌∙◌, ap, arith, inl, inr, take, drop, get_or}
 use Rattle.std.proofs.lemmas.List.{take-append-drop, drop_more, get_or-drop, get_or-append_right, length-append, length-drop, take_at}
 use Rattle.std.proofs.lemmas.Bool.{cases_order}
 use Rattle.raft_log_disk.specs.Disk.{IsPathIn, IsPlain}
+use Rattle.raft_log_disk.proofs.PathLaws.{slash_in}
 
 pub own_parts : (path : List ℕ) (at : ℕ) → at < length path → get_or path at 0 ≡ 47 → ((i : ℕ) → at < i → i < length path → get_or path i 0 ≡ 47 → ⊥)
     → (path ≡ take at path ++ 47 ∷ drop (at + 1) path) × IsPlain (drop (at + 1) path)
@@ -14,10 +15,6 @@ own_parts path at below slash last = (
 
 pub own_path : (path : List ℕ) (at : ℕ) → at < length path → get_or path at 0 ≡ 47 → ((i : ℕ) → at < i → i < length path → get_or path i 0 ≡ 47 → ⊥) → IsPathIn (take at path) path
 own_path path at below slash last = let parts = own_parts path at below slash last in record { name = drop (at + 1) path; joined = parts.0; plain = parts.1 }
-
-slash_in : (directory name : List ℕ) → get_or (directory ++ 47 ∷ name) (length directory) 0 ≡ 47
-slash_in [] name = refl
-slash_in (b ∷ bs) name = slash_in bs name
 
 pub same_directory : (path directory : List ℕ) (at : ℕ) → IsPathIn directory path → at < length path → get_or path at 0 ≡ 47
     → ((i : ℕ) → at < i → i < length path → get_or path i 0 ≡ 47 → ⊥) → take at path ≡ directory
@@ -37,8 +34,3 @@ same_directory path directory at inside below slash last =
         | inr after ↦ absurd (last (length directory) after (omega (arith, size)) there)
       ]
     ]
-
-pub no_path : (path directory : List ℕ) → ((i : ℕ) → i < length path → get_or path i 0 ≡ 47 → ⊥) → IsPathIn directory path → ⊥
-no_path path directory none inside =
-    none (length directory) (omega (arith, ap length inside.joined, length-append directory (47 ∷ inside.name)))
-    (ap (λ (xs : List ℕ). get_or xs (length directory) 0) inside.joined ∙ slash_in directory inside.name)

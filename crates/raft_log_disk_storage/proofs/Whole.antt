@@ -9,7 +9,7 @@ use Rattle.std.proofs.lemmas.List.{get_or_past}
 use Rattle.std.proofs.lemmas.Slice.Eq.{bytes_eq-Decides}
 use Rattle.std.proofs.lemmas.Map.{update_same, update_other}
 use std.Path.{fun_ext}
-use Rattle.raft_log_disk.specs.Disk.{Change, File, with_file, file_limit}
+use Rattle.raft_log_disk.specs.Disk.{Change, File, HasDirectory, with_file, file_limit}
 use Rattle.raft_log_disk.specs.Image.{end_of, IsSound}
 use Rattle.raft_log_disk.specs.Calls.{flushed, created, deleted, without, renamed, with_directory}
 use Rattle.raft_log_disk.proofs.ImageLaws.{disk_ext}
@@ -214,16 +214,16 @@ adds_file old new path whole free nodes files made len =
           (λ s. ap (with_stamp s id) (files id ∙ file_here F id (Some (resting [])))));
     }
 
-pub whole_adds_file : (old new : Storage) (path : List ℕ) → IsStorageSound old → node_at old path ≡ None → AddsName (created path) old new
+pub whole_adds_file : (old new : Storage) (path : List ℕ) → IsStorageSound old → node_at old path ≡ None → HasDirectory path (contents_of old) → AddsName (created path) old new
     → ((q : ℕ) → held_of new.files.items q ≡ update nat_eq (held_of old.files.items) (vec_len old.files) (Some (resting [])) q)
     → new.made ≡ old.made → IsStorageSound new
-whole_adds_file old new path whole free added files made =
+whole_adds_file old new path whole free home added files made =
     let F = held_of old.files.items in
     let G = held_of new.files.items in
     let id = vec_len old.files in
     let now = files id ∙ file_here F id (Some (resting [])) in
     record {
-      sound = subst IsSound (sym added.contents) (sound_created (contents_of old) path whole.sound (ap file_named free) (ap is_directory free));
+      sound = subst IsSound (sym added.contents) (sound_created (contents_of old) path whole.sound (ap file_named free) (ap is_directory free) home);
       stamped = subst (λ (n : ℕ). AreStamped n G) (sym made)
           (emptied old.made id F G whole.stamped (now_apart F G id (Some (resting [])) files) (λ s. ap (with_stamp s id) now)
           (λ after at. same_changes (resting []) after (sym now ∙ at) refl));
@@ -394,13 +394,13 @@ stays_there old from to id same is = record {
         ])
 
 pub whole_moves : (old new : Storage) (from to : List ℕ) (id : ℕ) → IsStorageSound old → node_at old from ≡ Some (node.File id) → (node_at old to ≡ Some node.Directory → ⊥)
-    → MovesName from to id old new → AreStamped new.made (held_of new.files.items) → IsStorageSound new
-whole_moves old new from to id whole is apart moved are = record {
+    → HasDirectory to (contents_of old) → MovesName from to id old new → AreStamped new.made (held_of new.files.items) → IsStorageSound new
+whole_moves old new from to id whole is apart home moved are = record {
   sound = subst IsSound (sym moved.contents)
-      (sound_renamed (contents_of old) from to id whole.sound (ap file_named is) (not_directory (node_at old to) apart));
+      (sound_renamed (contents_of old) from to id whole.sound (ap file_named is) (not_directory (node_at old to) apart) home);
   stamped = are;
 }
 
 pub whole_moves_over : (old new : Storage) (from to : List ℕ) (id gone : ℕ) → IsStorageSound old → node_at old from ≡ Some (node.File id) → (node_at old to ≡ Some node.Directory → ⊥)
-    → MovesName from to id old new → ((q : ℕ) → held_of new.files.items q ≡ update nat_eq (held_of old.files.items) gone None q) → new.made ≡ old.made → IsStorageSound new
-whole_moves_over old new from to id gone whole is apart moved files made = whole_moves old new from to id whole is apart moved (gone_stamped old new gone whole files made)
+    → HasDirectory to (contents_of old) → MovesName from to id old new → ((q : ℕ) → held_of new.files.items q ≡ update nat_eq (held_of old.files.items) gone None q) → new.made ≡ old.made → IsStorageSound new
+whole_moves_over old new from to id gone whole is apart home moved files made = whole_moves old new from to id whole is apart home moved (gone_stamped old new gone whole files made)

@@ -314,10 +314,11 @@ impl Storage {
         Ok(())
     }
 
-    /// Adds an empty file under a new name; its node number is that of files that were ever made. It is
-    /// refused for want of memory alone.
+    /// Adds an empty file under a new name in a directory that is there; its node number is that of files
+    /// that were ever made. It is refused for want of memory alone.
     pub fn add_file(&mut self, path: &str) -> Result<(), AllocError>
         requires free { node_at self.old path.now ≡ None }
+        requires home { HasDirectory path.now (contents_of self.old) }
         requires whole { IsStorageSound self.old }
         ensures ok { OnOk result (AddsName (created path.now) self.old self.new) }
         ensures err { OnErr result (IsSame self.old self.new) }
@@ -354,11 +355,12 @@ impl Storage {
         self.drop_file(id);
     }
 
-    /// Puts a file under another name; a file that had that name is gone. It is refused for want of memory
-    /// alone.
+    /// Puts a file under another name, in a directory that is there; a file that had that name is gone. It is
+    /// refused for want of memory alone.
     pub fn rename_file(&mut self, from: &str, to: &str, id: usize) -> Result<(), AllocError>
         requires is { node_at self.old from.now ≡ Some (Node.File id) }
         requires apart { node_at self.old to.now ≡ Some Node.Directory → ⊥ }
+        requires home { HasDirectory to.now (contents_of self.old) }
         requires whole { IsStorageSound self.old }
         ensures ok { OnOk result (MovesName from.now to.now id self.old self.new) }
         ensures err { OnErr result (IsSame self.old self.new) }

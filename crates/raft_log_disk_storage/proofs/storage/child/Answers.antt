@@ -4,7 +4,8 @@ use Rattle.raft_log_disk.specs.Disk.{IsPathIn}
 use Rattle.raft_log_disk_storage.specs.declared.storage.Node.{Node}
 use Rattle.raft_log_disk_storage.specs.Listing.{IsChild}
 use Rattle.raft_log_disk_storage.specs.Storage.{file_named}
-use Rattle.raft_log_disk_storage.proofs.Paths.{own_parts, same_directory, no_path}
+use Rattle.raft_log_disk.proofs.PathLaws.{no_path}
+use Rattle.raft_log_disk_storage.proofs.Paths.{own_parts, same_directory}
 use Rattle.raft_log_disk_storage.proofs.storage.child.Goals as goal
 
 inside_of : (directory path name : List ℕ) (node : Node) → IsChild directory path node name → IsPathIn directory path

@@ -57,4 +57,4 @@ returns-clause-ok c =
 
 pub returns-clause-whole : goal.returns-clause-whole
 returns-clause-whole c =
-    whole_adds_file c.args.self.now (after c) c.args.path.now c.requires.whole c.requires.free (returns-clause-ok c) (files_of_ok c) c.name.ensures.made
+    whole_adds_file c.args.self.now (after c) c.args.path.now c.requires.whole c.requires.free c.requires.home (returns-clause-ok c) (files_of_ok c) c.name.ensures.made

@@ -1,7 +1,8 @@
 use Rattle.std.proofs.Common.{rules, sym, ◌∙◌, ap, ◌≡◌, ℕ, List, Some, None, take, lit<}
 use Rattle.std.proofs.lemmas.Str.Pattern.{rfind_char}
 use Rattle.raft_log_disk_storage.specs.Storage.{is_directory, node_at}
-use Rattle.raft_log_disk_storage.proofs.Paths.{own_path, same_directory, no_path}
+use Rattle.raft_log_disk.proofs.PathLaws.{no_path}
+use Rattle.raft_log_disk_storage.proofs.Paths.{own_path, same_directory}
 use Rattle.raft_log_disk_storage.proofs.storage.Storage.has_directory.Goals as goal
 
 pub returns-in-Some : goal.returns-in-Some

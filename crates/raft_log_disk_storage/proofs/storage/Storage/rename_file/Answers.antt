@@ -37,7 +37,7 @@ returns-in-Some-clause-ok c =
 pub returns-in-Some-clause-whole : goal.returns-in-Some-clause-whole
 returns-in-Some-clause-whole c =
     whole_moves_over c.args.self.now c.drop_file.new.self c.args.from.now c.args.to.now c.args.id c.in-Some.gone c.requires.whole c.requires.is c.requires.apart
-    (returns-in-Some-clause-ok c) (files_of_some c) (c.drop_file.ensures.made ∙ (c.unname.ensures.made ∙ c.name.ensures.made))
+    c.requires.home (returns-in-Some-clause-ok c) (files_of_some c) (c.drop_file.ensures.made ∙ (c.unname.ensures.made ∙ c.name.ensures.made))
 
 files_of_none : (c : goal.In-None) → (q : ℕ) → held_of c.unname.new.self.files.items q ≡ held_of c.args.self.now.files.items q
 files_of_none c q = ap (λ v. held_of v.items q) (c.unname.ensures.files ∙ c.name.ensures.files)
@@ -54,5 +54,5 @@ returns-in-None-clause-ok c =
 
 pub returns-in-None-clause-whole : goal.returns-in-None-clause-whole
 returns-in-None-clause-whole c =
-    whole_moves c.args.self.now c.unname.new.self c.args.from.now c.args.to.now c.args.id c.requires.whole c.requires.is c.requires.apart (returns-in-None-clause-ok c)
+    whole_moves c.args.self.now c.unname.new.self c.args.from.now c.args.to.now c.args.id c.requires.whole c.requires.is c.requires.apart c.requires.home (returns-in-None-clause-ok c)
     (stamped_kept c.args.self.now c.unname.new.self (files_of_none c) (c.unname.ensures.made ∙ c.name.ensures.made) c.requires.whole.stamped)

@@ -3,8 +3,8 @@ use Rattle.std.specs.Prelude.{⊤, ◌≡◌, ℕ, ◌+◌, ◌-◌, ◌<◌, �
 use Rattle.std.specs.List.{Contains}
 use Rattle.std.proofs.Common.{refl, sym, ◌∙◌, ap, subst, arith, inl, inr, get_or}
 use Rattle.std.proofs.lemmas.List.Sums.{sum_by-cons}
-use Rattle.raft_log_disk.specs.Disk.{Disk, IsPlain, IsPathIn}
-use Rattle.raft_log_disk_storage.proofs.Paths.{no_path}
+use Rattle.raft_log_disk.specs.Disk.{Disk, IsPathIn}
+use Rattle.raft_log_disk.proofs.PathLaws.{path_directory}
 use Rattle.raft_log_disk_memory.specs.Space.{size_at, HasUsed, unlimited, IsLeftFree, IsFree, MayGrowBy}
 
 -- a name is one of these, by recursion
@@ -116,23 +116,6 @@ used_once directory d a b one other =
     (λ q is. let there = one.listed.listed q (contained one.names q is) in is_in other.names q (other.listed.all q there.1 there.0))
     (λ q is. let there = other.listed.listed q (contained other.names q is) in is_in one.names q (one.listed.all q there.1 there.0))
     ∙ sym other.sum)
-
--- a path lies in one directory
-one_directory : (a b m n : List ℕ) → IsPlain m → IsPlain n → a ++ 47 ∷ m ≡ b ++ 47 ∷ n → a ≡ b
-one_directory [] [] m n plain_m plain_n same = refl
-one_directory [] (y ∷ ys) m n plain_m plain_n same =
-    let behind : m ≡ ys ++ 47 ∷ n = cc in
-    absurd (no_path m ys plain_m (record { name = n; joined = behind; plain = plain_n }))
-one_directory (x ∷ xs) [] m n plain_m plain_n same =
-    let behind : n ≡ xs ++ 47 ∷ m = cc in
-    absurd (no_path n xs plain_n (record { name = m; joined = behind; plain = plain_m }))
-one_directory (x ∷ xs) (y ∷ ys) m n plain_m plain_n same =
-    let first : x ≡ y = cc in
-    let behind : xs ++ 47 ∷ m ≡ ys ++ 47 ∷ n = cc in
-    ap (λ (b : ℕ). b ∷ xs) first ∙ ap (λ (q : List ℕ). y ∷ q) (one_directory xs ys m n plain_m plain_n behind)
-
-path_directory : (a b path : List ℕ) → IsPathIn a path → IsPathIn b path → a ≡ b
-path_directory a b path one other = one_directory a b one.name other.name one.plain other.plain (sym one.joined ∙ other.joined)
 
 left_once : (space : Option ℕ) (directory : List ℕ) (d : Disk) (a b : ℕ) → IsLeftFree space directory d a → IsLeftFree space directory d b → a ≡ b
 left_once None directory d a b one other = one ∙ sym other

@@ -284,6 +284,7 @@ impl FileSystem for MemoryFileSystem {
           named = storage.named;
           one_name = storage.one_name;
           apart = storage.apart;
+          home = storage.home;
           fresh = storage.fresh;
           files = storage.files;
         } };

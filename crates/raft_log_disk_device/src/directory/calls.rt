@@ -162,6 +162,7 @@ impl<D: Device> FileSystem for DirectoryFileSystem<D> {
           named = kept.named;
           one_name = kept.one_name;
           apart = kept.apart;
+          home = kept.home;
           fresh = kept.fresh;
           files = kept.files;
         } };

@@ -58,10 +58,13 @@ impl Found {
         Ok(())
     }
 
-    // Adds a file with its bytes, as synced ones.
+    // Adds a file with its bytes, as synced ones. Refused where its directory isn't there.
     fn add_file(&mut self, path: &str, opened: File, content: Vec<u8>) -> io::Result<()> {
         if self.storage.node(path).is_some() {
             return Err(ErrorKind::AlreadyExists.into());
+        }
+        if !self.storage.has_directory(path) {
+            return Err(ErrorKind::NotFound.into());
         }
         let file = self.storage.files.len();
         self.storage.add_file(path)?;

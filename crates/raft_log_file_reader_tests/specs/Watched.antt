@@ -17,6 +17,7 @@ with_mark_is_sound file place stopped d sound = record {
   named = sound.named;
   one_name = sound.one_name;
   apart = sound.apart;
+  home = sound.home;
   fresh = sound.fresh;
   files = sound.files;
 }

@@ -144,6 +144,7 @@ impl FileSystem for Keeping {
           named = storage.named;
           one_name = storage.one_name;
           apart = storage.apart;
+          home = storage.home;
           fresh = storage.fresh;
           files = storage.files;
         } };

@@ -14,7 +14,7 @@ use Rattle.raft_log_record_base.specs.declared.pipe_log.LogQueue.{LogQueue}
 use Rattle.raft_log_record_base.specs.declared.pipe_log.LogQueue.TheVariants.{Append, Rewrite}
 use Rattle.raft_log_disk.specs.Arguments.{WrongDirectory}
 use Rattle.raft_log_disk.specs.Calls.{with_directory}
-use Rattle.raft_log_disk.specs.Disk.{Disk}
+use Rattle.raft_log_disk.specs.Disk.{Disk, IsPathIn}
 use Rattle.raft_log_disk.specs.Image.{IsSound}
 use Rattle.raft_log_disk.proofs.KeptLaws.{kept_directory, IsCalm}
 use Rattle.raft_log_file_queue.specs.Beginning.{IsFresh}
@@ -51,6 +51,7 @@ use Rattle.raft_log_open_laws.proofs.Directory.{call_by_call, not_opened}
 use Rattle.raft_log_open_laws.proofs.Finding.{begun_directories, some_directory}
 use Rattle.raft_log_open_laws.proofs.Outcomes.{resting_logs_open_by_calls}
 use Rattle.raft_log_open_laws.proofs.ByCalls.{two_queues}
+use Rattle.raft_log_open_laws.proofs.Scanning.{stays_there}
 
 -- a counted call, and a stop, leave bare directories so
 pub bare_calm : (config : Config) → IsCalm (IsBare config)
@@ -171,8 +172,11 @@ module _ (config : Config) (d : Disk) (sound : IsSound d) (bare : IsBare config 
   still_apart path id at =
       made.others path (λ listed. (let none : d.names path ≡ None = bare.unnamed path listed in (let never : ⊥ = cc in absurd never))) ∙ sound.apart path id at
 
+  still_home : (directory path : List ℕ) (id : ℕ) → d.names path ≡ Some id → IsPathIn directory path → mid.directories directory ≡ true
+  still_home directory path id at inside = stays_there (paths_of config) d mid made directory (sound.home directory path id at inside)
+
   sound_mid : IsSound mid
-  sound_mid = subst IsSound (sym made.rest) (record { named = sound.named; one_name = sound.one_name; apart = still_apart; fresh = sound.fresh; files = sound.files })
+  sound_mid = subst IsSound (sym made.rest) (record { named = sound.named; one_name = sound.one_name; apart = still_apart; home = still_home; fresh = sound.fresh; files = sound.files })
 
   -- the same scan, once the directories are there
   again : FindsLog config found mid new

@@ -152,7 +152,7 @@ module _ (config : Config) (d : Disk) (m : LogMap) (pending : List Said) (left :
       let s = finds.scans in
       let made = subst (λ (l : List (List ℕ)). HasDirectories l d s.scanned) (begun_directories config finds.begun finds.begins) s.scans.made in
       let was : IsSound s.scanned = subst IsSound (sym (same_made (paths_of config) d dirs_there (paths_of config) (λ path listed. listed) s.scanned made)) sound in
-      subst IsSound (sym s.cleared.rest) (record { named = was.named; one_name = was.one_name; apart = was.apart; fresh = was.fresh; files = was.files })
+      subst IsSound (sym s.cleared.rest) (record { named = was.named; one_name = was.one_name; apart = was.apart; home = was.home; fresh = was.fresh; files = was.files })
 
   pub stops_uncut : (new : Disk) → StopsUncut config d new → IsLeftAt home new m pending
   stops_uncut new (undone same) = stays new (λ F. keeps_equal (paths_of config) d dirs_there F new same)

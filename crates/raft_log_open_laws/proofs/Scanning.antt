@@ -44,6 +44,14 @@ open_reserved directories d permission [] (f ∷ fs) are = absurd are
 open_reserved directories d permission (g ∷ gs) [] are = absurd are
 open_reserved directories d permission (g ∷ gs) (f ∷ fs) (one, rest) = (one.reserved, open_reserved directories d permission gs fs rest)
 
+-- where directories were made, those that were there are there
+pub stays_there : (list : List (List ℕ)) (old new : Disk) → HasDirectories list old new → (path : List ℕ) → old.directories path ≡ true → new.directories path ≡ true
+stays_there list old new made path there = by_case (new.directories path) refl
+  where
+    by_case : (b : Bool) → new.directories path ≡ b → new.directories path ≡ true
+    by_case true is = is
+    by_case false is = absurd (true_is_not_false (new.directories path) (made.others path (λ listed. true_is_not_false (new.directories path) (made.there path listed) is) ∙ there) is)
+
 module _ (queue : LogQueue) (directories : List (List ℕ)) (some : 0 < length directories) (q : Spanned LogRecord) (old : Disk) (rests : RestsQueue (log_layout queue directories) q old) where
   place_of : (m : ℕ) (path : List ℕ) → m < (log_format queue directories).limit → (log_format queue directories).IsPath m path → IsPlace path old
   place_of = by_rest rests
@@ -69,21 +77,13 @@ module _ (queue : LogQueue) (directories : List (List ℕ)) (some : 0 < length d
     pub stays_apart : (path : List ℕ) → old.directories path ≡ false → new.directories path ≡ false
     stays_apart path apart = made.others path (λ listed. true_is_not_false (old.directories path) (directory_there path (within path listed)) apart) ∙ apart
 
-    -- and those that were there are there
-    stays_there : (path : List ℕ) → old.directories path ≡ true → new.directories path ≡ true
-    stays_there path there = by_case (new.directories path) refl
-      where
-        by_case : (b : Bool) → new.directories path ≡ b → new.directories path ≡ true
-        by_case true is = is
-        by_case false is = absurd (true_is_not_false (new.directories path) (made.others path (λ listed. true_is_not_false (new.directories path) (made.there path listed) is) ∙ there) is)
-
     pub directories_keep : KeepsNumbered (log_format queue directories) old new
     directories_keep = record {
       names = λ m path less at. ap (λ (d : Disk). d.names path) made.rest;
       files = λ m path id less at there. ap (λ (d : Disk). d.files id) made.rest;
       places = λ m path less at place. record {
         apart = stays_apart path place.apart;
-        home = record { directory = place.home.directory; inside = place.home.inside; there = stays_there place.home.directory place.home.there };
+        home = record { directory = place.home.directory; inside = place.home.inside; there = stays_there list old new made place.home.directory place.home.there };
       };
     }
 
@@ -104,7 +104,7 @@ module _ (queue : LogQueue) (directories : List (List ℕ)) (some : 0 < length d
       let within : (path : List ℕ) → Contains fails.before path → Contains directories path = λ path listed. subst (λ (l : List (List ℕ)). Contains l path) (sym fails.split) (Contains-append_left fails.before (fails.path ∷ fails.behind) path listed) in
       let here : Contains (fails.path ∷ fails.behind) fails.path = (0, omega arith, refl) in
       let listed : Contains directories fails.path = subst (λ (l : List (List ℕ)). Contains l fails.path) (sym fails.split) (Contains-append_right fails.before (fails.path ∷ fails.behind) fails.path here) in
-      let there : fails.between.directories fails.path ≡ true = stays_there fails.before within fails.between fails.has fails.path (directory_there fails.path listed) in
+      let there : fails.between.directories fails.path ≡ true = stays_there fails.before old fails.between fails.has fails.path (directory_there fails.path listed) in
       keeps_then (log_format queue directories) old fails.between new (directories_keep fails.before within fails.between fails.has) (not_made fails.path listed fails.between there error new fails.fails)
 
   module _ (new : Disk) (made : HasDirectories directories old new) where
@@ -118,6 +118,7 @@ module _ (queue : LogQueue) (directories : List (List ℕ)) (some : 0 < length d
       named = sound.named;
       one_name = sound.one_name;
       apart = λ path id at. stays_apart directories (λ p listed. listed) new made path (sound.apart path id at);
+      home = λ directory path id at inside. stays_there directories old new made directory (sound.home directory path id at inside);
       fresh = sound.fresh;
       files = sound.files;
     })
@@ -125,4 +126,4 @@ module _ (queue : LogQueue) (directories : List (List ℕ)) (some : 0 < length d
     pub scan_sound : (cleared : Disk) → ChangesNoFile new cleared → IsSound old → IsSound cleared
     scan_sound cleared leaves sound =
         let was = made_sound sound in
-        subst IsSound (sym leaves.rest) (record { named = was.named; one_name = was.one_name; apart = was.apart; fresh = was.fresh; files = was.files })
+        subst IsSound (sym leaves.rest) (record { named = was.named; one_name = was.one_name; apart = was.apart; home = was.home; fresh = was.fresh; files = was.files })

@@ -141,6 +141,7 @@ settled_sound E d sound = record {
   named = λ path id at none. sound.named path id at (gone (E id) (d.files id) none);
   one_name = sound.one_name;
   apart = sound.apart;
+  home = sound.home;
   fresh = λ id above. still_gone (E id) (d.files id) (sound.fresh id above);
   files = λ id file is. settled_is_sound (E id) (d.files id) (sound.files id) file is;
 }

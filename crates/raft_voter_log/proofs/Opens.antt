@@ -37,6 +37,7 @@ memory_sound system = let storage = system.whole.sound in record {
   named = storage.named;
   one_name = storage.one_name;
   apart = storage.apart;
+  home = storage.home;
   fresh = storage.fresh;
   files = storage.files;
 }

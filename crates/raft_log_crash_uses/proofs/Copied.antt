@@ -14,7 +14,7 @@ use Rattle.raft_log_engine.specs.raft_log_engine_laws.specs.Shows.{LogMap, log_i
 use Rattle.raft_log_open_laws.specs.ByCalls.{home_of}
 use Rattle.raft_log_open_laws.specs.ForkResting.{IsClear, NamesOnly}
 use Rattle.raft_log_open_laws.proofs.ForkLeft.{left_logs_show_alike}
-use Rattle.raft_log_open_laws.proofs.Resting.{forked_logs_rest}
+use Rattle.raft_log_open_laws.proofs.Resting.{forked_logs_rest, targets_are_clear}
 use Rattle.raft_log_crash_uses.specs.Changing.{said_by}
 use Rattle.raft_log_crash_uses.specs.Copies.{CopiesReadAlike, LoadsCopy}
 use Rattle.raft_log_crash_uses.specs.Lives.{changes_of}
@@ -39,11 +39,11 @@ module _ {F : Type 0} (disk : F → Disk) (tells : F → List ℕ → ℕ → Ty
       subst (λ (l : List Said). LogRestsOn (log_in (home_of to)) (disk after) (taken m l)) (take-nil count) (alike.forks config refl to target paths after (sound after) names clear forks).rests
 
   pub copies_read_alike : {C : Type 0} → CopiesReadAlike disk tells C
-  copies_read_alike {C} [] some config old new bare named on chance here to target same names clear g k found copied loads copy = absurd (some refl)
-  copies_read_alike {C} (life ∷ lives) some config old new bare named on chance here to target same names clear g k found copied loads copy =
+  copies_read_alike {C} [] some config old new bare named on chance here to target same names apart g k found copied loads copy = absurd (some refl)
+  copies_read_alike {C} (life ∷ lives) some config old new bare named on chance here to target same names apart g k found copied loads copy =
       let m : LogMap = taken nothing_stands (map said_by (changes_of (life ∷ lives))) in
       let at = lived disk tells sound (home_of config) life lives old new nothing_stands on named chance (nothing_yet config (disk old) bare) in
       let fresh = opened disk tells sound (home_of config) here new m same (lies at) loads.pipes loads.tables loads.opens in
-      let resting = copied_rests config to target copy.copied new copy.after m names clear copy.forks at in
+      let resting = copied_rests config to target copy.copied new copy.after m names (targets_are_clear target (disk new) (sound new) apart) copy.forks at in
       let other = opened disk tells sound (home_of to) to copy.after m refl (lies (rests resting)) copy.loads.pipes copy.loads.tables copy.loads.opens in
       one_value m g k copied found (copy.loads.told (home_of to) m other) (loads.told (home_of config) m fresh)

@@ -6,7 +6,7 @@ use Rattle.raft_log_engine.specs.raft_log_file_settings.specs.declared.config.Co
 use Rattle.raft_log_engine.specs.raft_log_closed.specs.Forks.{Forks}
 use Rattle.raft_log_open_laws.specs.Bare.{IsBare}
 use Rattle.raft_log_open_laws.specs.ByCalls.{home_of}
-use Rattle.raft_log_open_laws.specs.ForkResting.{IsClear, NamesOnly}
+use Rattle.raft_log_open_laws.specs.ForkResting.{HoldsNoDirectory, NamesOnly}
 use Rattle.raft_log_crash_uses.specs.declared.lives.Life.{Life}
 use Rattle.raft_log_crash_uses.specs.Lives.{AllLiveIn, LivesOn, LivesWithoutChance}
 use Rattle.raft_log_crash_uses.specs.Saving.{Loads}
@@ -20,13 +20,13 @@ pub record LoadsCopy {F : Type 0} (disk : F → Disk) (tells : F → List ℕ �
   pub loads : Loads disk tells to group key after found
 
 -- A log that began where there was none, and had one life at least, ended in a close or in a crash, with nothing
--- left to chance: a key is read of it, by whatever settings name its directories, as it is of a copy, in a clear
--- directory, by settings that name that alone.
+-- left to chance: a key is read of it, by whatever settings name its directories, as it is of a copy, in a
+-- directory where no other has the path of a log file, by settings that name that alone.
 abbrev pub CopiesReadAlike : {F : Type 0} → (F → Disk) → (F → List ℕ → ℕ → Type 0) → Type 0 → Type 0
 CopiesReadAlike {F} disk tells C = (lives : List (Life C)) → (lives ≡ [] → ⊥) → (config : Config) (old left : F)
     → IsBare config (disk old) → AllLiveIn (home_of config) lives → (on : LivesOn disk tells lives old left)
     → LivesWithoutChance disk tells (home_of config) lives old left on
     → (here to : Config) (target : List ℕ) → home_of here ≡ home_of config → NamesOnly to target
-    → IsClear target (disk left) → (group : ℕ) (key : List ℕ) (found copied : Option (List ℕ))
+    → HoldsNoDirectory target (disk left) → (group : ℕ) (key : List ℕ) (found copied : Option (List ℕ))
     → Loads disk tells here group key left found → LoadsCopy disk tells config target to group key left copied
     → copied ≡ found

@@ -3,6 +3,7 @@ use Rattle.std.proofs.Common.{◌≡◌, ℕ, Bool, true, false, Option, Some, N
 use Rattle.raft_log_record_base.specs.declared.pipe_log.LogQueue.{LogQueue}
 use Rattle.raft_log_record_base.specs.declared.pipe_log.LogQueue.TheVariants.{Append, Rewrite}
 use Rattle.raft_log_disk.specs.Disk.{Disk, IsPlain}
+use Rattle.raft_log_disk.proofs.ImageLaws.{absent_holds_no_name}
 use Rattle.raft_log_engine_laws.specs.raft_log_file_layout.specs.declared.record.LogRecord.{LogRecord}
 use Rattle.raft_log_file_settings.specs.Sanitized.{IsFileName}
 use Rattle.raft_log_file_settings.specs.Settings.{settings_of}
@@ -15,10 +16,17 @@ use Rattle.raft_log_engine_laws.specs.Shows.{log_in, Home, LogMap}
 use Rattle.raft_log_open_builder.specs.Directories as builder
 use Rattle.raft_log_closed.specs.Forks.{Forks, HoldsLogFile}
 use Rattle.raft_log_closed.specs.Sources.{AreSources}
-use Rattle.raft_log_open_laws.specs.ForkResting.{ForkedLogsRest, IsClear}
+use Rattle.raft_log_open_laws.specs.ForkResting.{ForkedLogsRest, IsClear, TargetsAreClear}
 use Rattle.raft_log_open_laws.proofs.Sources.{same_directories}
 use Rattle.raft_log_open_laws.proofs.Copies.{ForksQueue, IsFreeOf, forks_queue, none_is_some}
 use Rattle.raft_log_open_laws.proofs.ForkQueues.{numbered_copied, rests_copied}
+
+-- on a sound disk no file lies in a directory that isn't there
+pub targets_are_clear : TargetsAreClear
+targets_are_clear target d sound apart = record {
+  absent = λ gone name plain is. absent_holds_no_name d target (target ++ 47 ∷ name) sound gone (record { name = name; joined = refl; plain = plain });
+  apart = apart;
+}
 
 -- no log file is in a target into which a log was forked
 pub clear_free : (target : List ℕ) (d : Disk) → (HoldsLogFile target d → ⊥) → IsClear target d → IsFreeOf target d

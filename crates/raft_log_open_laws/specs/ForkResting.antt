@@ -1,6 +1,7 @@
 -- The log that a fork leaves in its target.
 use Rattle.std.specs.Prelude.{◌≡◌, ℕ, false, None, List, [], ◌∷◌, ◌++◌}
 use Rattle.raft_log_disk.specs.Disk.{Disk, IsPlain}
+use Rattle.raft_log_disk.specs.Image.{IsSound}
 use Rattle.raft_log_file_settings.specs.Sanitized.{IsFileName}
 use Rattle.raft_log_file_settings.specs.Settings.{settings_of}
 use Rattle.raft_log_file_settings.specs.declared.config.Config.{Config}
@@ -10,12 +11,22 @@ use Rattle.raft_log_open_builder.specs.Directories.{paths_of}
 use Rattle.raft_log_open_laws.specs.ByCalls.{home_of}
 use Rattle.raft_log_closed.specs.Forks.{Forks}
 
+-- no directory has the path of a log file in the target
+abbrev pub HoldsNoDirectory : List ℕ → Disk → Type 0
+HoldsNoDirectory target d = (name : List ℕ) → IsPlain name → IsFileName name
+    → d.directories (target ++ 47 ∷ name) ≡ false
+
 -- Where the target isn't there, no log file lies in it (of one that is there a fork looks for itself), and no
 -- directory has the path of a log file in it. So it is of a directory that is empty, or not there.
 pub record IsClear (target : List ℕ) (d : Disk) : Type 0 where
   pub absent : d.directories target ≡ false → (name : List ℕ) → IsPlain name → IsFileName name
       → d.names (target ++ 47 ∷ name) ≡ None
-  pub apart : (name : List ℕ) → IsPlain name → IsFileName name → d.directories (target ++ 47 ∷ name) ≡ false
+  pub apart : HoldsNoDirectory target d
+
+-- On a sound disk no file lies in a directory that isn't there, so any target is clear in which no directory
+-- has the path of a log file.
+abbrev pub TargetsAreClear : Type 0
+TargetsAreClear = (target : List ℕ) (d : Disk) → IsSound d → HoldsNoDirectory target d → IsClear target d
 
 -- the settings name this directory, and no other
 abbrev pub NamesOnly : Config → List ℕ → Type 0

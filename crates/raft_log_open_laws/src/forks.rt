@@ -3,7 +3,7 @@
 ghost use Rattle.raft_log_open_laws.specs.ForkLeaving.{ForksLeaveTheSource};
 ghost use Rattle.raft_log_open_laws.specs.ForkLeft.{LeftLogsShowAlike};
 ghost use Rattle.raft_log_open_laws.specs.ForkOpening.{ForksOpenAsTheirSource};
-ghost use Rattle.raft_log_open_laws.specs.ForkResting.{ForkedLogsRest};
+ghost use Rattle.raft_log_open_laws.specs.ForkResting.{ForkedLogsRest, TargetsAreClear};
 
 use raft_log_disk::FileSystem;
 
@@ -11,6 +11,12 @@ use raft_log_disk::FileSystem;
 /// where no log began, none has begun.
 pub fn forks_leave_the_source()
     ensures { ForksLeaveTheSource }
+{}
+
+/// On a sound disk a log may be forked into any directory in which no directory has the path of a log file: in one that
+/// isn't there lies no file, and of one that is there a fork looks for itself.
+pub fn targets_are_clear()
+    ensures { TargetsAreClear }
 {}
 
 /// A fork of a log at rest leaves one in the target that rests there, with the same files and records, and is

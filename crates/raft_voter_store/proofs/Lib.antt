@@ -5,4 +5,5 @@ pub mod Filling
 pub mod Rounds
 pub mod Places
 pub mod Serving
+pub mod Silence
 pub mod Opening

@@ -39,6 +39,7 @@ struct Taken {
 }
 
 impl<P: PipeLog> LogVoterStore<P> {
+    ghost use Rattle.raft_log_engine.specs.raft_log_engine_laws.specs.Fetching.{StaysButBlock};
     ghost use Rattle.raft_log_engine.specs.raft_log_engine_laws.specs.Shows.{has_failed};
     ghost use Rattle.raft_voter_outline.specs.declared.outline.decision.Answer.TheVariants as answers;
     ghost use Rattle.raft_voter_outline.specs.Outlines.{ChangesEach, IsReplyOfEach};
@@ -46,6 +47,7 @@ impl<P: PipeLog> LogVoterStore<P> {
     ghost use Rattle.raft_voter_standing_laws.specs.Laws.{IsBare};
     ghost use Rattle.raft_voter_standing_laws.specs.Requests.{Served, StepsOutlines};
     ghost use Rattle.raft_voter_outlines.specs.Kept.{outlines_in};
+    ghost use Rattle.raft_voter_store.specs.Silence.{AsksForNone, IfVoterStays, ReadsAlone};
     ghost use Rattle.raft_voter_store.specs.Taking.{FailsToTake};
     ghost use Rattle.raft_voter_store.specs.Writing.{FailsToWriteChange, WritesChange};
 
@@ -73,6 +75,13 @@ impl<P: PipeLog> LogVoterStore<P> {
         ensures err { IfErr result (λ error. FailsToTake (group, request.now) error
             (shows_of P.shown self.old.engine) (shows_of P.shown self.new.engine)
             (outlines_in self.old.outlines) (outlines_in self.new.outlines)) }
+        ensures unwritten { IfOk result (λ taken. IfVoterStays (outlines_in self.old.outlines)
+            (group, request.now) (taken.wrote ≡ false)) }
+        ensures quiet { IfVoterStays (outlines_in self.old.outlines) (group, request.now)
+            (ReadsAlone (shows_of P.shown self.old.engine) (shows_of P.shown self.new.engine)
+            self.old.outlines self.new.outlines) }
+        ensures idle { AsksForNone (group, request.now)
+            → IfVoterStays (outlines_in self.old.outlines) (group, request.now) (self.new ≡ self.old) }
     {
         let Decision { answer, change } = self.outlines.decide(group, request);
         match answer {
@@ -202,6 +211,10 @@ impl<P: PipeLog> LogVoterStore<P> {
         ensures err { IfErr result (λ error. FailsToTake (group, request.now) error
             (shows_of P.shown self.old.engine) (shows_of P.shown self.new.engine)
             (outlines_in self.old.outlines) (outlines_in self.new.outlines)) }
+        ensures unwritten { IfOk result (λ taken. taken.wrote ≡ false) }
+        ensures stays { StaysButBlock
+            (shows_of P.shown self.old.engine) (shows_of P.shown self.new.engine) }
+        ensures outlines { self.new.outlines ≡ self.old.outlines }
     {
         let mut messages: Vec<RawMessage> = Vec::new(self.alloc);
         match self

@@ -1,5 +1,5 @@
 //! Rounds of requests.
-ghost use Rattle.std.specs.Prelude.{◌≡◌, ◌+◌, ◌<◌, ◌≤◌, ◌++◌, ◌∷◌, [], false, length, vec_capacity, vec_len, IfErr, IfOk, OnOk};
+ghost use Rattle.std.specs.Prelude.{◌≡◌, ◌+◌, ◌<◌, ◌≤◌, ◌++◌, ◌∷◌, [], false, length, All, vec_capacity, vec_len, IfErr, IfOk, OnOk};
 ghost use Rattle.raft_log_engine_core.specs.Reads.{shows_of};
 ghost use Rattle.raft_voter.specs.Service.{refused_from};
 
@@ -16,6 +16,7 @@ impl<P: PipeLog> LogVoterStore<P> {
     ghost use Rattle.raft_voter_outlines.specs.Kept.{outlines_in};
     ghost use Rattle.raft_voter_standing_laws.specs.Requests.{Broke};
     ghost use Rattle.raft_voter_store.specs.Rounds.{AreExcused, CutsRoundOff, GoesOn, Passes, RoundIsAnswered, StopsAt};
+    ghost use Rattle.raft_voter_store.specs.Silence.{AsksForNone, IfVoterStays, IfVotersStay, ReadsAlone};
 
     /// The groups' voters take the requests in order, but for those at the places whose reply is `Refused`:
     /// they are out of range, or were turned down. The replies are handed out once all that was written is
@@ -45,6 +46,15 @@ impl<P: PipeLog> LogVoterStore<P> {
             (shows_of P.shown self.new.engine) (outlines_in self.old.outlines)) }
         ensures errors { IfErr result (λ fault. FailsAs fault.cause (length requests.now)
             (has_failed (shows_of P.shown self.old.engine)) (has_failed (shows_of P.shown self.new.engine))) }
+
+        // A round that changes no voter does nothing but reading: no file is written and none is synced, so the files
+        // stand as they were, with what is pending in them and the failures that were counted. One that asks for no
+        // entries either leaves the whole store as it was, so that no file is called.
+        ensures quiet { IfVotersStay (outlines_in self.old.outlines) requests.now
+            (ReadsAlone (shows_of P.shown self.old.engine) (shows_of P.shown self.new.engine)
+            self.old.outlines self.new.outlines) }
+        ensures idle { All AsksForNone requests.now
+            → IfVotersStay (outlines_in self.old.outlines) requests.now (self.new ≡ self.old) }
     {
         if requests.len() > MAX_ROUND_REQUESTS {
             return Err(RoundFault::new(self.alloc, Cause::TooLong));
@@ -89,6 +99,13 @@ impl<P: PipeLog> LogVoterStore<P> {
             (outlines_in self.old.outlines) }
         ensures all { OnSome result (length replies.new.items ≡ length requests.now) }
         ensures few { length replies.new.items ≤ length requests.now }
+        ensures unwritten { IfSome result (λ wrote. IfVotersStay (outlines_in self.old.outlines)
+            requests.now (wrote ≡ false)) }
+        ensures quiet { IfVotersStay (outlines_in self.old.outlines) requests.now
+            (ReadsAlone (shows_of P.shown self.old.engine) (shows_of P.shown self.new.engine)
+            self.old.outlines self.new.outlines) }
+        ensures idle { All AsksForNone requests.now
+            → IfVotersStay (outlines_in self.old.outlines) requests.now (self.new ≡ self.old) }
     {
         let mut wrote = false;
         for (group, request) in requests {
@@ -124,6 +141,13 @@ impl<P: PipeLog> LogVoterStore<P> {
             (shows_of P.shown self.old.engine) (shows_of P.shown self.new.engine)
             (outlines_in self.old.outlines) }
         ensures untold { result ≡ None → replies.new.items ≡ replies.old.items }
+        ensures unwritten { IfSome result (λ more. IfVoterStays (outlines_in self.old.outlines)
+            (group, request.now) (more ≡ wrote)) }
+        ensures quiet { IfVoterStays (outlines_in self.old.outlines) (group, request.now)
+            (ReadsAlone (shows_of P.shown self.old.engine) (shows_of P.shown self.new.engine)
+            self.old.outlines self.new.outlines) }
+        ensures idle { AsksForNone (group, request.now)
+            → IfVoterStays (outlines_in self.old.outlines) (group, request.now) (self.new ≡ self.old) }
     {
         match self.take(rt, group, request) {
             Ok(taken) => {

@@ -3,6 +3,7 @@ use Rattle.raft_log_engine_core.specs.Reads.{shows_of}
 use Rattle.raft_voter.specs.Service.{refused_from}
 use Rattle.raft_voter_outlines.specs.Kept.{outlines_in}
 use Rattle.raft_voter_store.proofs.Rounds.{answered_synced, answered_unwritten, cut_at, cut_unsynced, excused_synced}
+use Rattle.raft_voter_store.proofs.Silence.{never}
 use Rattle.raft_voter_store.proofs.store.LogVoterStore.serve.Goals.{then-wrote+in-Ok-sync, else-wrote}
 use Rattle.raft_voter_store.proofs.store.LogVoterStore.serve.Goals as goal
 
@@ -44,3 +45,21 @@ returns-clause-excused g c =
 
 pub returns-clause-all : goal.returns-clause-all
 returns-clause-all g c = ap (λ told. length told) c.from_vec.ensures ∙ c.in-Some.ensures.all
+
+pub returns-in_default-sync-clause-quiet : goal.returns-in_default-sync-clause-quiet
+returns-in_default-sync-clause-quiet g c = λ V are all. never c.in-Some.wrote c.if-wrote.true (c.in-Some.ensures.unwritten V are all)
+
+pub returns-in_default-sync-clause-idle : goal.returns-in_default-sync-clause-idle
+returns-in_default-sync-clause-idle g c = λ none V are all. never c.in-Some.wrote c.if-wrote.true (c.in-Some.ensures.unwritten V are all)
+
+pub returns-clause-quiet : goal.returns-clause-quiet
+returns-clause-quiet g c = λ V are all. elim c.if-wrote.branch [
+  | then-wrote+in-Ok-sync w ↦ never c.in-Some.wrote w.if-wrote.true (c.in-Some.ensures.unwritten V are all)
+  | else-wrote w ↦ rw (w.self-is) (c.take_all.ensures.quiet V are all)
+]
+
+pub returns-clause-idle : goal.returns-clause-idle
+returns-clause-idle g c = λ none V are all. elim c.if-wrote.branch [
+  | then-wrote+in-Ok-sync w ↦ never c.in-Some.wrote w.if-wrote.true (c.in-Some.ensures.unwritten V are all)
+  | else-wrote w ↦ rw (w.self-is) (c.take_all.ensures.idle none V are all)
+]

@@ -1,4 +1,4 @@
-use Rattle.std.proofs.Common.{sym, ◌∙◌}
+use Rattle.std.proofs.Common.{refl, sym, ◌∙◌}
 use Rattle.raft_log_engine_core.specs.Reads.{shows_of}
 use Rattle.raft_voter_outlines.specs.Kept.{outlines_in}
 use Rattle.raft_voter_store.proofs.Rounds.{past_goes_on, served_goes_on, wrote_before, wrote_now}
@@ -21,3 +21,12 @@ returns-clause-went g c =
     let shown = g.P.PipeLog.shown in
     past_goes_on (c.args.group, c.args.request.now) c.in-Err.field-0 c.args.wrote c.args.replies.now.items c.push_reserved-in-Err.new.self.items (shows_of shown c.args.self.now.engine) (shows_of shown c.take.new.self.engine) (outlines_in c.args.self.now.outlines)
     (outlines_in c.take.new.self.outlines) c.in-Err.ensures.err (sym c.is_failed.ensures ∙ c.if-is_failed.false) c.push_reserved-in-Err.ensures.items
+
+pub returns-then-wrote-clause-unwritten : goal.returns-then-wrote-clause-unwritten
+returns-then-wrote-clause-unwritten g c = λ V are stays. refl
+
+pub returns-else-wrote-clause-unwritten : goal.returns-else-wrote-clause-unwritten
+returns-else-wrote-clause-unwritten g c = λ V are stays. c.in-Ok.ensures.unwritten V are stays ∙ sym c.if-wrote.false
+
+pub returns-clause-unwritten : goal.returns-clause-unwritten
+returns-clause-unwritten g c = λ V are stays. refl

@@ -1,0 +1,17 @@
+//! Stores of voters on a log, and voters in memory that are asked the same rounds.
+
+ghost use Rattle.raft_voter_world_laws.specs.Alike.{AnswersAsModel, AnswersTakenAsModel};
+
+use log::Log;
+use raft_log_engine::PipeLog;
+use raft_voter::RoundService;
+use raft_voter_plain::PlainVoters;
+use raft_voter_store::LogVoterStore;
+
+/// So it is of a store on a log, over any file system, and whoever listens.
+pub fn logs_answer_as_plain<R: Log, P: PipeLog>()
+    ensures rounds { AnswersAsModel
+        ⟦<PlainVoters as RoundService<R>>⟧.service ⟦<LogVoterStore<P> as RoundService<R>>⟧.service }
+    ensures taken { AnswersTakenAsModel
+        ⟦<PlainVoters as RoundService<R>>⟧.service ⟦<LogVoterStore<P> as RoundService<R>>⟧.service }
+{}

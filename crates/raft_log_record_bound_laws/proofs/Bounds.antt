@@ -26,7 +26,7 @@ length-all_entries-append [] ys = omega arith
 length-all_entries-append (x ∷ xs) ys =
     omega (arith, length-append (content_entries x.content) (all_entries (xs ++ ys)), length-append (content_entries x.content) (all_entries xs), length-all_entries-append xs ys)
 
-record_bound-append : (xs ys : List LogItem) (a b : List ℕ) → record_bound (xs ++ ys) (a ++ b) + 34 ≡ record_bound xs a + record_bound ys b
+pub record_bound-append : (xs ys : List LogItem) (a b : List ℕ) → record_bound (xs ++ ys) (a ++ b) + 34 ≡ record_bound xs a + record_bound ys b
 record_bound-append xs ys a b =
     omega (arith, length-append xs ys, length-append a b, length-all_entries-append xs ys, sum_by-append (λ (x : LogItem). key_value_len x.content) xs ys)
 
@@ -58,7 +58,7 @@ length-entries_of [] entries = omega arith
 length-entries_of (i ∷ is) [] = omega arith
 length-entries_of (i ∷ is) (b ∷ bs) = omega (arith, length-entries_of is bs)
 
-record_bound-entries : (g offset : ℕ) (indexes : List ℕ) (entries : List (List ℕ))
+pub record_bound-entries : (g offset : ℕ) (indexes : List ℕ) (entries : List (List ℕ))
     → record_bound (entries_items g offset indexes entries) (joined entries) ≤ 66 + 10 * length entries + bytes_len entries
 record_bound-entries g offset indexes [] = omega arith
 record_bound-entries g offset indexes (x ∷ xs) =

@@ -1,8 +1,58 @@
 #!/usr/bin/env bash
-# An engine over a real directory: batches of 1 to 16 entries of 128 and of 2,118 bytes, each made durable, and the log opened
-# again, in MB/s beside a plain Rust loop that writes and syncs as many bytes into a file whose blocks are there, in one run.
-# Usage: bench/directories/run.sh [ROUNDS]; RT names the toolchain's command, FOLDER where the logs are made (the current
-# directory's disk if it isn't said). Takes some 400 MB of disk. Other stores on the same disk: bench/directories/peers.sh.
+# An engine over a real directory: batches of 1 to 16 entries, each made durable, and a log of about 1 GB opened, in MB/s beside a
+# plain Rust program. The two take turns in each round, the first one last in the next, so that what else the machine does meets
+# both; told are the best and the median of the rounds.
+# Appends, of entries of 128, 1,024 and 2,118 bytes: beside a loop that writes and syncs as many bytes into a file whose blocks
+# are there. `new` writes new files, whose blocks are made by zeros ahead; `prefilled` files that are there from the start.
+# Opens: all files are loaded by as many threads as the machine has, and recovered by one or by four workers; `alone` has one
+# processor for all of it. `load` is the loading alone. Beside them stands reading the same bytes whole into memory that is kept.
+# Usage: bench/directories/run.sh [ROUNDS [WORK..]]; the works are new-128, .., prefilled-2118 and open.
+# RT names the toolchain's command, or PROGRAM one that is built. FOLDER is where the logs are made (the current directory's disk
+# if it isn't said); the log that is opened has LOG MB (1,000), in files of FILE MB (128), of which BLOCK bytes (16,384) are read
+# at once. With COLD=1, as root, what the system keeps of files is dropped before each open. QUIET is a command that runs each of
+# the programs. Takes some 1.4 GB of disk. Other stores there: bench/directories/peers.sh.
 set -euo pipefail
-here="$(dirname "$0")"
-FOLDER="${FOLDER:-$PWD}" exec "$here/../common/run.sh" "$here" "${1:-3}" raft_log_disk_directory raft_log_engine anyhow log
+here="$(cd "$(dirname "$0")" && pwd)"
+rounds="${1:-5}"
+shift || true
+[ $# -gt 0 ] || set -- new-128 new-1024 new-2118 prefilled-128 prefilled-1024 prefilled-2118 open
+room="$(mktemp -d)"
+folder="$(mktemp -d "${FOLDER:-$PWD}/bench.XXXXXX")"
+trap 'rm -rf "$room" "$folder"' EXIT
+. "$here/../common/build.sh"
+rattle="${PROGRAM:-$(build_program "$here" "$room" raft_log_disk_directory raft_log_engine anyhow log)}"
+rust="$room/rust"
+rustc --edition 2021 -O -C codegen-units=1 -o "$rust" "$here/rust.rs"
+cd "$folder"
+log=(2118 "$((${LOG:-1000} * 1000000 / 18003))" "${FILE:-128}")
+block="${BLOCK:-16384}"
+
+# Runs a command, and notes its lines: a word before them, another behind their works.
+noted() { local before="$1" behind="$2"; shift 2; ${QUIET:-} "$@" | sed "s/^\([^ ]*\)/$before \1-$behind/" >> "$room/lines"; }
+cool() { if [ "${COLD:-0}" = 1 ]; then sync; echo 3 > /proc/sys/vm/drop_caches; fi; }
+turn() {
+    case "$1" in
+        rust-*) noted rust "${1#rust-}" "$rust" append "${1##*-}" 2000; rm -f plain ;;
+        rattle-new-*) noted rattle "${1#rattle-}" "$rattle" append "${1##*-}" 2000; rm -rf log ;;
+        rattle-*) noted rattle "${1#rattle-}" "$rattle" append-prefilled "${1##*-}" 2000; rm -rf log ;;
+        read-*) cool; noted rust "${1#read-}" "$rust" open "${log[@]}" "${1#read-by-}" ;;
+        open-by-*) cool; noted rattle "${1#open-}" "$rattle" open "${log[@]}" "${1#open-by-}" "$block" ;;
+        open-alone) cool; noted rattle alone taskset -c 0 "$rattle" open "${log[@]}" 1 "$block" ;;
+    esac
+}
+
+for work; do
+    turns=("rust-$work" "rattle-$work")
+    if [ "$work" = open ]; then
+        ${QUIET:-} "$rattle" fill "${log[@]}"
+        turns=(read-by-1 open-alone open-by-1 read-by-4 open-by-4)
+    fi
+    for _ in $(seq "$rounds"); do
+        for turn in "${turns[@]}"; do
+            turn "$turn"
+        done
+        mapfile -t turns < <(printf '%s\n' "${turns[@]}" | tac)
+    done
+    rm -rf log
+done
+python3 "$here/told.py" "$room/lines"

@@ -1,63 +1,69 @@
-// The plainest writer that there is: the same entries' bytes and 64 more a batch, behind each other into a file whose blocks
-// were written before, a data sync a batch; and the bytes of the long ones read again, into memory that is kept (as a log over
-// a real directory keeps them), and into room that is used again.
-use std::fs::{File, OpenOptions};
-use std::io::Read;
+// The plainest programs that there are, by the words of the other program. Appends: the same entries' bytes and 64 more a batch,
+// behind each other into a file whose blocks were written before, a data sync a batch. An open: the bytes of the files of the log
+// that the other program filled, read whole into memory that is kept, by one thread or by several, each one file after another.
+use std::fs::{self, OpenOptions};
 use std::os::unix::fs::FileExt;
+use std::path::PathBuf;
+use std::sync::atomic::{AtomicUsize, Ordering};
 use std::time::Instant;
 
-const BATCHES: u64 = 8_000;
 const MORE: usize = 64;
-
-fn prepared(path: &str, bytes: usize) -> File {
-    let file = OpenOptions::new().read(true).write(true).create(true).truncate(true).open(path).unwrap();
-    let zeros = vec![0u8; 1 << 20];
-    for at in (0..bytes).step_by(1 << 20) {
-        file.write_all_at(&zeros, at as u64).unwrap();
-    }
-    file.sync_all().unwrap();
-    file
-}
 
 fn report(work: &str, bytes: u64, start: Instant, check: u64) {
     println!("{work} {} {check}", bytes as u128 * 1000 / start.elapsed().as_nanos().max(1));
 }
 
-fn appended(work: &str, size: usize) {
-    let file = prepared(work, BATCHES as usize * (8 * size + size / 2 + MORE));
+fn append(size: usize, batches: u64) {
+    let file = OpenOptions::new().write(true).create(true).truncate(true).open("plain").unwrap();
+    for at in (0..batches * (17 * size as u64 / 2 + MORE as u64)).step_by(1 << 20) {
+        file.write_all_at(&[0; 1 << 20], at).unwrap();
+    }
+    file.sync_all().unwrap();
     let bytes = vec![7u8; 16 * size + MORE];
     let start = Instant::now();
-    let (mut at, mut written) = (0u64, 0u64);
-    for number in 0..BATCHES {
+    let (mut at, mut written) = (0, 0);
+    for number in 0..batches {
         let len = (number % 16 + 1) as usize * size;
         file.write_all_at(&bytes[..len + MORE], at).unwrap();
         file.sync_data().unwrap();
         at += (len + MORE) as u64;
         written += len as u64;
     }
-    report(work, written, start, written);
+    report("append", written, start, written);
+}
+
+fn read_by(threads: usize, paths: &[PathBuf]) -> Vec<Vec<u8>> {
+    let next = AtomicUsize::new(0);
+    std::thread::scope(|scope| {
+        let reader = || {
+            let mut kept = Vec::new();
+            while let Some(path) = paths.get(next.fetch_add(1, Ordering::Relaxed)) {
+                kept.push(fs::read(path).unwrap());
+            }
+            kept
+        };
+        let readers: Vec<_> = (0..threads).map(|_| scope.spawn(reader)).collect();
+        readers.into_iter().flat_map(|reader| reader.join().unwrap()).collect()
+    })
+}
+
+fn open(size: u64, batches: u64, threads: usize) {
+    let bytes = (0..batches).map(|number| (number % 16 + 1) * size).sum();
+    // (group 1 has the batches whose number is a multiple of 100)
+    let last = (0..batches).step_by(100).map(|number| number % 16 + 1).sum();
+    let mut paths: Vec<PathBuf> = fs::read_dir("log").unwrap().map(|entry| entry.unwrap().path()).collect();
+    paths.sort();
+    let start = Instant::now();
+    let kept = read_by(threads, &paths);
+    report("open", bytes, start, last);
+    drop(kept);
 }
 
 fn main() {
-    for (work, size) in [("short", 128), ("long", 2_118), ("short-prefilled", 128), ("long-prefilled", 2_118)] {
-        appended(work, size);
+    let words: Vec<String> = std::env::args().skip(1).collect();
+    let number = |place: usize| words[place].parse::<u64>().unwrap();
+    match words[0].as_str() {
+        "open" => open(number(1), number(2), number(4) as usize),
+        _ => append(number(1) as usize, number(2)),
     }
-    let entries: u64 = (0..BATCHES).map(|number| (number % 16 + 1) * 2_118).sum();
-    let start = Instant::now();
-    let kept = std::fs::read("long").unwrap();
-    report("loaded", kept.len() as u64, start, entries);
-    drop(kept);
-    let start = Instant::now();
-    let mut file = File::open("long").unwrap();
-    let mut bytes = vec![0u8; 1 << 20];
-    let mut read = 0u64;
-    loop {
-        match file.read(&mut bytes).unwrap() {
-            0 => break,
-            count => read += count as u64,
-        }
-    }
-    // (group 1 has the batches whose number is a multiple of 100, each of number % 16 + 1 entries)
-    let last: u64 = (0..BATCHES).step_by(100).map(|number| number % 16 + 1).sum();
-    report("opened", read, start, last);
 }

@@ -49,7 +49,7 @@ impl<P: PipeLog> LogVoterStore<P> {
 
         // A round that changes no voter does nothing but reading: no file is written and none is synced, so the files
         // stand as they were, with what is pending in them and the failures that were counted. One that asks for no
-        // entries either leaves the whole store as it was, so that no file is called.
+        // entries either leaves the whole store as it was, its file system with it.
         ensures quiet { IfVotersStay (outlines_in self.old.outlines) requests.now
             (ReadsAlone (shows_of P.shown self.old.engine) (shows_of P.shown self.new.engine)
             self.old.outlines self.new.outlines) }

@@ -30,6 +30,7 @@ impl Outlines {
 
     /// Keeps an outline as that of a group's voter. Where memory is refused, the voters are as they were.
     pub fn put(&mut self, group: u64, outline: Outline) -> Result<(), Memory>
+        ensures kept { OnOk result (kept_of self.new group ≡ Some outline) }
         ensures own { OnOk result (outlines_in self.new group ≡ outline.voter) }
         ensures others { OnOk result ((g : ℕ) → (g == group) ≡ false
             → outlines_in self.new g ≡ outlines_in self.old g) }

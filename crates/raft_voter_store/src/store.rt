@@ -196,7 +196,7 @@ impl<P: PipeLog> LogVoterStore<P> {
                 change,
                 request,
             ),
-            None => Err(Error::Memory),
+            None => unreachable!(),
         }
     }
 

@@ -180,7 +180,16 @@ const CUT_OFF: [(Step, &str); 5] = [
     (STATES, "Status 5 2 0 0 0 0 0; Status 0 - 0 0 0 0 0"),
 ];
 
-const CALLS_REFUSED: [(&str, &[(Step, &str)]); 7] = [
+/// A round that writes nothing asks for no call, not even a sync: what is armed meets the next round that writes.
+const UNASKED: [(Step, &str); 5] = [
+    (SECOND, "Granted 5"),
+    (Refuse(2), "armed"),
+    (THIRD, "Denied 5"),
+    (STATES, "Status 5 2 0 0 0 0 0; Status 0 - 0 0 0 0 0"),
+    (Round(&[(1, Vote(6, 3))]), "cut"),
+];
+
+const CALLS_REFUSED: [(&str, &[(Step, &str)]); 8] = [
     ("a sync", &UNSYNCED),
     ("an allocation", &UNALLOCATED),
     ("a write", &UNWRITTEN),
@@ -188,6 +197,7 @@ const CALLS_REFUSED: [(&str, &[(Step, &str)]); 7] = [
     ("a write, and its cut", &UNCUT),
     ("a second write", &UNWRITTEN_BEHIND),
     ("a second write, and the sync", &CUT_OFF),
+    ("none, where nothing is written", &UNASKED),
 ];
 
 #[test]

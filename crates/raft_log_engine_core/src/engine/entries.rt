@@ -40,6 +40,7 @@ impl<P: PipeLog> LogEngine<P> {
             ⊎ FailsToTell M.Entry.reading raft_group_id log_idx
             (shows_of P.shown self.old)
             (shows_of P.shown self.new) error) }
+        ensures pipes { self.new.pipes ≡ self.old.pipes }
         ensures purges { StaysPurged self.old self.new }
     {
         if self.is_failed() {
@@ -80,6 +81,7 @@ impl<P: PipeLog> LogEngine<P> {
             ⊎ FailsToFetch M.Entry.reading raft_group_id begin end
             (shows_of P.shown self.old)
             (shows_of P.shown self.new) error) }
+        ensures pipes { self.new.pipes ≡ self.old.pipes }
         ensures purges { StaysPurged self.old self.new }
     {
         if self.is_failed() {

@@ -43,13 +43,5 @@ returns-in-Some-clause-same g c =
     (λ stays h. same_lent c.args.group put (c.get_mut.follows.lender left) c.in-Some.outline.now left c.in-Some.ensures.value (has_lent _ _ c.in-Some.is (c.get_mut.follows.holds left)) stays h ∙ same h)
     c.write_change.ensures.same
 
-pub returns-in-None-clause-err : goal.returns-in-None-clause-err
-returns-in-None-clause-err g c = unsaid refl refl
-
-pub returns-in-None-clause-same : goal.returns-in-None-clause-same
-returns-in-None-clause-same g c =
-    let same = same_put c.args.group c.args.self.now.outlines c.put.new.self c.new.result.voter c.requires.fresh c.new.ensures c.in-Ok.ensures.own c.in-Ok.ensures.others in
-    λ h. c.get_mut.follows.holds-at-none h ∙ same h
-
 pub returns-in_default-clause-err : goal.returns-in_default-clause-err
 returns-in_default-clause-err g c = unsaid refl refl

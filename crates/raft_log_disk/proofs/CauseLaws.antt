@@ -31,7 +31,7 @@ fails_has_cause files old new (has_failed rises) = counted_one rises
 -- a refused call whose arguments were right, on a disk that runs on, was counted, and tells the kind that is kept
 pub tells_its_kind : {part done : Disk → Type 0} {wrong : ErrorKind → Type 0} {error : ErrorKind} {old new : Disk} → ((left : Disk) → part left → left.kinds ≡ old.kinds) → IsRight wrong
     → new.stopped ≡ false → Refused part done wrong error old new → new.kinds ≡ error ∷ old.kinds
-tells_its_kind {old = old} keeps right runs (after_stop is same) = absurd (false≢true (sym runs ∙ (ap (λ (d : Disk). d.stopped) same ∙ is)))
+tells_its_kind {old = old} keeps right runs (after_stop is same told) = absurd (false≢true (sym runs ∙ (ap (λ (d : Disk). d.stopped) same ∙ is)))
 tells_its_kind {error = error} keeps right runs (wrong_argument before why same) = absurd (right error why)
 tells_its_kind {error = error} keeps right runs (failed before fine left is same) =
     ap (λ (d : Disk). d.kinds) same ∙ ap (λ (kinds : List ErrorKind). error ∷ kinds) (keeps left is)
@@ -84,7 +84,7 @@ fails_twice a b c (has_failed rises) (has_failed again) later = has_failed_twice
 -- a refused call whose argument was right has failed
 pub fails : {part done : Disk → Type 0} {wrong : ErrorKind → Type 0} {error : ErrorKind} {old new : Disk} → IsRight wrong → ((left : Disk) → part left → left.failures ≡ old.failures)
     → Refused part done wrong error old new → Fails old new
-fails {old = old} right keeps (after_stop is same) = has_stopped (ap (λ (d : Disk). d.stopped) same ∙ is)
+fails {old = old} right keeps (after_stop is same told) = has_stopped (ap (λ (d : Disk). d.stopped) same ∙ is)
 fails {error = error} right keeps (wrong_argument runs why same) = absurd (right error why)
 fails {old = old} right keeps (failed runs fine left is same) =
     has_failed (let count : left.failures ≡ old.failures = keeps left is in omega (arith, ap (λ (d : Disk). d.failures) same, count))

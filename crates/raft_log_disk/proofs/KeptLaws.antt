@@ -16,7 +16,7 @@ pub record IsCalm (Q : Disk → Type 0) : Type 0 where
 -- A refused call keeps what each disk has that it may leave.
 pub kept_refused : {part done : Disk → Type 0} {wrong : ErrorKind → Type 0} {error : ErrorKind} {old new : Disk} (Q : Disk → Type 0) → IsCalm Q → Q old
     → ((left : Disk) → part left → Q left) → ((left : Disk) → done left → Q left) → Refused part done wrong error old new → Q new
-kept_refused Q calm before in_part whole (after_stop is same) = subst Q (sym same) before
+kept_refused Q calm before in_part whole (after_stop is same told) = subst Q (sym same) before
 kept_refused Q calm before in_part whole (wrong_argument runs why same) = subst Q (sym same) before
 kept_refused Q calm before in_part whole (failed runs right left is same) = subst Q (sym same) (calm.at_count left (in_part left is))
 kept_refused Q calm before in_part whole (stops runs left (inl is) same) = subst Q (sym same) (calm.at_end left (subst Q (sym is) before))

@@ -1,7 +1,7 @@
--- Which error says that an argument is wrong, and where the state shows it.
+-- Which error says that an argument is wrong, and where the state shows it; which one is told after a stop.
 use Rattle.std.specs.Prelude.{◌≡◌, ℕ, ◌⊎◌, true, false, None, List}
 use Rattle.std.specs.declared.io.ErrorKind.{ErrorKind}
-use Rattle.std.specs.declared.io.ErrorKind.TheVariants.{NotFound, AlreadyExists, PermissionDenied, IsADirectory, InvalidInput, OutOfMemory}
+use Rattle.std.specs.declared.io.ErrorKind.TheVariants.{NotFound, AlreadyExists, PermissionDenied, IsADirectory, InvalidInput, OutOfMemory, Other}
 use Rattle.raft_log_disk.specs.Disk.{Disk, HasDirectory}
 use Rattle.raft_log_disk.specs.declared.handle.Handle.{Handle}
 use Rattle.raft_log_disk.specs.declared.handle.Permission.TheVariants.{ReadOnly}
@@ -43,8 +43,13 @@ abbrev pub WrongListing : List ℕ → Disk → ErrorKind → Type 0
 WrongListing path d error = ((error ≡ InvalidInput) × (d.names path ≡ None → ⊥))
     ⊎ ((error ≡ NotFound) × (d.names path ≡ None) × (d.directories path ≡ false))
 
--- A refused call that changes nothing: after a stop, for a wrong argument, or for want of memory.
+-- what is told after a stop: `Other`, whatever the call and its arguments
+abbrev pub IsAfterStop : Disk → ErrorKind → Type 0
+IsAfterStop d error = (d.stopped ≡ true) × (error ≡ Other)
+
+-- A refused call that changes nothing: after a stop, and then it tells `Other` and nothing else; of a file
+-- system that runs, for a wrong argument or for want of memory.
 pub data IsDeclined (wrong : Type 0) (d : Disk) (error : ErrorKind) : Type 0 where
-  stopped : d.stopped ≡ true → IsDeclined wrong d error
-  wrong_argument : wrong → IsDeclined wrong d error
-  no_memory : error ≡ OutOfMemory → IsDeclined wrong d error
+  stopped : d.stopped ≡ true → error ≡ Other → IsDeclined wrong d error
+  wrong_argument : d.stopped ≡ false → wrong → IsDeclined wrong d error
+  no_memory : d.stopped ≡ false → error ≡ OutOfMemory → IsDeclined wrong d error

@@ -4,6 +4,7 @@ use Rattle.std.specs.Map.{update}
 use Rattle.std.specs.Str.{bytes_eq}
 use Rattle.std.proofs.Common.{nat_eq, take}
 use Rattle.std.specs.declared.io.ErrorKind.{ErrorKind}
+use Rattle.std.specs.declared.io.ErrorKind.TheVariants.{Other}
 use Rattle.raft_log_disk.specs.Disk.{Change, Wrote, ShortenedTo, GrewTo, File, Disk, at_rest, zeros, changed, with_file, HasDirectory}
 
 -- the file with a content, and a change that it isn't synced with
@@ -130,14 +131,14 @@ pub record MakesDirectory (path : List ℕ) (old new : Disk) : Type 0 where
 abbrev pub IsRight : (ErrorKind → Type 0) → Type 0
 IsRight wrong = (error : ErrorKind) → wrong error → ⊥
 
--- A refused call. After a stop nothing changes. Nor does it for an argument that is wrong as things stand,
--- and no failure is counted for it; the error says which. Where no argument is wrong, a failure is counted,
--- and the call may have been done in part; the error may be of any kind, and that kind is kept with the
--- failure. Or the file system stopped at this call: nothing was done, or, of a call with the right arguments,
--- a part or all. (From a stop on the error may be of any kind, and none is kept.)
+-- A refused call. After a stop nothing changes, and the error is `Other`. Nor does anything change for an
+-- argument that is wrong as things stand, and no failure is counted for it; the error says which. Where no
+-- argument is wrong, a failure is counted, and the call may have been done in part; the error may be of any
+-- kind, and that kind is kept with the failure. Or the file system stopped at this call: nothing was done, or,
+-- of a call with the right arguments, a part or all; the error may be of any kind, and none is kept.
 pub data Refused (part done : Disk → Type 0) (wrong : ErrorKind
     → Type 0) (error : ErrorKind) (old new : Disk) : Type 0 where
-  after_stop : old.stopped ≡ true → new ≡ old → Refused part done wrong error old new
+  after_stop : old.stopped ≡ true → new ≡ old → error ≡ Other → Refused part done wrong error old new
   wrong_argument : old.stopped ≡ false → wrong error → new ≡ old → Refused part done wrong error old new
   failed : old.stopped ≡ false → IsRight wrong → (left : Disk) → part left → new ≡ counted error left
       → Refused part done wrong error old new

@@ -1,12 +1,12 @@
 -- Each changing call of a file system: what stands when it was answered, and when it was refused. The state
 -- before it comes first, then the one after it.
-use Rattle.std.specs.Prelude.{◌≡◌, ℕ, ◌⊎◌, true, false, List}
+use Rattle.std.specs.Prelude.{◌≡◌, ℕ, ◌⊎◌, false, List}
 use Rattle.std.specs.String.{string_bytes}
 use Rattle.std.specs.declared.io.ErrorKind.{ErrorKind}
 use Rattle.std.specs.declared.io.ErrorKind.TheVariants.{OutOfMemory}
 use Rattle.raft_log_disk.specs.Disk.{Wrote, ShortenedTo, GrewTo, Disk}
 use Rattle.raft_log_disk.specs.Calls.{Changes, Creates, Deletes, Renames, MakesDirectory, after_change, flushed, denied, RefusedChange, RefusedWhole}
-use Rattle.raft_log_disk.specs.Arguments.{WrongCreate, WrongName, WrongRename, WrongDirectory, WrongHandle, WrongWriter}
+use Rattle.raft_log_disk.specs.Arguments.{WrongCreate, WrongName, WrongRename, WrongDirectory, WrongHandle, WrongWriter, IsAfterStop}
 use Rattle.raft_log_disk.specs.Reading.{IsOpened}
 use Rattle.raft_log_disk.specs.declared.handle.Fault.{Fault}
 use Rattle.raft_log_disk.specs.declared.handle.Fault.TheVariants.{DenyRead}
@@ -106,4 +106,4 @@ pub record Arms (fault : Fault) (old new : Disk) : Type 0 where
 
 -- no fault is armed after a stop, nor without memory
 abbrev pub IsUnarmed : Disk → ErrorKind → Type 0
-IsUnarmed d error = (d.stopped ≡ true) ⊎ (error ≡ OutOfMemory)
+IsUnarmed d error = IsAfterStop d error ⊎ ((d.stopped ≡ false) × (error ≡ OutOfMemory))

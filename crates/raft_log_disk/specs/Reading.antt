@@ -2,11 +2,12 @@
 use Rattle.std.specs.Prelude.{◌≡◌, ℕ, ◌+◌, ◌-◌, ◌<◌, ◌≤◌, ◌⊎◌, ◌++◌, true, false, Some, None, List, [], ◌∷◌, length, slice_index_or}
 use Rattle.std.specs.List.{Contains}
 use Rattle.std.specs.declared.io.ErrorKind.{ErrorKind}
+use Rattle.std.specs.declared.io.ErrorKind.TheVariants.{Other}
 use Rattle.std.proofs.Common.{min, take, drop}
 use Rattle.raft_log_disk.specs.Disk.{File, Disk, IsPlain}
 use Rattle.raft_log_disk.specs.declared.handle.Handle.{Handle}
 use Rattle.raft_log_disk.specs.declared.handle.Permission.{Permission}
-use Rattle.raft_log_disk.specs.Arguments.{WrongHandle, WrongName, WrongListing, IsDeclined}
+use Rattle.raft_log_disk.specs.Arguments.{WrongHandle, WrongName, WrongListing, IsAfterStop, IsDeclined}
 
 -- the handle is that of the file with the name
 pub record IsOpened (path : List ℕ) (permission : Permission) (handle : Handle) (d : Disk) : Type 0 where
@@ -25,13 +26,13 @@ pub record FillsRoom (id at : ℕ) (d : Disk) (before after : List ℕ) (count :
   pub readable : (place : ℕ) → at ≤ place → place < at + count → d.unreadable id place ≡ false
 
 -- A read is refused after a stop, where the file is gone, and where a place that it asks for, within the
--- file, is unreadable.
+-- file, is unreadable; after a stop it tells `Other` and nothing else, and so it does for such a place.
 pub data IsUnread (handle : Handle) (at count : ℕ) (d : Disk) (error : ErrorKind) : Type 0 where
-  stopped : d.stopped ≡ true → IsUnread handle at count d error
-  gone : WrongHandle handle d error → IsUnread handle at count d error
+  stopped : d.stopped ≡ true → error ≡ Other → IsUnread handle at count d error
+  gone : d.stopped ≡ false → WrongHandle handle d error → IsUnread handle at count d error
   unreadable : (file : File) (place : ℕ) → d.files handle.file ≡ Some file → at ≤ place → place < at + count
       → place < length file.content
-      → d.unreadable handle.file place ≡ true → IsUnread handle at count d error
+      → d.unreadable handle.file place ≡ true → error ≡ Other → IsUnread handle at count d error
 
 -- the size of a file
 pub record IsSize (id : ℕ) (d : Disk) (count : ℕ) : Type 0 where
@@ -60,4 +61,4 @@ IsNotListed directory d error = IsDeclined (WrongListing directory d error) d er
 
 -- why a file's size wasn't told
 abbrev pub IsNotMeasured : Handle → Disk → ErrorKind → Type 0
-IsNotMeasured handle d error = (d.stopped ≡ true) ⊎ WrongHandle handle d error
+IsNotMeasured handle d error = IsAfterStop d error ⊎ ((d.stopped ≡ false) × WrongHandle handle d error)

@@ -20,13 +20,14 @@ use std::io::ErrorKind;
 /// argument is wrong nothing else may happen but a stop. A refused write may have written some of its bytes,
 /// a refused shortening may have shortened, a refused allocation may have grown the file by some zeros; a
 /// refused call on names changed nothing, a refused sync synced nothing. At a stop a call may also have been
-/// done in part or whole. After a stop every call is refused and nothing changes any more. Each file stays
-/// below 2^63 bytes: what would grow it further is refused.
+/// done in part or whole. After a stop every call is refused as `Other` and nothing changes any more. Each
+/// file stays below 2^63 bytes: what would grow it further is refused.
 ///
 /// The error tells which argument was wrong. On a counted refusal it may be of any kind, and that kind is kept
-/// with the failure, so a caller that hands the error on can't tell another; from a stop on it may be of any
-/// kind, and none is kept. So `NotFound` of a file system that has stopped doesn't mean that a file is absent,
-/// and no caller may go by the error of a changing call but where the clauses say that an argument was wrong.
+/// with the failure, so a caller that hands the error on can't tell another; at a stop it may be of any kind,
+/// and none is kept. After a stop it is `Other`, so that neither `NotFound` nor `OutOfMemory` is told of a file
+/// system that had stopped before. No caller may go by the error of a changing call but where the clauses say
+/// that an argument was wrong.
 ///
 /// *Over a real directory.* `open`, `read_at` and `list` take `&self`, since readers and dumps are lent the
 /// file system: an implementation keeps its descriptors in a table whose slots are written once. A place
@@ -158,7 +159,7 @@ pub trait FileSystem {
         ensures told { IfOk result (λ space. tells_space self.now directory.now space) }
         ensures err { IfErr result (λ error. IsNotListed directory.now (disk self.now) error) };
 
-    /// Reads bytes from an offset on until the room is full or the file ends, and answers how many. Refused
+    /// Reads bytes from an offset on until the room is full or the file ends, and answers how many. `Other`
     /// where one of the places is unreadable; `NotFound` where the file is gone.
     fn read_at(&self, handle: Handle, offset: usize, room: &mut [u8]) -> Result<usize, ErrorKind>
         ensures ok { IfOk result (λ count.

@@ -3,7 +3,7 @@ use Rattle.std.specs.Prelude.{◌≡◌, ◌⊎◌, ℕ, true, false, None, List
 use Rattle.std.specs.declared.io.ErrorKind.{ErrorKind}
 use Rattle.raft_log_disk.specs.Disk.{Disk}
 use Rattle.raft_log_disk.specs.Calls.{counted, at_stop}
-use Rattle.raft_log_disk.specs.Arguments.{WrongHandle, WrongWriter, WrongListing}
+use Rattle.raft_log_disk.specs.Arguments.{WrongHandle, WrongWriter, WrongListing, IsAfterStop}
 use Rattle.raft_log_disk.specs.declared.handle.Handle.{Handle}
 use Rattle.raft_log_disk.specs.declared.handle.Permission.TheVariants.{ReadWrite}
 use Rattle.raft_log_disk_storage.specs.Storage.{contents_of}
@@ -20,17 +20,17 @@ with_failures failures kinds d = record d { failures = failures; kinds = kinds }
 abbrev pub FailsOnce : ErrorKind → Disk → Disk → Type 0
 FailsOnce error old new = (new ≡ counted error old) ⊎ (new ≡ at_stop old)
 
--- the file system has stopped, or the path isn't a directory's
+-- the file system has stopped, or it runs and the path isn't a directory's
 abbrev pub LacksDirectory : List ℕ → Disk → ErrorKind → Type 0
-LacksDirectory path d error = (d.stopped ≡ true) ⊎ WrongListing path d error
+LacksDirectory path d error = IsAfterStop d error ⊎ ((d.stopped ≡ false) × WrongListing path d error)
 
 -- the file system has stopped, or it runs and the handle's file is gone
 abbrev pub LacksFile : Handle → Disk → ErrorKind → Type 0
-LacksFile handle d error = (d.stopped ≡ true) ⊎ ((d.stopped ≡ false) × WrongHandle handle d error)
+LacksFile handle d error = IsAfterStop d error ⊎ ((d.stopped ≡ false) × WrongHandle handle d error)
 
 -- the file system has stopped, or it runs and the handle's file is gone or the handle may only read
 abbrev pub LacksWriter : Handle → Disk → ErrorKind → Type 0
-LacksWriter handle d error = (d.stopped ≡ true) ⊎ ((d.stopped ≡ false) × WrongWriter handle d error)
+LacksWriter handle d error = IsAfterStop d error ⊎ ((d.stopped ≡ false) × WrongWriter handle d error)
 
 module _ {D : Type 0} (g : device.Ghosts D) where
   -- the disk of a file system over a device

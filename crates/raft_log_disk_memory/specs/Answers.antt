@@ -4,7 +4,7 @@ use Rattle.std.specs.Result.{IfErr}
 use Rattle.std.specs.declared.io.ErrorKind.{ErrorKind}
 use Rattle.raft_log_disk.specs.Disk.{Change, Disk}
 use Rattle.raft_log_disk.specs.Calls.{Changes, Creates, flushed}
-use Rattle.raft_log_disk.specs.Arguments.{WrongHandle, WrongWriter, WrongListing}
+use Rattle.raft_log_disk.specs.Arguments.{WrongHandle, WrongWriter, WrongListing, IsAfterStop}
 use Rattle.raft_log_disk.specs.declared.handle.Handle.{Handle}
 use Rattle.raft_log_disk.specs.declared.handle.Permission.TheVariants.{ReadWrite}
 use Rattle.raft_log_disk_storage.specs.declared.remainder.Remainder.{Remainder}
@@ -89,9 +89,9 @@ SyncsAll id old new = Changes id flushed old new
 abbrev pub RunsWithDirectory : List ℕ → Disk → Type 0
 RunsWithDirectory path d = (d.stopped ≡ false) × (d.directories path ≡ true)
 
--- the file system has stopped, or the path isn't a directory's
+-- the file system has stopped, or it runs and the path isn't a directory's
 abbrev pub LacksDirectory : List ℕ → Disk → ErrorKind → Type 0
-LacksDirectory path d error = (d.stopped ≡ true) ⊎ WrongListing path d error
+LacksDirectory path d error = IsAfterStop d error ⊎ ((d.stopped ≡ false) × WrongListing path d error)
 
 -- the file system runs, and the handle's file is there
 abbrev pub RunsWithFile : Handle → Disk → Type 0
@@ -99,7 +99,7 @@ RunsWithFile handle d = (d.stopped ≡ false) × (d.files handle.file ≡ None �
 
 -- the file system has stopped, or it runs and the handle's file is gone
 abbrev pub LacksFile : Handle → Disk → ErrorKind → Type 0
-LacksFile handle d error = (d.stopped ≡ true) ⊎ ((d.stopped ≡ false) × WrongHandle handle d error)
+LacksFile handle d error = IsAfterStop d error ⊎ ((d.stopped ≡ false) × WrongHandle handle d error)
 
 -- the file system runs, the handle's file is there, and the handle may write
 abbrev pub RunsWithWriter : Handle → Disk → Type 0
@@ -108,7 +108,7 @@ RunsWithWriter handle d =
 
 -- the file system has stopped, or it runs and the handle's file is gone or the handle may only read
 abbrev pub LacksWriter : Handle → Disk → ErrorKind → Type 0
-LacksWriter handle d error = (d.stopped ≡ true) ⊎ ((d.stopped ≡ false) × WrongWriter handle d error)
+LacksWriter handle d error = IsAfterStop d error ⊎ ((d.stopped ≡ false) × WrongWriter handle d error)
 
 -- this is what a crash leaves of a file system
 abbrev pub IsLeftOf : Remainder → MemoryFileSystem → MemoryFileSystem → Type 0

@@ -12,6 +12,7 @@ use Rattle.std.specs.declared.io.ErrorKind.{ErrorKind}
 use Rattle.std.specs.declared.io.ErrorKind.TheVariants.{Other, OutOfMemory}
 use Rattle.raft_log_disk.specs.Disk.{Change, Wrote, ShortenedTo, GrewTo, File, Disk, overwritten, with_file}
 use Rattle.raft_log_disk.specs.Calls.{with_change, after_change, at_stop, Changes}
+use Rattle.raft_log_disk.specs.Arguments.{IsAfterStop}
 use Rattle.raft_log_disk.specs.declared.handle.Fault.{Fault}
 use Rattle.raft_log_disk.specs.declared.handle.Fault.TheVariants.{Refuse, RefuseInPart, DenyRead, StopAt, StopAfter, Space}
 use Rattle.raft_log_disk_memory.specs.declared.memory.MemoryFileSystem.{MemoryFileSystem}
@@ -137,13 +138,13 @@ after_failure error k = record k { disk = failed_once error k.disk }
 abbrev pub after_stop : Kept → Kept
 after_stop k = record k { disk = at_stop k.disk }
 
--- Why a changing call was refused, and what it left. It doesn't count, as the file system has stopped or the
--- argument is wrong, and nothing changed; or the armed stop fell; or an armed refusal fell; or one in part;
--- or nothing fell, and there was no room for what was asked. A failure is counted as the error that is told,
--- and a stop comes in its place only where the count would reach 2^64 - 1.
+-- Why a changing call was refused, and what it left. It doesn't count, as the file system has stopped, which
+-- is told as `Other`, or the argument is wrong, and nothing changed; or the armed stop fell; or an armed
+-- refusal fell; or one in part; or nothing fell, and there was no room for what was asked. A failure is
+-- counted as the error that is told, and a stop comes in its place only where the count would reach 2^64 - 1.
 pub data IsRefusedCall (left_at_stop : ErrorKind → Kept → Type 0)
     (left_in_part : ℕ → ErrorKind → Kept → Type 0) (wrong no_room : ErrorKind → Type 0) (error : ErrorKind) (old new : MemoryFileSystem) : Type 0 where
-  uncounted : ((disk_of old).stopped ≡ true) ⊎ wrong error → armed new ≡ armed old → kept new ≡ kept old
+  uncounted : IsAfterStop (disk_of old) error ⊎ wrong error → armed new ≡ armed old → kept new ≡ kept old
       → IsRefusedCall left_at_stop left_in_part wrong no_room error old new
   stop_fell : IsCounted wrong old new → (armed old).stop ≡ 1 → (left : Kept) → left_at_stop error left
       → kept new ≡ after_stop left

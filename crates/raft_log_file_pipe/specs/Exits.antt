@@ -1,5 +1,5 @@
 -- What stands of a pipe after each of its calls, answered and refused.
-use Rattle.std.specs.Prelude.{◌≡◌, ◌⊎◌, true, None, ℕ, ◌≤◌, ◌^◌, List, [], ◌∷◌, ◌++◌, length, drop, suc}
+use Rattle.std.specs.Prelude.{◌≡◌, ◌⊎◌, true, false, None, ℕ, ◌≤◌, ◌^◌, List, [], ◌∷◌, ◌++◌, length, drop, suc}
 use Rattle.std.specs.declared.io.ErrorKind.{ErrorKind}
 use Rattle.raft_log_disk.specs.Disk.{Disk}
 use Rattle.raft_log_disk.specs.Causes.{Fails}
@@ -64,10 +64,10 @@ FailsToRotate {R} F own paths header before old new = (base : Disk) (q : LogFile
     × IsSpan paths new.names before.first_seq (before.earlier.items ++ before.active ∷ []) (suc q.last)
     × TurnsNot paths header before.recycled.items before.writer (suc before.active.seq) old new
 
--- why a file that is kept for use wasn't opened: for want of memory; or the file system has stopped, or no
--- file has the path
+-- why a file that is kept for use wasn't opened: for want of memory, of a file system that runs; or it has
+-- stopped, or no file has the path
 abbrev pub StaysClosed : List ℕ → Disk → Error → Type 0
-StaysClosed path d errors.Memory = Unit {0}
+StaysClosed path d errors.Memory = d.stopped ≡ false
 StaysClosed path d errors.Failed = (d.stopped ≡ true) ⊎ (d.names path ≡ None)
 StaysClosed path d _ = ⊥
 

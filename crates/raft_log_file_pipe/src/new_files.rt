@@ -1,6 +1,6 @@
 //! How a pipe begins its files.
 
-ghost use Rattle.std.specs.Prelude.{◌≡◌, IfOk, IfErr};
+ghost use Rattle.std.specs.Prelude.{◌≡◌, false, IfOk, IfErr};
 ghost use Rattle.raft_log_file_pipe.specs.Placing.{IsChosen, TellsRoom};
 ghost use Rattle.raft_log_record_base.specs.declared.errors.Error.TheVariants.{Memory};
 ghost use Rattle.raft_log_file_format.specs.Header.{header_bytes};
@@ -56,7 +56,7 @@ impl NewFiles {
 fn has_room<F: FileSystem>(file_system: &F, directory: &str, size: usize) -> Result<bool>
     ensures ok { IfOk result (TellsRoom (F.tells_space file_system.now) (F.disk file_system.now) size
         directory.now) }
-    ensures err { IfErr result (λ error. error ≡ Memory) }
+    ensures err { IfErr result (λ error. (error ≡ Memory) × ((F.disk file_system.now).stopped ≡ false)) }
 {
     match file_system.free_space(directory) {
         Ok(space) => Ok(space >= size as u64),
@@ -74,7 +74,7 @@ pub fn choose_directory<G: PipeFormat, F: FileSystem>(
 ) -> Result<PathId>
     ensures ok { IfOk result (λ place. IsChosen (F.tells_space file_system.now) (F.disk file_system.now) size
         (G.file_paths layout.now).directories place) }
-    ensures err { IfErr result (λ error. error ≡ Memory) }
+    ensures err { IfErr result (λ error. (error ≡ Memory) × ((F.disk file_system.now).stopped ≡ false)) }
 {
     let paths = layout.paths();
     if paths.len() > 1 {

@@ -59,9 +59,9 @@ front-is content len is = elim (cases_lt (length content) 69) [
 pub front_unread : (source : Source) (d : Disk) (at count : ℕ) (e : Error) → at + count ≤ 69 → CannotReadPart source at count d e → FailsToOpen source.handle d e
 front_unread source d at count (errors.Io kind) few h = inr (unread_within h) where
   unread_within : IsUnread source.handle at count d kind → IsUnread source.handle 0 69 d kind
-  unread_within (stopped is) = stopped is
-  unread_within (gone wrong) = gone wrong
-  unread_within (unreadable file place is behind before inside bad) = unreadable file place is (omega arith) (omega (arith, before, few)) inside bad
+  unread_within (stopped is told) = stopped is told
+  unread_within (gone runs wrong) = gone runs wrong
+  unread_within (unreadable file place is behind before inside bad told) = unreadable file place is (omega arith) (omega (arith, before, few)) inside bad told
 front_unread source d at count errors.Memory few h = tt
 front_unread source d at count _ few h = absurd h
 

@@ -11,5 +11,5 @@ use Rattle.raft_log_file_reader.specs.Telling.{TellsInvalid}
 pub other_file : (path : List ℕ) (d : Disk) (e : Error) → TellsInvalid (codes "Invalid log file name") path e → d.stopped ≡ false → (d.names path ≡ None → ⊥)
     → ((id : FileId) → IsLogPath id path → ⊥) → IsNoFile path d e
 other_file path d (errors.InvalidArgument text) tells runs there other = (runs, inr (record { tells = tells; there = there; other = other }))
-other_file path d errors.Memory tells runs there other = tt
+other_file path d errors.Memory tells runs there other = runs
 other_file path d _ tells runs there other = absurd tells

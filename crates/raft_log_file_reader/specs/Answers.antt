@@ -1,12 +1,12 @@
 -- What comes of log files that are read: their items, and why the reading of a file ends before the file
 -- does.
-use Rattle.std.specs.Prelude.{◌≡◌, ℕ, ◌⊎◌, true, List, [], ◌∷◌, ◌++◌, map, Result, Ok, Err, length}
+use Rattle.std.specs.Prelude.{◌≡◌, ℕ, ◌⊎◌, false, List, [], ◌∷◌, ◌++◌, map, Result, Ok, Err, length}
 use Rattle.std.specs.String.{string_bytes}
 use Rattle.raft_log_record_base.specs.declared.errors.Error.{Error}
 use Rattle.raft_log_record_base.specs.declared.errors.Error.TheVariants as errors
 use Rattle.raft_log_record_items.specs.declared.item.LogItem.{LogItem}
 use Rattle.raft_log_disk.specs.Disk.{Disk}
-use Rattle.raft_log_disk.specs.Arguments.{WrongName}
+use Rattle.raft_log_disk.specs.Arguments.{WrongName, IsAfterStop}
 use Rattle.raft_log_disk.specs.Reading.{IsOpened}
 use Rattle.raft_log_disk.specs.declared.handle.Handle.{Handle}
 use Rattle.raft_log_disk.specs.declared.handle.Permission.TheVariants.{ReadOnly}
@@ -41,11 +41,11 @@ pub data GivesFrom (d : Disk) (file : OpenFile) (offset : ℕ) (answers : List A
       → HasBatches file (bytes_of file.source d) offset batches end → FailsBehind file d end error
       → answers ≡ given_all batches ++ Err error ∷ [] → GivesFrom d file offset answers
 
--- why the file with a path wasn't opened to be read: the file system has stopped, no file has the path, or
--- memory ran out
+-- why the file with a path wasn't opened to be read: the file system has stopped; or it runs, and no file has
+-- the path or memory ran out
 abbrev pub IsReadOpenRefusal : List ℕ → Disk → Error → Type 0
-IsReadOpenRefusal path d (errors.Io kind) = (d.stopped ≡ true) ⊎ WrongName path d kind
-IsReadOpenRefusal path d errors.Memory = Unit {0}
+IsReadOpenRefusal path d (errors.Io kind) = IsAfterStop d kind ⊎ ((d.stopped ≡ false) × WrongName path d kind)
+IsReadOpenRefusal path d errors.Memory = d.stopped ≡ false
 IsReadOpenRefusal path d _ = ⊥
 
 -- this is the log file that is open, at its header's end

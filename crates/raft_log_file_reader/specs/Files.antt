@@ -1,5 +1,5 @@
 -- Which files are read, and why there are none to read.
-use Rattle.std.specs.Prelude.{◌≡◌, ℕ, ◌⊎◌, List, [], ◌∷◌, ◌++◌, None, codes, true, false}
+use Rattle.std.specs.Prelude.{◌≡◌, ℕ, ◌⊎◌, List, [], ◌∷◌, ◌++◌, None, codes, false}
 use Rattle.std.specs.List.Sorted.{IsPermutation, IsSortedByKey}
 use Rattle.std.specs.String.{string_bytes}
 use Rattle.raft_log_record_base.specs.Files.{file_cmp}
@@ -7,6 +7,7 @@ use Rattle.raft_log_record_base.specs.declared.errors.Error.{Error}
 use Rattle.raft_log_record_base.specs.declared.errors.Error.TheVariants as errors
 use Rattle.raft_log_record_base.specs.declared.pipe_log.FileId.{FileId}
 use Rattle.raft_log_disk.specs.Disk.{Disk, IsPathIn}
+use Rattle.raft_log_disk.specs.Arguments.{IsAfterStop}
 use Rattle.raft_log_disk.specs.Reading.{IsListing}
 use Rattle.raft_log_file_format.specs.Name.{IsNamed, suffix_of}
 use Rattle.raft_log_file_reader.specs.declared.log_file.LogFile.{LogFile}
@@ -45,13 +46,13 @@ pub record IsOtherFile (path : List ℕ) (d : Disk) (text : List ℕ) : Type 0 w
   pub there : d.names path ≡ None → ⊥
   pub other : (id : FileId) → IsLogPath id path → ⊥
 
--- Why there is no file to read: none has the path or it has another name, the file system has stopped, or
--- memory ran out.
+-- Why there is no file to read: the file system has stopped; or it runs, and no file has the path, it has
+-- another name, or memory ran out.
 abbrev pub IsNoFile : List ℕ → Disk → Error → Type 0
 IsNoFile path d (errors.InvalidArgument text) =
     (d.stopped ≡ false) × (HasNoFileAt path d (string_bytes text) ⊎ IsOtherFile path d (string_bytes text))
-IsNoFile path d (errors.Io kind) = d.stopped ≡ true
-IsNoFile path d errors.Memory = Unit {0}
+IsNoFile path d (errors.Io kind) = IsAfterStop d kind
+IsNoFile path d errors.Memory = d.stopped ≡ false
 IsNoFile path d _ = ⊥
 
 -- The files of a directory.
@@ -74,12 +75,12 @@ pub record AreFilesOf (directory : List ℕ) (d : Disk) (files : List LogFile) :
   pub same : IsPermutation found files
   pub ordered : IsSortedByKey (λ file. file.id) file_cmp files
 
--- Why there is no directory to read: a file or nothing has the path, the file system has stopped, or memory
--- ran out.
+-- Why there is no directory to read: the file system has stopped; or it runs, and a file or nothing has the
+-- path, or memory ran out.
 abbrev pub IsNoDirectory : List ℕ → Disk → Error → Type 0
 IsNoDirectory path d (errors.InvalidArgument text) = (d.stopped ≡ false)
     × (string_bytes text ≡ told (codes "Not a directory") path)
     × ((d.names path ≡ None → ⊥) ⊎ (d.directories path ≡ false))
-IsNoDirectory path d (errors.Io kind) = d.stopped ≡ true
-IsNoDirectory path d errors.Memory = Unit {0}
+IsNoDirectory path d (errors.Io kind) = IsAfterStop d kind
+IsNoDirectory path d errors.Memory = d.stopped ≡ false
 IsNoDirectory path d _ = ⊥

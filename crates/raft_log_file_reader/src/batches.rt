@@ -120,7 +120,8 @@ impl BatchReader {
     }
 }
 
-/// Opens the file with a path to read it; want of memory is told apart from a refusal of the file system.
+/// Opens the file with a path to read it; want of memory is told apart from a refusal of the file system, and
+/// no stop is told as it.
 fn find<F: FileSystem>(file_system: &F, path: &str) -> Result<Handle>
     ensures ok { IfOk result (λ handle. IsOpened path.now ReadOnly handle (F.disk file_system.now)) }
     ensures err { IfErr result (λ error. IsReadOpenRefusal path.now (F.disk file_system.now) error) }

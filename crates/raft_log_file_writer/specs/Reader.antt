@@ -1,20 +1,21 @@
 -- What is read of one log file, and why a read is refused.
-use Rattle.std.specs.Prelude.{◌≡◌, ℕ, ◌⊎◌, ◌++◌, true, List, take, drop, Result, Ok}
+use Rattle.std.specs.Prelude.{◌≡◌, ℕ, ◌⊎◌, ◌++◌, false, List, take, drop, Result, Ok}
 use Rattle.raft_log_record_base.specs.declared.errors.Error.{Error}
 use Rattle.raft_log_record_base.specs.declared.errors.Error.TheVariants as errors
 use Rattle.raft_log_record_base.specs.Fault.{Fault, FailsOrMemory}
 use Rattle.raft_log_file_format.specs.declared.header.LogFileFormat.{LogFileFormat}
 use Rattle.raft_log_file_format.specs.Header.{IsFileHeader, header_at}
 use Rattle.raft_log_disk.specs.Disk.{File, Disk}
-use Rattle.raft_log_disk.specs.Arguments.{WrongName}
+use Rattle.raft_log_disk.specs.Arguments.{WrongName, IsAfterStop}
 use Rattle.raft_log_disk.specs.Reading.{IsUnread, IsNotMeasured}
 use Rattle.raft_log_disk.specs.Touching.{HasFile}
 use Rattle.raft_log_disk.specs.declared.handle.Handle.{Handle}
 
--- why a file wasn't opened: for want of memory; or the file system has stopped, or no file has the path
+-- why a file wasn't opened: the file system has stopped; or it runs, and memory was short or no file has the
+-- path
 abbrev pub IsOpenRefusal : List ℕ → Disk → Error → Type 0
-IsOpenRefusal path d errors.Memory = Unit {0}
-IsOpenRefusal path d (errors.Io kind) = (d.stopped ≡ true) ⊎ WrongName path d kind
+IsOpenRefusal path d errors.Memory = d.stopped ≡ false
+IsOpenRefusal path d (errors.Io kind) = IsAfterStop d kind ⊎ ((d.stopped ≡ false) × WrongName path d kind)
 IsOpenRefusal path d _ = ⊥
 
 -- why so many bytes from a place on weren't read: the file system refused

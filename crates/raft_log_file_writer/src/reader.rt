@@ -24,7 +24,7 @@ pub fn build_file_reader<F: FileSystem>(file_system: &F, path: &str) -> Result<L
     Ok(LogFileReader::open(handle))
 }
 
-/// Opens a file; want of memory is told apart from a refusal of the file system.
+/// Opens a file; want of memory is told apart from a refusal of the file system, and no stop is told as it.
 pub(crate) fn open_file<F: FileSystem>(
     file_system: &F,
     path: &str,

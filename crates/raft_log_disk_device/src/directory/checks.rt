@@ -9,6 +9,7 @@ use std::io::ErrorKind;
 
 impl<D: Device> DirectoryFileSystem<D> {
     ghost use Rattle.std.specs.Prelude.{◌≡◌, true, OnOk, OnErr, IfErr};
+    ghost use Rattle.raft_log_disk.specs.Arguments.{IsAfterStop};
     ghost use Rattle.raft_log_disk_device.specs.Directory.{disk_of, FailsOnce, Runs, RunsWithDirectory, RunsWithFile, RunsWithWriter, LacksDirectory, LacksFile, LacksWriter};
 
     /// Counts a failure and notes the kind that it is told as; the one that would make 2^64 stops the file
@@ -30,7 +31,7 @@ impl<D: Device> DirectoryFileSystem<D> {
     /// Whether the file system runs.
     pub(super) fn check_runs(&self) -> Result<(), ErrorKind>
         ensures ok { OnOk result (Runs D.Device self.now) }
-        ensures err { OnErr result ((disk_of D.Device self.now).stopped ≡ true) }
+        ensures err { IfErr result (IsAfterStop (disk_of D.Device self.now)) }
     {
         if self.stopped {
             Err(ErrorKind::Other)

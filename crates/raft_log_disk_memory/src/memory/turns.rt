@@ -11,6 +11,7 @@ use std::io::ErrorKind;
 
 impl MemoryFileSystem {
     ghost use Rattle.std.specs.Prelude.{◌≡◌, ◌↔◌, true, false, None, OnOk, OnErr, IfErr, IfOk, IfSome, IsTrue, MatchResult};
+    ghost use Rattle.raft_log_disk.specs.Arguments.{IsAfterStop};
     ghost use Rattle.raft_log_disk_memory.specs.Memory.{disk_of, failed_once, unsynced};
     ghost use Rattle.raft_log_disk_memory.specs.Turns.{armed, armed_with, call_later, IsSpared, PartFalls, StopsAfter, ArmedRefusalFell, IsCallEnded, IsChangeEnded};
     ghost use Rattle.raft_log_disk_memory.specs.Answers.{HasRefused, HasFallen, RunsWithDirectory, LacksDirectory, RunsWithFile, LacksFile, RunsWithWriter, LacksWriter};
@@ -205,7 +206,7 @@ impl MemoryFileSystem {
     // Whether the file system runs.
     pub(super) fn check_runs(&self) -> Result<(), ErrorKind>
         ensures ok { OnOk result ((disk_of self.now).stopped ≡ false) }
-        ensures err { OnErr result ((disk_of self.now).stopped ≡ true) }
+        ensures err { IfErr result (IsAfterStop (disk_of self.now)) }
     {
         if self.stopped {
             Err(ErrorKind::Other)

@@ -14,7 +14,7 @@ returns-then-denies-clause-err c =
     let within = c.if-denies.ensures.denied refl in
     unreadable (file_of got.0) within.place (ap (option_map file_of) got.1) within.from
     (omega (arith, within.below, c.min-count.ensures)) (omega (arith, within.from, within.below, c.min-count.ensures, c.saturating_sub.ensures, size))
-    (subst (λ (ms : List (ℕ × ℕ)). is_denied ms c.args.handle.file within.place ≡ true) c.deref.ensures.value within.denied)
+    (subst (λ (ms : List (ℕ × ℕ)). is_denied ms c.args.handle.file within.place ≡ true) c.deref.ensures.value within.denied) refl
 
 pub returns-clause-ok : goal.returns-clause-ok
 returns-clause-ok c =

@@ -16,11 +16,11 @@ use Rattle.raft_log_closed.specs.declared.source_file.SourceFile.{SourceFile}
 use Rattle.raft_log_closed.proofs.Adds.{adds_none}
 
 read_fails : (target : List ℕ) (file : SourceFile) (d : Disk) (kind : ErrorKind) → IsSourceThere d file → FailsToReadWhole file.handle d (errors.Io kind) → IsCopyRefusal target (file ∷ []) (errors.Io kind) d d
-read_fails target file d kind there (inl (inl stop)) = inl (has_stopped stop)
-read_fails target file d kind there (inl (inr wrong)) = absurd (let none = wrong.1 in let is = there.is in cc)
-read_fails target file d kind there (inr (count, stopped stop)) = inl (has_stopped stop)
-read_fails target file d kind there (inr (count, gone wrong)) = absurd (let none = wrong.1 in let is = there.is in cc)
-read_fails target file d kind there (inr (count, unreadable content place is behind before inside marked)) = inr (inl (file, (0, omega arith, refl), (place, marked)))
+read_fails target file d kind there (inl (inl (stop, told))) = inl (has_stopped stop)
+read_fails target file d kind there (inl (inr (runs, wrong))) = absurd (let none = wrong.1 in let is = there.is in cc)
+read_fails target file d kind there (inr (count, stopped stop told)) = inl (has_stopped stop)
+read_fails target file d kind there (inr (count, gone runs wrong)) = absurd (let none = wrong.1 in let is = there.is in cc)
+read_fails target file d kind there (inr (count, unreadable content place is behind before inside marked told)) = inr (inl (file, (0, omega arith, refl), (place, marked)))
 
 -- a file that wasn't read isn't copied
 pub unread_one : (target : List ℕ) (file : SourceFile) (d : Disk) (error : Error) → IsSourceThere d file → FailsToReadWhole file.handle d error → FailsToCopyOne target file error d d

@@ -23,7 +23,7 @@ use Rattle.raft_log_closed.proofs.Adds.{adds_calm, adds_created, adds_file, adds
 
 -- a file wasn't made: a failure, a stop, or a wrong path
 pub create_fails : (path : List ℕ) (error : ErrorKind) (old new : Disk) → FailsToCreate path error old new → Fails old new ⊎ WrongCreate path old error
-create_fails path error old new (after_stop is same) = inl (has_stopped (ap (λ (d : Disk). d.stopped) same ∙ is))
+create_fails path error old new (after_stop is same told) = inl (has_stopped (ap (λ (d : Disk). d.stopped) same ∙ is))
 create_fails path error old new (wrong_argument runs why same) = inr why
 create_fails path error old new (failed runs right left is same) =
     inl (has_failed (omega (arith, ap (λ (d : Disk). d.failures) same, ap (λ (d : Disk). d.failures) is)))

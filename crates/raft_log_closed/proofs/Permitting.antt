@@ -73,10 +73,10 @@ no_directory directory d (Some id) sound there is file = false≢true (sym (soun
 
 -- where no directory is, no file is in it
 pub nothing_held : (directory : List ℕ) (d : Disk) (kind : ErrorKind) → IsSound d → d.stopped ≡ false → (kind ≡ OutOfMemory → ⊥) → IsNotListed directory d kind → HoldsLogFile directory d → ⊥
-nothing_held directory d kind sound runs other (stopped stop) holds = false≢true (sym runs ∙ stop)
-nothing_held directory d kind sound runs other (wrong_argument (inl (is, named))) holds = no_directory directory d (d.names directory) sound holds.home refl named
-nothing_held directory d kind sound runs other (wrong_argument (inr (is, none, gone))) holds = false≢true (sym gone ∙ holds.home)
-nothing_held directory d kind sound runs other (no_memory is) holds = other is
+nothing_held directory d kind sound runs other (stopped stop tells) holds = false≢true (sym runs ∙ stop)
+nothing_held directory d kind sound runs other (wrong_argument going (inl (is, named))) holds = no_directory directory d (d.names directory) sound holds.home refl named
+nothing_held directory d kind sound runs other (wrong_argument going (inr (is, none, gone))) holds = false≢true (sym gone ∙ holds.home)
+nothing_held directory d kind sound runs other (no_memory going is) holds = other is
 
 -- what is told of a copy that something stands against
 pub told : (s : Settings) (target : List ℕ) (d : Disk) (words : List ℕ) (error : Error) → TellsWords words error → ((text : List ℕ) → text ≡ words → Forbids s target d text) → IsForkRefusal s target d error

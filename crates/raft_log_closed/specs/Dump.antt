@@ -1,9 +1,10 @@
 -- What a dump of a log's files gives.
-use Rattle.std.specs.Prelude.{◌≡◌, ℕ, ◌⊎◌, true, false, None, List, codes}
+use Rattle.std.specs.Prelude.{◌≡◌, ℕ, ◌⊎◌, false, None, List, codes}
 use Rattle.std.specs.String.{string_bytes}
 use Rattle.raft_log_record_base.specs.declared.errors.Error.{Error}
 use Rattle.raft_log_record_base.specs.declared.errors.Error.TheVariants as errors
 use Rattle.raft_log_disk.specs.Disk.{Disk}
+use Rattle.raft_log_disk.specs.Arguments.{IsAfterStop}
 use Rattle.raft_log_file_reader.specs.Files.{IsOtherFile, told}
 use Rattle.raft_log_file_reader.specs.ItemReader.{ReadsFileAt, ReadsFilesIn}
 use Rattle.raft_log_file_reader.specs.declared.item_reader.LogItemReader.{LogItemReader}
@@ -19,11 +20,11 @@ abbrev pub LacksBoth : List ℕ → Disk → List ℕ → Type 0
 LacksBoth path d text = (text ≡ told (codes "No such file or directory") path) × (d.names path ≡ None)
     × (d.directories path ≡ false)
 
--- Why nothing is dumped: nothing has the path, or a file without a log file's name; the file system has
--- stopped, or memory ran out.
+-- Why nothing is dumped: the file system has stopped; or it runs, and nothing has the path, or a file without
+-- a log file's name, or memory ran out.
 abbrev pub IsNoDump : List ℕ → Disk → Error → Type 0
 IsNoDump path d (errors.InvalidArgument text) =
     (d.stopped ≡ false) × (LacksBoth path d (string_bytes text) ⊎ IsOtherFile path d (string_bytes text))
-IsNoDump path d (errors.Io kind) = d.stopped ≡ true
-IsNoDump path d errors.Memory = Unit {0}
+IsNoDump path d (errors.Io kind) = IsAfterStop d kind
+IsNoDump path d errors.Memory = d.stopped ≡ false
 IsNoDump path d _ = ⊥

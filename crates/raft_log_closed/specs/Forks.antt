@@ -5,6 +5,7 @@ use Rattle.std.specs.declared.io.ErrorKind.{ErrorKind}
 use Rattle.raft_log_record_base.specs.declared.errors.Error.{Error}
 use Rattle.raft_log_record_base.specs.declared.errors.Error.TheVariants as errors
 use Rattle.raft_log_disk.specs.Disk.{Disk, IsPlain}
+use Rattle.raft_log_disk.specs.Arguments.{IsAfterStop}
 use Rattle.raft_log_disk.specs.Exits.{FailsToMakeDirectory}
 use Rattle.raft_log_open_scan.specs.Directories.{MakesIfAbsent, FailsToListAll}
 use Rattle.raft_log_open_scan.specs.Scanned.{TellsMisnamedIn}
@@ -110,7 +111,7 @@ abbrev pub IsForkRefusal : Settings → List ℕ → Disk → Error → Type 0
 IsForkRefusal s target d (errors.InvalidArgument text) = Forbids s target d (string_bytes text)
 IsForkRefusal s target d (errors.Other why) = IsFree s target d × IsRefusedFor s (errors.Other why)
 IsForkRefusal s target d (errors.Io kind) =
-    (d.stopped ≡ true) ⊎ (AllowsFork s target d × FailsToListAll (directories_of s) d (errors.Io kind))
+    IsAfterStop d kind ⊎ (AllowsFork s target d × FailsToListAll (directories_of s) d (errors.Io kind))
 IsForkRefusal s target d (errors.Corruption text) =
     AllowsFork s target d × TellsMisnamedIn (directories_of s) d (string_bytes text)
 IsForkRefusal s target d errors.Memory = Unit {0}

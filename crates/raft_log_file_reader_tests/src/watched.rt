@@ -118,7 +118,7 @@ impl<F: FileSystem> FileSystem for Watched<F> {
     }
 
     fn open(&self, path: &str, permission: Permission) -> Result<Handle, ErrorKind> {
-        if self.stopped {
+        if self.has_stopped() {
             return Err(ErrorKind::Other);
         }
         if self.is_short() {
@@ -128,7 +128,7 @@ impl<F: FileSystem> FileSystem for Watched<F> {
     }
 
     fn list(&self, directory: &str) -> Result<Vec<String>, ErrorKind> {
-        if self.stopped {
+        if self.has_stopped() {
             return Err(ErrorKind::Other);
         }
         if self.is_short() {

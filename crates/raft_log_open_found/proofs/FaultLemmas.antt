@@ -58,11 +58,11 @@ part_unread source d at _ reading h other = absurd h
 
 -- what can't be read of a file is some of its bytes
 unread_anywhere : (handle : Handle) (at count : ℕ) (d : Disk) (kind : ErrorKind) → IsUnread handle at count d kind → IsUnread handle 0 (length (bytes_in (d.files handle.file))) d kind
-unread_anywhere handle at count d kind (stopped is) = stopped is
-unread_anywhere handle at count d kind (gone wrong) = gone wrong
-unread_anywhere handle at count d kind (unreadable file place is behind before inside bad) =
+unread_anywhere handle at count d kind (stopped is told) = stopped is told
+unread_anywhere handle at count d kind (gone runs wrong) = gone runs wrong
+unread_anywhere handle at count d kind (unreadable file place is behind before inside bad told) =
     let size : length (bytes_in (d.files handle.file)) ≡ length file.content = ap (λ (f : Option File). length (bytes_in f)) is in
-    unreadable file place is (omega arith) (omega (arith, inside, size)) inside bad
+    unreadable file place is (omega arith) (omega (arith, inside, size)) inside bad told
 
 pub header_damaged : (handle : Handle) (d : Disk) (e : Error) → FailsToOpen handle d e → IsDamage e → (f : Fault) × TellsFault e f × (header_at (take 69 (bytes_in (d.files handle.file))) ≡ Err f)
 header_damaged handle d (errors.Codec c) h damaged = (number c, refl, h)

@@ -39,7 +39,7 @@ module _ (E : ℕ → Bool) where
   some_left id change old left (some_of file content is part done) = ap (λ (d : Disk). d.unused) done
 
   unused_refused : (id : ℕ) (change : Change) (wrong : ErrorKind → Type 0) (error : ErrorKind) (old new : Disk) → RefusedChange id change wrong error old new → new.unused ≡ old.unused
-  unused_refused id change wrong error old new (after_stop stopped same) = ap (λ (d : Disk). d.unused) same
+  unused_refused id change wrong error old new (after_stop stopped same told) = ap (λ (d : Disk). d.unused) same
   unused_refused id change wrong error old new (wrong_argument runs is same) = ap (λ (d : Disk). d.unused) same
   unused_refused id change wrong error old new (failed runs right left part is) = ap (λ (d : Disk). d.unused) is ∙ some_left id change old left part
   unused_refused id change wrong error old new (stops runs left what is) = ap (λ (d : Disk). d.unused) is ∙ elim what [

@@ -120,7 +120,7 @@ module _ (E : ℕ → Bool) where
       → ((left : Disk) → part left → part_then (settled_in E left)) → ((left : Disk) → done left → done_then (settled_in E left))
       → ((e : ErrorKind) → wrong e → wrong_then e) → ((e : ErrorKind) → wrong_then e → wrong e)
       → Refused part done wrong error old new → Refused part_then done_then wrong_then error (settled_in E old) (settled_in E new)
-  settled_refusal error old new parts dones to back (after_stop stopped same) = after_stop stopped (ap (settled_in E) same)
+  settled_refusal error old new parts dones to back (after_stop stopped same told) = after_stop stopped (ap (settled_in E) same) told
   settled_refusal error old new parts dones to back (wrong_argument runs is same) = wrong_argument runs (to error is) (ap (settled_in E) same)
   settled_refusal error old new parts dones to back (failed runs right left some is) = failed runs (λ e w. right e (back e w)) (settled_in E left) (parts left some) (ap (settled_in E) is)
   settled_refusal error old new parts dones to back (stops runs left what is) =

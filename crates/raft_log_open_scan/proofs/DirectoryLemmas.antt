@@ -10,7 +10,7 @@ use Rattle.std.proofs.lemmas.Slice.Eq.{bytes_eq-Decides}
 use Rattle.raft_log_record_base.specs.declared.errors.Error.{Error}
 use Rattle.raft_log_record_base.specs.declared.errors.Error.TheVariants as errors
 use Rattle.raft_log_disk.specs.Disk.{Disk}
-use Rattle.raft_log_disk.specs.Arguments.{WrongListing, IsDeclined}
+use Rattle.raft_log_disk.specs.Arguments.{WrongListing, IsAfterStop, IsDeclined}
 use Rattle.raft_log_disk.specs.Calls.{with_directory}
 use Rattle.raft_log_disk.specs.Reading.{IsNotListed}
 use Rattle.raft_log_open_scan.specs.Directories.{IsFreePath, MakesIfAbsent, HasDirectories, FailsToHave, TellsNoDirectory, TellsRefusal, FailsToList}
@@ -60,10 +60,16 @@ has_more ps p old mid new has (inr made) = is_made ps p old mid new has made.don
 
 -- why a listing was refused
 
+-- after a stop it is told as `Other`
+pub after_stop : {wrong : Type 0} {d : Disk} {kind told : ErrorKind} → IsDeclined wrong d kind → d.stopped ≡ true → told ≡ kind → IsAfterStop d told
+after_stop (IsDeclined.stopped stop tells) is same = (stop, same ∙ tells)
+after_stop (IsDeclined.wrong_argument runs why) is same = absurd (false≢true (sym runs ∙ is))
+after_stop (IsDeclined.no_memory runs memory) is same = absurd (false≢true (sym runs ∙ is))
+
 wrong_or_memory : (path : List ℕ) (d : Disk) (kind : ErrorKind) → d.stopped ≡ false → (kind ≡ OutOfMemory → ⊥) → IsNotListed path d kind → WrongListing path d kind
-wrong_or_memory path d kind runs other (IsDeclined.stopped is) = absurd (false≢true (sym runs ∙ is))
-wrong_or_memory path d kind runs other (IsDeclined.wrong_argument why) = why
-wrong_or_memory path d kind runs other (IsDeclined.no_memory is) = absurd (other is)
+wrong_or_memory path d kind runs other (IsDeclined.stopped is told) = absurd (false≢true (sym runs ∙ is))
+wrong_or_memory path d kind runs other (IsDeclined.wrong_argument going why) = why
+wrong_or_memory path d kind runs other (IsDeclined.no_memory going is) = absurd (other is)
 
 pub lists_none : (path : List ℕ) (d : Disk) (kind : ErrorKind) → d.stopped ≡ false → (kind ≡ OutOfMemory → ⊥) → kind ≡ NotFound → IsNotListed path d kind → IsFreePath path d
 lists_none path d kind runs other is not = elim (wrong_or_memory path d kind runs other not) [ inl file ↦ absurd (let input = file.0 in cc) | inr absent ↦ (absent.1, absent.2) ]
@@ -76,9 +82,9 @@ lists_file path d kind errors.Memory runs other found not tells = (runs, refl)
 lists_file path d kind _ runs other found not tells = absurd tells
 
 pub not_listed : (path : List ℕ) (d : Disk) (kind : ErrorKind) (error : Error) → IsNotListed path d kind → TellsRefusal d.stopped kind error → FailsToList path d error
-not_listed path d kind (errors.Io told) not (is, inl stop) = inl stop
-not_listed path d kind (errors.Io told) (IsDeclined.stopped stop) (is, inr other) = inl stop
-not_listed path d kind (errors.Io told) (IsDeclined.wrong_argument why) (is, inr other) = inr (subst (WrongListing path d) (sym is) why)
-not_listed path d kind (errors.Io told) (IsDeclined.no_memory memory) (is, inr other) = absurd (other memory)
+not_listed path d kind (errors.Io told) not (is, inl stop) = inl (after_stop not stop is)
+not_listed path d kind (errors.Io told) (IsDeclined.stopped stop tells) (is, inr other) = inl (stop, is ∙ tells)
+not_listed path d kind (errors.Io told) (IsDeclined.wrong_argument runs why) (is, inr other) = inr (runs, subst (WrongListing path d) (sym is) why)
+not_listed path d kind (errors.Io told) (IsDeclined.no_memory runs memory) (is, inr other) = absurd (other memory)
 not_listed path d kind errors.Memory not runs = runs
 not_listed path d kind _ not tells = absurd tells

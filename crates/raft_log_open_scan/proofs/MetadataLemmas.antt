@@ -17,7 +17,7 @@ stopped_leaves : (d : Disk) → ChangesNoFile d (at_stop d)
 stopped_leaves d = record { rest = refl; later = record { failures = omega arith; stopped = λ stop. refl } }
 
 refused_leaves : (error : ErrorKind) (old new : Disk) → FailsWithoutChange error old new → ChangesNoFile old new
-refused_leaves error old new (Refused.after_stop stop same) = subst (ChangesNoFile old) (sym same) (leaves_same old)
+refused_leaves error old new (Refused.after_stop stop same told) = subst (ChangesNoFile old) (sym same) (leaves_same old)
 refused_leaves error old new (Refused.wrong_argument runs wrong same) = absurd wrong
 refused_leaves error old new (Refused.failed runs right left part done) = subst (ChangesNoFile old) (sym (done ∙ ap (counted error) part)) (counted_leaves error old)
 refused_leaves error old new (Refused.stops runs left (inl none) done) = subst (ChangesNoFile old) (sym (done ∙ ap at_stop none)) (stopped_leaves old)

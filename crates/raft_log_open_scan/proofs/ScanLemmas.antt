@@ -65,9 +65,9 @@ no_file path d (Some id) sound there is file = false≢true (sym (sound.apart pa
 
 pub fails_to_list : (directories : List (List ℕ)) (d : Disk) (error : Error) → IsSound d → All (λ path. d.directories path ≡ true) directories → FailsToListAll directories d error → FailsToFindFiles directories d error
 fails_to_list directories d (errors.Io kind) sound there (path, listed, inl stop) = stop
-fails_to_list directories d (errors.Io kind) sound there (path, listed, inr (inl file)) =
+fails_to_list directories d (errors.Io kind) sound there (path, listed, inr (runs, inl file)) =
     absurd (no_file path d (d.names path) sound (All-contains (λ p. d.directories p ≡ true) directories path there listed) refl file.1)
-fails_to_list directories d (errors.Io kind) sound there (path, listed, inr (inr absent)) =
+fails_to_list directories d (errors.Io kind) sound there (path, listed, inr (runs, inr absent)) =
     absurd (false≢true (sym absent.2 ∙ All-contains (λ p. d.directories p ≡ true) directories path there listed))
 fails_to_list directories d errors.Memory sound there fails = tt
 fails_to_list directories d _ sound there fails = absurd fails.2

@@ -6,7 +6,7 @@ use Rattle.anyhow.specs.Error.{HasMessage}
 use Rattle.raft_log_record_base.specs.declared.errors.Error.{Error}
 use Rattle.raft_log_record_base.specs.declared.errors.Error.TheVariants as errors
 use Rattle.raft_log_disk.specs.Disk.{Disk}
-use Rattle.raft_log_disk.specs.Arguments.{WrongListing}
+use Rattle.raft_log_disk.specs.Arguments.{WrongListing, IsAfterStop}
 use Rattle.raft_log_disk.specs.Calls.{MakesDirectory}
 use Rattle.raft_log_disk.specs.Exits.{FailsToMakeDirectory}
 
@@ -64,9 +64,10 @@ TellsRefusal stopped kind (errors.Io told) = (told ≡ kind) × ((stopped ≡ tr
 TellsRefusal stopped kind errors.Memory = stopped ≡ false
 TellsRefusal stopped kind _ = ⊥
 
--- why a directory wasn't listed: the file system has stopped, there is no such directory, or memory ran out
+-- why a directory wasn't listed: the file system has stopped; or it runs, and there is no such directory, or
+-- memory ran out
 abbrev pub FailsToList : List ℕ → Disk → Error → Type 0
-FailsToList path d (errors.Io kind) = (d.stopped ≡ true) ⊎ WrongListing path d kind
+FailsToList path d (errors.Io kind) = IsAfterStop d kind ⊎ ((d.stopped ≡ false) × WrongListing path d kind)
 FailsToList path d errors.Memory = d.stopped ≡ false
 FailsToList path d _ = ⊥
 

@@ -5,6 +5,7 @@ use Rattle.raft_log_record_base.specs.declared.errors.Error.{Error}
 use Rattle.raft_log_record_base.specs.declared.errors.Error.TheVariants as errors
 use Rattle.raft_log_record_base.specs.declared.pipe_log.Version.TheVariants.{V1}
 use Rattle.raft_log_disk.specs.Disk.{Disk}
+use Rattle.raft_log_disk.specs.Arguments.{IsAfterStop}
 use Rattle.raft_log_disk.specs.Reading.{IsOpened}
 use Rattle.raft_log_disk.specs.declared.handle.Permission.{Permission}
 use Rattle.raft_log_disk.specs.declared.handle.Permission.TheVariants.{ReadOnly, ReadWrite}
@@ -61,6 +62,6 @@ IsOpenQueue kind directories d mode found files =
 
 -- why it isn't known what has a path, or what is there wasn't opened: the file system has stopped, or memory ran out
 abbrev pub FailsToLook : Disk → Error → Type 0
-FailsToLook d (errors.Io kind) = d.stopped ≡ true
+FailsToLook d (errors.Io kind) = IsAfterStop d kind
 FailsToLook d errors.Memory = Unit {0}
 FailsToLook d _ = ⊥

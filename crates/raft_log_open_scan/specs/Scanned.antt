@@ -1,9 +1,10 @@
 -- What a scan of the log's directories answers.
-use Rattle.std.specs.Prelude.{◌≡◌, ℕ, ◌⊎◌, true, List}
+use Rattle.std.specs.Prelude.{◌≡◌, ℕ, ◌⊎◌, List}
 use Rattle.std.specs.String.{string_bytes}
 use Rattle.raft_log_record_base.specs.declared.errors.Error.{Error}
 use Rattle.raft_log_record_base.specs.declared.errors.Error.TheVariants as errors
 use Rattle.raft_log_disk.specs.Disk.{Disk}
+use Rattle.raft_log_disk.specs.Arguments.{IsAfterStop}
 use Rattle.raft_log_disk.specs.declared.handle.Permission.TheVariants.{ReadOnly}
 use Rattle.raft_log_file_settings.specs.declared.recovery_mode.RecoveryMode.{RecoveryMode}
 use Rattle.raft_log_file_queue.specs.declared.format.File.{File}
@@ -59,7 +60,7 @@ TellsMisnamedIn directories d text = (kind : FileKind) × (name : List ℕ) × H
 -- why files that are there weren't found and opened: the file system has stopped, one is misnamed, or
 -- memory ran out
 abbrev pub FailsToFindFiles : List (List ℕ) → Disk → Error → Type 0
-FailsToFindFiles directories d (errors.Io kind) = d.stopped ≡ true
+FailsToFindFiles directories d (errors.Io kind) = IsAfterStop d kind
 FailsToFindFiles directories d (errors.Corruption text) = TellsMisnamedIn directories d (string_bytes text)
 FailsToFindFiles directories d errors.Memory = Unit {0}
 FailsToFindFiles directories d _ = ⊥

@@ -14,10 +14,10 @@ use Rattle.raft_log_record_checksum.specs.Checksum.{crc_bit, crc_bits, crc_after
 
 -- ---- the order of terms
 
-xor_swap : (a b c : ℕ) → bit_xor (bit_xor a b) c ≡ bit_xor (bit_xor a c) b
+pub xor_swap : (a b c : ℕ) → bit_xor (bit_xor a b) c ≡ bit_xor (bit_xor a c) b
 xor_swap a b c = xor_assoc a b c ∙ ap (λ x. bit_xor a x) (xor_comm b c) ∙ sym (xor_assoc a c b)
 
-xor_twice : (a p : ℕ) → bit_xor (bit_xor a p) p ≡ a
+pub xor_twice : (a p : ℕ) → bit_xor (bit_xor a p) p ≡ a
 xor_twice a p = xor_assoc a p p ∙ ap (λ x. bit_xor a x) (xor_self p) ∙ xor_zero_r a
 
 xor_both : (a b p : ℕ) → bit_xor (bit_xor a p) (bit_xor b p) ≡ bit_xor a b
@@ -164,7 +164,7 @@ fold_front : (acc b : ℕ) (bs : List ℕ) (m : ℕ) → m ≡ 8 + 8 * length bs
 unfolding crc_after
 fold_front acc b bs m size = ap (λ x. bit_xor acc x) (crc_after_apart (crc_bits 8 b) bs ∙ front_alone b (length bs) m (crc_after 0 bs) size) ∙ sym (xor_assoc acc (crc_bits m b) (crc_after 0 bs))
 
-first_front : (b : ℕ) (bs : List ℕ) (m : ℕ) → m ≡ 8 + 8 * length bs → crc_after 0 (b ∷ bs) ≡ bit_xor (crc_bits m b) (crc_after 0 bs)
+pub first_front : (b : ℕ) (bs : List ℕ) (m : ℕ) → m ≡ 8 + 8 * length bs → crc_after 0 (b ∷ bs) ≡ bit_xor (crc_bits m b) (crc_after 0 bs)
 unfolding crc_after
 first_front b bs m size = crc_after_apart (crc_bits 8 b) bs ∙ front_alone b (length bs) m (crc_after 0 bs) size
 
@@ -172,7 +172,7 @@ no_bytes : (r : ℕ) → bit_xor r (crc_after 0 []) ≡ r
 unfolding crc_after
 no_bytes r = xor_zero_r r
 
-four_bytes : (a b c d : ℕ) → crc_after 0 (a ∷ b ∷ c ∷ d ∷ []) ≡ bit_xor (bit_xor (bit_xor (crc_bits 32 a) (crc_bits 24 b)) (crc_bits 16 c)) (crc_bits 8 d)
+pub four_bytes : (a b c d : ℕ) → crc_after 0 (a ∷ b ∷ c ∷ d ∷ []) ≡ bit_xor (bit_xor (bit_xor (crc_bits 32 a) (crc_bits 24 b)) (crc_bits 16 c)) (crc_bits 8 d)
 four_bytes a b c d =
     let x1 : ℕ = crc_bits 32 a in
     let x2 : ℕ = bit_xor x1 (crc_bits 24 b) in

@@ -1,3 +1,4 @@
 pub mod Crc
 pub mod CrcTables
+pub mod Folding
 pub mod HashInverse

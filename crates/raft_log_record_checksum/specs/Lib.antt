@@ -1,2 +1,3 @@
 pub mod Checksum
+pub mod Folding
 pub mod Hash

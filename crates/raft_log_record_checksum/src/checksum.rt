@@ -2,6 +2,7 @@
 //! Ethernet.
 
 mod few_zeros;
+mod folding;
 mod many_zeros;
 
 ghost use Rattle.std.specs.Prelude.{◌≡◌, ◌+◌, ◌*◌, ◌<◌};
@@ -9,6 +10,7 @@ ghost use Rattle.std.specs.List.{concat};
 ghost use Rattle.raft_log_record_checksum.specs.Checksum.{crc_bits, crc_after, crc32_of};
 
 use few_zeros::AFTER_FEW;
+use folding::after_long;
 use many_zeros::AFTER_MANY;
 
 /// What a byte leaves after fewer than eight zero bytes, and after eight and more: one table, so that the
@@ -18,12 +20,34 @@ const AFTER: [[[u32; 256]; 8]; 2] = [AFTER_FEW, AFTER_MANY];
 /// The register at the start, and what turns it at the end.
 const ALL_ONES: u32 = u32::MAX;
 
+/// From so many bytes on, folding is faster than reading the tables for each byte.
+const LONG: usize = 768;
+
 /// The CRC-32 of the bytes.
+#[tactic(auto, unfolding(crate::specs::Checksum::crc32_of))]
 pub fn crc32(bytes: &[u8]) -> u32
     ensures { result ≡ crc32_of bytes.now }
 {
+    after_all(ALL_ONES, bytes) ^ ALL_ONES
+}
+
+/// The register after the bytes.
+fn after_all(register: u32, bytes: &[u8]) -> u32
+    ensures { result ≡ crc_after register bytes.now }
+{
+    if bytes.len() < LONG {
+        after_short(register, bytes)
+    } else {
+        after_long(register, bytes)
+    }
+}
+
+/// The register after the bytes, by the tables.
+fn after_short(register: u32, bytes: &[u8]) -> u32
+    ensures { result ≡ crc_after register bytes.now }
+{
     let (chunks, rest) = bytes.as_chunks::<16>();
-    after_bytes(after_chunks(ALL_ONES, chunks), rest) ^ ALL_ONES
+    after_bytes(after_chunks(register, chunks), rest)
 }
 
 /// The register after the bytes of the chunks.

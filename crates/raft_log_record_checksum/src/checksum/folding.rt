@@ -6,7 +6,7 @@
 //! 117, 89 and 0). A byte may then be taken out of the input, if it is xored into those four, and no table
 //! is read for it. Each folded byte is the byte of the input, xored with the folded ones that far before
 //! it, so many are made side by side. What they owe to the last bytes of the input is xored into these,
-//! which go through the tables.
+//! which go through the tables. This is Sam Russell's method (Chorba), by bytes in place of words.
 
 ghost use Rattle.std.specs.Prelude.{◌≡◌, ℕ, ◌*◌, ◌-◌, ◌≤◌, length, take, bit_xor};
 ghost use Rattle.raft_log_record_checksum.specs.Checksum.{crc_bits, crc_after};
@@ -14,7 +14,7 @@ ghost use Rattle.raft_log_record_checksum.specs.Folding.{owed};
 
 use super::after_short;
 
-/// How many bytes on the farthest of the places lies.
+/// How many bytes behind a byte the last of its four places lies.
 const REACH: usize = 300;
 
 /// The bytes that are folded before the window moves on.
@@ -23,7 +23,7 @@ const PART: usize = 2048;
 /// The bytes of a window: the folded ones that are still owed, and the next ones.
 const WINDOW: usize = 2348;
 
-/// The register after the bytes. It is slow where there are few.
+/// The register after the bytes. Where they are few, `after_short` is faster.
 pub fn after_long(register: u32, bytes: &[u8]) -> u32
     ensures { result ≡ crc_after register bytes.now }
 {

@@ -107,16 +107,16 @@ same_last [] a b same = cc same
 same_last (x ∷ xs) a b same = same_last xs a b (let tails : xs ++ a ∷ [] ≡ xs ++ b ∷ [] = cc same in tails)
 
 -- one more is deleted, or isn't
-drops_by_more : (ps : List (List ℕ)) (p : List ℕ) (old mid new : Disk) → DropsBy ps old mid → Deletes p mid new → DropsBy (ps ++ p ∷ []) old new
+pub drops_by_more : (ps : List (List ℕ)) (p : List ℕ) (old mid new : Disk) → DropsBy ps old mid → Deletes p mid new → DropsBy (ps ++ p ∷ []) old new
 drops_by_more [] p old mid new same deletes = (new, subst (λ (d : Disk). Deletes p d new) same deletes, refl)
 drops_by_more (x ∷ ps) p old mid new (between, first, more) deletes = (between, first, drops_by_more ps p between mid new more deletes)
 
-drops_until : (ps rest : List (List ℕ)) (p : List ℕ) (error : ErrorKind) (old mid new : Disk) → DropsBy ps old mid → FailsToDelete p error mid new → DropsUntil (ps ++ p ∷ rest) old new
+pub drops_until : (ps rest : List (List ℕ)) (p : List ℕ) (error : ErrorKind) (old mid new : Disk) → DropsBy ps old mid → FailsToDelete p error mid new → DropsUntil (ps ++ p ∷ rest) old new
 drops_until [] rest p error old mid new same fails = inl (error, subst (λ (d : Disk). FailsToDelete p error d new) same fails)
 drops_until (x ∷ ps) rest p error old mid new (between, first, more) fails = inr (between, first, drops_until ps rest p error between mid new more fails)
 
 -- a list by the place of an item
-split_here : (ps : List (List ℕ)) (p : List ℕ) (i : ℕ) → take (suc i) ps ≡ take i ps ++ p ∷ [] → take i ps ++ p ∷ drop (suc i) ps ≡ ps
+pub split_here : (ps : List (List ℕ)) (p : List ℕ) (i : ℕ) → take (suc i) ps ≡ take i ps ++ p ∷ [] → take i ps ++ p ∷ drop (suc i) ps ≡ ps
 split_here ps p i front =
     sym (append_assoc (take i ps) (p ∷ []) (drop (suc i) ps)) ∙ ap (λ (xs : List (List ℕ)). xs ++ drop (suc i) ps) (sym front) ∙ take-append-drop (suc i) ps
 

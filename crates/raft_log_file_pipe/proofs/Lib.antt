@@ -2,6 +2,7 @@ pub mod Lists
 pub mod Naming
 pub mod Raising
 pub mod Turning
+mod Doing
 pub mod Adding
 pub mod Contexts
 pub mod Dropping

@@ -50,6 +50,23 @@ pub record IsNext (next : Listed) (header : List ℕ) (before : PipeFiles) : Typ
   pub header_is : header ≡ header_bytes next.format
   pub unaligned : IsUnaligned next.format
 
+-- which calls were made, by the file as it is listed then
+pub turned_over : (paths : FilePaths) (old new : Disk) (active kept next : Listed) (rest : List Listed) (header : List ℕ) (handle : Handle) (writer after : LogFileWriter) → active ≡ next → next.handle ≡ handle → IsOpened (path_of paths kept) ReadWrite handle old
+    → RotatesBy writer header (λ named. Renames (path_of paths kept) (path_of paths next)) handle after old new → TurnsBy paths header (kept ∷ rest) writer active after old new
+turned_over paths old new active kept next rest header handle writer after is itself opened calls =
+    let held : handle ≡ active.handle = sym (ap (λ (f : Listed). f.handle) is ∙ itself) in (
+      subst (λ (h : Handle). IsOpened (path_of paths kept) ReadWrite h old) held opened,
+      subst (λ (p : List ℕ). RotatesBy writer header (λ named. Renames (path_of paths kept) p) active.handle after old new) (sym (ap (path_of paths) is))
+          (subst (λ (h : Handle). RotatesBy writer header (λ named. Renames (path_of paths kept) (path_of paths next)) h after old new) held calls),
+    )
+
+pub turned_new : (paths : FilePaths) (old new : Disk) (active next : Listed) (header : List ℕ) (handle : Handle) (writer after : LogFileWriter) → active ≡ next → next.handle ≡ handle
+    → RotatesBy writer header (λ made. Creates (path_of paths next) made.file) handle after old new → TurnsBy paths header [] writer active after old new
+turned_new paths old new active next header handle writer after is itself calls =
+    let held : handle ≡ active.handle = sym (ap (λ (f : Listed). f.handle) is ∙ itself) in
+    subst (λ (p : List ℕ). RotatesBy writer header (λ made. Creates p made.file) active.handle after old new) (sym (ap (path_of paths) is))
+    (subst (λ (h : Handle). RotatesBy writer header (λ made. Creates (path_of paths next) made.file) h after old new) held calls)
+
 module _ {R : Type 0} (F : Format R) (own : List ℕ → Type 0) (paths : FilePaths) (lawful : IsLayout F own paths) where
   -- the pipe's files after a rotation, by what stands of the last one, of names and of other files
   turned : (base old new : Disk) (before after : PipeFiles) (q : LogFiles R) (header stale from : List ℕ) (room : ℕ) → IsSound old → IsSound new → IsPipe F own paths base before q old
@@ -137,23 +154,6 @@ module _ {R : Type 0} (F : Format R) (own : List ℕ → Type 0) (paths : FilePa
         },
       )
 
-  -- which calls were made, by the file as it is listed then
-  turned_over : (old new : Disk) (active kept next : Listed) (rest : List Listed) (header : List ℕ) (handle : Handle) (writer after : LogFileWriter) → active ≡ next → next.handle ≡ handle → IsOpened (path_of paths kept) ReadWrite handle old
-      → RotatesBy writer header (λ named. Renames (path_of paths kept) (path_of paths next)) handle after old new → TurnsBy paths header (kept ∷ rest) writer active after old new
-  turned_over old new active kept next rest header handle writer after is itself opened calls =
-      let held : handle ≡ active.handle = sym (ap (λ (f : Listed). f.handle) is ∙ itself) in (
-        subst (λ (h : Handle). IsOpened (path_of paths kept) ReadWrite h old) held opened,
-        subst (λ (p : List ℕ). RotatesBy writer header (λ named. Renames (path_of paths kept) p) active.handle after old new) (sym (ap (path_of paths) is))
-            (subst (λ (h : Handle). RotatesBy writer header (λ named. Renames (path_of paths kept) (path_of paths next)) h after old new) held calls),
-      )
-
-  turned_new : (old new : Disk) (active next : Listed) (header : List ℕ) (handle : Handle) (writer after : LogFileWriter) → active ≡ next → next.handle ≡ handle
-      → RotatesBy writer header (λ made. Creates (path_of paths next) made.file) handle after old new → TurnsBy paths header [] writer active after old new
-  turned_new old new active next header handle writer after is itself calls =
-      let held : handle ≡ active.handle = sym (ap (λ (f : Listed). f.handle) is ∙ itself) in
-      subst (λ (p : List ℕ). RotatesBy writer header (λ made. Creates p made.file) active.handle after old new) (sym (ap (path_of paths) is))
-      (subst (λ (h : Handle). RotatesBy writer header (λ made. Creates (path_of paths next) made.file) h after old new) held calls)
-
   -- the path of the next number
   next_is : (before : PipeFiles) (next : Listed) (header : List ℕ) → IsNext next header before → path_of paths next ≡ paths.numbered next.path_id (suc before.active.seq)
   next_is before next header is_next = path_numbered paths next is_next.listed ∙ ap (paths.numbered next.path_id) is_next.number
@@ -195,7 +195,7 @@ module _ {R : Type 0} (F : Format R) (own : List ℕ → Type 0) (paths : FilePa
             (λ path apart_from apart_to. ap (λ (N : Names). N path) named ∙ name_apart (update bytes_eq old.names from None) to (Some handle.file) path (λ e. apart_to (e ∙ sym to_is)) ∙ name_apart old.names from None path apart_from)
             (subst (λ (id : ℕ). FilesStay before.writer.handle.file id old new) (sym file) (files fresh)),
         gaps,
-        subst (λ (fs : List Listed). TurnsBy paths header fs before.writer after.active after.writer old new) (sym list) (turned_over old new after.active kept next rest header handle before.writer after.writer active itself opened calls),
+        subst (λ (fs : List Listed). TurnsBy paths header fs before.writer after.active after.writer old new) (sym list) (turned_over paths old new after.active kept next rest header handle before.writer after.writer active itself opened calls),
       )
 
   -- one into a new file
@@ -233,7 +233,7 @@ module _ {R : Type 0} (F : Format R) (own : List ℕ → Type 0) (paths : FilePa
             (λ path apart_from apart_to. ap (λ (N : Names). N path) named ∙ name_apart old.names to (Some handle.file) path apart_from)
             (subst (λ (id : ℕ). FilesStay before.writer.handle.file id old new) (sym file) files),
         gaps,
-        subst (λ (fs : List Listed). TurnsBy paths header fs before.writer after.active after.writer old new) (sym list) (turned_new old new after.active next header handle before.writer after.writer active itself calls),
+        subst (λ (fs : List Listed). TurnsBy paths header fs before.writer after.active after.writer old new) (sym list) (turned_new paths old new after.active next header handle before.writer after.writer active itself calls),
       )
 
   -- the files of the span are there, and so is the last one
@@ -303,7 +303,7 @@ module _ {R : Type 0} (F : Format R) (own : List ℕ → Type 0) (paths : FilePa
         subst (λ (fs : List Listed). IsStaleOfNext fs d usable.file.content) (sym list) (record { file = usable.file; is = usable.is; has = refl }),
         (cause, inl (open_left F own lawful.format lawful.owns base before.writer q (path_of paths before.active) d.names d is.active), λ m below none. none),
         span_whole base d before q is,
-        subst (λ (fs : List Listed). TurnsNot paths header fs before.writer (suc before.active.seq) d d) (sym list) (inl refl),
+        subst (λ (fs : List Listed). TurnsNot paths header fs before.writer (suc before.active.seq) d d) (sym list) (inl (why, refl)),
       )
 
 module _ {R : Type 0} (F : Format R) (own : List ℕ → Type 0) (paths : FilePaths) (lawful : IsLayout F own paths) where
@@ -377,6 +377,24 @@ pipe_same F own paths base before after q d same is = record {
   kept = subst (λ (n : ℕ). AllKept F paths n d after.recycled.items) (sym same.first) (subst (AllKept F paths before.first_seq d) (sym same.recycled) is.kept);
 }
 
+pub turned_same : (format : LogFileFormat) (before like after : PipeFiles) → SameFiles before like → IsTurned format like after → IsTurned format before after
+turned_same format before like after same turns = record {
+  first = turns.first ∙ same.first;
+  earlier = turns.earlier ∙ ap (λ (fs : List Listed). fs ++ like.active ∷ []) same.earlier ∙ ap (λ (f : Listed). before.earlier.items ++ f ∷ []) same.active;
+  number = turns.number ∙ ap (λ (f : Listed). suc f.seq) same.active;
+  format_is = turns.format_is;
+  recycled = turns.recycled ∙ ap (drop 1) same.recycled;
+}
+
+pub same_then : (a b c : PipeFiles) → SameFiles a b → SameFiles b c → SameFiles a c
+same_then a b c first next = record {
+  first = next.first ∙ first.first;
+  earlier = next.earlier ∙ first.earlier;
+  active = next.active ∙ first.active;
+  writer = next.writer ∙ first.writer;
+  recycled = next.recycled ∙ first.recycled;
+}
+
 module _ {R : Type 0} (F : Format R) (own : List ℕ → Type 0) (paths : FilePaths) where
   -- what a rotation makes of files that are listed alike
   pub rotates_same : (header : List ℕ) (before like after : PipeFiles) (old new : Disk) → SameFiles before like → Rotates F own paths header like after old new → Rotates F own paths header before after old new
@@ -390,24 +408,6 @@ module _ {R : Type 0} (F : Format R) (own : List ℕ → Type 0) (paths : FilePa
         subst (λ (w : LogFileWriter). TurnsBy paths header before.recycled.items w after.active after.writer old new) same.writer
             (subst (λ (fs : List Listed). TurnsBy paths header fs like.writer after.active after.writer old new) same.recycled calls),
       )
-
-  pub turned_same : (format : LogFileFormat) (before like after : PipeFiles) → SameFiles before like → IsTurned format like after → IsTurned format before after
-  turned_same format before like after same turns = record {
-    first = turns.first ∙ same.first;
-    earlier = turns.earlier ∙ ap (λ (fs : List Listed). fs ++ like.active ∷ []) same.earlier ∙ ap (λ (f : Listed). before.earlier.items ++ f ∷ []) same.active;
-    number = turns.number ∙ ap (λ (f : Listed). suc f.seq) same.active;
-    format_is = turns.format_is;
-    recycled = turns.recycled ∙ ap (drop 1) same.recycled;
-  }
-
-  pub same_then : (a b c : PipeFiles) → SameFiles a b → SameFiles b c → SameFiles a c
-  same_then a b c first next = record {
-    first = next.first ∙ first.first;
-    earlier = next.earlier ∙ first.earlier;
-    active = next.active ∙ first.active;
-    writer = next.writer ∙ first.writer;
-    recycled = next.recycled ∙ first.recycled;
-  }
 
   pub leaves_same : (header : List ℕ) (before like after : PipeFiles) (error : Error) (old new : Disk) → SameFiles before like → RotationLeaves F own paths header like after error old new → RotationLeaves F own paths header before after error old new
   leaves_same header before like after errors.Memory old new same (then, is) = (same_then before like after same then, is)

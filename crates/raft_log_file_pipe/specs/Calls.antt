@@ -1,5 +1,5 @@
 -- Which file calls a call of a pipe made, in their order: no others, and nothing but what they change.
-use Rattle.std.specs.Prelude.{◌≡◌, ◌⊎◌, ℕ, List, [], ◌∷◌}
+use Rattle.std.specs.Prelude.{◌≡◌, ◌⊎◌, ℕ, true, None, List, [], ◌∷◌}
 use Rattle.std.specs.declared.io.ErrorKind.{ErrorKind}
 use Rattle.raft_log_disk.specs.Disk.{Disk}
 use Rattle.raft_log_disk.specs.Calls.{Creates, Deletes, Renames}
@@ -21,13 +21,18 @@ TurnsBy paths header (f ∷ fs) writer next after old new = IsOpened (path_of pa
     × RotatesBy writer header (λ handle. Renames (path_of paths f) (path_of paths next)) next.handle after
     old new
 
+-- no file with a path was opened: the file system has stopped, or no file has the path
+abbrev pub IsUnopened : List ℕ → Disk → Type 0
+IsUnopened path d = (d.stopped ≡ true) ⊎ (d.names path ≡ None)
+
 -- A rotation that was refused: one of its calls was, and none was made behind it; or no call was made, as the
 -- oldest of the files kept for use wasn't opened.
 abbrev pub TurnsNot : FilePaths → List ℕ → List Listed → LogFileWriter → ℕ → Disk → Disk → Type 0
 TurnsNot paths header [] writer number old new = (directory : ℕ) × (error : ErrorKind)
     × RotationMakes writer header (FailsToCreate (paths.numbered directory number))
     (λ handle. Creates (paths.numbered directory number) handle.file) error old new
-TurnsNot paths header (f ∷ fs) writer number old new = (new ≡ old) ⊎ ((error : ErrorKind)
+TurnsNot paths header (f ∷ fs) writer number old new = (IsUnopened (path_of paths f) old × (new ≡ old))
+    ⊎ ((error : ErrorKind)
     × RotationMakes writer header (FailsToRename (path_of paths f) (paths.numbered f.path_id number))
     (λ handle. Renames (path_of paths f) (paths.numbered f.path_id number)) error old new)
 

@@ -1,5 +1,5 @@
 -- What stands of a pipe after each of its calls, answered and refused.
-use Rattle.std.specs.Prelude.{◌≡◌, ◌⊎◌, true, false, None, ℕ, ◌≤◌, ◌^◌, List, [], ◌∷◌, ◌++◌, length, drop, suc}
+use Rattle.std.specs.Prelude.{◌≡◌, ℕ, false, ◌≤◌, ◌^◌, List, [], ◌∷◌, ◌++◌, length, drop, suc}
 use Rattle.std.specs.declared.io.ErrorKind.{ErrorKind}
 use Rattle.raft_log_disk.specs.Disk.{Disk}
 use Rattle.raft_log_disk.specs.Causes.{Fails}
@@ -18,7 +18,7 @@ use Rattle.raft_log_file_queue.specs.Rotation.{StandsWithRecords, StaysBehind}
 use Rattle.raft_log_file_queue.specs.declared.last_file.WriteFault.{WriteFault}
 use Rattle.raft_log_file_queue.specs.declared.last_file.WriteFault.TheVariants.{CutBack, Failed}
 use Rattle.raft_log_file_pipe.specs.Files.{Listed, IsSpan, IsPipe}
-use Rattle.raft_log_file_pipe.specs.Calls.{TurnsBy, TurnsNot}
+use Rattle.raft_log_file_pipe.specs.Calls.{IsUnopened, TurnsBy, TurnsNot}
 use Rattle.raft_log_file_pipe.specs.declared.pipe_files.PipeFiles.{PipeFiles}
 
 -- a pipe has the same files, listed alike
@@ -68,7 +68,7 @@ FailsToRotate {R} F own paths header before old new = (base : Disk) (q : LogFile
 -- stopped, or no file has the path
 abbrev pub StaysClosed : List ℕ → Disk → Error → Type 0
 StaysClosed path d errors.Memory = d.stopped ≡ false
-StaysClosed path d errors.Failed = (d.stopped ≡ true) ⊎ (d.names path ≡ None)
+StaysClosed path d errors.Failed = IsUnopened path d
 StaysClosed path d _ = ⊥
 
 -- Why a rotation was refused, and what stands then: for want of memory, or as the numbers of files have run

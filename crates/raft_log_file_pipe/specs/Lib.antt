@@ -8,4 +8,5 @@ pub mod Reading
 pub mod Laws
 pub mod Opening
 pub mod Closing
+pub mod Doing
 pub mod Placing

@@ -8,6 +8,7 @@ ghost use Rattle.raft_log_file_format.specs.Header.{header_bytes};
 ghost use Rattle.raft_log_file_pipe.specs.Appending.{AppendFails, AppendsAt, GoesElsewhere, GoesInto, GoesOnBy, SaysTryAgain, Tells, TurnsElsewhere, TurnsFirst};
 ghost use Rattle.raft_log_file_pipe.specs.Exits.{IsTurned, Rotates, RotationLeaves};
 ghost use Rattle.raft_log_file_pipe.specs.Placing.{IsPlaced};
+ghost use Rattle.raft_log_file_pipe.specs.Doing.{AppendsBy, FailsToAppendBy, FailsToTurnBy, TellsBy, TurnsElsewhereBy, TurnsFirstBy};
 
 use crate::new_files::NewFiles;
 use crate::pipe_files::PipeFiles;
@@ -39,6 +40,10 @@ fn turn_first<G: PipeFormat, F: FileSystem, L: Log>(
     ensures err { IfErr result (λ error. RotationLeaves (G.format layout.now) (G.own layout.now)
         (G.file_paths layout.now) (header_bytes new_files.now.format) files.old files.new error
         (F.disk file_system.old) (F.disk file_system.new)) }
+    ensures calls { OnOk result (TurnsFirstBy (G.file_paths layout.now) new_files.now files.old files.new
+        (F.disk file_system.old) (F.disk file_system.new)) }
+    ensures refusal { IfErr result (λ error. FailsToTurnBy (G.file_paths layout.now) new_files.now.format
+        files.old files.new error (F.disk file_system.old) (F.disk file_system.new)) }
     ensures near { GoesOnBy 1 files.old files.new }
     ensures first { files.new.first_seq ≡ files.old.first_seq }
     ensures later { IsLater (F.disk file_system.old) (F.disk file_system.new) }
@@ -64,6 +69,8 @@ fn turn_elsewhere<G: PipeFormat, F: FileSystem, L: Log>(
     ensures elsewhere { SaysTryAgain result → GoesInto F.disk F.tells_space (G.format layout.now)
         (G.own layout.now) (G.file_paths layout.now) new_files.now files.old files.new
         file_system.old file_system.new }
+    ensures calls { TurnsElsewhereBy (G.file_paths layout.now) new_files.now.format files.old files.new
+        result (F.disk file_system.old) (F.disk file_system.new) }
     ensures near { GoesOnBy 1 files.old files.new }
     ensures first { files.new.first_seq ≡ files.old.first_seq }
     ensures later { IsLater (F.disk file_system.old) (F.disk file_system.new) }
@@ -93,6 +100,8 @@ fn tell_fault<G: PipeFormat, F: FileSystem, L: Log>(
     ensures elsewhere { SaysTryAgain result → (fault ≡ CutBack StorageFull)
         × GoesInto F.disk F.tells_space (G.format layout.now) (G.own layout.now) (G.file_paths layout.now)
         new_files.now files.old files.new file_system.old file_system.new }
+    ensures calls { TellsBy (G.file_paths layout.now) new_files.now.format fault files.old files.new result
+        (F.disk file_system.old) (F.disk file_system.new) }
     ensures near { GoesOnBy 1 files.old files.new }
     ensures first { files.new.first_seq ≡ files.old.first_seq }
     ensures later { IsLater (F.disk file_system.old) (F.disk file_system.new) }
@@ -140,6 +149,12 @@ pub fn append<G: PipeFormat, F: FileSystem, L: Log, B: ReactiveBytes>(
     ensures elsewhere { IfErr result (λ error. SaysTryAgain error → GoesElsewhere F.disk F.tells_space
         (G.format layout.now) (G.own layout.now) (G.file_paths layout.now) new_files.now queue
         (B.signed bytes.old) files.old files.new file_system.old file_system.new) }
+    ensures calls { IfOk result (λ block. AppendsBy (G.file_paths layout.now) new_files.now queue
+        (B.signed bytes.old) files.old files.new block
+        (F.disk file_system.old) (F.disk file_system.new)) }
+    ensures refusal { IfErr result (λ error. FailsToAppendBy (G.file_paths layout.now) new_files.now queue
+        (B.signed bytes.old) files.old files.new error
+        (F.disk file_system.old) (F.disk file_system.new)) }
     ensures near { OnErr result (GoesOnBy 2 files.old files.new) }
     ensures signed { B.signed bytes.new ≡ B.signed bytes.old }
     ensures said { B.said bytes.new ≡ B.said bytes.old }

@@ -1,9 +1,14 @@
 //! A pipe is opened: over the files that were found of its queue, or over none.
 
-ghost use Rattle.std.specs.Prelude.{◌≡◌, [], IfErr, IfOk};
+ghost use Rattle.std.specs.Prelude.{◌≡◌, [], false, IfErr, IfOk};
 ghost use Rattle.raft_log_disk.specs.Causes.{IsLater};
 ghost use Rattle.raft_log_file_pipe.specs.Opening.{BeginLeaves, BeginsPipe, IsListedAs, IsListedFirst, OpenLeaves, OpensPipe, TakeUpLeaves, TakesUpFound, first_number, taken_up};
 ghost use Rattle.raft_log_file_pipe.specs.Placing.{IsChosen};
+ghost use Rattle.raft_log_file_pipe.specs.Doing.{OpensPipeBy};
+ghost use Rattle.raft_log_file_format.specs.Header.{header_bytes};
+ghost use Rattle.raft_log_file_queue.specs.Layout.{path_of};
+ghost use Rattle.raft_log_file_queue.specs.Opening.{BeginsQueueBy};
+ghost use Rattle.raft_log_file_queue.specs.TakingUp.{ReopensBy};
 
 use crate::found_files::FoundFiles;
 use crate::headers::encode_header;
@@ -35,6 +40,9 @@ fn begin<G: PipeFormat, F: FileSystem, L: Log>(
     ensures err { IfErr result (λ error. BeginLeaves (G.format layout.now) (G.own layout.now)
         (G.file_paths layout.now) new_files.now.format recycled.items error
         (F.disk file_system.old) (F.disk file_system.new)) }
+    ensures calls { IfOk result (λ files. (files.active.reserved ≡ false)
+        × BeginsQueueBy (path_of (G.file_paths layout.now) files.active) (header_bytes new_files.now.format)
+        files.active.handle files.writer (F.disk file_system.old) (F.disk file_system.new)) }
     ensures later { IsLater (F.disk file_system.old) (F.disk file_system.new) }
 {
     let mut first = File {
@@ -107,6 +115,8 @@ fn take_up<G: PipeFormat, F: FileSystem, L: Log>(
     ensures err { IfErr result (λ error. TakeUpLeaves (G.format layout.now) (G.own layout.now)
         (G.file_paths layout.now) earlier.items last end recycled.items error
         (F.disk file_system.old) (F.disk file_system.new)) }
+    ensures calls { IfOk result (λ files. ReopensBy last.handle end (header_bytes (taken_up end last).format)
+        files.writer (F.disk file_system.old) (F.disk file_system.new)) }
     ensures later { IsLater (F.disk file_system.old) (F.disk file_system.new) }
 {
     let active = take_last(last, end);
@@ -148,6 +158,8 @@ pub fn open<G: PipeFormat, F: FileSystem, L: Log>(
     ensures err { IfErr result (λ error. OpenLeaves (G.format layout.now) (G.own layout.now)
         (G.file_paths layout.now) new_files.now found error
         (F.disk file_system.old) (F.disk file_system.new)) }
+    ensures calls { IfOk result (λ files. OpensPipeBy (G.file_paths layout.now) new_files.now.format found
+        files (F.disk file_system.old) (F.disk file_system.new)) }
     ensures later { IsLater (F.disk file_system.old) (F.disk file_system.new) }
 {
     let FoundFiles {

@@ -43,6 +43,7 @@ impl PipeFiles {
     /// The handle of a file of the span. `Corruption` for another number.
     pub fn handle_of(&self, alloc: Global, seq: FileSeq) -> Result<Handle>
         ensures ok { IfOk result (λ handle. IsListed seq self.now handle.file) }
+        ensures last { IfOk result (λ handle. seq ≡ self.now.active.seq → handle ≡ self.now.active.handle) }
         ensures err { IfErr result (IsNotTold seq self.now) }
     {
         if seq == self.active.seq {

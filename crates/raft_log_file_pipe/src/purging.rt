@@ -7,7 +7,9 @@ ghost use Rattle.raft_log_disk.specs.Causes.{IsLater};
 ghost use Rattle.raft_log_file_queue.specs.Layout.{path_of};
 ghost use Rattle.raft_log_file_format.specs.Name.{IsNameRefusal};
 ghost use Rattle.raft_log_file_pipe.specs.Files.{Listed};
-ghost use Rattle.raft_log_file_pipe.specs.Purging.{CountFails, DropsTo, FailsToDropAll, IsOtherOrMemory, IsInSpan, IsRaised, PartFails, PurgeLeaves, Purges, going, room_from, staying};
+ghost use Rattle.raft_log_file_pipe.specs.Purging.{CountFails, DropsTo, FailsToDropAll, IsOtherOrMemory, IsInSpan, IsRaised, PartFails, PurgeLeaves, Purges, going, paths_going, room_from, staying};
+ghost use Rattle.raft_log_file_pipe.specs.Calls.{DropsBy, DropsUntil};
+ghost use Rattle.raft_log_file_pipe.specs.Doing.{FailsToPurgeBy};
 ghost use Rattle.raft_log_record_base.specs.Files.{is_signed};
 
 use crate::pipe_files::PipeFiles;
@@ -29,6 +31,10 @@ fn drop_files<G: PipeFormat, F: FileSystem>(
         (map string_bytes gone.now) (length gone.now) (F.disk file_system.old) (F.disk file_system.new)) }
     ensures err { OnErr result (FailsToDropAll (G.format layout.now) (G.own layout.now)
         (G.file_paths layout.now) (map string_bytes gone.now)
+        (F.disk file_system.old) (F.disk file_system.new)) }
+    ensures calls { OnOk result (DropsBy (map string_bytes gone.now)
+        (F.disk file_system.old) (F.disk file_system.new)) }
+    ensures refusal { OnErr result (DropsUntil (map string_bytes gone.now)
         (F.disk file_system.old) (F.disk file_system.new)) }
     ensures later { IsLater (F.disk file_system.old) (F.disk file_system.new) }
 {
@@ -151,6 +157,10 @@ pub fn purge<G: PipeFormat, F: FileSystem, L: Log>(
     ensures err { IfErr result (λ error. PurgeLeaves (G.format layout.now) (G.own layout.now)
         (G.file_paths layout.now) capacity seq files.old files.new error
         (F.disk file_system.old) (F.disk file_system.new)) }
+    ensures calls { OnOk result (DropsBy (paths_going (G.file_paths layout.now) capacity seq files.old)
+        (F.disk file_system.old) (F.disk file_system.new)) }
+    ensures refusal { IfErr result (λ error. FailsToPurgeBy (G.file_paths layout.now) capacity seq files.old
+        error (F.disk file_system.old) (F.disk file_system.new)) }
     ensures later { IsLater (F.disk file_system.old) (F.disk file_system.new) }
 {
     let count = count_below(alloc, files, seq)?;

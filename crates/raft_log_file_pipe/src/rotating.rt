@@ -8,6 +8,7 @@ ghost use Rattle.raft_log_disk.specs.declared.handle.Permission.TheVariants as p
 ghost use Rattle.raft_log_file_format.specs.Header.{header_bytes};
 ghost use Rattle.raft_log_file_pipe.specs.Placing.{IsChosen, IsPlaced};
 ghost use Rattle.raft_log_file_pipe.specs.Exits.{IsTurned, Rotates, RotationLeaves, SameLists, StaysClosed};
+ghost use Rattle.raft_log_file_pipe.specs.Doing.{FailsToTurnBy, TurnsPipeBy};
 
 use crate::new_files::{NewFiles, choose_directory};
 use crate::pipe_files::PipeFiles;
@@ -53,6 +54,10 @@ fn go_over<G: PipeFormat, F: FileSystem, L: Log>(
     ensures err { IfErr result (λ error. RotationLeaves (G.format layout.now) (G.own layout.now)
         (G.file_paths layout.now) (header_bytes new_files.now.format) files.old files.new error
         (F.disk file_system.old) (F.disk file_system.new)) }
+    ensures calls { OnOk result (TurnsPipeBy (G.file_paths layout.now) new_files.now.format files.old
+        files.new (F.disk file_system.old) (F.disk file_system.new)) }
+    ensures refusal { IfErr result (λ error. FailsToTurnBy (G.file_paths layout.now) new_files.now.format
+        files.old files.new error (F.disk file_system.old) (F.disk file_system.new)) }
     ensures stays { OnErr result (SameLists files.old files.new) }
     ensures first { files.new.first_seq ≡ files.old.first_seq }
     ensures later { IsLater (F.disk file_system.old) (F.disk file_system.new) }
@@ -107,6 +112,10 @@ fn go_into_new<G: PipeFormat, F: FileSystem, L: Log>(
     ensures err { IfErr result (λ error. RotationLeaves (G.format layout.now) (G.own layout.now)
         (G.file_paths layout.now) (header_bytes new_files.now.format) files.old files.new error
         (F.disk file_system.old) (F.disk file_system.new)) }
+    ensures calls { OnOk result (TurnsPipeBy (G.file_paths layout.now) new_files.now.format files.old
+        files.new (F.disk file_system.old) (F.disk file_system.new)) }
+    ensures refusal { IfErr result (λ error. FailsToTurnBy (G.file_paths layout.now) new_files.now.format
+        files.old files.new error (F.disk file_system.old) (F.disk file_system.new)) }
     ensures stays { OnErr result (SameLists files.old files.new) }
     ensures first { files.new.first_seq ≡ files.old.first_seq }
     ensures later { IsLater (F.disk file_system.old) (F.disk file_system.new) }
@@ -156,6 +165,10 @@ pub fn rotate<G: PipeFormat, F: FileSystem, L: Log>(
     ensures err { IfErr result (λ error. RotationLeaves (G.format layout.now) (G.own layout.now)
         (G.file_paths layout.now) (header_bytes new_files.now.format) files.old files.new error
         (F.disk file_system.old) (F.disk file_system.new)) }
+    ensures calls { OnOk result (TurnsPipeBy (G.file_paths layout.now) new_files.now.format files.old
+        files.new (F.disk file_system.old) (F.disk file_system.new)) }
+    ensures refusal { IfErr result (λ error. FailsToTurnBy (G.file_paths layout.now) new_files.now.format
+        files.old files.new error (F.disk file_system.old) (F.disk file_system.new)) }
     ensures stays { OnErr result (SameLists files.old files.new) }
     ensures first { files.new.first_seq ≡ files.old.first_seq }
     ensures later { IsLater (F.disk file_system.old) (F.disk file_system.new) }

@@ -47,9 +47,14 @@ pub struct PipeSettings {
 impl<G: PipeFormat> SinglePipe<G> {
     ghost use Rattle.raft_log_file_format.specs.Header.{header_bytes};
     ghost use Rattle.raft_log_file_pipe.specs.Appending.{AppendFails, AppendsAt, GoesElsewhere, GoesOnBy, SaysTryAgain};
-    ghost use Rattle.raft_log_file_pipe.specs.Purging.{IsInSpan, IsRaised, PurgeLeaves, Purges};
+    ghost use Rattle.raft_log_file_pipe.specs.Purging.{IsInSpan, IsRaised, PurgeLeaves, Purges, paths_going};
     ghost use Rattle.raft_log_file_pipe.specs.Placing.{IsPlaced};
+    ghost use Rattle.raft_log_disk.specs.Exits.{Syncs};
+    ghost use Rattle.raft_log_file_pipe.specs.Calls.{DropsBy};
+    ghost use Rattle.raft_log_file_pipe.specs.Doing.{AppendsBy, FailsToAppendBy, FailsToPurgeBy, FailsToSyncBy, FailsToTurnBy, TurnsPipeBy};
     ghost use Rattle.raft_log_file_pipe.specs.Reading.{IsReadAt, IsReadRefused};
+    ghost use Rattle.raft_log_disk.specs.Touching.{HasFile};
+    ghost use Rattle.raft_log_file_writer.specs.Reader.{AreBytesAt};
     ghost use Rattle.raft_log_file_pipe.specs.Exits.{FailsToSyncPipe, IsTurned, Rotates, RotationLeaves, SameLists, SyncsPipe};
 
     /// A pipe over these files, which writes them so.
@@ -153,6 +158,13 @@ impl<G: PipeFormat> SinglePipe<G> {
         ensures near { OnErr result (GoesOnBy 2 self.old.files self.new.files) }
         ensures signed { B.signed bytes.new ≡ B.signed bytes.old }
         ensures said { B.said bytes.new ≡ B.said bytes.old }
+        ensures calls { IfOk result (λ block. AppendsBy (G.file_paths self.old.layout)
+            self.old.settings.new_files self.old.settings.queue (B.signed bytes.old) self.old.files
+            self.new.files block (F.disk file_system.old) (F.disk file_system.new)) }
+        ensures refusal { self.old.failed ≡ false → IfErr result (λ error. FailsToAppendBy
+            (G.file_paths self.old.layout) self.old.settings.new_files self.old.settings.queue
+            (B.signed bytes.old) self.old.files self.new.files error
+            (F.disk file_system.old) (F.disk file_system.new)) }
         ensures failed { self.old.failed ≡ true → (result ≡ Err errors.Failed) × (self.new ≡ self.old)
             × (F.disk file_system.new ≡ F.disk file_system.old) }
         ensures fails { IsTrue self.new.failed ↔ (result ≡ Err errors.Failed) }
@@ -185,6 +197,10 @@ impl<G: PipeFormat> SinglePipe<G> {
             (G.own self.old.layout) (G.file_paths self.old.layout) self.old.files
             (F.disk file_system.old) (F.disk file_system.new)) }
         ensures error { IfErr result (λ error. error ≡ errors.Failed) }
+        ensures calls { OnOk result (Syncs self.old.files.writer.handle
+            (F.disk file_system.old) (F.disk file_system.new)) }
+        ensures refusal { self.old.failed ≡ false → OnErr result (FailsToSyncBy
+            self.old.files.writer.handle (F.disk file_system.old) (F.disk file_system.new)) }
         ensures failed { self.old.failed ≡ true → (result ≡ Err errors.Failed) × (self.new ≡ self.old)
             × (F.disk file_system.new ≡ F.disk file_system.old) }
         ensures fails { IsTrue self.new.failed ↔ IsErr result }
@@ -224,6 +240,12 @@ impl<G: PipeFormat> SinglePipe<G> {
             RotationLeaves (G.format self.old.layout) (G.own self.old.layout) (G.file_paths self.old.layout)
             (header_bytes self.old.settings.new_files.format) self.old.files self.new.files error
             (F.disk file_system.old) (F.disk file_system.new)) }
+        ensures calls { OnOk result (TurnsPipeBy (G.file_paths self.old.layout)
+            self.old.settings.new_files.format self.old.files self.new.files
+            (F.disk file_system.old) (F.disk file_system.new)) }
+        ensures refusal { self.old.failed ≡ false → IfErr result (λ error. FailsToTurnBy
+            (G.file_paths self.old.layout) self.old.settings.new_files.format self.old.files self.new.files
+            error (F.disk file_system.old) (F.disk file_system.new)) }
         ensures failed { self.old.failed ≡ true → (result ≡ Err errors.Failed) × (self.new ≡ self.old)
             × (F.disk file_system.new ≡ F.disk file_system.old) }
         ensures stays { OnErr result (SameLists self.old.files self.new.files) }
@@ -270,6 +292,11 @@ impl<G: PipeFormat> SinglePipe<G> {
             PurgeLeaves (G.format self.old.layout) (G.own self.old.layout) (G.file_paths self.old.layout)
             self.old.settings.capacity seq self.old.files self.new.files error
             (F.disk file_system.old) (F.disk file_system.new)) }
+        ensures calls { OnOk result (DropsBy (paths_going (G.file_paths self.old.layout)
+            self.old.settings.capacity seq self.old.files) (F.disk file_system.old) (F.disk file_system.new)) }
+        ensures refusal { self.old.failed ≡ false → IfErr result (λ error. FailsToPurgeBy
+            (G.file_paths self.old.layout) self.old.settings.capacity seq self.old.files error
+            (F.disk file_system.old) (F.disk file_system.new)) }
         ensures failed { self.old.failed ≡ true → (result ≡ Err errors.Failed) × (self.new ≡ self.old)
             × (F.disk file_system.new ≡ F.disk file_system.old) }
         ensures fails { IsTrue self.new.failed ↔ (result ≡ Err errors.Failed) }
@@ -301,6 +328,9 @@ impl<G: PipeFormat> SinglePipe<G> {
     ) -> Result<Vec<u8>>
         ensures ok { IfOk result (λ bytes. IsReadAt self.now.files block bytes.items
             (F.disk file_system.now)) }
+        ensures last { IfOk result (λ bytes. block.id.seq ≡ self.now.files.active.seq
+            → HasFile self.now.files.active.handle.file (AreBytesAt block.offset block.len bytes.items)
+            (F.disk file_system.now)) }
         ensures err { IfErr result (IsReadRefused self.now.files block (F.disk file_system.now)) }
     {
         let handle = self.files.handle_of(alloc, block.id.seq)?;
@@ -314,6 +344,7 @@ impl<G: PipeFormat + Drop> SinglePipe<G> {
     ghost use Rattle.raft_log_file_pipe.specs.Closing.{ClosesFiles, FinishesOrNot, LeavesClosed, ReservesAll, StaysLeft, greatest_reserved};
     ghost use Rattle.raft_log_file_pipe.specs.Exits.{SameLists};
     ghost use Rattle.raft_log_file_pipe.specs.Opening.{OpenLeaves, OpensPipe};
+    ghost use Rattle.raft_log_file_pipe.specs.Doing.{OpensPipeBy};
 
     /// OpensPipe a pipe over what was found of its queue: where there is no file, the queue begins in a file 1;
     /// else it goes on behind what was read of its last file, which is cut there, synced, and gets a header
@@ -339,6 +370,8 @@ impl<G: PipeFormat + Drop> SinglePipe<G> {
         ensures err { IfErr result (λ error. OpenLeaves (G.format layout) (G.own layout)
             (G.file_paths layout) settings.new_files found error
             (F.disk file_system.old) (F.disk file_system.new)) }
+        ensures calls { IfOk result (λ pipe. OpensPipeBy (G.file_paths layout) settings.new_files.format
+            found pipe.files (F.disk file_system.old) (F.disk file_system.new)) }
         ensures later { IsLater (F.disk file_system.old) (F.disk file_system.new) }
     {
         let files = open(alloc, &layout, rt, file_system, &settings.new_files, found)?;

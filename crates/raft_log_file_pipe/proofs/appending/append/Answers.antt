@@ -6,6 +6,8 @@ use Rattle.raft_log_file_pipe.specs.Appending.{AppendsAt, context_of}
 use Rattle.raft_log_file_pipe.specs.Appending.AppendFails.{not_written}
 use Rattle.raft_log_file_pipe.specs.Exits.{Adds, FailsToAdd}
 use Rattle.raft_log_file_pipe.proofs.Contexts.{id_is, context_is}
+use Rattle.raft_log_file_pipe.specs.Doing.{AppendsBy}
+use Rattle.raft_log_file_pipe.specs.Doing.FailsToAppendBy.{not_written as not_written_by}
 use Rattle.raft_log_file_pipe.proofs.appending.append.Goals as goal
 
 pub returns-in-Ok-clause-ok : goal.returns-in-Ok-clause-ok
@@ -57,3 +59,32 @@ returns-in-Err-clause-elsewhere g c again =
       lists = c.add.ensures.lists;
       goes = goes;
     }
+
+pub returns-in-Ok-clause-calls : goal.returns-in-Ok-clause-calls
+returns-in-Ok-clause-calls g c =
+    let D = g.F.FileSystem.disk in
+    let signed = g.B.ReactiveBytes.signed c.args.bytes.now in
+    let context : c.new.result ≡ context_of c.args.queue c.turn_first.new.files = context_is c.args.queue c.turn_first.new.files c.new-id.result c.new.result c.new-id.ensures.queue c.new-id.ensures.seq c.new.ensures.id c.new.ensures.version in
+    let is : c.as_bytes-record.result.now ≡ signed (context_of c.args.queue c.turn_first.new.files) = c.as_bytes-record.ensures ∙ c.sign.ensures.bytes ∙ ap signed context in
+    let left : AppendsBy (g.G.PipeFormat.file_paths c.args.layout.now) c.args.new_files.now c.args.queue signed c.args.files.now c.add.new.files (record { id = c.new-id.result; offset = c.in-Ok.at; len = length c.as_bytes-record.result.now })
+    (D c.args.file_system.now) (D c.add.new.file_system) = record {
+      middle = c.turn_first.new.files;
+      between = D c.turn_first.new.file_system;
+      first = c.in_ok-turn_first.ensures.calls;
+      lists = c.add.ensures.lists;
+      calls = subst (λ (bytes : List ℕ). WritesNext c.turn_first.new.files.writer c.add.new.files.writer bytes c.args.new_files.now.target_size (D c.turn_first.new.file_system) (D c.add.new.file_system)) is c.in-Ok.ensures.calls;
+      id = id_is c.args.queue c.turn_first.new.files c.new-id.result c.new-id.ensures.queue c.new-id.ensures.seq;
+      offset = c.in-Ok.ensures.at;
+      len = ap length is;
+    } in
+    left
+
+pub returns-in-Err-clause-refusal : goal.returns-in-Err-clause-refusal
+returns-in-Err-clause-refusal g c =
+    let D = g.F.FileSystem.disk in
+    let signed = g.B.ReactiveBytes.signed c.args.bytes.now in
+    let context : c.new.result ≡ context_of c.args.queue c.turn_first.new.files = context_is c.args.queue c.turn_first.new.files c.new-id.result c.new.result c.new-id.ensures.queue c.new-id.ensures.seq c.new.ensures.id c.new.ensures.version in
+    let is : c.as_bytes-record.result.now ≡ signed (context_of c.args.queue c.turn_first.new.files) = c.as_bytes-record.ensures ∙ c.sign.ensures.bytes ∙ ap signed context in
+    not_written_by c.turn_first.new.files c.add.new.files (D c.turn_first.new.file_system) (D c.add.new.file_system) c.in-Err.fault c.in_ok-turn_first.ensures.calls c.add.ensures.lists
+    (subst (λ (bytes : List ℕ). AppendMakes c.in-Err.fault c.turn_first.new.files.writer c.add.new.files.writer bytes c.args.new_files.now.target_size (D c.turn_first.new.file_system) (D c.add.new.file_system)) is c.in-Err.ensures.refusal)
+    c.tell_fault.ensures.calls

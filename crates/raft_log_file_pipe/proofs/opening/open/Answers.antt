@@ -1,4 +1,5 @@
 use Rattle.raft_log_file_pipe.proofs.TakingUp.{opens_found, leaves_found}
+use Rattle.raft_log_file_pipe.proofs.Doing.{opens_by}
 use Rattle.raft_log_file_pipe.proofs.opening.open.Goals as goal
 
 pub returns-in-Some-clause-ok : goal.returns-in-Some-clause-ok
@@ -14,3 +15,8 @@ returns-in-Some-clause-err g c =
     let layout = c.args.layout.now in
     leaves_found (g.G.PipeFormat.format layout) (g.G.PipeFormat.own layout) (g.G.PipeFormat.file_paths layout) c.args.new_files.now c.args.found c.pop_back.new.self.items c.in-Some.last c.take_up.result
     (D c.args.file_system.now) (D c.take_up.new.file_system) c.in-Some.ensures.items c.take_up.ensures.err
+
+pub returns-in-Some-clause-calls : goal.returns-in-Some-clause-calls
+returns-in-Some-clause-calls g c =
+    let D = g.F.FileSystem.disk in
+    opens_by (g.G.PipeFormat.file_paths c.args.layout.now) c.args.new_files.now.format c.args.found c.pop_back.new.self.items c.in-Some.last c.take_up.result (D c.args.file_system.now) (D c.take_up.new.file_system) c.in-Some.ensures.items c.take_up.ensures.calls

@@ -4,6 +4,7 @@ use Rattle.raft_log_file_pipe.specs.declared.pipe_files.PipeFiles.{PipeFiles}
 use Rattle.raft_log_file_pipe.specs.Opening.{IsListedAs, taken_up, first_number}
 use Rattle.raft_log_file_pipe.specs.Files.{Listed}
 use Rattle.raft_log_file_pipe.proofs.TakingUp.{takes_up_as, fails_to_take_up_as}
+use Rattle.raft_log_file_pipe.proofs.Doing.{reopens_by}
 use Rattle.raft_log_file_pipe.proofs.opening.take_up.Goals as goal
 
 pub returns-in-Ok-clause-ok : goal.returns-in-Ok-clause-ok
@@ -27,3 +28,9 @@ returns-in-Err-clause-err g c =
     let spelled : c.deref.result.now ≡ header_bytes active.format = c.deref.ensures.value ∙ c.in_ok-header.ensures.ok.1 in
     fails_to_take_up_as (g.G.PipeFormat.format layout) (g.G.PipeFormat.own layout) (g.G.PipeFormat.file_paths layout) (g.met.G.PipeFormat.lawful layout) c.args.earlier.items c.args.last active c.args.end c.args.recycled.items c.deref.result.now
     c.in-Err.kind (D c.args.file_system.now) (D c.reopen_file.new.file_system) c.take_last-active.ensures c.in_ok-header.ensures.ok.0 spelled c.in-Err.ensures.err c.in-Err.ensures.others c.in-Err.ensures.refusal
+
+pub returns-in-Ok-clause-calls : goal.returns-in-Ok-clause-calls
+returns-in-Ok-clause-calls g c =
+    let D = g.F.FileSystem.disk in
+    let spelled : c.deref.result.now ≡ header_bytes c.take_last-active.result.format = c.deref.ensures.value ∙ c.in_ok-header.ensures.ok.1 in
+    reopens_by c.args.end c.args.last c.take_last-active.result c.deref.result.now c.in-Ok.writer (D c.args.file_system.now) (D c.reopen_file.new.file_system) c.take_last-active.ensures spelled c.in-Ok.ensures.calls

@@ -1,0 +1,144 @@
+-- What each call of a pipe does, whatever stands on the disk: by which file calls, in their order and no others,
+-- and what the pipe's own files are then. None of it asks that the files hold a queue.
+use Rattle.std.specs.Prelude.{◌≡◌, ◌≢◌, ◌⊎◌, ℕ, ◌<◌, ◌≤◌, ◌^◌, false, List, [], ◌∷◌, ◌++◌, length, suc}
+use Rattle.std.specs.declared.io.ErrorKind.{ErrorKind}
+use Rattle.std.specs.declared.io.ErrorKind.TheVariants.{StorageFull}
+use Rattle.raft_log_disk.specs.Disk.{Disk}
+use Rattle.raft_log_disk.specs.Exits.{FailsToSync}
+use Rattle.raft_log_disk.specs.declared.handle.Handle.{Handle}
+use Rattle.raft_log_record_base.specs.declared.errors.Error.{Error}
+use Rattle.raft_log_record_base.specs.declared.errors.Error.TheVariants as errors
+use Rattle.raft_log_record_base.specs.declared.pipe_log.LogQueue.{LogQueue}
+use Rattle.raft_log_record_base.specs.declared.pipe_log.FileBlockHandle.{FileBlockHandle}
+use Rattle.raft_log_record_base.specs.declared.pipe_log.LogFileContext.{LogFileContext}
+use Rattle.raft_log_file_format.specs.Header.{header_bytes}
+use Rattle.raft_log_file_format.specs.declared.header.LogFileFormat.{LogFileFormat}
+use Rattle.raft_log_file_writer.specs.Writer.{WritesNext}
+use Rattle.raft_log_file_queue.specs.Layout.{FilePaths, path_of}
+use Rattle.raft_log_file_queue.specs.Exits.{AppendMakes}
+use Rattle.raft_log_file_queue.specs.Opening.{BeginsQueueBy}
+use Rattle.raft_log_file_queue.specs.TakingUp.{ReopensBy}
+use Rattle.raft_log_file_queue.specs.declared.last_file.WriteFault.{WriteFault}
+use Rattle.raft_log_file_queue.specs.declared.last_file.WriteFault.TheVariants.{CutBack, Failed}
+use Rattle.raft_log_file_pipe.specs.Files.{Listed}
+use Rattle.raft_log_file_pipe.specs.Calls.{TurnsBy, TurnsNot, DropsUntil}
+use Rattle.raft_log_file_pipe.specs.Exits.{IsTurned, SameFiles, SameLists}
+use Rattle.raft_log_file_pipe.specs.Appending.{SaysTryAgain, context_of}
+use Rattle.raft_log_file_pipe.specs.Purging.{paths_going}
+use Rattle.raft_log_file_pipe.specs.Opening.{taken_up}
+use Rattle.raft_log_file_pipe.specs.declared.found_files.FoundFiles.{FoundFiles}
+use Rattle.raft_log_file_pipe.specs.declared.new_files.NewFiles.{NewFiles}
+use Rattle.raft_log_file_pipe.specs.declared.pipe_files.PipeFiles.{PipeFiles}
+
+-- A rotation.
+
+-- the pipe went on in the next file, under the path of its number, by these calls
+pub record TurnsPipeBy (paths : FilePaths) (format : LogFileFormat) (before after : PipeFiles)
+    (old new : Disk) : Type 0 where
+  pub turned : IsTurned format before after
+  pub numbered : after.active.reserved ≡ false
+  pub calls : TurnsBy paths (header_bytes format) before.recycled.items before.writer after.active after.writer
+      old new
+
+-- the oldest of these files has a number that no name has
+abbrev pub OldestIsFar : List Listed → Type 0
+OldestIsFar [] = ⊥
+OldestIsFar (f ∷ fs) = 10 ^ 16 ≤ f.seq
+
+-- Why the pipe didn't go on in the next file: for want of memory, or as the next number has no name, or that of
+-- the file that was to be used, and nothing was done; else as one of the calls was refused, behind which none
+-- was made.
+abbrev pub FailsToTurnBy : FilePaths → LogFileFormat → PipeFiles → PipeFiles → Error → Disk → Disk → Type 0
+FailsToTurnBy paths format before after errors.Memory old new = SameFiles before after × (new ≡ old)
+FailsToTurnBy paths format before after errors.NumberRange old new =
+    ((10 ^ 16 ≤ suc before.active.seq) ⊎ OldestIsFar before.recycled.items) × SameFiles before after
+    × (new ≡ old)
+FailsToTurnBy paths format before after errors.Failed old new = SameLists before after
+    × TurnsNot paths (header_bytes format) before.recycled.items before.writer (suc before.active.seq) old new
+FailsToTurnBy paths format before after _ old new = ⊥
+
+-- An append.
+
+-- before a record is written the pipe goes on in the next file where the last one is as long as it is to be, or
+-- longer; else nothing is done
+pub data TurnsFirstBy (paths : FilePaths) (begin : NewFiles) (before after : PipeFiles) (old new : Disk)
+    : Type 0 where
+  stays : before.writer.written < begin.target_size → after ≡ before → new ≡ old
+      → TurnsFirstBy paths begin before after old new
+  turns : begin.target_size ≤ before.writer.written → TurnsPipeBy paths begin.format before after old new
+      → TurnsFirstBy paths begin before after old new
+
+-- The bytes, signed for the last file, which may be the next one, were written to it at the writer's offset, once
+-- room was made for them; their place has that file's number, that offset, and their length.
+pub record AppendsBy (paths : FilePaths) (begin : NewFiles) (queue : LogQueue)
+    (signed : LogFileContext → List ℕ) (before after : PipeFiles) (block : FileBlockHandle) (old new : Disk)
+    : Type 0 where
+  pub middle : PipeFiles
+  pub between : Disk
+  pub first : TurnsFirstBy paths begin before middle old between
+  pub lists : SameLists middle after
+  pub calls : WritesNext middle.writer after.writer (signed (context_of queue middle)) begin.target_size
+      between new
+  pub id : block.id ≡ record { queue = queue; seq = middle.active.seq }
+  pub offset : block.offset ≡ middle.writer.written
+  pub len : block.len ≡ length (signed (context_of queue middle))
+
+-- the pipe went on in the next file, and the record is to be tried again; or it didn't
+abbrev pub TurnsElsewhereBy : FilePaths → LogFileFormat → PipeFiles → PipeFiles → Error → Disk → Disk
+    → Type 0
+TurnsElsewhereBy paths format before after error old new =
+    (SaysTryAgain error × TurnsPipeBy paths format before after old new)
+    ⊎ FailsToTurnBy paths format before after error old new
+
+-- What is told of a refused write, and what was done behind it: where there was no space, the pipe went on in the
+-- next file, or didn't; else nothing.
+abbrev pub TellsBy : FilePaths → LogFileFormat → WriteFault → PipeFiles → PipeFiles → Error → Disk → Disk
+    → Type 0
+TellsBy paths format (CutBack kind) before after error old new =
+    ((kind ≡ StorageFull) × TurnsElsewhereBy paths format before after error old new)
+    ⊎ ((kind ≢ StorageFull) × (error ≡ errors.Io kind) × (after ≡ before) × (new ≡ old))
+TellsBy paths format (Failed kind) before after error old new =
+    (error ≡ errors.Failed) × (after ≡ before) × (new ≡ old)
+
+-- Why a record wasn't written: the pipe was to go on in the next file first, and didn't; or the write was refused,
+-- and what it left was cut off at the writer's offset and synced, or one of these was refused too.
+pub data FailsToAppendBy (paths : FilePaths) (begin : NewFiles) (queue : LogQueue)
+    (signed : LogFileContext → List ℕ) (before after : PipeFiles) (error : Error) (old new : Disk)
+    : Type 0 where
+  not_turned : begin.target_size ≤ before.writer.written
+      → FailsToTurnBy paths begin.format before after error old new
+      → FailsToAppendBy paths begin queue signed before after error old new
+  not_written : (middle cut : PipeFiles) (between short : Disk) (fault : WriteFault)
+      → TurnsFirstBy paths begin before middle old between → SameLists middle cut
+      → AppendMakes fault middle.writer cut.writer (signed (context_of queue middle)) begin.target_size
+      between short
+      → TellsBy paths begin.format fault cut after error short new
+      → FailsToAppendBy paths begin queue signed before after error old new
+
+-- A sync, a purge and an open.
+
+-- the sync of this file was refused, and no other call was made
+abbrev pub FailsToSyncBy : Handle → Disk → Disk → Type 0
+FailsToSyncBy handle old new = (error : ErrorKind) × FailsToSync handle error old new
+
+-- Why the files below a number didn't go: nothing was done; or some first ones of those that were to go went, and
+-- the next one's deletion was refused.
+abbrev pub FailsToPurgeBy : FilePaths → ℕ → ℕ → PipeFiles → Error → Disk → Disk → Type 0
+FailsToPurgeBy paths capacity seq before errors.Memory old new = new ≡ old
+FailsToPurgeBy paths capacity seq before (errors.Other fault) old new = new ≡ old
+FailsToPurgeBy paths capacity seq before errors.NumberRange old new = new ≡ old
+FailsToPurgeBy paths capacity seq before errors.Failed old new =
+    DropsUntil (paths_going paths capacity seq before) old new
+FailsToPurgeBy paths capacity seq before _ old new = ⊥
+
+-- the pipe was opened: its file 1 was made and begun, where none was found; else the last one that was found was
+-- cut where its records end, and goes on there
+pub data OpensPipeBy (paths : FilePaths) (format : LogFileFormat) (found : FoundFiles) (files : PipeFiles)
+    (old new : Disk) : Type 0 where
+  begins : found.files.items ≡ [] → files.active.reserved ≡ false
+      → BeginsQueueBy (path_of paths files.active) (header_bytes format) files.active.handle files.writer
+      old new
+      → OpensPipeBy paths format found files old new
+  takes_up : (earlier : List Listed) (last : Listed) → found.files.items ≡ earlier ++ last ∷ []
+      → ReopensBy last.handle found.end (header_bytes (taken_up found.end last).format) files.writer old new
+      → OpensPipeBy paths format found files old new

@@ -3,7 +3,8 @@
 # plain Rust program. The two take turns in each round, the first one last in the next, so that what else the machine does meets
 # both; told are the best and the median of the rounds.
 # Appends, of entries of 128, 1,024 and 2,118 bytes: beside a loop that writes and syncs as many bytes into a file whose blocks
-# are there. `new` writes new files, whose blocks are made by zeros ahead; `prefilled` files that are there from the start.
+# are there, filled by calls as long as the other program's, as each write into what a longer one left takes longer. `new` writes
+# new files, whose blocks are made by zeros ahead; `prefilled` files that are there from the start.
 # Opens: all files are loaded by as many threads as the machine has, and recovered by one or by four workers; `alone` has one
 # processor for all of it. `load` is the loading alone. Beside them stands reading the same bytes whole into memory that is kept.
 # Usage: bench/directories/run.sh [ROUNDS [WORK..]]; the works are new-128, .., prefilled-2118 and open.

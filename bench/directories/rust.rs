@@ -9,14 +9,18 @@ use std::time::Instant;
 
 const MORE: usize = 64;
 
+// The file is filled by pieces as long as those of the other program's files (`PIECE` of `FileDevice`). What a longer write leaves
+// in the system's memory may be one long piece there: each short write into it, and each sync behind it, goes over all of it.
+const PIECE: usize = 1 << 16;
+
 fn report(work: &str, bytes: u64, start: Instant, check: u64) {
     println!("{work} {} {check}", bytes as u128 * 1000 / start.elapsed().as_nanos().max(1));
 }
 
 fn append(size: usize, batches: u64) {
     let file = OpenOptions::new().write(true).create(true).truncate(true).open("plain").unwrap();
-    for at in (0..batches * (17 * size as u64 / 2 + MORE as u64)).step_by(1 << 20) {
-        file.write_all_at(&[0; 1 << 20], at).unwrap();
+    for at in (0..batches * (17 * size as u64 / 2 + MORE as u64)).step_by(PIECE) {
+        file.write_all_at(&[0; PIECE], at).unwrap();
     }
     file.sync_all().unwrap();
     let bytes = vec![7u8; 16 * size + MORE];

@@ -29,11 +29,13 @@ const GROWN: u64 = 6;
 
 const SYNCED: u64 = 7;
 
-/// How many zeros are kept, and written at a time where a file grows.
-pub(crate) const ZEROS: usize = 1 << 18;
+/// The most bytes that one call writes, and how many zeros are kept for the growth of a file. What a longer one writes
+/// some systems hold as one long piece in memory, and each short write there, and each sync behind it, goes over all of
+/// that piece.
+pub(crate) const PIECE: usize = 1 << 16;
 
 /// The operating system's files, as a device. Each file that has a name is open; the directories stay locked
-/// until it is dropped. A method makes one call, of a growth one for each piece of its zeros,
+/// until it is dropped. A method makes one call, of a write or a growth one for each piece of its bytes,
 /// and then notes it; only clauses read what is noted.
 #[derive(Drop)]
 pub struct FileDevice<R> {
@@ -120,9 +122,12 @@ impl<R: Files<File = File> + Drop> Device for FileDevice<R> {
         let Some(opened) = self.files.get(&file) else {
             return Err(ErrorKind::NotFound);
         };
-        opened
-            .write_all_at(bytes, offset as u64)
-            .map_err(|error| error.kind())?;
+        for start in (0..bytes.len()).step_by(PIECE) {
+            let end = bytes.len().min(start.saturating_add(PIECE));
+            opened
+                .write_all_at(&bytes[start..end], offset.wrapping_add(start) as u64)
+                .map_err(|error| error.kind())?;
+        }
         self.record
             .note(&[WRITTEN, file as u64, offset as u64], bytes);
         Ok(())
@@ -146,7 +151,7 @@ impl<R: Files<File = File> + Drop> Device for FileDevice<R> {
             return Err(ErrorKind::NotFound);
         };
         let length = opened.metadata().map_err(|error| error.kind())?.len() as usize;
-        for offset in (length..size).step_by(ZEROS) {
+        for offset in (length..size).step_by(PIECE) {
             let count = self.zeros.len().min(size.saturating_sub(offset));
             opened
                 .write_all_at(&self.zeros[..count], offset as u64)

@@ -4,7 +4,7 @@ ghost use Rattle.raft_log_disk_device.specs.Space.{spaces_of};
 ghost use Rattle.raft_log_disk_directory.specs.Loading.{StartsFresh};
 
 use super::fault::DirectoryFault;
-use super::file_device::{FileDevice, ZEROS};
+use super::file_device::{FileDevice, PIECE};
 use super::load::Found;
 use raft_log_disk::FileSystem;
 use raft_log_disk_device::{Device, DirectoryFileSystem};
@@ -43,7 +43,7 @@ pub fn open_directories<R: Files<File = File> + Threads + AllocGlobal + Clone + 
         files,
         locks,
     } = found;
-    let zeros = vec![in rt.alloc(); 0u8; ZEROS]?;
+    let zeros = vec![in rt.alloc(); 0u8; PIECE]?;
     let device = FileDevice::new(rt.clone()?, files, locks, zeros, &storage);
     Ok(DirectoryFileSystem::new(storage, device))
 }

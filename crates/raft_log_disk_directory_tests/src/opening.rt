@@ -96,6 +96,24 @@ fn a_file_of_several_pieces_is_grown_and_read_whole(rt: HostRuntime) -> Result<(
 }
 
 #[test]
+fn a_long_write_lands_whole(rt: HostRuntime) -> Result<(), Fail> {
+    let _ = fs::remove_dir_all(&rt, "long");
+    make_directory(&rt, "long")?;
+    let mut files = open_directories(&rt, "long", None)?;
+    let handle = save(&mut files, "long/a", b"abc")?;
+    let mut bytes = Vec::with_capacity(rt.alloc(), 200_000)?;
+    for at in 0..200_000usize {
+        bytes.push((at % 251) as u8)?;
+    }
+    files.write_at(handle, 3, bytes.as_slice())?;
+    files.sync(handle)?;
+    let found = fs::read(&rt, "long/a")?;
+    assert!(rt; found.len() == 200_003);
+    assert!(rt; (&found[..3] == b"abc") & (&found[3..] == bytes.as_slice()));
+    Ok(())
+}
+
+#[test]
 fn what_is_left_of_a_space_that_is_set_is_told(rt: HostRuntime) -> Result<(), Fail> {
     let _ = fs::remove_dir_all(&rt, "narrow");
     let _ = fs::remove_dir_all(&rt, "wide");

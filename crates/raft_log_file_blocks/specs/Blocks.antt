@@ -1,5 +1,5 @@
 -- The entry block that is kept, and what is read of it.
-use Rattle.std.specs.Prelude.{◌≡◌, ℕ, ◌+◌, ◌-◌, ◌≤◌, ◌⊎◌, None, Option, Some, List, [], ◌∷◌, length, IsOk, Err}
+use Rattle.std.specs.Prelude.{◌≡◌, ℕ, ◌+◌, ◌-◌, ◌≤◌, ◌⊎◌, None, Option, Some, List, [], ◌∷◌, ◌++◌, length, IsOk, Err}
 use Rattle.raft_log_disk.specs.Reading.{IsUnread}
 use Rattle.raft_log_disk.specs.declared.handle.Handle.{Handle}
 use Rattle.raft_log_record_base.specs.declared.errors.Error.{Error}
@@ -92,6 +92,12 @@ ReadsEntries reading v [] old new messages = (new ≡ old) × (messages ≡ [])
 ReadsEntries reading v (e ∷ es) old new [] = ⊥
 ReadsEntries reading v (e ∷ es) old new (m ∷ ms) =
     (next : BlockCache) × ReadsEntry reading v e old next m × ReadsEntries reading v es next new ms
+
+-- the entries were read one after another, and their messages came behind the old ones
+abbrev pub AddsEntries : {M : Type 0} → (List ℕ → Option M) → LogPipes → List EntryIndex → BlockCache → BlockCache
+    → List M → List M → Type 0
+AddsEntries {M} reading v es old new were now =
+    (more : List M) × (now ≡ were ++ more) × ReadsEntries reading v es old new more
 
 -- why entries aren't read: memory ran out behind some of them; or one isn't read, and those before it were
 abbrev pub AreUnread : {M : Type 0} → (List ℕ → Option M) → LogPipes → List EntryIndex → BlockCache → BlockCache

@@ -1,6 +1,6 @@
 //! The entry block that was read last.
 
-ghost use Rattle.std.specs.Prelude.{◌≡◌, ◌+◌, ◌≤◌, None, IfErr, IfOk, OnOk};
+ghost use Rattle.std.specs.Prelude.{◌≡◌, ◌↔◌, IsTrue, ◌+◌, ◌<◌, ◌≤◌, None, Some, IfErr, IfOk, OnErr, OnOk, length, take, vec_capacity, vec_len};
 
 use raft_log_file_pair::PipeLog;
 use raft_log_record_base::{Error, FileBlockHandle, Result};
@@ -20,7 +20,7 @@ pub struct BlockCache {
 
 impl BlockCache {
     ghost use Rattle.raft_log_file_blocks.specs.Stored.{part};
-    ghost use Rattle.raft_log_file_blocks.specs.Blocks.{AreUnread, IsEntryUnread, IsNoEntry, KeepsBlock, LosesBlock, ReadsEntries, ReadsEntry, entries_in};
+    ghost use Rattle.raft_log_file_blocks.specs.Blocks.{AddsEntries, AreUnread, IsEntryUnread, IsNoEntry, KeepsBlock, LosesBlock, ReadsEntries, ReadsEntry, entries_in};
 
     /// A cache without a block. It takes no memory.
     pub fn new(alloc: Global) -> BlockCache
@@ -115,12 +115,103 @@ impl BlockCache {
             (AreUnread M.reading (P.shown pipes.now) entries.now self.old self.new) }
     {
         let mut messages = Vec::with_capacity(alloc, entries.len())?;
-        for entry in entries {
-            let message = self.read_entry(alloc, pipes, entry)?;
-            messages.push(message)?;
-        }
+        self.push_entries(alloc, pipes, entries, &mut messages)?;
         Ok(messages)
     }
+
+    /// Adds the entries that lie at these places, as messages, and refuses what `read_entries` refuses. A
+    /// refusal adds nothing.
+    pub fn read_entries_to<M: Message, P: PipeLog>(
+        &mut self,
+        alloc: Global,
+        pipes: &P,
+        entries: &[EntryIndex],
+        messages: &mut Vec<M>,
+    ) -> Result<()>
+        ensures ok { OnOk result (AddsEntries M.reading (P.shown pipes.now) entries.now self.old self.new
+            messages.old.items messages.new.items) }
+        ensures none { OnErr result (messages.new.items ≡ messages.old.items) }
+        ensures err { IfErr result
+            (AreUnread M.reading (P.shown pipes.now) entries.now self.old self.new) }
+    {
+        let len = messages.len();
+        messages.reserve(entries.len())?;
+        match self.push_entries(alloc, pipes, entries, messages) {
+            Ok(()) => Ok(()),
+            Err(error) => {
+                messages.truncate(len);
+                Err(error)
+            }
+        }
+    }
+
+    /// Adds the entries that lie at these places, as messages, for which there is room. A refusal leaves
+    /// those that were read before.
+    fn push_entries<M: Message, P: PipeLog>(
+        &mut self,
+        alloc: Global,
+        pipes: &P,
+        entries: &[EntryIndex],
+        messages: &mut Vec<M>,
+    ) -> Result<()>
+        requires { vec_len messages.old + length entries.now ≤ vec_capacity messages.old }
+        ensures ok { OnOk result (AddsEntries M.reading (P.shown pipes.now) entries.now self.old self.new
+            messages.old.items messages.new.items) }
+        ensures kept { take (length messages.old.items) messages.new.items ≡ messages.old.items }
+        ensures err { IfErr result
+            (AreUnread M.reading (P.shown pipes.now) entries.now self.old self.new) }
+    {
+        let mut done = 0;
+        while done < entries.len() {
+            let (_, rest) = entries.split_at(done);
+            let count = self.push_piece(alloc, pipes, rest, messages)?;
+            done += count;
+        }
+        Ok(())
+    }
+
+    /// Adds the first of these entries, as messages, up to the first that lies in another block, and answers
+    /// how many. There are some, and there is room. A refusal leaves those that were read before.
+    fn push_piece<M: Message, P: PipeLog>(
+        &mut self,
+        alloc: Global,
+        pipes: &P,
+        entries: &[EntryIndex],
+        messages: &mut Vec<M>,
+    ) -> Result<usize>
+        requires some { 0 < length entries.now }
+        requires room { vec_len messages.old + length entries.now ≤ vec_capacity messages.old }
+        ensures count { IfOk result (λ count. (0 < count) × (count ≤ length entries.now)) }
+        ensures ok { IfOk result (λ count. AddsEntries M.reading (P.shown pipes.now) (take count entries.now)
+            self.old self.new messages.old.items messages.new.items) }
+        ensures len { IfOk result (λ count. (vec_len messages.new ≡ vec_len messages.old + count)
+            × (vec_capacity messages.new ≡ vec_capacity messages.old)) }
+        ensures kept { take (length messages.old.items) messages.new.items ≡ messages.old.items }
+        ensures err { IfErr result
+            (AreUnread M.reading (P.shown pipes.now) entries.now self.old self.new) }
+    {
+        let Some(block) = entries[0].entries else {
+            return Err(Error::InvalidArgument(format!(in alloc; "The entry is in no file")?));
+        };
+        self.read(alloc, pipes, block)?;
+        for i in 0..entries.len() {
+            let entry = &entries[i];
+            if !lies_in(entry, block) {
+                return Ok(i);
+            }
+            let bytes = self.entry(alloc, entry.entry_offset, entry.entry_len)?;
+            let message = M::parse(alloc, bytes)?;
+            messages.push_reserved(message);
+        }
+        Ok(entries.len())
+    }
+}
+
+/// Whether an entry lies in this block.
+fn lies_in(entry: &EntryIndex, block: FileBlockHandle) -> bool
+    ensures { IsTrue result ↔ (entry.now.entries ≡ Some block) }
+{
+    entry.entries == Some(block)
 }
 
 /// How many bytes the checksum behind the entries has.

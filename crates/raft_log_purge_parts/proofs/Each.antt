@@ -27,13 +27,20 @@ from_lower n m v w low is = record {
   values = λ k h held rewritten. (let one = is.values k h held rewritten in omega (arith, one, low));
   noted = λ k few from. is.noted k (omega (arith, few, low)) from;
   past = λ k few past. is.past k (omega (arith, few, low)) past;
+  owes = is.owes;
 }
 
 -- restated twice
 from_twice : (n m : ℕ) (v u w : Shown) → n ≤ m → IsRestatedFrom n v u → IsRestatedFrom m u w → IsRestatedFrom n v w
 from_twice n m v u w low one two =
     let late = from_lower n m u w low two in
-    record { entries = late.entries; values = late.values; noted = λ k few from. late.noted k few (one.noted k few from); past = λ k few past. late.past k few (one.past k few past) }
+    record {
+      entries = late.entries;
+      values = late.values;
+      noted = λ k few from. late.noted k few (one.noted k few from);
+      past = λ k few past. late.past k few (one.past k few past);
+      owes = record { cleaned = two.owes.cleaned ∙ one.owes.cleaned; compact = two.owes.compact ∙ one.owes.compact; deleted = two.owes.deleted ∙ one.owes.deleted };
+    }
 
 -- Groups.
 

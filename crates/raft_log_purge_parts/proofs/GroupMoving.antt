@@ -1,7 +1,8 @@
 -- What shows of a group once the parts that restate it moved: all that it has in Rewrite lies where they lie.
-use Rattle.std.proofs.Common.{◌≡◌, ℕ, zero, suc, ◌+◌, ◌-◌, ◌<◌, ◌≤◌, inl, max, min, nat_le, slice_get, Bool, true, false, not, List, [], ◌∷◌, ◌++◌, length, take, drop, Option, Some, None, is_some, if◌then◌else◌, refl, sym, ap, subst, ◌∙◌, arith, append-nil}
+use Rattle.std.proofs.Common.{◌≡◌, ℕ, zero, suc, ◌+◌, ◌-◌, ◌<◌, ◌≤◌, inl, max, min, nat_le, nat_lt, slice_get, Bool, true, false, not, List, [], ◌∷◌, ◌++◌, length, take, drop, Option, Some, None, is_some, if◌then◌else◌, refl, sym, ap, subst, ◌∙◌, arith, append-nil}
 use Rattle.std.proofs.lemmas.Bool.{false≢true}
 use Rattle.std.proofs.lemmas.List.{take_at}
+use Rattle.raft_log_machine_laws.specs.Whereabouts.{top}
 use Rattle.raft_log_machine_laws.proofs.TruthRaises.{no_word}
 use Rattle.raft_log_table_runs.specs.declared.place.Place.{Place}
 use Rattle.raft_log_table_lists.specs.declared.group_files.GroupFiles.{GroupFiles}
@@ -18,6 +19,7 @@ use Rattle.raft_log_engine_laws.specs.Restating.{HoldsRewritten}
 use Rattle.raft_log_engine_laws.proofs.Whole.{all_filed, all_parts, first_pieces_move, one_part}
 use Rattle.raft_log_purge_parts.proofs.KeyCopies.{EachOf, after, each_after, each_listed, shown_after}
 use Rattle.raft_log_purge_parts.specs.Pieces.{put_items}
+use Rattle.raft_log_purge_parts.specs.Owed.{OwesSame}
 use Rattle.raft_log_purge_parts.specs.Restated.{LieFrom, IsNotedFrom, IsRestatedFrom}
 use Rattle.raft_log_purge_parts.proofs.Parting.{PartsFrom, WholeFiled, key_bytes}
 
@@ -71,11 +73,12 @@ moved_value file n (Some x) h low is rewritten = by x.appended refl
         let same : ◌≡◌ {A = KeyValue} (record { bytes = x.bytes; appended = false; file = file }) h = cc in
         let where_it_is : file ≡ h.file = ap (λ (k : KeyValue). k.file) same in omega (arith, where_it_is, low)
 
--- All that stands in Rewrite lies from that file on, and what was noted is noted.
+-- All that stands in Rewrite lies from that file on, what was noted is noted, and what was owed is owed.
 pub record LiesFrom (n : ℕ) (v u : Shown) : Type 0 where
   pub entries : LieFrom n (take u.rewritten u.places)
   pub values : (k : List ℕ) (h : KeyValue) → u.held k ≡ Some h → h.appended ≡ false → n ≤ h.file
   pub noted : u.noted ≡ v.noted
+  pub owes : OwesSame v u
 
 module _ (v : Shown) (g : ℕ) (pairs : List (List ℕ × List ℕ)) (ps : List WrittenPart) (w : WholeFiled g v.first v.rewritten pairs ps) (o : IsOrderly v) (lists : ListsAll (rewritten_values v) pairs) (n : ℕ) (low : PartsFrom n ps) where
   abbrev places : List Place
@@ -97,6 +100,11 @@ module _ (v : Shown) (g : ℕ) (pairs : List (List ℕ × List ℕ)) (ps : List 
         moved_value w.file n (v.held k) h (w.from n low).1
         (ap (λ (x : Option (List ℕ)). if is_some x then rewritten_to None w.file (v.held k) else v.held k) (sym (lists.exact k)) ∙ sym (each_after None w.file v.held pairs k) ∙ held) rewritten;
     noted = refl;
+    owes = record {
+      cleaned = refl;
+      compact = ap (λ (n : ℕ). if v.compacted then Some (if nat_lt 0 n then v.first else top) else None) (let many = w.many in let same : max v.rewritten (0 + length places) ≡ v.rewritten = omega (arith, many) in same);
+      deleted = refl;
+    };
   }
 
   pub whole_lies : LiesFrom n v (parts_moved None g ps v)
@@ -111,6 +119,7 @@ restated_plain n v u lies = record {
   values = lies.values;
   noted = λ k low from. subst (IsNotedFrom k) (sym lies.noted) from;
   past = λ k low past. subst (ArePast k) (sym lies.noted) past;
+  owes = lies.owes;
 }
 
 -- what lies from a file on lies in no file before it
@@ -158,4 +167,5 @@ restated_noted n v u w least files lies within low is_least is =
       past = λ k few past.
           after_past u k least files (lower_least u n (k + 1) (omega (arith, few)) (least_from n u within lies.entries lies.values)) is_least (omega (arith, few, low))
           (subst (ArePast k) (sym lies.noted) past);
+      owes = record { cleaned = lies.owes.cleaned; compact = lies.owes.compact; deleted = lies.owes.deleted };
     })

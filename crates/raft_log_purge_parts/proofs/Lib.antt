@@ -28,3 +28,4 @@ pub mod KeyCopies
 pub mod Advancing
 pub mod KeysCopied
 pub mod Grouping
+pub mod Owing

@@ -167,6 +167,7 @@ module _ (g : ℕ) (es : List EntryIndex) (pairs : List (List ℕ × List ℕ)) 
       entries = subst (λ (k : ℕ). LieFrom n (take k u.places)) (sym zero) tt;
       values = λ k h is rewritten. no_word h.bytes (lists.exact k ∙ told (u.held k) h is rewritten);
       noted = refl;
+      owes = record { cleaned = refl; compact = refl; deleted = refl };
     }
       where
         told : (o : Option KeyValue) (h : KeyValue) → o ≡ Some h → h.appended ≡ false → asked_bytes None o ≡ Some h.bytes

@@ -39,7 +39,7 @@ use Rattle.raft_log_engine_laws.specs.Rewriting.{RewriteLeaves, SaysOwed}
 use Rattle.raft_log_engine_laws.proofs.Settling.{failed_sync, settled_held, sync_settles_log}
 use Rattle.raft_log_engine_laws.proofs.Rewriting.{marks_refused, marks_written}
 use Rattle.raft_log_purge_parts.specs.Parts.{IsRecordMade, PartIsRefused, Remains}
-use Rattle.raft_log_purge_parts.specs.Reasons.{GivesReason}
+use Rattle.raft_log_purge_parts.specs.Reasons.{HasPurgeReason}
 use Rattle.raft_log_purge_parts.specs.Refusals.{IsUnmade}
 use Rattle.raft_log_purge_parts.specs.Marks.{CarriesMarks, WritesMarks, showing}
 use Rattle.raft_log_purge_parts.specs.Owed.{SaysMarks}
@@ -81,7 +81,7 @@ remains_same home m e (errors.InvalidArgument text) why h = h
 remains_same home m e _ why h = absurd why
 
 -- nothing was done
-pub refused_unmade : (error : Error) (e : Shows) → IsUnmade error → GivesReason error e e → PartIsRefused error e e
+pub refused_unmade : (error : Error) (e : Shows) → IsUnmade error → ((home : Home) (m : LogMap) → Holds home e m [] → HasPurgeReason home m error e e) → PartIsRefused error e e
 refused_unmade error e why reason = record {
   tells = λ lived. tells_nothing error e.pipes lived (unmade_is_none error why);
   later = same_later e.pipes.disk;
@@ -171,9 +171,9 @@ module _ (tables : ℕ → Shown) (b made : Batch) (v w : LogPipes) (says : Says
         (marks_refused home (showing v tables counts cache) (showing w tables counts cache) b m error h (says_owed tables b made says some is) (record { tables = refl; cache = inl refl })
         (subst (λ s. FailsToAppendTo InRewrite s error v w) (same_record b made is) call));
     cause = λ home m h.
-        alone_reason home m error (showing v tables counts cache) (showing w tables counts cache) h.state b (says_owed tables b made says some is).alone h.runs
+        inl (alone_reason home m error (showing v tables counts cache) (showing w tables counts cache) h.state b (says_owed tables b made says some is).alone h.runs
         (subst (λ s. FailsToAppendTo InRewrite s error v w) (same_record b made is) call) (subst (λ s. EndsNumbersAt InRewrite s error v w) (same_record b made is) ends)
-        (subst (λ s. PipeFailsToAppend InRewrite s error v w) (same_record b made is) told);
+        (subst (λ s. PipeFailsToAppend InRewrite s error v w) (same_record b made is) told));
   }
 
 -- The marks are written, and then synced, or not.
@@ -202,6 +202,6 @@ module _ (old new : MemTables) (v mid w : LogPipes) (wrote : WritesMarks (shown_
         (failed_sync InRewrite home mid w m [] (holds_runs home (showing mid (λ g. unmarked (shown_of old g)) (counts old) cache) m [] (wrote.holds (counts old) cache home m h)) call).1;
     cause = λ home m h.
         (let there = wrote.holds (counts old) cache home m h in
-        reason_after home m error (shows v old cache) (showing mid (λ g. unmarked (shown_of old g)) (counts old) cache) (shows w old cache) wrote.later
-        (sync_reason InRewrite home m error (showing mid (λ g. unmarked (shown_of old g)) (counts old) cache) (shows w old cache) there.state there.runs is call));
+        inl (reason_after home m error (shows v old cache) (showing mid (λ g. unmarked (shown_of old g)) (counts old) cache) (shows w old cache) wrote.later
+        (sync_reason InRewrite home m error (showing mid (λ g. unmarked (shown_of old g)) (counts old) cache) (shows w old cache) there.state there.runs is call)));
   }

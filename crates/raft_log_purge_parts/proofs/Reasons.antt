@@ -60,9 +60,9 @@ use Rattle.raft_log_engine_laws.specs.Rewriting.{CountsAlone}
 use Rattle.raft_log_engine_laws.proofs.Rewriting.{bytes_of, says_marked}
 use Rattle.raft_log_record_items.specs.declared.raw_message.RawMessage.{RawMessage}
 use Rattle.raft_log_purge_parts.specs.Entries.{AreEntryBytes, as_bytes}
-use Rattle.raft_log_purge_parts.specs.Lengths.{AreOfGroup, AreOnePiece, AreValuesIn, IsOneMark}
+use Rattle.raft_log_purge_parts.specs.Lengths.{AreOfGroup, AreOnePiece, AreValuesIn, IsOneMark, OwesTooMuch}
 use Rattle.raft_log_purge_parts.specs.Owed.{SaysMarks}
-use Rattle.raft_log_purge_parts.specs.Reasons.{FailsAtARecord, HasFileReason, HasMarkValue, HasReason, IsOneUnread}
+use Rattle.raft_log_purge_parts.specs.Reasons.{FailsAtARecord, HasFileReason, HasMarkValue, HasPurgeReason, HasReason, IsOneUnread}
 use Rattle.raft_log_purge_parts.specs.Refusals.{AreUnput, HasMark, IsOverlong, IsUnmade, IsUnrecorded}
 use Rattle.raft_log_purge_parts.proofs.KeyCopies.{EachOf, each_listed}
 
@@ -90,6 +90,11 @@ reason_after home m errors.Full s t u later long = long
 reason_after home m (errors.InvalidArgument text) s t u later reason = reason
 reason_after home m errors.Memory s t u later reason = reason
 reason_after home m _ s t u later never = absurd never
+
+-- of a purge, where no more is owed behind it
+pub purge_reason_after : (home : Home) (m : LogMap) (error : Error) (s t u : Shows) → IsLater s.pipes.disk t.pipes.disk → (OwesTooMuch t.tables → OwesTooMuch s.tables) → HasPurgeReason home m error t u → HasPurgeReason home m error s u
+purge_reason_after home m error s t u later owes (inl reason) = inl (reason_after home m error s t u later reason)
+purge_reason_after home m error s t u later owes (inr (full, long)) = inr (full, owes long)
 
 pub overlong_after : (home : Home) (m : LogMap) (b : Batch) (error : Error) (s t u : Shows) → IsLater s.pipes.disk t.pipes.disk → IsOverlong b error ⊎ HasReason home m error t u → IsOverlong b error ⊎ HasReason home m error s u
 overlong_after home m b error s t u later (inl long) = inl long
@@ -137,12 +142,12 @@ pub long_reason : (home : Home) (m : LogMap) (error : Error) (s t : Shows) (g fi
     → AreOfGroup g first bytes pairs mark b.items b.entries → AreOnePiece bytes → AreEntryBytes m g first bytes → AreValuesIn m g pairs → IsStrictlySortedBy (slice_cmp nat_cmp) (keys_of pairs) → IsOverlong b error → HasReason home m error s t
 long_reason home m error s t g first bytes pairs mark b one made piece run values once (is, long) =
     subst (λ (e : Error). HasReason home m e s t) (sym is)
-    (inl (b.items, b.entries, record { group = g; first = first; bytes = bytes; pairs = pairs; mark = mark; one = one; made = made; piece = piece; run = run; values = values; once = once }, inr long))
+    (b.items, b.entries, record { group = g; first = first; bytes = bytes; pairs = pairs; mark = mark; one = one; made = made; piece = piece; run = run; values = values; once = once }, inr long)
 
 -- that of the marks that are owed
-pub marks_long_reason : (home : Home) (m : LogMap) (error : Error) (s t : Shows) (b : Batch) → SaysMarks t.tables b → IsUnrecorded b error → HasReason home m error s t
-marks_long_reason home m error s t b says (inl memory) = memory_reason home m error s t memory
-marks_long_reason home m error s t b says (inr (is, long)) = subst (λ (e : Error). HasReason home m e s t) (sym is) (inr (b, says, long))
+pub marks_long_reason : (home : Home) (m : LogMap) (error : Error) (s t : Shows) (b : Batch) → SaysMarks s.tables b → IsUnrecorded b error → HasPurgeReason home m error s t
+marks_long_reason home m error s t b says (inl memory) = inl (memory_reason home m error s t memory)
+marks_long_reason home m error s t b says (inr (is, long)) = inr (is, (b, says, long))
 
 -- a key isn't put
 mark_value_of : (m : LogMap) (g : ℕ) (pairs : List (List ℕ × List ℕ)) → AreValuesIn m g pairs → HasMark g pairs → HasMarkValue m
@@ -173,8 +178,7 @@ entries_reason home m errors.Memory s t g first indexes bytes rise low same piec
 entries_reason home m (errors.InvalidArgument text) s t g first indexes bytes rise low same piece run (none, told) = absurd (none (same, index_run first indexes rise low))
 entries_reason home m errors.Full s t g first indexes bytes rise low same piece run (is, long) =
     let items : List LogItem = (entries_items g 0 indexes bytes ++ []) ++ [] in
-    let joins = joined-length bytes in
-    inl (
+    let joins = joined-length bytes in (
       items,
       joined bytes,
       record {

@@ -28,7 +28,7 @@ use Rattle.raft_log_purge_parts.specs.Files.{FailsToLoseFiles, LosesFiles, MayLo
 use Rattle.raft_log_purge_parts.specs.Stale.{FailsToPurgeAll, FailsToTurn, PurgesAllStale, TurnsAndLoses, written_file}
 use Rattle.raft_log_purge_parts.proofs.PartExits.{later_on, tells_err}
 use Rattle.raft_log_purge_parts.proofs.Spanned.{limited_reason}
-use Rattle.raft_log_purge_parts.proofs.Reasons.{file_reason_after, reason_after, reason_of_files, sync_reason, turn_reason}
+use Rattle.raft_log_purge_parts.proofs.Reasons.{file_reason_after, purge_reason_after, reason_after, reason_of_files, sync_reason, turn_reason}
 
 -- One queue.
 
@@ -109,7 +109,7 @@ module _ (s : Shows) (synced : LogPipes) (syncs : SyncsQueue InAppend s.pipes sy
     tells = λ lived. refused.tells alive;
     later = later_on s.pipes.disk synced.disk t.pipes.disk later refused.later;
     remains = λ home log pending h. inl (refused.remains home (taken log pending) (held_behind home log pending h));
-    cause = λ home log pending h. reason_after home (taken log pending) error s behind t later (refused.cause home (taken log pending) (held_behind home log pending h));
+    cause = λ home log pending h. purge_reason_after home (taken log pending) error s behind t later (λ long. long) (refused.cause home (taken log pending) (held_behind home log pending h));
   }
 
   module _ (carried : Shows) (carries : CarriesMarks behind carried) where
@@ -125,7 +125,7 @@ module _ (s : Shows) (synced : LogPipes) (syncs : SyncsQueue InAppend s.pipes sy
       later = later_on s.pipes.disk carried.pipes.disk t.pipes.disk to_carried fails.later;
       remains = λ home log pending h. inl (fails.remains home (taken log pending) (settled_there home log pending h) tt);
       cause = λ home log pending h.
-          reason_after home (taken log pending) error s carried t to_carried (reason_of_files home (taken log pending) error carried t (fails.cause home (taken log pending) (settled_there home log pending h)));
+          inl (reason_after home (taken log pending) error s carried t to_carried (reason_of_files home (taken log pending) error carried t (fails.cause home (taken log pending) (settled_there home log pending h))));
     }
 
     module _ (m : MemTables) (lost : ℕ) (mid : Shows) (rewrite : TurnsAndLoses Rewrite m lost carried mid) (tables : mid.tables ≡ carried.tables) where
@@ -144,7 +144,7 @@ module _ (s : Shows) (synced : LogPipes) (syncs : SyncsQueue InAppend s.pipes sy
         later = later_on s.pipes.disk mid.pipes.disk t.pipes.disk to_mid fails.later;
         remains = λ home log pending h. inl (fails.remains home (taken log pending) (settled_mid home log pending h) none_mid);
         cause = λ home log pending h.
-            reason_after home (taken log pending) error s mid t to_mid (reason_of_files home (taken log pending) error mid t (fails.cause home (taken log pending) (settled_mid home log pending h)));
+            inl (reason_after home (taken log pending) error s mid t to_mid (reason_of_files home (taken log pending) error mid t (fails.cause home (taken log pending) (settled_mid home log pending h))));
       }
 
       pub all_purged : (gone : ℕ) (t : Shows) → TurnsAndLoses Append m gone mid t → PurgesAllStale m s t
@@ -170,5 +170,5 @@ unsynced {A} error s w is tells later call = record {
   tells = λ lived. tells_err {A = A} error w tells;
   later = later;
   remains = λ home log pending h. inr (is, (unsynced_left home s.pipes w log pending (holds_runs home s log pending h) call).1);
-  cause = λ home log pending h. sync_reason InAppend home (taken log pending) error s (record s { pipes = w }) h.state h.runs is call;
+  cause = λ home log pending h. inl (sync_reason InAppend home (taken log pending) error s (record s { pipes = w }) h.state h.runs is call);
 }

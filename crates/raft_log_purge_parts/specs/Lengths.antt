@@ -71,7 +71,3 @@ HasLongGroup m =
 -- the record of the marks that are owed would be too long: it would have 2 ^ 56 bytes or more
 abbrev pub OwesTooMuch : (ℕ → Shown) → Type 0
 OwesTooMuch v = (b : Batch) × SaysMarks v b × (2 ^ 56 ≤ record_len b.items b.entries)
-
--- a record that is to be made would be too long: of what one group has, or of the marks that are owed
-abbrev pub HasTooMuch : LogMap → (ℕ → Shown) → Type 0
-HasTooMuch m v = HasLongGroup m ⊎ OwesTooMuch v

@@ -1,4 +1,4 @@
--- The marks that are owed, as a batch.
+-- The marks that are owed, as a batch, and where they stay.
 use Rattle.std.specs.Prelude.{◌≡◌, ℕ, false, List, [], ◌∷◌, ◌++◌}
 use Rattle.raft_log_record_items.specs.declared.entry.EntryIndex.{EntryIndex}
 use Rattle.raft_log_record_items.specs.declared.item.LogItem.{LogItem}
@@ -8,6 +8,7 @@ use Rattle.raft_log_record_marks.specs.Meaning.{tagged, tagged_items}
 use Rattle.raft_log_record_batches.specs.declared.log_batch.BatchState.TheVariants.{Filling}
 use Rattle.raft_log_record_batches.specs.Batch.{Batch}
 use Rattle.raft_log_table_lists.specs.Shown.{Shown}
+use Rattle.raft_log_engine_laws.specs.raft_log_table_one.specs.Moves.{owed_compact}
 use Rattle.raft_log_table_all.specs.Owing.{AreOwedAt}
 
 -- none of the items is a mark of an atomic group
@@ -38,3 +39,9 @@ pub record SaysMarks (v : ℕ → Shown) (b : Batch) : Type 0 where
   pub none : b.entries ≡ []
   pub plain : AreNoMarks b.items
   pub owed : (g : ℕ) → AreOwedAt (v g) (of_group g (tagged_items (λ e. e) b.items))
+
+-- the group owes the marks that it owed: the Clean, the Compact of the same index, and the same deletions
+pub record OwesSame (v w : Shown) : Type 0 where
+  pub cleaned : w.cleaned ≡ v.cleaned
+  pub compact : owed_compact w ≡ owed_compact v
+  pub deleted : w.deleted ≡ v.deleted

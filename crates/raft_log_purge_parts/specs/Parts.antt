@@ -10,7 +10,7 @@ use Rattle.raft_log_file_pair.specs.State.{pipe_at}
 use Rattle.raft_log_file_pair.specs.Pipes.{LogPipes, RunsOn, State, files_of}
 use Rattle.raft_log_engine_laws.specs.Shows.{Home, IsLaidOut, LogMap, Shows, has_failed, sense}
 use Rattle.raft_log_engine_laws.specs.Holding.{Holds, IsLeftAt}
-use Rattle.raft_log_purge_parts.specs.Reasons.{GivesReason}
+use Rattle.raft_log_purge_parts.specs.Reasons.{HasPurgeReason}
 
 -- What is true where a part was refused, by the error: the engine's log is what it was, and nothing is
 -- pending; and where the engine has failed, its log is held.
@@ -18,13 +18,13 @@ abbrev pub Remains : Home → LogMap → Shows → Error → Type 0
 Remains home m t errors.Failed = IsLeftAt home t.pipes.disk m []
 Remains home m t _ = Holds home t m []
 
--- A part was refused: the engine has failed now exactly where that is told, and whatever its log was, it is;
--- and why.
+-- The part that carries the marks was refused: the engine has failed now exactly where that is told, and whatever
+-- its log was, it is; and why.
 pub record PartIsRefused (error : Error) (s t : Shows) : Type 0 where
   pub tells : has_failed s ≡ false → IsTrue (has_failed t) ↔ (error ≡ errors.Failed)
   pub later : IsLater s.pipes.disk t.pipes.disk
   pub remains : (home : Home) (m : LogMap) → Holds home s m [] → Remains home m t error
-  pub cause : GivesReason error s t
+  pub cause : (home : Home) (m : LogMap) → Holds home s m [] → HasPurgeReason home m error s t
 
 -- the record of this batch was made: whichever file it is signed for, it says the batch
 pub record IsRecordMade (b made : Batch) : Type 0 where

@@ -17,7 +17,7 @@ use Rattle.raft_log_engine_laws.specs.Shows.{Home, LogMap, Shows}
 use Rattle.raft_log_engine_laws.specs.Holding.{Holds}
 use Rattle.raft_log_engine_laws.specs.Fetching.{IsUntold}
 use Rattle.raft_log_purge_parts.specs.Entries.{as_bytes}
-use Rattle.raft_log_purge_parts.specs.Lengths.{HasTooMuch}
+use Rattle.raft_log_purge_parts.specs.Lengths.{HasLongGroup, OwesTooMuch}
 
 -- one of the queues stands at the last number that a file's name can have
 abbrev pub EndsItsNumbers : LogPipes → Type 0
@@ -48,15 +48,15 @@ abbrev pub FailsAtARecord : Error → Shows → Shows → Type 0
 FailsAtARecord error s t = Fails s.pipes.disk t.pipes.disk × RecordIsRefused error s t
 
 -- Why a part was refused, of an engine whose log is this map: a record was refused, a file call has failed
--- during it, an entry isn't read, a queue stands at its last number, a record would be too long, a value
--- would be a mark of an atomic group, or memory ran out. Nothing else comes.
+-- during it, an entry isn't read, a queue stands at its last number, a record of what one group has would be too
+-- long, a value would be a mark of an atomic group, or memory ran out. Nothing else comes.
 abbrev pub HasReason : Home → LogMap → Error → Shows → Shows → Type 0
 HasReason home m (errors.Io kind) s t =
     FailsAtARecord (errors.Io kind) s t ⊎ IsOneUnread home m t (errors.Io kind)
 HasReason home m (errors.TryAgain text) s t = FailsAtARecord (errors.TryAgain text) s t
 HasReason home m errors.Failed s t = Fails s.pipes.disk t.pipes.disk
 HasReason home m errors.NumberRange s t = EndsItsNumbers t.pipes
-HasReason home m errors.Full s t = HasTooMuch m t.tables
+HasReason home m errors.Full s t = HasLongGroup m
 HasReason home m (errors.InvalidArgument text) s t = HasMarkValue m
 HasReason home m errors.Memory s t = Unit {0}
 HasReason home m _ s t = ⊥
@@ -64,6 +64,11 @@ HasReason home m _ s t = ⊥
 -- the error has its reason whatever the engine's log was, with nothing pending
 abbrev pub GivesReason : Error → Shows → Shows → Type 0
 GivesReason error s t = (home : Home) (m : LogMap) → Holds home s m [] → HasReason home m error s t
+
+-- Why a purge was refused that carries the marks which are owed: as a part is; or as the record of the marks that
+-- were owed before it would be too long.
+abbrev pub HasPurgeReason : Home → LogMap → Error → Shows → Shows → Type 0
+HasPurgeReason home m error s t = HasReason home m error s t ⊎ ((error ≡ errors.Full) × OwesTooMuch s.tables)
 
 -- Why a queue doesn't go on, or files don't go: a file call has failed, there is no next number, or memory ran
 -- out. No record is made for it, and none read.

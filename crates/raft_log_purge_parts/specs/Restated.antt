@@ -11,6 +11,7 @@ use Rattle.raft_log_table_lists.specs.Shown.{KeyValue, Shown}
 use Rattle.raft_log_engine_laws.specs.raft_log_table_one.specs.Files.{ArePast}
 use Rattle.raft_log_engine_laws.specs.Shows.{Home, LogMap, Shows, has_failed}
 use Rattle.raft_log_engine_laws.specs.Holding.{Holds, IsLeftAt}
+use Rattle.raft_log_purge_parts.specs.Owed.{OwesSame}
 use Rattle.raft_log_purge_parts.specs.Reasons.{GivesReason}
 use Rattle.raft_log_purge_parts.specs.Stale.{written_file}
 
@@ -26,12 +27,13 @@ IsNotedFrom n (Some files) = n ≤ files.from
 
 -- All that the group has in Rewrite lies in files from this one on: its entries and its values there; what is
 -- noted begins no earlier than it began before, or there; and where it began past an earlier file, or ended
--- at or before that, it does so still.
+-- at or before that, it does so still. The group owes the marks that it owed.
 pub record IsRestatedFrom (n : ℕ) (v w : Shown) : Type 0 where
   pub entries : LieFrom n (take w.rewritten w.places)
   pub values : (k : List ℕ) (h : KeyValue) → w.held k ≡ Some h → h.appended ≡ false → n ≤ h.file
   pub noted : (k : ℕ) → k ≤ n → IsNotedFrom k v.noted → IsNotedFrom k w.noted
   pub past : (k : ℕ) → k < n → ArePast k v.noted → ArePast k w.noted
+  pub owes : OwesSame v w
 
 -- the file of Rewrite that is written
 abbrev pub last_file : Shows → ℕ

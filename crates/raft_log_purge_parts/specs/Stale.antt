@@ -17,7 +17,7 @@ use Rattle.raft_log_engine_laws.specs.Settled.{HoldsSettled}
 use Rattle.raft_log_purge_parts.specs.Parts.{Remains}
 use Rattle.raft_log_purge_parts.specs.Marks.{CarriesMarks}
 use Rattle.raft_log_purge_parts.specs.Files.{LosesFiles, MayLoseFiles}
-use Rattle.raft_log_purge_parts.specs.Reasons.{HasFileReason, HasReason}
+use Rattle.raft_log_purge_parts.specs.Reasons.{HasFileReason, HasPurgeReason}
 
 -- the number of the file that a queue is being written in
 abbrev pub written_file : LogQueue → LogPipes → ℕ
@@ -69,4 +69,4 @@ pub record FailsToPurgeAll (error : Error) (s t : Shows) : Type 0 where
       → Remains home (taken log pending) t error
       ⊎ ((error ≡ errors.Failed) × IsLeftAt home t.pipes.disk log pending)
   pub cause : (home : Home) (log : LogMap) (pending : List Said) → Holds home s log pending
-      → HasReason home (taken log pending) error s t
+      → HasPurgeReason home (taken log pending) error s t

@@ -1,4 +1,4 @@
-use Rattle.std.proofs.Common.{subst, sym}
+use Rattle.std.proofs.Common.{inl, subst, sym}
 use Rattle.std.proofs.lemmas.Result.{err_from_is_err_and}
 use Rattle.raft_log_engine_laws.specs.Shows.{shows}
 use Rattle.raft_log_table_all.specs.Owing.{AreOwed}
@@ -11,7 +11,7 @@ returns-in_err-marks-clause-err g c =
     let p = err_from_is_err_and c.from_residual.result c.from_residual.ensures.1 in
     rw p.1 (λ cache.
     let s = shows (g.P.PipeLog.shown c.args.pipes.now) c.args.tables.now cache in
-    refused_unmade p.0 s (memory_unmade p.0 p.2) (λ home m h. memory_reason home m p.0 s s p.2))
+    refused_unmade p.0 s (memory_unmade p.0 p.2) (λ home m h. inl (memory_reason home m p.0 s s p.2)))
 
 pub carry_marks-requires : goal.carry_marks-requires
 carry_marks-requires g c = subst (AreOwed c.args.tables.now) (sym c.as_slice.ensures.value) c.in_ok-marks.ensures

@@ -1,4 +1,4 @@
-use Rattle.std.proofs.Common.{sym, ◌∙◌}
+use Rattle.std.proofs.Common.{inl, sym, ◌∙◌}
 use Rattle.std.proofs.lemmas.Bool.{false≢true}
 use Rattle.std.proofs.lemmas.Result.{err_from_is_err_and}
 use Rattle.raft_log_record_base.specs.declared.pipe_log.FileBlockHandle.{FileBlockHandle}
@@ -17,7 +17,7 @@ returns-in_err-batch-clause-err g c =
     let s = shows (g.P.PipeLog.shown c.args.pipes.now) m cache in
     let error = c.in_err-batch.field-0.0 in
     let memory = marks_unmade m c.args.marks.now error owed c.in_err-batch.ensures.errors in
-    refused_unmade error s (memory_unmade error memory) (λ home log h. memory_reason home log error s s memory))
+    refused_unmade error s (memory_unmade error memory) (λ home log h. inl (memory_reason home log error s s memory)))
 
 pub returns-in_err-signed-clause-err : goal.returns-in_err-signed-clause-err
 returns-in_err-signed-clause-err g c =

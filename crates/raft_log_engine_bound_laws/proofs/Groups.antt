@@ -13,7 +13,7 @@ use Rattle.raft_log_record_bound_laws.proofs.Bounds.{record_bound-append, record
 use Rattle.raft_log_record_bound_laws.proofs.Lengths.{no_record_is_longer}
 use Rattle.raft_log_engine_laws.specs.Shows.{LogMap}
 use Rattle.raft_log_purge_parts.specs.Entries.{AreEntryBytes}
-use Rattle.raft_log_purge_parts.specs.Lengths.{AreOnePiece, HasLongGroup, IsOneMark}
+use Rattle.raft_log_purge_parts.specs.Lengths.{AreOnePiece, IsOneMark}
 use Rattle.raft_log_engine_bound_laws.specs.Lengths.{AreModest, pairs_bound}
 use Rattle.raft_log_engine_bound_laws.specs.Laws.{ModestLogsMakeRecords}
 
@@ -62,8 +62,8 @@ record_bound-mark mark (inr (number, status, is)) =
 
 -- The record.
 
-no_long_group : (m : LogMap) → AreModest m → HasLongGroup m → ⊥
-no_long_group m modest (items, entries, of_map, long) =
+pub modest_logs_make_records : ModestLogsMakeRecords
+modest_logs_make_records m modest (items, entries, of_map, long) =
     let run : List LogItem = entries_items of_map.group 0 of_map.made.indexes of_map.bytes in
     let puts : List LogItem = map (λ (e : List ℕ × List ℕ). put_item of_map.group e.0 e.1) of_map.pairs in
     let bytes : List ℕ = joined of_map.bytes in
@@ -95,7 +95,3 @@ no_long_group m modest (items, entries, of_map, long) =
         modest.values of_map.group of_map.pairs of_map.values of_map.once,
       )
     ]
-
-pub modest_logs_make_records : ModestLogsMakeRecords
-modest_logs_make_records m v modest (inl long) = absurd (no_long_group m modest long)
-modest_logs_make_records m v modest (inr owed) = owed

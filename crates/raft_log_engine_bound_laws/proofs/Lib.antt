@@ -1,2 +1,9 @@
 pub mod Writing
 pub mod Groups
+pub mod Within
+pub mod Known
+pub mod Weights
+pub mod Owed
+pub mod Coming
+pub mod Purged
+pub mod Growing

@@ -1,21 +1,58 @@
 -- When nothing is refused as `Full`.
-use Rattle.std.specs.Prelude.{◌≢◌, ◌<◌, ◌^◌, ℕ}
+use Rattle.std.specs.Prelude.{◌≢◌, ◌<◌, ◌≤◌, ◌^◌, ◌++◌, ℕ, Bool, List, [], ◌∷◌, None}
+use Rattle.raft_log_model_laws.specs.Groups.{appended, taken}
 use Rattle.raft_log_record_base.specs.declared.errors.Error.{Error}
 use Rattle.raft_log_record_base.specs.declared.errors.Error.TheVariants as errors
+use Rattle.raft_log_record_items.specs.declared.item.LogItem.{LogItem}
 use Rattle.raft_log_record_batches.specs.Batch.{Batch}
-use Rattle.raft_log_record_bound_laws.specs.Bounds.{batch_bound}
+use Rattle.raft_log_record_bound_laws.specs.Bounds.{batch_bound, record_bound}
+use Rattle.raft_log_file_blocks.specs.raft_log_file_pair.specs.Pipes.{Said}
 use Rattle.raft_log_table_lists.specs.Shown.{Shown}
-use Rattle.raft_log_engine_laws.specs.Shows.{LogMap, Shows}
-use Rattle.raft_log_engine_laws.specs.Writing.{NotWritten}
-use Rattle.raft_log_purge_parts.specs.Lengths.{HasTooMuch, OwesTooMuch}
-use Rattle.raft_log_engine_bound_laws.specs.Lengths.{AreModest, HasLog}
+use Rattle.raft_log_engine_laws.specs.Shows.{Home, LogMap, Shows}
+use Rattle.raft_log_engine_laws.specs.Writing.{NotWritten, Writes}
+use Rattle.raft_log_purge_parts.specs.Lengths.{HasLongGroup}
+use Rattle.raft_log_purge_parts.specs.Owed.{SaysMarks}
+use Rattle.raft_log_purge_parts.specs.Reasons.{HasPurgeReason}
+use Rattle.raft_log_purge_parts.specs.Rewriting.{OweNothing}
+use Rattle.raft_log_engine_bound_laws.specs.Lengths.{AreKnown, AreModest, AreShortRuns, HasLog, pairs_bound, puts_of}
+use Rattle.raft_log_engine_bound_laws.specs.Marks.{CameOf}
 
 -- An engine that has a log refuses no batch as `Full` whose bound is below 2 ^ 56.
 abbrev pub BoundedBatchesAreNotFull : Type 0
 BoundedBatchesAreNotFull = (b : Batch) (error : Error) (s t : Shows) → HasLog s → batch_bound b < 2 ^ 56
     → NotWritten b error s t → error ≢ errors.Full
 
--- Of a log whose groups are modest, a record that a purge can't make, as it would be too long, is that of the
--- marks which are owed.
+-- Of what one group of a log has whose groups are modest, no record is too long.
 abbrev pub ModestLogsMakeRecords : Type 0
-ModestLogsMakeRecords = (m : LogMap) (v : ℕ → Shown) → AreModest m → HasTooMuch m v → OwesTooMuch v
+ModestLogsMakeRecords = (m : LogMap) → AreModest m → HasLongGroup m → ⊥
+
+-- A log's groups are modest where the pairs that are known of each take less than 2 ^ 54 bytes together.
+abbrev pub KnownLogsAreModest : Type 0
+KnownLogsAreModest = (m : LogMap) (known : ℕ → List (List ℕ × List ℕ)) → AreKnown m known
+    → ((g : ℕ) → pairs_bound (known g) < 2 ^ 54) → AreModest m
+
+-- Of an empty log no pair is known, and a batch whose runs are short adds those that it puts.
+pub record KnownPairsGrow : Type 0 where
+  pub none : AreKnown (λ g s. None) (λ g. [])
+  pub more : (m : LogMap) (known : ℕ → List (List ℕ × List ℕ)) (said : Said) → AreKnown m known
+      → ((g : ℕ) → AreShortRuns (appended g (said ∷ [])))
+      → AreKnown (taken m (said ∷ [])) (λ g. known g ++ puts_of (appended g (said ∷ [])))
+
+-- The record of the marks that are owed takes no more bytes than a record of the items that they came of may take.
+abbrev pub MarksTakeNoMore : Type 0
+MarksTakeNoMore = (items : List LogItem) (v : ℕ → Shown) (b : Batch) → CameOf items v → SaysMarks v b
+    → batch_bound b ≤ record_bound items []
+
+-- Which items the marks came of that are owed: of none where none is owed; and a batch that is written adds its
+-- own.
+pub record MarksComeOfBatches : Type 0 where
+  pub none : (v : ℕ → Shown) → OweNothing v → CameOf [] v
+  pub written : (items : List LogItem) (b : Batch) (sync : Bool) (s t : Shows) → CameOf items s.tables
+      → Writes b sync s t → CameOf (items ++ b.items) t.tables
+
+-- A purge isn't refused as `Full` where the log's groups are modest, and the marks that are owed came of items of
+-- which a record has fewer than 2 ^ 56 bytes by its bound.
+abbrev pub ModestLogsArePurged : Type 0
+ModestLogsArePurged = (home : Home) (m : LogMap) (items : List LogItem) (error : Error) (s t : Shows)
+    → AreModest m → CameOf items s.tables → record_bound items [] < 2 ^ 56
+    → HasPurgeReason home m error s t → error ≢ errors.Full

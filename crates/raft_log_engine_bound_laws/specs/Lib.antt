@@ -1,2 +1,3 @@
 pub mod Lengths
+pub mod Marks
 pub mod Laws

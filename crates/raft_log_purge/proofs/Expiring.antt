@@ -1,5 +1,5 @@
 -- Both queues are purged: the exits, put together of what each half told.
-use Rattle.std.proofs.Common.{◌≡◌, ℕ, Bool, true, false, List, [], Option, inl, inr, sym, ap, subst}
+use Rattle.std.proofs.Common.{◌≡◌, ℕ, Bool, true, false, List, [], Option, inl, inr, refl, sym, ap, subst}
 use Rattle.std.proofs.lemmas.Bool.{false≢true}
 use Rattle.std.specs.Prelude.{Result, Ok, Err, IfErr, IfOk, OnOk}
 use Rattle.std.specs.Result.{result_ok}
@@ -22,7 +22,9 @@ use Rattle.raft_log_purge_rules.specs.Surveying.{Surveys, SurveysIfTold}
 use Rattle.raft_log_purge_rules.specs.declared.survey.Survey.{Survey}
 use Rattle.raft_log_purge_rules.specs.declared.watermarks.Watermarks.{Watermarks}
 use Rattle.raft_log_purge_parts.proofs.PartExits.{later_on, same_later}
-use Rattle.raft_log_purge_parts.proofs.Reasons.{reason_after}
+use Rattle.raft_log_purge_parts.specs.Owed.{OwesSame}
+use Rattle.raft_log_purge_parts.proofs.Owing.{owed_too_much}
+use Rattle.raft_log_purge_parts.proofs.Reasons.{purge_reason_after, reason_after}
 use Rattle.raft_log_purge.specs.RewriteQueue.{FailsToRewriteRewrite, RewritesRewrite}
 use Rattle.raft_log_purge.specs.declared.expired_files.PurgeCounts.{PurgeCounts}
 use Rattle.raft_log_purge.specs.Append.{FailsToRewriteAppend}
@@ -47,6 +49,13 @@ rewritten_well thresholds old new before after true s t (takes, rewrites, reset)
   holds = λ home log h. settled_held home t log (rewrites.settles home log h);
 }
 rewritten_well thresholds old new before after false s t (leaves, tables, same, counts) = subst (GoesWell s) (sym same) (goes_nowhere s)
+
+-- each group owes the marks that it owed
+rewritten_owes : (thresholds : Thresholds) (old new : GlobalStats) (before after : MemTables) (restated : Bool) (s t : Shows) → RewritesIfPast thresholds old new before after restated s t
+    → (home : Home) (log : LogMap) → Holds home s log [] → (g : ℕ) → OwesSame (s.tables g) (t.tables g)
+rewritten_owes thresholds old new before after true s t (takes, rewrites, reset) home log h g = (rewrites.from home log h g).owes
+rewritten_owes thresholds old new before after false s t (leaves, tables, same, counts) home log h g =
+    subst (λ (e : Shows). OwesSame (s.tables g) (e.tables g)) (sym same) (record { cleaned = refl; compact = refl; deleted = refl })
 
 purged_well : (thresholds : Thresholds) (held : Option ℕ) (restated : Bool) (before after : MemTables) (old new : Rounds) (groups : List ℕ) (s t : Shows) → PurgesIfPast thresholds held restated before after old new groups s t → GoesWell s t
 purged_well thresholds held restated before after old new groups s t (inl (takes, purges)) = record {
@@ -86,7 +95,7 @@ module _ (s : Shows) (synced : LogPipes) (syncs : SyncsQueue InAppend s.pipes sy
     tells = λ lived. fails.tells lives;
     later = later_on s.pipes.disk synced.disk t.pipes.disk later fails.later;
     remains = λ home log pending h. on_the_map home log pending t error (fails.remains home (taken log pending) (held_behind s synced syncs later lives home log pending h));
-    cause = λ home log pending h. reason_after home (taken log pending) error s behind t later (fails.cause home (taken log pending) (held_behind s synced syncs later lives home log pending h));
+    cause = λ home log pending h. inl (reason_after home (taken log pending) error s behind t later (fails.cause home (taken log pending) (held_behind s synced syncs later lives home log pending h)));
   }
 
   restated_whole : (m : MemTables) (t : Shows) → RewritesRewrite m behind t → SyncsAndRewrites m s t
@@ -127,7 +136,10 @@ module _ (s : Shows) (synced : LogPipes) (syncs : SyncsQueue InAppend s.pipes sy
       tells = λ lived. fails.tells (went.alive lives);
       later = later_on s.pipes.disk pipes.disk t.pipes.disk to_mid fails.later;
       remains = λ home log pending h. on_the_map home log pending t error (fails.remains home (taken log pending) (held_there home log pending h));
-      cause = λ home log pending h. reason_after home (taken log pending) error s mid t to_mid (fails.cause home (taken log pending) (held_there home log pending h));
+      cause = λ home log pending h.
+          purge_reason_after home (taken log pending) error s mid t to_mid
+          (owed_too_much s.tables mid.tables (rewritten_owes thresholds old new before between restated behind mid rewrites home (taken log pending) (held_behind s synced syncs later lives home log pending h)))
+          (fails.cause home (taken log pending) (held_there home log pending h));
     }
 
     pub whole_unpurged : {A : Type 0} (t : Shows) (q : Result A Error) → IfErr q (λ error. FailsToPurgeAppend error mid t) → IfErr q (λ error. FailsToRewriteAppend error s t)

@@ -103,7 +103,7 @@ nothing_purged error s memory = record {
   tells = λ lived. tells_nothing error s.pipes lived (memory_is_none error memory);
   later = same_later s.pipes.disk;
   remains = λ home m h. inl h;
-  cause = λ home m h. memory_reason home m error s s memory;
+  cause = λ home m h. inl (memory_reason home m error s s memory);
 }
 
 pub marks_refused : (error : Error) (s t : Shows) → PartIsRefused error s t → FailsToPurgeAppend error s t
@@ -144,7 +144,7 @@ module _ (s carried : Shows) (carries : CarriesMarks s carried) where
     tells = λ lived. stops.tells carries.alive;
     later = later_on s.pipes.disk carried.pipes.disk t.pipes.disk carries.later stops.part.later;
     remains = λ home log h. stops.remains none_owed home log (settled_held home carried log (carries.settles home log h));
-    cause = λ home log h. reason_after home log error s carried t carries.later (stops.cause none_owed home log (settled_held home carried log (carries.settles home log h)));
+    cause = λ home log h. inl (reason_after home log error s carried t carries.later (stops.cause none_owed home log (settled_held home carried log (carries.settles home log h))));
   }
 
   module _ (test : ℕ → Bool) (gate : ℕ) (copied : Shows) (copies : RewritesSynced test gate carried copied) where
@@ -163,7 +163,7 @@ module _ (s carried : Shows) (carries : CarriesMarks s carried) where
       tells = λ lived. stops.tells copies.alive;
       later = later_on s.pipes.disk copied.pipes.disk t.pipes.disk to_copied stops.later;
       remains = λ home log h. stops.remains owe_none home log (settled_there home log h);
-      cause = λ home log h. reason_after home log error s copied t to_copied (reason_of_files home log error copied t (stops.cause home log (settled_there home log h)));
+      cause = λ home log h. inl (reason_after home log error s copied t to_copied (reason_of_files home log error copied t (stops.cause home log (settled_there home log h))));
     }
 
     picked_rewritten : (held : Option ℕ) (m : MemTables) (t : Shows) → LosesBelow held m copied t → RewritesPicked test gate held m s t

@@ -49,7 +49,7 @@ use Rattle.raft_log_purge_parts.proofs.GroupMoving.{least_from}
 
 -- nothing is in Rewrite of a group that has no table
 unknown_restated : (n : ℕ) (o : Option GroupTable) → is_some o ≡ false → IsRestatedFrom n (shown_in o) (shown_in o)
-unknown_restated n None none = record { entries = tt; values = λ k h held rewritten. no_word h held; noted = λ k low from. from; past = λ k low past. past }
+unknown_restated n None none = record { entries = tt; values = λ k h held rewritten. no_word h held; noted = λ k low from. from; past = λ k low past. past; owes = record { cleaned = refl; compact = refl; deleted = refl } }
 unknown_restated n (Some t) none = absurd (false≢true (sym none))
 
 pub every_restated : (groups : List ℕ) (m : MemTables) (v : LogPipes) (cache : BlockCache) (t : Shows) → ListsGroups (has_table m) groups → RestatesEach groups (shows v m cache) t → Restates every (shows v m cache) t

@@ -27,7 +27,7 @@ use Rattle.raft_log_purge_parts.specs.Parts.{PartIsRefused, Remains}
 use Rattle.raft_log_purge_parts.specs.Rewriting.{OweNothing}
 use Rattle.raft_log_purge_parts.proofs.Grouping.{owe_then}
 use Rattle.raft_log_purge_parts.proofs.PartExits.{alive_ok, later_on, same_later, tells_err}
-use Rattle.raft_log_purge_parts.proofs.Reasons.{reason_after, reason_of_files, sync_reason, turn_reason}
+use Rattle.raft_log_purge_parts.proofs.Reasons.{purge_reason_after, reason_after, reason_of_files, sync_reason, turn_reason}
 use Rattle.raft_log_purge.specs.Append.{AreRewrittenTo, FailsToLoseTo, FailsToRewriteAppend, GoesOnBehindMarks, HasOneFile, LosesTo, PassesGate, RewritesAll, RewritesAndLoses, RewritesAppend, RewritesSynced, StopsGoingOn, ends_after, gate_of, up_to}
 use Rattle.raft_log_purge_parts.proofs.Staying.{stays_on}
 use Rattle.raft_log_purge.proofs.Past.{every}
@@ -150,7 +150,7 @@ append_unsynced error s w tells is later call = record {
   tells = λ lived. tells_err {A = Unit {0}} error w tells;
   later = later;
   remains = λ home log pending h. inr (is, inr (unsynced_left home s.pipes w log pending (holds_runs home s log pending h) call).1);
-  cause = λ home log pending h. sync_reason InAppend home (taken log pending) error s (record s { pipes = w }) h.state h.runs is call;
+  cause = λ home log pending h. inl (sync_reason InAppend home (taken log pending) error s (record s { pipes = w }) h.state h.runs is call);
 }
 
 pub held_or_left : (home : Home) (m : LogMap) (t : Shows) (error : Error) → Remains home m t error → Holds home t m [] ⊎ ((error ≡ errors.Failed) × IsLeftAt home t.pipes.disk m [])
@@ -188,8 +188,8 @@ module _ (s : Shows) (synced : LogPipes) (syncs : SyncsQueue InAppend s.pipes sy
         (turn_refused InAppend home behind (record s { pipes = w }) (taken log pending) [] error (held_behind home log pending h) (record { tables = refl; cache = inl refl }) call));
     cause = λ home log pending h.
         (let there = held_behind home log pending h in
-        reason_after home (taken log pending) error s behind (record s { pipes = w }) later
-        (reason_of_files home (taken log pending) error behind (record s { pipes = w }) (turn_reason InAppend home error behind (record s { pipes = w }) there.state there.runs call ends)));
+        inl (reason_after home (taken log pending) error s behind (record s { pipes = w }) later
+        (reason_of_files home (taken log pending) error behind (record s { pipes = w }) (turn_reason InAppend home error behind (record s { pipes = w }) there.state there.runs call ends))));
   }
 
   module _ (watermark : Option ℕ) (gate : ℕ) (past : LogPipes) (passes : PassesGate watermark gate synced past) where
@@ -210,7 +210,7 @@ module _ (s : Shows) (synced : LogPipes) (syncs : SyncsQueue InAppend s.pipes sy
       tells = λ lived. refused.tells (passes.alive lives);
       later = later_on s.pipes.disk past.disk t.pipes.disk to_past refused.later;
       remains = λ home log pending h. on_the_map home log pending t error (held_or_left home (taken log pending) t error (refused.remains home (taken log pending) (held_beyond home log pending h)));
-      cause = λ home log pending h. reason_after home (taken log pending) error s beyond t to_past (refused.cause home (taken log pending) (held_beyond home log pending h));
+      cause = λ home log pending h. purge_reason_after home (taken log pending) error s beyond t to_past (λ long. long) (refused.cause home (taken log pending) (held_beyond home log pending h));
     }
 
     module _ (carried : Shows) (carries : CarriesMarks beyond carried) where
@@ -243,7 +243,7 @@ module _ (s : Shows) (synced : LogPipes) (syncs : SyncsQueue InAppend s.pipes sy
         later = later_on s.pipes.disk carried.pipes.disk t.pipes.disk to_carried stops.later;
         remains = λ home log pending h. on_the_map home log pending t error (stops.remains none_owed home (taken log pending) (settled_there home log pending h));
         cause = λ home log pending h.
-            reason_after home (taken log pending) error s carried t to_carried (stops.cause (gate_within home log pending h) none_owed home (taken log pending) (settled_there home log pending h));
+            inl (reason_after home (taken log pending) error s carried t to_carried (stops.cause (gate_within home log pending h) none_owed home (taken log pending) (settled_there home log pending h)));
       }
 
       -- one file is left in Append's span

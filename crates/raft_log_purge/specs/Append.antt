@@ -20,7 +20,7 @@ use Rattle.raft_log_purge_parts.specs.Parts.{StaysInFile}
 use Rattle.raft_log_purge_parts.specs.Marks.{CarriesMarks}
 use Rattle.raft_log_purge_parts.specs.Groups.{Rewrites}
 use Rattle.raft_log_purge_parts.specs.Moving.{IsRewrittenTo}
-use Rattle.raft_log_purge_parts.specs.Reasons.{HasFileReason, HasReason}
+use Rattle.raft_log_purge_parts.specs.Reasons.{HasFileReason, HasPurgeReason, HasReason}
 use Rattle.raft_log_purge_parts.specs.Rewriting.{OweNothing}
 
 -- The gate.
@@ -172,4 +172,4 @@ pub record FailsToRewriteAppend (error : Error) (s t : Shows) : Type 0 where
       ⊎ ((error ≡ errors.Failed) × (IsLeftAt home t.pipes.disk (taken log pending) []
       ⊎ IsLeftAt home t.pipes.disk log pending))
   pub cause : (home : Home) (log : LogMap) (pending : List Said) → Holds home s log pending
-      → HasReason home (taken log pending) error s t
+      → HasPurgeReason home (taken log pending) error s t

@@ -20,7 +20,7 @@ use Rattle.raft_log_purge_rules.specs.Behind.{round_behind}
 use Rattle.raft_log_purge_rules.specs.Picking.{answers_at, asks_at, count_of, rewrites_at}
 use Rattle.raft_log_purge_parts.specs.Marks.{CarriesMarks}
 use Rattle.raft_log_purge_parts.specs.Moving.{IsRewrittenTo}
-use Rattle.raft_log_purge_parts.specs.Reasons.{GivesReason, HasFileReason}
+use Rattle.raft_log_purge_parts.specs.Reasons.{HasFileReason, HasPurgeReason}
 use Rattle.raft_log_purge_parts.specs.Rewriting.{OweNothing}
 use Rattle.raft_log_purge.specs.declared.expired.PickedGroups.{PickedGroups}
 use Rattle.raft_log_purge.specs.Append.{RewritesSynced, StaysOrIsLeftSettled, up_to}
@@ -115,4 +115,4 @@ pub record FailsToPurgeAppend (error : Error) (s t : Shows) : Type 0 where
   pub later : IsLater s.pipes.disk t.pipes.disk
   pub remains : (home : Home) (log : LogMap) → Holds home s log []
       → Holds home t log [] ⊎ ((error ≡ errors.Failed) × IsLeftAt home t.pipes.disk log [])
-  pub cause : GivesReason error s t
+  pub cause : (home : Home) (log : LogMap) → Holds home s log [] → HasPurgeReason home log error s t

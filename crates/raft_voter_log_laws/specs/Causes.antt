@@ -31,10 +31,10 @@ FailedPurgesHaveFailed = (home : Home) (V : World) (s t : Shows) (error : Error)
 
 -- Why a purge is refused of a log that means voters, as it is of any log; but never for what is in it, as no group
 -- has one of the log's own keys, nor more than a record can have: a record that is too long is that of the marks
--- which are owed.
+-- which were owed before it.
 abbrev pub HasVotersReason : Home → LogMap → Error → Shows → Shows → Type 0
 HasVotersReason home m (errors.InvalidArgument text) s t = ⊥
-HasVotersReason home m errors.Full s t = OwesTooMuch t.tables
+HasVotersReason home m errors.Full s t = OwesTooMuch s.tables
 HasVotersReason home m error s t = HasReason home m error s t
 
 -- so it is refused of the log of these voters

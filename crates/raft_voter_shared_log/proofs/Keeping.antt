@@ -2,8 +2,9 @@
 use Rattle.std.proofs.Common.{◌≡◌, ◌∙◌, inl, inr, ℕ, true, [], sym, subst}
 use Rattle.std.proofs.lemmas.Bool.{false≢true}
 use Rattle.raft_log_record_base.specs.declared.errors.Error.{Error}
-use Rattle.raft_log_engine_laws.specs.Shows.{Home, Shows, has_failed}
-use Rattle.raft_log_purge_parts.specs.Reasons.{HasReason}
+use Rattle.raft_log_record_base.specs.declared.errors.Error.TheVariants as errors
+use Rattle.raft_log_engine_laws.specs.Shows.{Home, LogMap, Shows, has_failed}
+use Rattle.raft_log_purge_parts.specs.Reasons.{HasPurgeReason, HasReason}
 use Rattle.raft_voter_outline.specs.State.{State}
 use Rattle.raft_voter.specs.Rounds.{World}
 use Rattle.raft_voter.specs.Service.{IsOpenAt, Service}
@@ -18,6 +19,11 @@ pub served_as :
     {S : Type 0} (v : Service S) (old new : S) → KeepsVoters v old new
     → ((W : World) → IsOpenAt v old W → v.is_failed new ≡ true → v.fails old new) → KeepsServed v old new
 served_as v old new keeps fails = record { failed = keeps.failed; served = keeps.served; fails = fails; left = keeps.left }
+
+-- where it failed, a file call did
+failed_calls : (home : Home) (m : LogMap) (error : Error) (s t : Shows) → error ≡ errors.Failed → HasPurgeReason home m error s t → HasFailedCall s t
+failed_calls home m error s t failed (inl reason) = subst (λ (e : Error). HasReason home m e s t) failed reason
+failed_calls home m error s t failed (inr (full, long)) = absurd (let never : ⊥ = cc in never)
 
 module _ {S : Type 0} (home : S → Home) (shows : S → Shows) (outlines : S → ℕ → State) (old new : S) where
   -- answered: the store hasn't failed
@@ -36,5 +42,4 @@ module _ {S : Type 0} (home : S → Home) (shows : S → Shows) (outlines : S �
   refused_fails error (inl had) W at dead = absurd (false≢true (sym at.alive ∙ had.1))
   refused_fails error (inr (alive, fails)) W at dead =
       let held = at.serves.0 in
-      subst (λ (e : Error). HasReason (home old) held.map e (shows old) (shows new)) ((fails.tells alive).0 dead)
-      (fails.cause (home old) held.map [] held.holds)
+      failed_calls (home old) held.map error (shows old) (shows new) ((fails.tells alive).0 dead) (fails.cause (home old) held.map [] held.holds)

@@ -2,7 +2,7 @@
 use Rattle.std.specs.Prelude.{Result, Ok, Err}
 use Rattle.std.specs.Result.{IfErr, IfOk, OnOk}
 use Rattle.std.specs.declared.io.ErrorKind.{ErrorKind}
-use Rattle.std.proofs.Common.{◌≡◌, inl, inr, ℕ, ◌≤◌, ◌^◌, suc, Option, Some, None, List, [], ◌∷◌, ◌++◌, drop, false, refl, sym, ◌∙◌, ap, subst, arith}
+use Rattle.std.proofs.Common.{◌≡◌, inl, inr, ℕ, suc, Option, Some, None, List, [], ◌∷◌, ◌++◌, drop, false, refl, sym, ◌∙◌, ap, subst, arith}
 use Rattle.raft_log_disk.specs.Disk.{Disk}
 use Rattle.raft_log_disk.specs.Calls.{Creates, Renames}
 use Rattle.raft_log_disk.specs.Exits.{FailsToCreate, FailsToRename}
@@ -23,8 +23,8 @@ use Rattle.raft_log_file_pipe.specs.declared.pipe_files.PipeFiles.{PipeFiles}
 use Rattle.raft_log_file_pipe.specs.declared.found_files.FoundFiles.{FoundFiles}
 use Rattle.raft_log_file_pipe.specs.Files.{Listed}
 use Rattle.raft_log_file_pipe.specs.Calls.{TurnsBy, TurnsNot}
-use Rattle.raft_log_file_pipe.specs.Exits.{IsTurned, SameFiles, SameLists, StaysClosed}
-use Rattle.raft_log_file_pipe.specs.Opening.{taken_up}
+use Rattle.raft_log_file_pipe.specs.Exits.{IsTurned, SameFiles, StaysClosed}
+use Rattle.raft_log_file_pipe.specs.Opening.{IsListedAs, taken_up}
 use Rattle.raft_log_file_pipe.specs.Doing.{FailsToTurnBy, OldestIsFar, OpensPipeBy, TurnsPipeBy}
 use Rattle.raft_log_file_pipe.specs.Doing.OpensPipeBy.{takes_up as takes_up_case}
 use Rattle.raft_log_file_pipe.proofs.Lists.{path_numbered}
@@ -164,7 +164,7 @@ begins_by paths files first path lent header old new is path_is header_is calls 
     subst (λ (f : Listed). BeginsQueueBy (path_of paths f) header f.handle files.writer old new) (sym is)
     (subst (λ (p : List ℕ). BeginsQueueBy p header first.handle files.writer old new) path_is (subst (λ (h : List ℕ). BeginsQueueBy path h first.handle files.writer old new) header_is calls))
 
-handle_stays : (end : Option ℕ) (last : Listed) → (taken_up end last).handle ≡ last.handle
+pub handle_stays : (end : Option ℕ) (last : Listed) → (taken_up end last).handle ≡ last.handle
 handle_stays (Some end) last = refl
 handle_stays None last = refl
 
@@ -176,6 +176,7 @@ reopens_by end last active lent writer old new is spelled calls =
 
 -- what was found had a last file
 pub opens_by : (paths : FilePaths) (format : LogFileFormat) (found : FoundFiles) (earlier : List Listed) (last : Listed) (result : Result PipeFiles Error) (old new : Disk) → found.files.items ≡ earlier ++ last ∷ []
-    → IfOk result (λ files. ReopensBy last.handle found.end (header_bytes (taken_up found.end last).format) files.writer old new) → IfOk result (λ files. OpensPipeBy paths format found files old new)
-opens_by paths format found earlier last (Ok files) old new split calls = takes_up_case earlier last split calls
-opens_by paths format found earlier last (Err e) old new split calls = tt
+    → IfOk result (IsListedAs earlier (taken_up found.end last) found.recycled.items) → IfOk result (λ files. ReopensBy last.handle found.end (header_bytes (taken_up found.end last).format) files.writer old new)
+    → IfOk result (λ files. OpensPipeBy paths format found files old new)
+opens_by paths format found earlier last (Ok files) old new split listed calls = takes_up_case earlier last split listed calls
+opens_by paths format found earlier last (Err e) old new split listed calls = tt

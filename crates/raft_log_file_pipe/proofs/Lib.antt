@@ -3,6 +3,7 @@ pub mod Naming
 pub mod Raising
 pub mod Turning
 mod Doing
+mod WritingLast
 pub mod Adding
 pub mod Contexts
 pub mod Dropping

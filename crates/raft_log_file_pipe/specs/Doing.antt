@@ -25,7 +25,7 @@ use Rattle.raft_log_file_pipe.specs.Calls.{TurnsBy, TurnsNot, DropsUntil}
 use Rattle.raft_log_file_pipe.specs.Exits.{IsTurned, SameFiles, SameLists}
 use Rattle.raft_log_file_pipe.specs.Appending.{SaysTryAgain, context_of}
 use Rattle.raft_log_file_pipe.specs.Purging.{paths_going}
-use Rattle.raft_log_file_pipe.specs.Opening.{taken_up}
+use Rattle.raft_log_file_pipe.specs.Opening.{IsListedAs, IsListedFirst, taken_up}
 use Rattle.raft_log_file_pipe.specs.declared.found_files.FoundFiles.{FoundFiles}
 use Rattle.raft_log_file_pipe.specs.declared.new_files.NewFiles.{NewFiles}
 use Rattle.raft_log_file_pipe.specs.declared.pipe_files.PipeFiles.{PipeFiles}
@@ -131,14 +131,16 @@ FailsToPurgeBy paths capacity seq before errors.Failed old new =
     DropsUntil (paths_going paths capacity seq before) old new
 FailsToPurgeBy paths capacity seq before _ old new = ⊥
 
--- the pipe was opened: its file 1 was made and begun, where none was found; else the last one that was found was
--- cut where its records end, and goes on there
+-- The pipe was opened, and these are its lists: its file 1 was made and begun, where none was found; else the last
+-- one that was found was cut where its records end, and goes on there.
 pub data OpensPipeBy (paths : FilePaths) (format : LogFileFormat) (found : FoundFiles) (files : PipeFiles)
     (old new : Disk) : Type 0 where
-  begins : found.files.items ≡ [] → files.active.reserved ≡ false
+  begins : found.files.items ≡ [] → IsListedFirst format found.recycled.items files
+      → files.active.reserved ≡ false
       → BeginsQueueBy (path_of paths files.active) (header_bytes format) files.active.handle files.writer
       old new
       → OpensPipeBy paths format found files old new
   takes_up : (earlier : List Listed) (last : Listed) → found.files.items ≡ earlier ++ last ∷ []
+      → IsListedAs earlier (taken_up found.end last) found.recycled.items files
       → ReopensBy last.handle found.end (header_bytes (taken_up found.end last).format) files.writer old new
       → OpensPipeBy paths format found files old new

@@ -9,4 +9,5 @@ pub mod Laws
 pub mod Opening
 pub mod Closing
 pub mod Doing
+pub mod WritingLast
 pub mod Placing

@@ -19,4 +19,4 @@ returns-in-Some-clause-err g c =
 pub returns-in-Some-clause-calls : goal.returns-in-Some-clause-calls
 returns-in-Some-clause-calls g c =
     let D = g.F.FileSystem.disk in
-    opens_by (g.G.PipeFormat.file_paths c.args.layout.now) c.args.new_files.now.format c.args.found c.pop_back.new.self.items c.in-Some.last c.take_up.result (D c.args.file_system.now) (D c.take_up.new.file_system) c.in-Some.ensures.items c.take_up.ensures.calls
+    opens_by (g.G.PipeFormat.file_paths c.args.layout.now) c.args.new_files.now.format c.args.found c.pop_back.new.self.items c.in-Some.last c.take_up.result (D c.args.file_system.now) (D c.take_up.new.file_system) c.in-Some.ensures.items c.take_up.ensures.listed c.take_up.ensures.calls

@@ -1,0 +1,37 @@
+-- Whatever stands on the disk, a pipe writes the file that it lists as the last, and what it wrote stands there.
+use Rattle.std.specs.Prelude.{◌≡◌, List, ℕ}
+use Rattle.raft_log_disk.specs.Disk.{Disk}
+use Rattle.raft_log_disk.specs.Touching.{HasFile}
+use Rattle.raft_log_record_base.specs.declared.pipe_log.LogQueue.{LogQueue}
+use Rattle.raft_log_record_base.specs.declared.pipe_log.FileBlockHandle.{FileBlockHandle}
+use Rattle.raft_log_record_base.specs.declared.pipe_log.LogFileContext.{LogFileContext}
+use Rattle.raft_log_file_format.specs.declared.header.LogFileFormat.{LogFileFormat}
+use Rattle.raft_log_file_writer.specs.Reader.{AreBytesAt}
+use Rattle.raft_log_file_queue.specs.Layout.{FilePaths}
+use Rattle.raft_log_file_pipe.specs.Appending.{context_of}
+use Rattle.raft_log_file_pipe.specs.Doing.{AppendsBy, OpensPipeBy, TurnsPipeBy}
+use Rattle.raft_log_file_pipe.specs.declared.found_files.FoundFiles.{FoundFiles}
+use Rattle.raft_log_file_pipe.specs.declared.new_files.NewFiles.{NewFiles}
+use Rattle.raft_log_file_pipe.specs.declared.pipe_files.PipeFiles.{PipeFiles}
+
+-- the pipe writes the file that it lists as the last
+abbrev pub WritesItsLast : PipeFiles → Type 0
+WritesItsLast files = files.writer.handle ≡ files.active.handle
+
+-- the bytes that an append wrote stand in the last file, at the place that it answered
+abbrev pub StandsAt : LogQueue → (LogFileContext → List ℕ) → PipeFiles → FileBlockHandle → Disk → Type 0
+StandsAt queue signed files block d = (block.id ≡ record { queue = queue; seq = files.active.seq })
+    × HasFile files.active.handle.file
+    (AreBytesAt block.offset block.len (signed (context_of queue files))) d
+
+-- Whatever stands on the disk, a pipe that was opened writes its last file, and so does one that went on in the
+-- next; and what an append answered may be read at its place.
+pub record PipesWriteTheirLast (paths : FilePaths) : Type 0 where
+  pub opened : (format : LogFileFormat) (found : FoundFiles) (files : PipeFiles) (old new : Disk)
+      → OpensPipeBy paths format found files old new → WritesItsLast files
+  pub turned : (format : LogFileFormat) (before after : PipeFiles) (old new : Disk)
+      → TurnsPipeBy paths format before after old new → WritesItsLast after
+  pub appended : (begin : NewFiles) (queue : LogQueue) (signed : LogFileContext → List ℕ)
+      (before after : PipeFiles) (block : FileBlockHandle) (old new : Disk) → WritesItsLast before
+      → AppendsBy paths begin queue signed before after block old new
+      → WritesItsLast after × StandsAt queue signed after block new

@@ -118,7 +118,7 @@ fails_kept : (gate : Option ℕ) (b kept : Batch) (error : Error) (s t : Shows) 
 fails_kept gate b kept error s t is f =
     let k = subst (λ (x : Batch). FailsToCopy gate x error s t) is f in record { same = k.same; tells = k.tells; later = k.later; remains = k.remains; cause = k.cause }
 
-populated : (b kept : Batch) → IsButBuffer (record b { state = Populated }) kept → kept ≡ record b { state = kept.state; buffer = kept.buffer }
+pub populated : (b kept : Batch) → IsButBuffer (record b { state = Populated }) kept → kept ≡ record b { state = kept.state; buffer = kept.buffer }
 populated b kept is = is ∙ ap (λ s. record b { state = s; buffer = kept.buffer }) (sym (ap (λ (x : Batch). x.state) is))
 
 pub copied_then : {A : Type 0} (gate : Option ℕ) (b kept : Batch) (v w : LogPipes) (old mid new : MemTables) (r : Result A Error) → IsButBuffer (record b { state = Populated }) kept → ShowsSame old mid

@@ -1,5 +1,7 @@
 pub mod Building
 pub mod Recording
+pub mod Handing
+pub mod Promised
 pub mod Saying
 pub mod Holding
 pub mod GroupReading

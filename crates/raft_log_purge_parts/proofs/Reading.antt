@@ -169,7 +169,7 @@ module _ (s : Shows) (g gate : ℕ) (es : List EntryIndex) (next : AreNext gate 
       (v.first + v.rewritten + length ps) why
 
   -- what comes next makes one record
-  next_piece : MakeOnePiece es
+  pub next_piece : MakeOnePiece es
   next_piece =
       let qs : List Place = drop v.rewritten v.places in
       let n : ℕ = copied_count gate qs in

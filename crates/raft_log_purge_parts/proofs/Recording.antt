@@ -1,6 +1,6 @@
 -- Records that are written to Rewrite, or refused there.
-use Rattle.std.proofs.Common.{◌≡◌, ◌+◌, ◌-◌, ◌^◌, ℕ, List, inl, inr, min, ap, arith, subst, ◌∙◌}
-use Rattle.std.specs.Prelude.{Err, Ok}
+use Rattle.std.proofs.Common.{◌≡◌, ◌+◌, ◌-◌, ◌^◌, ℕ, List, [], inl, inr, min, ap, arith, subst, ◌∙◌}
+use Rattle.std.specs.Prelude.{Err, Ok, OnOk, Result}
 use Rattle.std.proofs.lemmas.Bool.Decides.{nat_tests}
 use Rattle.raft_log_disk.specs.Causes.{IsLater}
 use Rattle.raft_log_record_base.specs.declared.errors.Error.{Error}
@@ -16,7 +16,7 @@ use Rattle.raft_log_file_pair.specs.Numbers.{EndsNumbersAt}
 use Rattle.raft_log_file_pair.specs.PipeCalls.{PipeFailsToAppend}
 use Rattle.raft_log_purge_parts.specs.Parts.{IsRecordMade}
 use Rattle.raft_log_purge_parts.proofs.PartExits.{alive_ok, later_on, same_record, tells_err}
-use Rattle.raft_log_purge_parts.specs.Syncing.{left_unsynced, CountsRecord, MaySync, SyncsIfDue}
+use Rattle.raft_log_purge_parts.specs.Syncing.{left_unsynced, CountsCopies, CountsRecord, MaySync, SyncsIfDue, TakesRecord, WritesOne}
 use Rattle.raft_log_purge_parts.specs.Records.{FailsToWriteRecord, WritesToRewrite}
 
 module _ (b made : Batch) (v mid w : LogPipes) (syncs : MaySync v mid) (is : IsRecordMade b made) (before : IsLater v.disk mid.disk) (later : IsLater mid.disk w.disk) where
@@ -55,7 +55,26 @@ left_is old now v w (inl p) = grind (arith, nat_tests, p.0, p.1)
 left_is old now v w (inr p) = grind (arith, nat_tests, p.0, p.1)
 
 -- a record that is written behind it counts
-pub counts_record : (b : Batch) (old now new len : ℕ) (v w : LogPipes) → SyncsIfDue old now v w
+counts_record : (b : Batch) (old now new len : ℕ) (v w : LogPipes) → SyncsIfDue old now v w
     → IsReadyForEach len b.items b.entries → new ≡ min (now + len) (2 ^ 64 - 1) → CountsRecord b old new
 counts_record b old now new len v w due ready is =
     (len, ready, is ∙ ap (λ n. min (n + len) (2 ^ 64 - 1)) (left_is old now v w due))
+
+-- the record that was made of a batch is the batch's
+pub takes_made : (b made : Batch) (v w : LogPipes) → IsRecordMade b made → (block : FileBlockHandle) → AppendsTo InRewrite (signed_for made) block v w → TakesRecord b v w
+takes_made b made v w is block call = (block, subst (λ s. AppendsTo InRewrite s block v w) (same_record b made is) call)
+
+-- a record was written, behind a sync where that is due
+pub one_written : (b : Batch) (old now new len : ℕ) (v mid w : LogPipes) → SyncsIfDue old now v mid → IsReadyForEach len b.items b.entries → new ≡ min (now + len) (2 ^ 64 - 1) → TakesRecord b mid w → WritesOne b old new v w
+one_written b old now new len v mid w due ready is took = record {
+  synced = mid;
+  syncs = subst (λ n. SyncsIfDue old n v mid) (left_is old now v mid due) due;
+  took = took;
+  counted = counts_record b old now new len v mid due ready is;
+}
+
+-- so were copies, where they were
+pub copies_counted : {A E : Type 0} (b : Batch) (old now new : ℕ) (v mid w : LogPipes) (r : Result A E) → (b.items ≡ [] → ⊥) → SyncsIfDue old now v mid
+    → OnOk r ((len : ℕ) × IsReadyForEach len b.items b.entries × (new ≡ min (now + len) (2 ^ 64 - 1))) → OnOk r (TakesRecord b mid w) → OnOk r (CountsCopies b old new v w)
+copies_counted b old now new v mid w (Ok x) some due counts took = inr (some, one_written b old now new counts.0 v mid w due counts.1 counts.2 took)
+copies_counted b old now new v mid w (Err e) some due counts took = tt

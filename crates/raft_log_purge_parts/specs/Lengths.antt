@@ -14,6 +14,7 @@ use Rattle.raft_log_record_marks.specs.declared.status.AtomicGroupStatus.{Atomic
 use Rattle.raft_log_record_marks.specs.Marking.{mark_item}
 use Rattle.raft_log_record_batches.specs.Batch.{Batch, max_entries_len}
 use Rattle.raft_log_record_batches.specs.Entries.{RisesFrom, bytes_len, entries_items, joined}
+use Rattle.raft_log_record_batches.specs.Places.{bytes_in}
 use Rattle.raft_log_table_lists.specs.Shown.{Shown}
 use Rattle.raft_log_engine_laws.specs.Shows.{LogMap}
 use Rattle.raft_log_purge_parts.specs.Entries.{AreEntryBytes, max_piece}
@@ -41,6 +42,10 @@ pub record AreOfGroup (g first : ℕ) (bytes : List (List ℕ)) (pairs : List (L
 -- the bytes of entries of one record: 131,072 together at most, or those of a single entry
 abbrev pub AreOnePiece : List (List ℕ) → Type 0
 AreOnePiece bytes = (length bytes ≤ 1) ⊎ (bytes_len bytes ≤ max_piece)
+
+-- the entries of the batch are those of one record
+abbrev pub HasOnePiece : Batch → Type 0
+HasOnePiece b = AreOnePiece (bytes_in b)
 
 -- The items, and the bytes of their entries, are those of one record of what one group has in the map: its
 -- entries there from an index on, no more than one record has, values there, no key twice, and at most one mark

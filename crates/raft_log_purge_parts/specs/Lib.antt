@@ -10,6 +10,7 @@ pub mod Refusals
 pub mod Reasons
 pub mod Parts
 pub mod Syncing
+pub mod Promised
 pub mod Marks
 pub mod Files
 pub mod Stale

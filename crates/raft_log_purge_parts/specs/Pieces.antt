@@ -1,5 +1,5 @@
 -- What a batch says that restates a part of a group: entries one behind another, and keys with their values.
-use Rattle.std.specs.Prelude.{◌≡◌, ◌⊎◌, ℕ, List, [], ◌∷◌, ◌++◌, length, map, sum_by, ◌≤◌}
+use Rattle.std.specs.Prelude.{◌≡◌, ◌⊎◌, ◌-◌, ℕ, suc, max, nat_le, if◌then◌else◌, List, [], ◌∷◌, ◌++◌, length, map, sum_by, ◌≤◌}
 use Rattle.raft_log_model_laws.specs.Item.{Item, Tagged}
 use Rattle.raft_log_model_laws.specs.Item.Item.{Put, Run}
 use Rattle.raft_log_record_base.specs.declared.pipe_log.FileBlockHandle.{FileBlockHandle}
@@ -72,3 +72,14 @@ FailsToBuildPiece g es pairs v old new error = AreUnread as_bytes v es old new e
 -- these entries make one such record: together they have no more, or there is but one
 abbrev pub MakeOnePiece : List EntryIndex → Type 0
 MakeOnePiece es = (length es ≤ 1) ⊎ (sum_by (λ e. e.entry_len) es ≤ max_piece)
+
+-- how many of these entries, from the first on, have together no more than so many bytes
+abbrev pub fitting : ℕ → List EntryIndex → ℕ
+fitting left [] = 0
+fitting left (e ∷ es) = if nat_le e.entry_len left then suc (fitting (left - e.entry_len) es) else 0
+
+-- how many of these entries, from the first on, make the next record: the first always, and as many more as have
+-- together no more bytes than one record has
+abbrev pub piece_count : List EntryIndex → ℕ
+piece_count [] = 0
+piece_count (e ∷ es) = max 1 (fitting max_piece (e ∷ es))

@@ -6,10 +6,13 @@ ghost use Rattle.raft_log_file_blocks.specs.declared.block_cache.BlockCache.{Blo
 ghost use Rattle.raft_log_engine_laws.specs.Shows.{shows};
 ghost use Rattle.raft_log_record_batches.specs.declared.log_batch.BatchState.TheVariants.{Filling, Populated};
 ghost use Rattle.raft_log_record_batches.specs.Batch.{emptied, IsButBuffer, IsReadyForEach};
-ghost use Rattle.raft_log_table_all.specs.Rewriting.{MayMove};
+ghost use Rattle.raft_log_record_items.specs.declared.entry.EntryIndex.{EntryIndex};
+ghost use Rattle.raft_log_table_all.specs.Rewriting.{MayMove, PromisesMoves};
+ghost use Rattle.raft_log_table_all.specs.declared.mem_tables.MemTables.{MemTables};
 ghost use Rattle.raft_log_table_all.specs.Tables.{IsAtRest};
 ghost use Rattle.raft_log_purge_parts.specs.Copies.{FailsToCopy, MovesCopies, WritesCopies};
-ghost use Rattle.raft_log_purge_parts.specs.Syncing.{CountsCopies};
+ghost use Rattle.raft_log_purge_parts.specs.Promised.{PromisesNoMoves};
+ghost use Rattle.raft_log_purge_parts.specs.Syncing.{CountsCopies, TakesRecord};
 
 use crate::syncing::sync_if_due;
 use log::Log;
@@ -41,8 +44,10 @@ pub fn write_copies<P: PipeLog, L: Log>(
     ensures err { IfErr result (λ error. (cache : BlockCache) → FailsToCopy (Some gate) batch error
         (shows (P.shown pipes.old) tables.old cache) (shows (P.shown pipes.new) tables.new cache)) }
     ensures emptied { IfOk result (IsButBuffer (emptied batch)) }
-    ensures counted { OnOk result (CountsCopies batch unsynced.old unsynced.new) }
+    ensures counted { OnOk result (CountsCopies batch unsynced.old unsynced.new
+        (P.shown pipes.old) (P.shown pipes.new)) }
     ensures rests { IsAtRest tables.old → IsAtRest tables.new }
+    ensures moves { PromisesNoMoves tables.old → PromisesNoMoves tables.new }
 {
     if batch.is_empty() {
         return Ok(batch);
@@ -70,7 +75,9 @@ fn write_batch<P: PipeLog, L: Log>(
     ensures emptied { IfOk result (IsButBuffer (emptied batch)) }
     ensures counted { OnOk result ((len : ℕ) × IsReadyForEach len batch.items batch.entries
         × (unsynced.new ≡ min (unsynced.old + len) (2 ^ 64 - 1))) }
+    ensures there { OnOk result (TakesRecord batch (P.shown pipes.old) (P.shown pipes.new)) }
     ensures rests { IsAtRest tables.old → IsAtRest tables.new }
+    ensures moves { PromisesNoMoves tables.old → PromisesNoMoves tables.new }
 {
     let mut batch = batch;
     let len = batch.finish_populate()?;
@@ -96,7 +103,11 @@ fn append_copies<P: PipeLog, L: Log>(
     ensures err { IfErr result (λ error. (cache : BlockCache) → FailsToCopy (Some gate) batch error
         (shows (P.shown pipes.old) tables.old cache) (shows (P.shown pipes.new) tables.new cache)) }
     ensures emptied { IfOk result (λ after. after ≡ emptied batch) }
+    ensures there { OnOk result (TakesRecord batch (P.shown pipes.old) (P.shown pipes.new)) }
     ensures rests { IsAtRest tables.old → IsAtRest tables.new }
+    ensures used { (before : MemTables) → PromisesNoMoves before
+        → PromisesMoves before tables.old (tagged_items {E = EntryIndex} (λ e. e) batch.items)
+        → PromisesNoMoves tables.new }
 {
     let mut signed = SignedBatch::new(batch);
     signed.encoded_len();

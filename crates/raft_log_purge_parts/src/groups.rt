@@ -10,6 +10,8 @@ ghost use Rattle.raft_log_purge_parts.specs.Groups.{
   StopsAtGroup,
   StopsAtGroups,
 };
+ghost use Rattle.raft_log_purge_parts.specs.Promised.{PromisesNoMoves};
+ghost use Rattle.raft_log_purge_parts.specs.Syncing.{CountsEach, HandsCountOn};
 
 use crate::keys::copy_keys;
 use crate::rewriting::copy_entries;
@@ -38,6 +40,8 @@ pub fn rewrite_groups<P: PipeLog, L: Log>(
     ensures err { IfErr result (λ error. StopsAtGroups groups.now gate error
         (shows (P.shown pipes.old) tables.old cache.old) (shows (P.shown pipes.new) tables.new cache.new)) }
     ensures rests { IsAtRest tables.old → IsAtRest tables.new }
+    ensures moves { PromisesNoMoves tables.old → PromisesNoMoves tables.new }
+    ensures handed { OnOk result (CountsEach (P.shown pipes.old) (P.shown pipes.new)) }
 {
     let mut unsynced = 0;
     for group in groups {
@@ -65,6 +69,8 @@ pub fn rewrite_group<P: PipeLog, L: Log>(
     ensures err { IfErr result (λ error. StopsAtGroup group gate error
         (shows (P.shown pipes.old) tables.old cache.old) (shows (P.shown pipes.new) tables.new cache.new)) }
     ensures rests { IsAtRest tables.old → IsAtRest tables.new }
+    ensures moves { PromisesNoMoves tables.old → PromisesNoMoves tables.new }
+    ensures handed { OnOk result (HandsCountOn unsynced.old unsynced.new (P.shown pipes.old) (P.shown pipes.new)) }
 {
     rewrite_entries(alloc, rt, pipes, tables, cache, group, gate, unsynced)?;
     copy_keys(alloc, rt, pipes, tables, group, gate, unsynced)?;
@@ -87,6 +93,8 @@ fn rewrite_entries<P: PipeLog, L: Log>(
     ensures err { IfErr result (λ error. StopsAtGroup group gate error
         (shows (P.shown pipes.old) tables.old cache.old) (shows (P.shown pipes.new) tables.new cache.new)) }
     ensures rests { IsAtRest tables.old → IsAtRest tables.new }
+    ensures moves { PromisesNoMoves tables.old → PromisesNoMoves tables.new }
+    ensures handed { OnOk result (HandsCountOn unsynced.old unsynced.new (P.shown pipes.old) (P.shown pipes.new)) }
 {
     let mut more = true;
     while more {

@@ -7,6 +7,8 @@ ghost use Rattle.raft_log_table_lists.specs.Listing.{ListsAll, appended_values};
 ghost use Rattle.raft_log_table_all.specs.Tables.{IsAtRest, shown_of};
 ghost use Rattle.raft_log_purge_parts.specs.Keys.{CopiesKeys, FailsToCopyKeys, IsKeysBatch};
 ghost use Rattle.raft_log_purge_parts.specs.Refusals.{AreUnput};
+ghost use Rattle.raft_log_purge_parts.specs.Promised.{PromisesNoMoves};
+ghost use Rattle.raft_log_purge_parts.specs.Syncing.{HandsCountOn};
 
 use crate::copies::write_copies;
 use log::Log;
@@ -36,6 +38,8 @@ pub fn copy_keys<P: PipeLog, L: Log>(
     ensures err { IfErr result (λ error. (cache : BlockCache) → FailsToCopyKeys error
         (shows (P.shown pipes.old) tables.old cache) (shows (P.shown pipes.new) tables.new cache)) }
     ensures rests { IsAtRest tables.old → IsAtRest tables.new }
+    ensures moves { PromisesNoMoves tables.old → PromisesNoMoves tables.new }
+    ensures handed { OnOk result (HandsCountOn unsynced.old unsynced.new (P.shown pipes.old) (P.shown pipes.new)) }
 {
     let pairs = next_keys(alloc, tables, group, gate)?;
     let batch = keys_batch(alloc, group, pairs.as_slice())?;

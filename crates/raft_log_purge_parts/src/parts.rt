@@ -3,11 +3,13 @@
 ghost use Rattle.std.specs.Prelude.{◌≡◌, ◌+◌, ◌≤◌, ◌<◌, ◌++◌, List, [], ◌∷◌, None, drop, length, take, IfErr, IfOk, OnOk};
 ghost use Rattle.raft_log_record_batches.specs.AtomicGroup.{IsGroupOpen};
 ghost use Rattle.raft_log_record_batches.specs.declared.log_batch.BatchState.TheVariants.{Filling};
-ghost use Rattle.raft_log_purge_parts.specs.Pieces.{MakeOnePiece};
+ghost use Rattle.raft_log_purge_parts.specs.Pieces.{MakeOnePiece, piece_count};
+ghost use Rattle.raft_log_purge_parts.specs.Lengths.{HasOnePiece};
 ghost use Rattle.raft_log_purge_parts.specs.Records.{FailsToWriteRecord, WritesToRewrite};
 ghost use Rattle.raft_log_purge_parts.specs.declared.parts.RestatedPart.{RestatedPart};
 ghost use Rattle.raft_log_purge_parts.specs.Steps.{BeginsParts, FailsToBeginGroup, GivesUp, GivesUpLast};
 ghost use Rattle.raft_log_purge_parts.specs.Steps.{GoesOnInGroup, MakesLast};
+ghost use Rattle.raft_log_purge_parts.specs.Syncing.{HandsCountOn, WritesOne};
 
 use crate::pieces::{piece_len, piece_of};
 use crate::records::{WrittenRecord, write_record};
@@ -51,6 +53,8 @@ pub fn begin_parts<P: PipeLog, L: Log>(
         (P.shown pipes.old) cache.old (P.shown pipes.new) cache.new) }
     ensures begun { OnOk result (IsGroupOpen builder.new.status) }
     ensures same { OnOk result (builder.new.id ≡ builder.old.id) }
+    ensures handed { count ≡ piece_count entries.now
+        → OnOk result (HandsCountOn unsynced.old unsynced.new (P.shown pipes.old) (P.shown pipes.new)) }
 {
     let none: Vec<(Bytes, Bytes)> = Vec::new(alloc);
     let mut batch = piece_of(
@@ -91,6 +95,7 @@ pub fn write_middles<P: PipeLog, L: Log>(
     ensures last { IfOk result (λ done. MakeOnePiece (drop done entries.now)) }
     ensures open { OnOk result (IsGroupOpen builder.new.status) }
     ensures same { OnOk result (builder.new.id ≡ builder.old.id) }
+    ensures handed { OnOk result (HandsCountOn unsynced.old unsynced.new (P.shown pipes.old) (P.shown pipes.new)) }
 {
     let mut done = begin;
     let mut count = piece_len(&entries[done..]);
@@ -130,6 +135,8 @@ fn write_middle<P: PipeLog, L: Log>(
         done parts error (P.shown pipes.old) cache.old (P.shown pipes.new) cache.new) }
     ensures begun { OnOk result (IsGroupOpen builder.new.status) }
     ensures same { OnOk result (builder.new.id ≡ builder.old.id) }
+    ensures handed { count ≡ piece_count (drop done entries.now)
+        → OnOk result (HandsCountOn unsynced.old unsynced.new (P.shown pipes.old) (P.shown pipes.new)) }
 {
     let none: Vec<(Bytes, Bytes)> = Vec::new(alloc);
     let mut batch = piece_of(
@@ -165,6 +172,7 @@ pub fn last_batch<P: PipeLog>(
     ensures err { (parts : List RestatedPart) → IfErr result (λ error. GivesUpLast group builder.old.id
         entries.now done parts pairs.now error (P.shown pipes.now) cache.old cache.new) }
     ensures filling { IfOk result (λ b. b.state ≡ Filling) }
+    ensures piece { MakeOnePiece (drop done entries.now) → IfOk result HasOnePiece }
 {
     let mut batch = piece_of(alloc, pipes, cache, group, &entries[done..], pairs)?;
     builder.end(alloc, &mut batch)?;
@@ -183,6 +191,7 @@ fn write_part<P: PipeLog, L: Log>(
     ensures ok { IfOk result (λ part. WritesToRewrite batch part.block part.items.items
         (P.shown pipes.old) (P.shown pipes.new)) }
     ensures err { IfErr result (λ error. FailsToWriteRecord batch error (P.shown pipes.old) (P.shown pipes.new)) }
+    ensures counted { OnOk result (WritesOne batch unsynced.old unsynced.new (P.shown pipes.old) (P.shown pipes.new)) }
 {
     let mut items = Vec::with_capacity(alloc, batch.len())?;
     let WrittenRecord { block, batch } = write_record(alloc, rt, pipes, batch, unsynced)?;

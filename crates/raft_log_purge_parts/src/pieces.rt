@@ -6,7 +6,7 @@ ghost use Rattle.raft_log_record_batches.specs.declared.log_batch.BatchState.The
 ghost use Rattle.raft_log_table_all.specs.Tables.{shown_of};
 ghost use Rattle.raft_log_engine_laws.specs.raft_log_table_one.specs.Reads.{rewritten_entries};
 ghost use Rattle.raft_log_purge_parts.specs.Refusals.{AreUnput};
-ghost use Rattle.raft_log_purge_parts.specs.Pieces.{AddsKeys, BuildsPiece, FailsToBuildPiece, MakeOnePiece};
+ghost use Rattle.raft_log_purge_parts.specs.Pieces.{AddsKeys, BuildsPiece, FailsToBuildPiece, MakeOnePiece, piece_count};
 
 use crate::entries::run_batch;
 use raft_log_file_blocks::BlockCache;
@@ -51,10 +51,11 @@ pub fn rewritten_keys(
 }
 
 /// How many of the entries, from the first on, are written as one record: one at least, where there is one, and
-/// more as long as all of them have at most 128 KiB.
+/// as many more as have at most 128 KiB together.
 pub fn piece_len(entries: &[EntryIndex]) -> usize
     ensures few { result ≤ length entries.now }
     ensures piece { MakeOnePiece (take result entries.now) }
+    ensures most { result ≡ piece_count entries.now }
     ensures some { 0 < length entries.now → 0 < result }
 {
     let mut left = MAX_PIECE_LEN;

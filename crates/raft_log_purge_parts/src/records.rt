@@ -3,7 +3,7 @@
 ghost use Rattle.std.specs.Prelude.{◌≡◌, IfErr, IfOk, OnOk};
 ghost use Rattle.raft_log_record_batches.specs.declared.log_batch.BatchState.TheVariants.{Filling};
 ghost use Rattle.raft_log_purge_parts.specs.Records.{FailsToWriteRecord, WritesToRewrite};
-ghost use Rattle.raft_log_purge_parts.specs.Syncing.{CountsRecord};
+ghost use Rattle.raft_log_purge_parts.specs.Syncing.{WritesOne};
 
 use crate::sync_if_due;
 use log::Log;
@@ -37,7 +37,7 @@ pub fn write_record<P: PipeLog, L: Log>(
     ensures ok { IfOk result (λ r. WritesToRewrite batch r.block r.batch.items
         (P.shown pipes.old) (P.shown pipes.new)) }
     ensures err { IfErr result (λ error. FailsToWriteRecord batch error (P.shown pipes.old) (P.shown pipes.new)) }
-    ensures counted { OnOk result (CountsRecord batch unsynced.old unsynced.new) }
+    ensures counted { OnOk result (WritesOne batch unsynced.old unsynced.new (P.shown pipes.old) (P.shown pipes.new)) }
 {
     let mut batch = batch;
     let len = batch.finish_populate()?;

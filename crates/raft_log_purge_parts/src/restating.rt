@@ -5,8 +5,9 @@ ghost use Rattle.std.specs.Prelude.{◌≡◌, ◌≤◌, ◌<◌, IfErr, IfOk, 
 ghost use Rattle.raft_log_engine_laws.specs.Shows.{shows};
 ghost use Rattle.raft_log_record_batches.specs.declared.log_batch.BatchState.TheVariants.{Filling};
 ghost use Rattle.raft_log_table_all.specs.Tables.{IsAtRest};
-ghost use Rattle.raft_log_purge_parts.specs.Pieces.{MakeOnePiece};
+ghost use Rattle.raft_log_purge_parts.specs.Pieces.{MakeOnePiece, piece_count};
 ghost use Rattle.raft_log_purge_parts.specs.Restated.{FailsToRestate, RestatesEach, RestatesOne, StopsRestating};
+ghost use Rattle.raft_log_purge_parts.specs.Syncing.{CountsEach, HandsCountOn, WritesOne};
 ghost use Rattle.raft_log_purge_parts.specs.Taking.{
   EndsParts,
   FailsToEnd,
@@ -45,6 +46,7 @@ pub fn restate_groups<P: PipeLog, L: Log>(
     ensures err { IfErr result (λ error. StopsRestating groups.now error
         (shows (P.shown pipes.old) tables.old cache.old) (shows (P.shown pipes.new) tables.new cache.new)) }
     ensures rests { IsAtRest tables.old → IsAtRest tables.new }
+    ensures handed { OnOk result (CountsEach (P.shown pipes.old) (P.shown pipes.new)) }
     ensures counted { number.old ≤ number.new }
 {
     let mut unsynced = 0;
@@ -84,6 +86,7 @@ pub fn restate_group<P: PipeLog, L: Log>(
     ensures err { IfErr result (λ error. FailsToRestate error
         (shows (P.shown pipes.old) tables.old cache.old) (shows (P.shown pipes.new) tables.new cache.new)) }
     ensures rests { IsAtRest tables.old → IsAtRest tables.new }
+    ensures handed { OnOk result (HandsCountOn unsynced.old unsynced.new (P.shown pipes.old) (P.shown pipes.new)) }
     ensures counted { number.old ≤ number.new }
 {
     let entries = rewritten_entries(alloc, tables, group)?;
@@ -130,6 +133,7 @@ fn restate_at_once<P: PipeLog, L: Log>(
     ensures err { IfErr result (λ error. FailsToRestateThese group entries.now pairs.now error
         (shows (P.shown pipes.old) tables.old cache.old) (shows (P.shown pipes.new) tables.new cache.new)) }
     ensures rests { IsAtRest tables.old → IsAtRest tables.new }
+    ensures handed { OnOk result (HandsCountOn unsynced.old unsynced.new (P.shown pipes.old) (P.shown pipes.new)) }
 {
     let batch = piece_of(alloc, pipes, cache, group, entries, pairs)?;
     if batch.is_empty() {
@@ -164,6 +168,8 @@ fn restate_in_parts<P: PipeLog, L: Log>(
     ensures err { IfErr result (λ error. FailsToRestateThese group entries.now pairs.now error
         (shows (P.shown pipes.old) tables.old cache.old) (shows (P.shown pipes.new) tables.new cache.new)) }
     ensures rests { IsAtRest tables.old → IsAtRest tables.new }
+    ensures handed { count ≡ piece_count entries.now
+        → OnOk result (HandsCountOn unsynced.old unsynced.new (P.shown pipes.old) (P.shown pipes.new)) }
 {
     let mut parts = Vec::new(alloc);
     let first = begin_parts(
@@ -205,6 +211,7 @@ fn end_parts<P: PipeLog, L: Log>(
     ensures err { IfErr result (λ error. FailsToEnd group parts.now batch error
         (P.shown pipes.old) tables.old (P.shown pipes.new) tables.new) }
     ensures rests { IsAtRest tables.old → IsAtRest tables.new }
+    ensures counted { OnOk result (WritesOne batch unsynced.old unsynced.new (P.shown pipes.old) (P.shown pipes.new)) }
 {
     let block = write_last(alloc, rt, pipes, tables, parts, batch, unsynced)?;
     let from = first_file(parts, block.id.seq);

@@ -1,9 +1,11 @@
 //! A group's entries in Append are copied to Rewrite, as many at once as a batch may have.
 
-ghost use Rattle.std.specs.Prelude.{◌≡◌, IfErr, IfOk};
+ghost use Rattle.std.specs.Prelude.{◌≡◌, IfErr, IfOk, OnOk};
 ghost use Rattle.raft_log_engine_laws.specs.Shows.{shows};
 ghost use Rattle.raft_log_table_all.specs.Tables.{IsAtRest};
 ghost use Rattle.raft_log_purge_parts.specs.Rewriting.{CopiesIfAny, FailsToCopyEntries};
+ghost use Rattle.raft_log_purge_parts.specs.Promised.{PromisesNoMoves};
+ghost use Rattle.raft_log_purge_parts.specs.Syncing.{HandsCountOn};
 
 use crate::copies::write_copies;
 use crate::entries::{next_entries, run_batch};
@@ -35,6 +37,8 @@ pub fn copy_entries<P: PipeLog, L: Log>(
     ensures err { IfErr result (λ error. FailsToCopyEntries error
         (shows (P.shown pipes.old) tables.old cache.old) (shows (P.shown pipes.new) tables.new cache.new)) }
     ensures rests { IsAtRest tables.old → IsAtRest tables.new }
+    ensures moves { PromisesNoMoves tables.old → PromisesNoMoves tables.new }
+    ensures handed { OnOk result (HandsCountOn unsynced.old unsynced.new (P.shown pipes.old) (P.shown pipes.new)) }
 {
     let entries = next_entries(alloc, tables, group, gate)?;
     if entries.is_empty() {

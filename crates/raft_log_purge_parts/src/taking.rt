@@ -12,7 +12,7 @@ ghost use Rattle.raft_log_purge_parts.specs.Taking.{
   WritesLast,
   first_file_of,
 };
-ghost use Rattle.raft_log_purge_parts.specs.Syncing.{CountsRecord};
+ghost use Rattle.raft_log_purge_parts.specs.Syncing.{WritesOne};
 
 use crate::parts::RestatedPart;
 use crate::sync_if_due;
@@ -44,7 +44,7 @@ pub fn write_last<P: PipeLog, L: Log>(
         (P.shown pipes.old) tables.old (P.shown pipes.new) tables.new) }
     ensures err { IfErr result (λ error. FailsToWriteLast batch error
         (P.shown pipes.old) tables.old (P.shown pipes.new) tables.new) }
-    ensures counted { OnOk result (CountsRecord batch unsynced.old unsynced.new) }
+    ensures counted { OnOk result (WritesOne batch unsynced.old unsynced.new (P.shown pipes.old) (P.shown pipes.new)) }
     ensures rests { IsAtRest tables.old → IsAtRest tables.new }
 {
     let mut batch = batch;

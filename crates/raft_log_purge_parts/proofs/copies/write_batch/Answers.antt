@@ -1,6 +1,14 @@
-use Rattle.std.proofs.Common.{Some, inl, refl}
+use Rattle.std.proofs.Common.{List, Some, inl, refl, subst}
+use Rattle.std.specs.Prelude.{OnOk}
 use Rattle.std.proofs.lemmas.Result.{err_from_is_err_and}
-use Rattle.raft_log_purge_parts.proofs.Copying.{copied_then, not_copied, refused_then}
+use Rattle.raft_log_record_items.specs.declared.entry.EntryIndex.{EntryIndex}
+use Rattle.raft_log_record_items.specs.declared.item.LogItem.{LogItem}
+use Rattle.raft_log_record_marks.specs.Meaning.{tagged_items}
+use Rattle.raft_log_record_batches.specs.Batch.{Batch}
+use Rattle.raft_log_table_all.specs.Rewriting.{PromisesMoves}
+use Rattle.raft_log_purge_parts.specs.Syncing.{TakesRecord}
+use Rattle.raft_log_purge_parts.proofs.Copying.{copied_then, not_copied, populated, refused_then}
+use Rattle.raft_log_purge_parts.proofs.Promised.{room_forgotten}
 use Rattle.raft_log_purge_parts.proofs.copies.write_batch.Goals as goal
 
 pub returns-in_err-len-clause-err : goal.returns-in_err-len-clause-err
@@ -21,7 +29,24 @@ returns-clause-ok g c =
     copied_then (Some c.args.gate) c.args.batch c.finish_populate.new.self (g.P.PipeLog.shown c.args.pipes.now) (g.P.PipeLog.shown c.append_copies.new.pipes) c.args.tables.now c.prepare_rewrite.new.self c.append_copies.new.tables c.append_copies.result
     c.in_ok-len.ensures.ok c.prepare_rewrite.ensures.shows c.append_copies.ensures.ok
 
+pub returns-clause-there : goal.returns-clause-there
+returns-clause-there g c =
+    subst (λ (x : Batch). OnOk c.append_copies.result (TakesRecord x (g.P.PipeLog.shown c.args.pipes.now) (g.P.PipeLog.shown c.append_copies.new.pipes)))
+    (populated c.args.batch c.finish_populate.new.self c.in_ok-len.ensures.ok) c.append_copies.ensures.there
+
 pub returns-clause-err : goal.returns-clause-err
 returns-clause-err g c =
     refused_then (Some c.args.gate) c.args.batch c.finish_populate.new.self (g.P.PipeLog.shown c.args.pipes.now) (g.P.PipeLog.shown c.append_copies.new.pipes) c.args.tables.now c.prepare_rewrite.new.self c.append_copies.new.tables c.append_copies.result
     c.in_ok-len.ensures.ok c.prepare_rewrite.ensures.shows c.append_copies.ensures.err
+
+pub returns-in_err-prepare_rewrite-clause-moves : goal.returns-in_err-prepare_rewrite-clause-moves
+returns-in_err-prepare_rewrite-clause-moves g c = room_forgotten c.args.tables.now c.prepare_rewrite.new.self c.items.result.now c.in_err-prepare_rewrite.ensures.err
+
+pub returns-clause-moves : goal.returns-clause-moves
+returns-clause-moves g c =
+    λ none.
+    c.append_copies.ensures.used c.args.tables.now none
+    (subst (λ (l : List LogItem). PromisesMoves c.args.tables.now c.prepare_rewrite.new.self (tagged_items {E = EntryIndex} (λ e. e) l)) c.items.ensures c.in_ok-prepare_rewrite.ensures.ok)
+
+pub returns-clause-rests : goal.returns-clause-rests
+returns-clause-rests g c = λ r. c.append_copies.ensures.rests (c.prepare_rewrite.ensures.rest r)

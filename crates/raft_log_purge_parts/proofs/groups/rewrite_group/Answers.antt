@@ -1,6 +1,7 @@
 use Rattle.std.proofs.lemmas.Result.{err_from_is_err_and}
 use Rattle.raft_log_engine_laws.specs.Shows.{shows}
 use Rattle.raft_log_purge_parts.proofs.Grouping.{group_rewritten, keys_stopped}
+use Rattle.raft_log_purge_parts.proofs.Handing.{handed_on}
 use Rattle.raft_log_purge_parts.proofs.groups.rewrite_group.Goals as goal
 
 pub returns-in_err-rewrite_entries-clause-err : goal.returns-in_err-rewrite_entries-clause-err
@@ -21,3 +22,13 @@ returns-clause-ok g c =
     let t = shows (g.P.PipeLog.shown c.rewrite_entries.new.pipes) c.rewrite_entries.new.tables c.rewrite_entries.new.cache in
     let u = shows (g.P.PipeLog.shown c.copy_keys.new.pipes) c.copy_keys.new.tables c.rewrite_entries.new.cache in
     group_rewritten c.args.group c.args.gate s t u c.in_ok-rewrite_entries.ensures.ok (c.in_ok-copy_keys.ensures.ok c.rewrite_entries.new.cache)
+
+pub returns-clause-handed : goal.returns-clause-handed
+returns-clause-handed g c =
+    handed_on c.args.unsynced.now c.rewrite_entries.new.unsynced c.copy_keys.new.unsynced (g.P.PipeLog.shown c.args.pipes.now) (g.P.PipeLog.shown c.rewrite_entries.new.pipes) (g.P.PipeLog.shown c.copy_keys.new.pipes) c.in_ok-rewrite_entries.ensures.handed c.in_ok-copy_keys.ensures.handed
+
+pub returns-in_err-copy_keys-clause-rests : goal.returns-in_err-copy_keys-clause-rests
+returns-in_err-copy_keys-clause-rests g c = λ r. c.in_err-copy_keys.ensures.rests (c.in_ok-rewrite_entries.ensures.rests r)
+
+pub returns-clause-rests : goal.returns-clause-rests
+returns-clause-rests g c = λ r. c.in_ok-copy_keys.ensures.rests (c.in_ok-rewrite_entries.ensures.rests r)

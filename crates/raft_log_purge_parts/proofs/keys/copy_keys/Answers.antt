@@ -4,6 +4,7 @@ use Rattle.raft_log_engine_laws.specs.Shows.{shows}
 use Rattle.raft_log_purge_parts.specs.Keys.{IsKeysBatch}
 use Rattle.raft_log_purge_parts.specs.Refusals.{AreUnput}
 use Rattle.raft_log_purge_parts.proofs.KeysCopied.{keys_copied, keys_not_copied, keys_not_written, no_memory_for_keys}
+use Rattle.raft_log_purge_parts.proofs.Handing.{copies_handed, keys_have_piece}
 use Rattle.raft_log_purge_parts.proofs.keys.copy_keys.Goals as goal
 
 pub returns-in_err-pairs-clause-err : goal.returns-in_err-pairs-clause-err
@@ -38,3 +39,8 @@ returns-clause-ok g c =
     λ cache.
     keys_copied c.args.group c.args.gate pairs b is (shows (g.P.PipeLog.shown c.args.pipes.now) c.args.tables.now cache) (shows (g.P.PipeLog.shown c.write_copies.new.pipes) c.write_copies.new.tables cache) c.in_ok-pairs.ensures
     (c.in_ok-write_copies.ensures.ok cache)
+
+pub returns-clause-handed : goal.returns-clause-handed
+returns-clause-handed g c =
+    let b = c.in_ok-batch.batch in
+    copies_handed b c.args.unsynced.now c.write_copies.new.unsynced (g.P.PipeLog.shown c.args.pipes.now) (g.P.PipeLog.shown c.write_copies.new.pipes) (keys_have_piece c.args.group c.as_slice.result.now b c.in_ok-batch.ensures.ok) c.in_ok-write_copies.ensures.counted

@@ -2,8 +2,10 @@ use Rattle.std.proofs.Common.{◌≡◌, ◌+◌, ◌∙◌, ℕ, List, [], take
 use Rattle.std.proofs.lemmas.Result.{err_from_is_err_and}
 use Rattle.raft_log_record_marks.specs.declared.status.AtomicGroupStatus.TheVariants.{Begin}
 use Rattle.raft_log_engine_laws.specs.Shows.{shows}
+use Rattle.raft_log_record_batches.specs.Batch.{Batch}
 use Rattle.raft_log_purge_parts.specs.Pieces.{BuildsPiece, FailsToBuildPiece}
 use Rattle.raft_log_purge_parts.proofs.Opening.{begin_stopped, begin_unmarked, begin_unread, built_made, built_piece, built_plain, bytes, err_map, marked_piece, ok_map, parts_begun}
+use Rattle.raft_log_purge_parts.proofs.Handing.{built_has_piece, marked_has_piece, one_handed_then, piece_of_count}
 use Rattle.raft_log_purge_parts.proofs.parts.begin_parts.Goals as goal
 
 pub begin-requires-clause-unmarked : goal.begin-requires-clause-unmarked
@@ -65,3 +67,14 @@ returns-clause-err g c =
     (built_made c.args.group es [] v c.args.cache.now new b built (s.tables c.args.group) 0 c.args.count (ap (take c.args.count) is)) built.keys.state refl c.in_ok-begin.ensures.ok c.in_ok-begin.ensures.part in
     begin_stopped c.args.group c.args.builder.now.id c.args.count s new all es is refl c.requires.few c.requires.some b c.begin.new.batch built marked one error (g.P.PipeLog.shown c.write_part.new.pipes) fails)
     c.write_part.ensures.err
+
+pub returns-clause-handed : goal.returns-clause-handed
+returns-clause-handed g c =
+    let v = g.P.PipeLog.shown c.args.pipes.now in
+    let b = c.in_ok-batch.batch in
+    let made = c.begin.new.batch in
+    λ most.
+    one_handed_then made c.args.unsynced.now c.write_part.new.unsynced v (g.P.PipeLog.shown c.write_part.new.pipes) c.write_part.result
+    (marked_has_piece b made c.args.builder.now.id Begin (ap (λ (x : Batch). x.items) c.in_ok-begin.ensures.ok.1.0) (ap (λ (x : Batch). x.entries) c.in_ok-begin.ensures.ok.1.0)
+    (built_has_piece c.args.group (take c.args.count c.args.entries.now) c.as_slice.result.now v c.args.cache.now c.piece_of.new.cache b c.in_ok-batch.ensures.ok (piece_of_count c.args.count c.args.entries.now most)))
+    c.write_part.ensures.counted

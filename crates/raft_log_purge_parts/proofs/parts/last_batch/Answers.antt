@@ -3,9 +3,11 @@ use Rattle.std.proofs.lemmas.List.{take_all}
 use Rattle.std.proofs.lemmas.Result.{err_from_is_err_and}
 use Rattle.raft_log_record_marks.specs.declared.status.AtomicGroupStatus.TheVariants.{End}
 use Rattle.raft_log_record_items.specs.declared.entry.EntryIndex.{EntryIndex}
+use Rattle.raft_log_record_batches.specs.Batch.{Batch}
 use Rattle.raft_log_purge_parts.specs.Pieces.{MakeOnePiece}
 use Rattle.raft_log_purge_parts.proofs.Reasons.{values_in}
 use Rattle.raft_log_purge_parts.proofs.Opening.{at_shown, built_made, built_piece, built_plain, bytes, fails_shown, has_shown, last_made, marked_piece, more_unmarked, more_unread}
+use Rattle.raft_log_purge_parts.proofs.Handing.{built_has_piece, marked_has_piece}
 use Rattle.raft_log_purge_parts.proofs.parts.last_batch.Goals as goal
 
 -- all that is left is handed on
@@ -62,3 +64,12 @@ returns-clause-ok g c =
     (built_made c.args.group es c.args.pairs.now v old new b built (s.tables c.args.group) c.args.done count (ap (λ l. take count (drop c.args.done l)) is)) built.keys.state refl c.in_ok-end.ensures.ok c.in_ok-end.ensures.part in
     let made = last_made c.args.group n c.args.done count parts s v old new (at_shown c.args.group n c.args.done parts s v m old has) all es is refl (omega (arith, within)) c.args.pairs.now b c.end.new.batch built marked in
     (has_shown c.args.group n c.args.done parts s v v m old new has c.args.done parts made.0, made.1)
+
+pub returns-clause-piece : goal.returns-clause-piece
+returns-clause-piece g c =
+    let v = g.P.PipeLog.shown c.args.pipes.now in
+    let all = c.args.entries.now in
+    let b = c.in_ok-batch.batch in
+    λ one.
+    marked_has_piece b c.end.new.batch c.args.builder.now.id End (ap (λ (x : Batch). x.items) c.in_ok-end.ensures.ok.1.0) (ap (λ (x : Batch). x.entries) c.in_ok-end.ensures.ok.1.0)
+    (built_has_piece c.args.group (take (length all - c.args.done) (drop c.args.done all)) c.args.pairs.now v c.args.cache.now c.piece_of.new.cache b c.in_ok-batch.ensures.ok (rest_piece c.args.done all one))

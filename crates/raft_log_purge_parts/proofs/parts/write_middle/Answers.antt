@@ -2,8 +2,10 @@ use Rattle.std.proofs.Common.{◌≡◌, ◌+◌, ◌-◌, ◌∙◌, ℕ, List,
 use Rattle.std.proofs.lemmas.Result.{err_from_is_err_and}
 use Rattle.raft_log_record_marks.specs.declared.status.AtomicGroupStatus.TheVariants.{Middle}
 use Rattle.raft_log_record_items.specs.declared.entry.EntryIndex.{EntryIndex}
+use Rattle.raft_log_record_batches.specs.Batch.{Batch}
 use Rattle.raft_log_purge_parts.specs.Pieces.{BuildsPiece, FailsToBuildPiece, MakeOnePiece}
 use Rattle.raft_log_purge_parts.proofs.Opening.{at_shown, built_made, built_piece, built_plain, bytes, err_map, fails_shown, has_shown, marked_piece, middle_stopped, more_unmarked, more_unread, ok_map, parts_gone_on}
+use Rattle.raft_log_purge_parts.proofs.Handing.{built_has_piece, marked_has_piece, one_handed_then}
 use Rattle.raft_log_purge_parts.proofs.parts.write_middle.Goals as goal
 
 -- the slice of a piece
@@ -92,3 +94,16 @@ returns-clause-err g c =
     fails_shown c.args.group n c.args.done parts s v w m old new has error
     (middle_stopped c.args.group n c.args.done c.args.count parts s v old new (at_shown c.args.group n c.args.done parts s v m old has) all es is (cut c.args.done c.args.count all) c.requires.few c.requires.some b c.add.new.batch built marked (piece_cut c.args.done c.args.count all c.requires.piece) error w fails))
     c.write_part.ensures.err
+
+pub returns-clause-handed : goal.returns-clause-handed
+returns-clause-handed g c =
+    let v = g.P.PipeLog.shown c.args.pipes.now in
+    let all = c.args.entries.now in
+    let es = take ((c.args.done + c.args.count) - c.args.done) (drop c.args.done all) in
+    let b = c.in_ok-batch.batch in
+    let made = c.add.new.batch in
+    λ most.
+    one_handed_then made c.args.unsynced.now c.write_part.new.unsynced v (g.P.PipeLog.shown c.write_part.new.pipes) c.write_part.result
+    (marked_has_piece b made c.args.builder.now.id Middle (ap (λ (x : Batch). x.items) c.in_ok-add.ensures.ok.1.0) (ap (λ (x : Batch). x.entries) c.in_ok-add.ensures.ok.1.0)
+    (built_has_piece c.args.group es c.as_slice.result.now v c.args.cache.now c.piece_of.new.cache b c.in_ok-batch.ensures.ok (piece_cut c.args.done c.args.count all c.requires.piece)))
+    c.write_part.ensures.counted

@@ -5,8 +5,9 @@ use Rattle.raft_log_record_items.specs.declared.entry.EntryIndex.{EntryIndex}
 use Rattle.raft_log_engine_laws.specs.Shows.{shows}
 use Rattle.raft_log_purge_parts.specs.declared.parts.RestatedPart.{RestatedPart}
 use Rattle.raft_log_purge_parts.specs.GroupParts.{HasParts}
-use Rattle.raft_log_purge_parts.specs.Pieces.{MakeOnePiece}
+use Rattle.raft_log_purge_parts.specs.Pieces.{MakeOnePiece, piece_count}
 use Rattle.raft_log_purge_parts.proofs.Opening.{given_up}
+use Rattle.raft_log_purge_parts.proofs.Handing.{handed_on, none_handed}
 use Rattle.raft_log_purge_parts.proofs.parts.write_middles.Goals as goal
 
 -- how many entries are left
@@ -21,14 +22,20 @@ rest_is done all = take_all (length all - done) (drop done all) (omega (arith, l
 piece_is : (done count : ℕ) (all : List EntryIndex) → MakeOnePiece (take count (take (length all - done) (drop done all))) → MakeOnePiece (take count (drop done all))
 piece_is done count all is = subst (λ (es : List EntryIndex). MakeOnePiece (take count es)) (rest_is done all) is
 
+-- and as many as make the next one
+most_is : (done count : ℕ) (all : List EntryIndex) → count ≡ piece_count (take (length all - done) (drop done all)) → count ≡ piece_count (drop done all)
+most_is done count all is = subst (λ (es : List EntryIndex). count ≡ piece_count es) (rest_is done all) is
+
 pub loop-count-init : goal.loop-count-init
 loop-count-init g c = record {
   goes = λ m s is has. has;
   within = c.requires.within;
   some = c.piece_len-count.ensures.some (left c.args.begin c.args.entries.now c.requires.within);
   piece = piece_is c.args.begin c.piece_len-count.result c.args.entries.now c.piece_len-count.ensures.piece;
+  most = most_is c.args.begin c.piece_len-count.result c.args.entries.now c.piece_len-count.ensures.most;
   begun = c.requires.open;
   same = refl;
+  handed = none_handed c.args.unsynced.now (g.P.PipeLog.shown c.args.pipes.now);
 }
 
 pub loop-count-preserved : goal.loop-count-preserved
@@ -49,8 +56,10 @@ loop-count-preserved g c =
       within = within;
       some = c.piece_len-count-in-loop-count.ensures.some (left (l.done + l.count) all within);
       piece = piece_is (l.done + l.count) c.piece_len-count-in-loop-count.result all c.piece_len-count-in-loop-count.ensures.piece;
+      most = most_is (l.done + l.count) c.piece_len-count-in-loop-count.result all c.piece_len-count-in-loop-count.ensures.most;
       begun = c.in_ok-part.ensures.begun;
       same = c.in_ok-part.ensures.same ∙ l.invariant.same;
+      handed = handed_on c.args.unsynced.now l.unsynced c.write_middle.new.unsynced (g.P.PipeLog.shown c.args.pipes.now) (g.P.PipeLog.shown l.pipes) w l.invariant.handed (c.in_ok-part.ensures.handed l.invariant.most);
     }
 
 pub returns-in_err-part-clause-err : goal.returns-in_err-part-clause-err
@@ -81,3 +90,6 @@ returns-clause-last g c =
     let l = c.loop-count in
     let long : length (drop l.done c.args.entries.now) ≤ l.count = omega (arith, c.loop-count-test.false, length-drop l.done c.args.entries.now) in
     subst MakeOnePiece (take_all l.count (drop l.done c.args.entries.now) long) l.invariant.piece
+
+pub returns-clause-handed : goal.returns-clause-handed
+returns-clause-handed g c = c.loop-count.invariant.handed

@@ -4,7 +4,7 @@ use Rattle.raft_log_record_base.specs.declared.pipe_log.FileBlockHandle.{FileBlo
 use Rattle.raft_log_record_batches.specs.Batch.{Batch}
 use Rattle.raft_log_purge_parts.proofs.PartExits.{record_is_made}
 use Rattle.raft_log_purge_parts.proofs.Copying.{written_there}
-use Rattle.raft_log_purge_parts.proofs.Recording.{counts_record, record_refused, record_written}
+use Rattle.raft_log_purge_parts.proofs.Recording.{one_written, record_refused, record_written, takes_made}
 use Rattle.raft_log_purge_parts.proofs.records.write_record.Goals as goal
 
 pub returns-in_err-block-clause-err : goal.returns-in_err-block-clause-err
@@ -40,5 +40,12 @@ returns-clause-ok g c =
 
 pub returns-clause-counted : goal.returns-clause-counted
 returns-clause-counted g c =
-    counts_record c.args.batch c.args.unsynced.now c.sync_if_due.new.unsynced c.saturating_add.result c.in_ok-len.len (g.P.PipeLog.shown c.args.pipes.now) (g.P.PipeLog.shown c.sync_if_due.new.pipes)
-    c.in_ok-sync_if_due.ensures.due c.in_ok-len.ensures.ready c.saturating_add.ensures
+    let b = c.args.batch in
+    let pop = c.in_ok-len.ensures.ok in
+    let made = c.new-signed.ensures in
+    let n = c.encoded_len.ensures in
+    let is = record_is_made b c.new-signed.result.batch (ap (λ (x : Batch). x.items) made ∙ ap (λ (x : Batch). x.items) pop) (ap (λ (x : Batch). x.entries) made ∙ ap (λ (x : Batch). x.entries) pop) n.says n.laid n.adds in
+    let mid = g.P.PipeLog.shown c.sync_if_due.new.pipes in
+    let w = g.P.PipeLog.shown c.append.new.self in
+    one_written b c.args.unsynced.now c.sync_if_due.new.unsynced c.saturating_add.result c.in_ok-len.len (g.P.PipeLog.shown c.args.pipes.now) mid w c.in_ok-sync_if_due.ensures.due c.in_ok-len.ensures.ready c.saturating_add.ensures
+    (takes_made b c.new-signed.result.batch mid w is c.in_ok-block.block c.in_ok-block.ensures.ok)

@@ -17,3 +17,6 @@ returns-clause-ok g c =
     λ cache s number done pairs has last lists.
     group_ended c.args.group number done c.args.parts.now pairs c.args.batch s (g.P.PipeLog.shown c.args.pipes.now) c.args.tables.now cache has last lists block (g.P.PipeLog.shown c.write_last.new.pipes) c.write_last.new.tables c.note_group.new.self c.in_ok-block.ensures.ok
     (record { from = c.first_file-from.result; to = block.id.seq }) (ap (λ n. record { from = n; to = block.id.seq }) c.first_file-from.ensures) (record { noted = n.noted; others = n.others }) n.exact n.counts
+
+pub returns-clause-counted : goal.returns-clause-counted
+returns-clause-counted g c = c.in_ok-block.ensures.counted

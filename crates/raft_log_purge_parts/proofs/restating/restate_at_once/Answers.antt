@@ -4,6 +4,7 @@ use Rattle.std.proofs.lemmas.Result.{err_from_is_err_and}
 use Rattle.raft_log_purge_parts.specs.declared.parts.RestatedPart.{RestatedPart}
 use Rattle.raft_log_purge_parts.specs.Taking.{WritesLast}
 use Rattle.raft_log_purge_parts.proofs.Once.{once_nothing, once_refused, once_restated, once_unread}
+use Rattle.raft_log_purge_parts.proofs.Handing.{built_has_piece, none_handed, one_handed}
 use Rattle.raft_log_purge_parts.proofs.restating.restate_at_once.Goals as goal
 
 pub returns-in_err-batch-clause-err : goal.returns-in_err-batch-clause-err
@@ -35,3 +36,13 @@ returns-clause-ok g c =
     λ stands.
     once_restated c.args.group c.args.entries.now c.args.pairs.now v c.args.tables.now c.args.cache.now c.piece_of.new.cache stands b c.in_ok-batch.ensures.ok (λ none. false≢true (sym c.if-is_empty.false ∙ c.is_empty.ensures.1 none)) block w
     c.write_last.new.tables wrote
+
+pub returns-then-is_empty-clause-handed : goal.returns-then-is_empty-clause-handed
+returns-then-is_empty-clause-handed g c = none_handed c.args.unsynced.now (g.P.PipeLog.shown c.args.pipes.now)
+
+pub returns-clause-handed : goal.returns-clause-handed
+returns-clause-handed g c =
+    let v = g.P.PipeLog.shown c.args.pipes.now in
+    let b = c.in_ok-batch.batch in
+    one_handed b c.args.unsynced.now c.write_last.new.unsynced v (g.P.PipeLog.shown c.write_last.new.pipes)
+    (built_has_piece c.args.group c.args.entries.now c.args.pairs.now v c.args.cache.now c.piece_of.new.cache b c.in_ok-batch.ensures.ok c.requires) c.in_ok-write_last.ensures.counted

@@ -30,3 +30,6 @@ returns-clause-ok g c =
     let t = shows (g.P.PipeLog.shown c.restate_in_parts.new.pipes) c.restate_in_parts.new.tables c.restate_in_parts.new.cache in
     let keys = subst (λ (l : List (List ℕ × List ℕ)). ListsAll (rewritten_values (shown_of c.args.tables.now c.args.group)) l) (sym c.as_slice-keys.ensures.value) c.in_ok-pairs.ensures in
     these_restated c.restate_in_parts.result c.args.group c.as_slice-es.result.now c.as_slice-keys.result.now s t (record { entries = c.as_slice-es.ensures.value ∙ c.in_ok-entries.ensures; keys = keys }) c.restate_in_parts.ensures.ok
+
+pub returns-clause-handed : goal.returns-clause-handed
+returns-clause-handed g c = c.restate_in_parts.ensures.handed c.piece_len-count.ensures.most

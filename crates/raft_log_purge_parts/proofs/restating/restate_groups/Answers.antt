@@ -2,10 +2,11 @@ use Rattle.std.proofs.Common.{get_or, refl, arith}
 use Rattle.std.proofs.lemmas.Result.{err_from_is_err_and}
 use Rattle.raft_log_engine_laws.specs.Shows.{shows}
 use Rattle.raft_log_purge_parts.proofs.Each.{all_restated, none_restated, one_more_restated, one_stopped}
+use Rattle.raft_log_purge_parts.proofs.Handing.{handed_on, none_handed}
 use Rattle.raft_log_purge_parts.proofs.restating.restate_groups.Goals as goal
 
 pub loop-group-init : goal.loop-group-init
-loop-group-init g c = record { done = none_restated (shows (g.P.PipeLog.shown c.args.pipes.now) c.args.tables.now c.args.cache.now); rests = λ r. r; counted = omega arith }
+loop-group-init g c = record { done = none_restated (shows (g.P.PipeLog.shown c.args.pipes.now) c.args.tables.now c.args.cache.now); rests = λ r. r; counted = omega arith; handed = none_handed 0 (g.P.PipeLog.shown c.args.pipes.now) }
 
 pub returns-in_err-restate_group-clause-err : goal.returns-in_err-restate_group-clause-err
 returns-in_err-restate_group-clause-err g c =
@@ -28,6 +29,7 @@ loop-group-preserved g c =
       done = one_more_restated c.args.groups.now c.loop-group.group-index 0 x s t u (omega (arith, c.loop-group-test.true)) refl so_far.done e.ok;
       rests = λ r. e.rests (so_far.rests r);
       counted = (let before = so_far.counted in let now = e.counted in omega (arith, before, now));
+      handed = handed_on 0 c.loop-group.unsynced c.restate_group.new.unsynced (g.P.PipeLog.shown c.args.pipes.now) (g.P.PipeLog.shown c.loop-group.pipes) (g.P.PipeLog.shown c.restate_group.new.pipes) so_far.handed e.handed;
     }
 
 pub returns-clause-ok : goal.returns-clause-ok
@@ -35,3 +37,6 @@ returns-clause-ok g c =
     let s = shows (g.P.PipeLog.shown c.args.pipes.now) c.args.tables.now c.args.cache.now in
     let t = shows (g.P.PipeLog.shown c.loop-group.pipes) c.loop-group.tables c.loop-group.cache in
     all_restated c.args.groups.now c.loop-group.group-index s t (omega (arith, c.loop-group-test.false)) c.loop-group.invariant.done
+
+pub returns-clause-handed : goal.returns-clause-handed
+returns-clause-handed g c = (c.loop-group.unsynced, c.loop-group.invariant.handed)

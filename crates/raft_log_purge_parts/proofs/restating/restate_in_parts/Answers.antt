@@ -7,6 +7,7 @@ use Rattle.raft_log_purge_parts.specs.GroupParts.{HasParts}
 use Rattle.raft_log_purge_parts.specs.Pieces.{MakeOnePiece}
 use Rattle.raft_log_purge_parts.proofs.Closing.{ended_then, not_ended_then, not_restated_then, restated_then}
 use Rattle.raft_log_purge_parts.proofs.Opening.{given_up}
+use Rattle.raft_log_purge_parts.proofs.Handing.{handed_on, last_handed}
 use Rattle.raft_log_purge_parts.proofs.restating.restate_in_parts.Goals as goal
 
 pub returns-in_err-first-clause-err : goal.returns-in_err-first-clause-err
@@ -94,3 +95,12 @@ returns-clause-err g c =
     not_ended_then c.end_parts.result c.args.group c.write_middles.new.builder.id c.in_ok-done.done c.as_slice.result.now c.args.pairs.now c.in_ok-batch.batch s v w m c.end_parts.new.tables c.last_batch.new.cache
     (subst (λ (l : List RestatedPart). HasParts c.args.group c.write_middles.new.builder.id c.in_ok-done.done l s (shows v m c.last_batch.new.cache)) (sym c.as_slice.ensures.value) made.0)
     (subst (λ (es : List EntryIndex). MakeOnePiece (drop c.in_ok-done.done es)) stands.entries c.in_ok-done.ensures.last) made.1 stands.keys c.end_parts.ensures.err)
+
+pub returns-clause-handed : goal.returns-clause-handed
+returns-clause-handed g c =
+    let v = g.P.PipeLog.shown c.args.pipes.now in
+    let one = g.P.PipeLog.shown c.begin_parts.new.pipes in
+    let two = g.P.PipeLog.shown c.write_middles.new.pipes in
+    λ most.
+    last_handed c.in_ok-batch.batch c.args.unsynced.now c.write_middles.new.unsynced c.end_parts.new.unsynced v two (g.P.PipeLog.shown c.end_parts.new.pipes) c.end_parts.result (c.in_ok-batch.ensures.piece c.in_ok-done.ensures.last)
+    (handed_on c.args.unsynced.now c.begin_parts.new.unsynced c.write_middles.new.unsynced v one two (c.in_ok-first.ensures.handed most) c.in_ok-done.ensures.handed) c.end_parts.ensures.counted

@@ -7,7 +7,9 @@ use Rattle.raft_log_file_blocks.specs.Blocks.{AreUnread, ReadsEntries}
 use Rattle.raft_log_engine_laws.specs.Shows.{shows}
 use Rattle.raft_log_record_items.specs.declared.raw_message.RawMessage.{RawMessage}
 use Rattle.raft_log_purge_parts.specs.Entries.{IsRunBatch, as_bytes}
-use Rattle.raft_log_purge_parts.proofs.Reading.{entries_copied, entries_not_copied, none_read, none_written, unbuilt}
+use Rattle.raft_log_purge_parts.proofs.Reading.{entries_copied, entries_not_copied, next_piece, none_read, none_written, read_piece, unbuilt}
+use Rattle.raft_log_purge_parts.specs.Lengths.{AreOnePiece}
+use Rattle.raft_log_purge_parts.proofs.Handing.{copies_handed, none_handed}
 use Rattle.raft_log_purge_parts.proofs.rewriting.copy_entries.Goals as goal
 
 pub returns-in_err-entries-clause-err : goal.returns-in_err-entries-clause-err
@@ -78,3 +80,21 @@ returns-clause-ok g c =
     subst (λ (l : List RawMessage). IsRunBatch c.args.group (indexes_of es) (map (λ e. e.bytes) l) b) c.as_slice-3.ensures.value
     (subst (λ (l : List EntryIndex). IsRunBatch c.args.group (indexes_of l) (map (λ e. e.bytes) c.as_slice-3.result.now) b) c.as_slice-2.ensures.value c.in_ok-batch.ensures.ok) in
     entries_copied s c.args.group c.args.gate es c.in_ok-entries.ensures.ok some new xs reads b is t (c.in_ok-write_copies.ensures.ok new) refl
+
+pub returns-clause-handed : goal.returns-clause-handed
+returns-clause-handed g c =
+    let v = g.P.PipeLog.shown c.args.pipes.now in
+    let s = shows v c.args.tables.now c.args.cache.now in
+    let es = c.in_ok-entries.entries.items in
+    let new = c.read_entries.new.self in
+    let xs = c.in_ok-read.read.items in
+    let b = c.in_ok-batch.batch in
+    let reads = subst (λ (l : List EntryIndex). ReadsEntries as_bytes v l c.args.cache.now new xs) c.as_slice.ensures.value c.in_ok-read.ensures.ok in
+    let is : IsRunBatch c.args.group (indexes_of es) (map (λ e. e.bytes) xs) b =
+    subst (λ (l : List RawMessage). IsRunBatch c.args.group (indexes_of es) (map (λ e. e.bytes) l) b) c.as_slice-3.ensures.value
+    (subst (λ (l : List EntryIndex). IsRunBatch c.args.group (indexes_of l) (map (λ e. e.bytes) c.as_slice-3.result.now) b) c.as_slice-2.ensures.value c.in_ok-batch.ensures.ok) in
+    let piece = subst AreOnePiece (sym is.says) (read_piece v es c.args.cache.now new xs (next_piece s c.args.group c.args.gate es c.in_ok-entries.ensures.ok new) reads) in
+    copies_handed b c.args.unsynced.now c.write_copies.new.unsynced v (g.P.PipeLog.shown c.write_copies.new.pipes) piece c.in_ok-write_copies.ensures.counted
+
+pub returns-then-is_empty-clause-handed : goal.returns-then-is_empty-clause-handed
+returns-then-is_empty-clause-handed g c = none_handed c.args.unsynced.now (g.P.PipeLog.shown c.args.pipes.now)

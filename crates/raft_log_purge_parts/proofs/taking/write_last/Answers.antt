@@ -6,7 +6,7 @@ use Rattle.raft_log_record_batches.specs.Batch.{Batch, block_place}
 use Rattle.raft_log_purge_parts.proofs.PartExits.{record_is_made}
 use Rattle.raft_log_purge_parts.proofs.Copying.{written_there}
 use Rattle.raft_log_purge_parts.specs.Taking.{HaveRoom}
-use Rattle.raft_log_purge_parts.proofs.Recording.{record_refused, record_written}
+use Rattle.raft_log_purge_parts.proofs.Recording.{one_written, record_refused, record_written, takes_made}
 use Rattle.raft_log_purge_parts.proofs.Room.{last_written, room_written, same_twice}
 use Rattle.raft_log_purge_parts.proofs.taking.write_last.Goals as goal
 
@@ -44,6 +44,18 @@ returns-in-Ok-clause-ok g c =
     (record_written b c.new-signed.result.batch (g.P.PipeLog.shown c.args.pipes.now) (g.P.PipeLog.shown c.sync_if_due.new.pipes) (g.P.PipeLog.shown c.append-appended.new.self) c.in_ok-sync_if_due.ensures.ok is c.in_ok-sync_if_due.ensures.later e.later
     c.in-Ok.block (written (block_place c.in-Ok.block b.entries) b.items) e.fails e.ok refl)
     c.make_room.ensures.shows c.in_ok-make_room.ensures.stay there c.take_items.ensures.took
+
+pub returns-in-Ok-clause-counted : goal.returns-in-Ok-clause-counted
+returns-in-Ok-clause-counted g c =
+    let b = c.args.batch in
+    let pop = c.in_ok-len.ensures.ok in
+    let made = c.new-signed.ensures in
+    let n = c.encoded_len.ensures in
+    let is = record_is_made b c.new-signed.result.batch (ap (λ (x : Batch). x.items) made ∙ ap (λ (x : Batch). x.items) pop) (ap (λ (x : Batch). x.entries) made ∙ ap (λ (x : Batch). x.entries) pop) n.says n.laid n.adds in
+    let mid = g.P.PipeLog.shown c.sync_if_due.new.pipes in
+    let w = g.P.PipeLog.shown c.append-appended.new.self in
+    one_written b c.args.unsynced.now c.sync_if_due.new.unsynced c.saturating_add.result c.in_ok-len.len (g.P.PipeLog.shown c.args.pipes.now) mid w c.in_ok-sync_if_due.ensures.due c.in_ok-len.ensures.ready c.saturating_add.ensures
+    (takes_made b c.new-signed.result.batch mid w is c.in-Ok.block c.in-Ok.ensures.ok)
 
 pub returns-clause-err : goal.returns-clause-err
 returns-clause-err g c =

@@ -35,6 +35,7 @@ use Rattle.raft_log_table_all.specs.Walking.{IsLeastOf}
 use Rattle.raft_log_purge_parts.specs.Groups.{Rewrites, RewritesGroups, StopsAtGroups, StopsRewriting}
 use Rattle.raft_log_purge_parts.specs.Moving.{IsRewrittenTo}
 use Rattle.raft_log_purge_parts.specs.Rewriting.{OweNothing}
+use Rattle.raft_log_purge_parts.specs.Syncing.{CountsEach}
 use Rattle.raft_log_purge_parts.specs.Reasons.{HasFileReason}
 use Rattle.raft_log_purge_parts.proofs.Grouping.{among, part_same, part_wider, rewritten_is_past}
 use Rattle.raft_log_purge_parts.proofs.Leasts.{queue_may_begin}
@@ -89,6 +90,7 @@ pub all_listed : (groups : List ℕ) (gate : ℕ) (m : MemTables) (v : LogPipes)
 all_listed groups gate m v cache t lists r = record {
   copied = r.copied;
   copies = every_rewritten groups gate m v cache r.copied lists r.copies;
+  handed = r.handed;
   syncs = r.syncs;
   same = r.same;
   alive = r.alive;
@@ -109,10 +111,11 @@ whole_unlisted groups gate s t (Ok x) stops = tt
 whole_unlisted groups gate s t (Err e) stops = some_rewritten groups gate e s t stops
 
 module _ (test : ℕ → Bool) (gate : ℕ) (s copied : Shows) (r : Rewrites test gate s copied) (w : LogPipes) (later : IsLater copied.pipes.disk w.disk) where
-  all_synced : {A : Type 0} (x : A) → TellsFailure (Ok x) w → SyncsQueue InRewrite copied.pipes w → RewritesSynced test gate s (record copied { pipes = w })
-  all_synced {A} x tells call = record {
+  all_synced : {A : Type 0} (x : A) → CountsEach s.pipes copied.pipes → TellsFailure (Ok x) w → SyncsQueue InRewrite copied.pipes w → RewritesSynced test gate s (record copied { pipes = w })
+  all_synced {A} x handed tells call = record {
     copied = copied;
     copies = r;
+    handed = handed;
     syncs = call;
     same = refl;
     alive = alive_ok x w tells;
@@ -136,9 +139,9 @@ module _ (test : ℕ → Bool) (gate : ℕ) (s copied : Shows) (r : Rewrites tes
         reason_after home m error s copied (record copied { pipes = w }) r.part.later (sync_reason InRewrite home m error copied (record copied { pipes = w }) there.state there.runs is call));
   }
 
-  pub whole_synced : (q : Result (Unit {0}) Error) → TellsFailure q w → OnOk q (SyncsQueue InRewrite copied.pipes w) → OnOk q (RewritesSynced test gate s (record copied { pipes = w }))
-  whole_synced (Ok x) tells call = all_synced x tells call
-  whole_synced (Err e) tells call = tt
+  pub whole_synced : (q : Result (Unit {0}) Error) → CountsEach s.pipes copied.pipes → TellsFailure q w → OnOk q (SyncsQueue InRewrite copied.pipes w) → OnOk q (RewritesSynced test gate s (record copied { pipes = w }))
+  whole_synced (Ok x) handed tells call = all_synced x handed tells call
+  whole_synced (Err e) handed tells call = tt
 
   pub whole_unsynced : (q : Result (Unit {0}) Error) → TellsFailure q w → IfErr q (λ error. error ≡ errors.Failed) → OnErr q (FailsToSyncQueue InRewrite copied.pipes w)
       → IfErr q (λ error. StopsRewriting test gate error s (record copied { pipes = w }))

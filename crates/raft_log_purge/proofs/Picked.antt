@@ -125,6 +125,7 @@ synced_alike few many gate s t same r = record {
     stays = r.copies.stays;
     holds = r.copies.holds;
   };
+  handed = r.handed;
   syncs = r.syncs;
   same = r.same;
   alive = r.alive;

@@ -33,6 +33,7 @@ use Rattle.raft_log_purge_parts.specs.raft_log_engine_laws.specs.Settled.{HoldsS
 use Rattle.raft_log_purge_parts.specs.raft_log_engine_laws.specs.Quiet.{TurnLeavesHeld}
 use Rattle.raft_log_purge_parts.specs.raft_log_engine_laws.proofs.Settling.{failed_sync, rewrite_rotates, settled_held, sync_settles_log, turn_refused}
 use Rattle.raft_log_table_all.specs.Walking.{IsLeastOf}
+use Rattle.raft_log_purge_parts.specs.Syncing.{CountsEach}
 use Rattle.raft_log_purge_parts.specs.Files.{FailsToLoseFiles, LosesFiles, RemainsSettled}
 use Rattle.raft_log_purge_parts.specs.Stale.{written_file}
 use Rattle.raft_log_purge_parts.proofs.Grouping.{among}
@@ -81,10 +82,11 @@ pub some_restated : (groups : List ℕ) (error : Error) (s t : Shows) → StopsR
 some_restated groups error s t stops = record { counts = stops.counts; tells = stops.tells; later = stops.later; remains = stops.remains; cause = stops.cause }
 
 module _ (s restated : Shows) (r : Restates every s restated) (w : LogPipes) (later : IsLater restated.pipes.disk w.disk) where
-  all_synced : {A : Type 0} (x : A) → TellsFailure (Ok x) w → SyncsQueue InRewrite restated.pipes w → RestatesAll s (record restated { pipes = w })
-  all_synced {A} x tells call = record {
+  all_synced : {A : Type 0} (x : A) → CountsEach s.pipes restated.pipes → TellsFailure (Ok x) w → SyncsQueue InRewrite restated.pipes w → RestatesAll s (record restated { pipes = w })
+  all_synced {A} x handed tells call = record {
     restated = restated;
     restates = r;
+    handed = handed;
     syncs = call;
     same = refl;
     alive = alive_ok x w tells;
@@ -103,9 +105,9 @@ module _ (s restated : Shows) (r : Restates every s restated) (w : LogPipes) (la
         reason_after home m error s restated (record restated { pipes = w }) r.later (sync_reason InRewrite home m error restated (record restated { pipes = w }) there.state there.runs is call));
   }
 
-  pub whole_synced : (q : Result (Unit {0}) Error) → TellsFailure q w → OnOk q (SyncsQueue InRewrite restated.pipes w) → OnOk q (RestatesAll s (record restated { pipes = w }))
-  whole_synced (Ok x) tells call = all_synced x tells call
-  whole_synced (Err e) tells call = tt
+  pub whole_synced : (q : Result (Unit {0}) Error) → CountsEach s.pipes restated.pipes → TellsFailure q w → OnOk q (SyncsQueue InRewrite restated.pipes w) → OnOk q (RestatesAll s (record restated { pipes = w }))
+  whole_synced (Ok x) handed tells call = all_synced x handed tells call
+  whole_synced (Err e) handed tells call = tt
 
   pub whole_unsynced : (q : Result (Unit {0}) Error) → TellsFailure q w → IfErr q (λ error. error ≡ errors.Failed) → OnErr q (FailsToSyncQueue InRewrite restated.pipes w)
       → IfErr q (λ error. FailsToRewriteRewrite error s (record restated { pipes = w }))

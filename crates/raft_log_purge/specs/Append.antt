@@ -22,6 +22,7 @@ use Rattle.raft_log_purge_parts.specs.Groups.{Rewrites}
 use Rattle.raft_log_purge_parts.specs.Moving.{IsRewrittenTo}
 use Rattle.raft_log_purge_parts.specs.Reasons.{HasFileReason, HasPurgeReason, HasReason}
 use Rattle.raft_log_purge_parts.specs.Rewriting.{OweNothing}
+use Rattle.raft_log_purge_parts.specs.Syncing.{CountsEach}
 
 -- The gate.
 
@@ -53,11 +54,13 @@ pub record PassesGate (watermark : Option ℕ) (gate : ℕ) (v w : LogPipes) : T
 abbrev pub AreRewrittenTo : ℕ → Shows → Type 0
 AreRewrittenTo gate s = (g : ℕ) → IsRewrittenTo gate (s.tables g)
 
--- Each group that passes the test was rewritten up to the gate, and Rewrite was synced: whatever the log was,
--- with nothing pending, it is so, if no mark is owed.
+-- Each group that passes the test was rewritten up to the gate, and Rewrite was synced, meanwhile where that was due
+-- by the bytes of all these groups, and at the end: whatever the log was, with nothing pending, it is so, if no mark is
+-- owed.
 pub record RewritesSynced (test : ℕ → Bool) (gate : ℕ) (s t : Shows) : Type 0 where
   pub copied : Shows
   pub copies : Rewrites test gate s copied
+  pub handed : CountsEach s.pipes copied.pipes
   pub syncs : SyncsQueue InRewrite copied.pipes t.pipes
   pub same : t ≡ record copied { pipes = t.pipes }
   pub alive : has_failed t ≡ false

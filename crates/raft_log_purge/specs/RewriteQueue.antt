@@ -16,17 +16,19 @@ use Rattle.raft_log_purge_parts.specs.raft_log_engine_laws.specs.Settled.{HoldsS
 use Rattle.raft_log_purge_parts.specs.Files.{LosesFiles}
 use Rattle.raft_log_purge_parts.specs.Reasons.{GivesReason}
 use Rattle.raft_log_purge_parts.specs.Stale.{written_file}
+use Rattle.raft_log_purge_parts.specs.Syncing.{CountsEach}
 use Rattle.raft_log_purge_parts.specs.Restated.{IsRestatedFrom, Restates, StaysOrIsLeft, last_file}
 
 -- every group
 abbrev pub every : ℕ → Bool
 every g = true
 
--- All groups were restated, and Rewrite was synced: whatever the log was, with nothing pending, it is so, and
--- nothing of Rewrite is pending either.
+-- All groups were restated, and Rewrite was synced, meanwhile where that was due by the bytes of all of them, and at
+-- the end: whatever the log was, with nothing pending, it is so, and nothing of Rewrite is pending either.
 pub record RestatesAll (s t : Shows) : Type 0 where
   pub restated : Shows
   pub restates : Restates every s restated
+  pub handed : CountsEach s.pipes restated.pipes
   pub syncs : SyncsQueue InRewrite restated.pipes t.pipes
   pub same : t ≡ record restated { pipes = t.pipes }
   pub alive : has_failed t ≡ false

@@ -14,7 +14,7 @@ returns-clause-ok g c =
     let s = shows (g.P.PipeLog.shown c.args.pipes.now) c.args.tables.now c.args.cache.now in
     let t = shows (g.P.PipeLog.shown c.rewrite_groups.new.pipes) c.rewrite_groups.new.tables c.rewrite_groups.new.cache in
     let e = c.sync.ensures in
-    whole_synced (among c.args.groups.now) c.args.gate s t c.in_ok-rewrite_groups.ensures.ok (g.P.PipeLog.shown c.sync.new.self) e.later c.sync.result e.fails e.ok
+    whole_synced (among c.args.groups.now) c.args.gate s t c.in_ok-rewrite_groups.ensures.ok (g.P.PipeLog.shown c.sync.new.self) e.later c.sync.result c.in_ok-rewrite_groups.ensures.handed e.fails e.ok
 
 pub returns-clause-err : goal.returns-clause-err
 returns-clause-err g c =

@@ -16,7 +16,7 @@ returns-clause-ok g c =
     let s = shows v c.args.tables.now c.args.cache.now in
     let t = shows (g.P.PipeLog.shown c.restate_groups.new.pipes) c.restate_groups.new.tables c.restate_groups.new.cache in
     let e = c.sync.ensures in
-    whole_synced s t (every_restated c.args.groups.now c.args.tables.now v c.args.cache.now t c.requires c.in_ok-restate_groups.ensures.ok) (g.P.PipeLog.shown c.sync.new.self) e.later c.sync.result e.fails e.ok
+    whole_synced s t (every_restated c.args.groups.now c.args.tables.now v c.args.cache.now t c.requires c.in_ok-restate_groups.ensures.ok) (g.P.PipeLog.shown c.sync.new.self) e.later c.sync.result c.in_ok-restate_groups.ensures.handed e.fails e.ok
 
 pub returns-clause-err : goal.returns-clause-err
 returns-clause-err g c =

@@ -1,5 +1,6 @@
 pub mod Cuts
 pub mod Endings
+mod ForReading
 pub mod Syncs
 mod Formats
 mod Small

@@ -1,6 +1,7 @@
 pub mod Reading
 pub mod Cutting
 pub mod Recovering
+pub mod ForReading
 pub mod Directories
 pub mod Scanning
 pub mod Syncing

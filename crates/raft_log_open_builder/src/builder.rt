@@ -1,6 +1,6 @@
 //! From a log's directories to what its files say.
 
-ghost use Rattle.std.specs.Prelude.{◌≡◌, ◌↔◌, IfErr, IfOk, IsTrue, OnErr, OnOk, []};
+ghost use Rattle.std.specs.Prelude.{◌≡◌, ◌≤◌, ◌↔◌, length, IfErr, IfOk, IsTrue, OnErr, OnOk, []};
 
 use crate::clearing::clear_old;
 use crate::cutting::cut_files;
@@ -17,10 +17,11 @@ use raft_log_file_layout::LogLayout;
 use raft_log_file_pair::{DualPipes, FoundPipe, OpenRefused, PipeLog};
 use raft_log_file_queue::File;
 use raft_log_file_settings::Config;
+use raft_log_open_found::FileEnding;
 use raft_log_open_scan::scanning::{ScannedFiles, scan};
 use raft_log_open_scan::{RecoveryConfig, share_workers};
 use raft_log_record_base::{Error, LogQueue, Result};
-use raft_log_table_segments::{Factory, ReplayMachine, ReplayThreads};
+use raft_log_table_segments::{Factory, ReadSegments, ReplayMachine, ReplayThreads};
 use std::alloc::Global;
 use std::io::ErrorKind;
 use std::marker::Send;
@@ -40,7 +41,8 @@ pub struct DualPipesBuilder {
 impl DualPipesBuilder {
     ghost use Rattle.raft_log_record_base.specs.declared.pipe_log.LogQueue.TheVariants.{Append, Rewrite};
     ghost use Rattle.raft_log_open_builder.specs.Finishing.{FailsToOpenRecovered, FailsToSyncLog, IsAllRead, IsUnready, IsWantedAs, OpensRecovered, SyncsLog};
-    ghost use Rattle.raft_log_open_builder.specs.Recovering.{FailsToRecoverLog, RecoversLog};
+    ghost use Rattle.raft_log_open_builder.specs.ForReading.{CutsBoth, FailsToCutBoth, FailsToReadLog, HasReadQueues, QueuesAreUnread, ReadsLog};
+    ghost use Rattle.raft_log_open_builder.specs.Recovering.{FailsToRecoverLog, RecoversLog, append_files, rewrite_files};
     ghost use Rattle.raft_log_open_builder.specs.RecoveringQueue.{FailsToRecoverFiles, OtherQueueIsKept, RecoversFiles, queue_files};
     ghost use Rattle.raft_log_open_builder.specs.Reserving.{FailsToReadyLog, LeavesReserved, ReadiesLog};
     ghost use Rattle.raft_log_open_builder.specs.Scanning.{FailsToScanLog, ScansLog};
@@ -157,6 +159,53 @@ impl DualPipesBuilder {
             (F.disk file_system.old) (F.disk file_system.new)) }
         ensures same { OnErr result (self.new ≡ self.old) }
     {
+        let (append, rewrite) = self.read_both(rt, alloc, threads, file_system, factory)?;
+        if !are_unaligned(&append.endings) || !are_unaligned(&rewrite.endings) {
+            return Err(aligned(alloc));
+        }
+        self.cut_both(rt, file_system, &append.endings, &rewrite.endings)?;
+        self.append.endings = append.endings;
+        self.rewrite.endings = rewrite.endings;
+        Ok((append.machine, rewrite.machine))
+    }
+
+    /// Reads both queues and cuts the files that are damaged, as `recover` does, files with an alignment too: for
+    /// who reads the log, and opens no pipe over it. The builder takes no file for recovered.
+    ///
+    /// Refused as `recover` is, but for an alignment.
+    pub fn recover_for_reading<
+        R: Threads + Log + Sync,
+        F: FileSystem + Sync,
+        M: ReplayMachine + Send,
+        FA: Factory<M>,
+    >(&self, rt: &R, alloc: Global, file_system: &mut F, factory: &FA) -> Result<(M, M)>
+        ensures ok { IfOk result (λ both. ReadsLog M.reads both.0 both.1 self.now
+            (F.disk file_system.old) (F.disk file_system.new)) }
+        ensures err { IfErr result (λ error. FailsToReadLog M.reads M.declines self.now error
+            (F.disk file_system.old) (F.disk file_system.new)) }
+    {
+        let threads = ReplayThreads::Rayon;
+        let (append, rewrite) = self.read_both(rt, alloc, threads, file_system, factory)?;
+        self.cut_both(rt, file_system, &append.endings, &rewrite.endings)?;
+        Ok((append.machine, rewrite.machine))
+    }
+
+    /// Reads both queues at once, each by its share of the workers, by these threads. Nothing is changed.
+    ///
+    /// The error told is that of Append, if it is refused.
+    fn read_both<R: Threads + Sync, F: FileSystem + Sync, M: ReplayMachine + Send, FA: Factory<M>>(
+        &self,
+        rt: &R,
+        alloc: Global,
+        threads: ReplayThreads,
+        file_system: &F,
+        factory: &FA,
+    ) -> Result<(ReadSegments<M, FileEnding>, ReadSegments<M, FileEnding>)>
+        ensures ok { IfOk result (λ both. HasReadQueues M.reads self.now (F.disk file_system.now)
+            both.0.machine both.1.machine both.0.endings.items both.1.endings.items) }
+        ensures err { IfErr result
+            (QueuesAreUnread M.reads M.declines self.now (F.disk file_system.now)) }
+    {
         let (count, others) = (self.append.files.len(), self.rewrite.files.len());
         let workers = share_workers(self.config.recovery_threads, count, others);
         let append = RecoveryConfig::new(&self.config, LogQueue::Append, workers.append);
@@ -174,14 +223,27 @@ impl DualPipesBuilder {
         );
         let append = append?;
         let rewrite = rewrite?;
-        if !are_unaligned(&append.endings) || !are_unaligned(&rewrite.endings) {
-            return Err(aligned(alloc));
-        }
-        cut_files(rt, file_system, &self.append.files, &append.endings)?;
-        cut_files(rt, file_system, &self.rewrite.files, &rewrite.endings)?;
-        self.append.endings = append.endings;
-        self.rewrite.endings = rewrite.endings;
-        Ok((append.machine, rewrite.machine))
+        Ok((append, rewrite))
+    }
+
+    /// Cuts the files of both queues that are damaged, Append's first, and syncs them. Refused, those before one
+    /// are cut.
+    fn cut_both<F: FileSystem, L: Log>(
+        &self,
+        rt: &L,
+        file_system: &mut F,
+        append: &[FileEnding],
+        rewrite: &[FileEnding],
+    ) -> Result<(), ErrorKind>
+        requires { (length append.now ≤ length (append_files self.now))
+            × (length rewrite.now ≤ length (rewrite_files self.now)) }
+        ensures ok { OnOk result (CutsBoth self.now append.now rewrite.now
+            (F.disk file_system.old) (F.disk file_system.new)) }
+        ensures err { IfErr result (λ kind. FailsToCutBoth self.now append.now rewrite.now kind
+            (F.disk file_system.old) (F.disk file_system.new)) }
+    {
+        cut_files(rt, file_system, &self.append.files, append)?;
+        cut_files(rt, file_system, &self.rewrite.files, rewrite)
     }
 
     /// Reads one queue by workers into a machine, as this says; then cuts its files that are damaged, each

@@ -2,6 +2,7 @@
 -- and which of them was refused; and by which rules both pipes go on.
 use Rattle.std.specs.Prelude.{◌≡◌, ℕ, false, List}
 use Rattle.raft_log_disk.specs.Disk.{Disk}
+use Rattle.raft_log_disk.specs.Exits.{Syncs}
 use Rattle.raft_log_record_base.specs.declared.errors.Error.{Error}
 use Rattle.raft_log_record_base.specs.declared.pipe_log.FileBlockHandle.{FileBlockHandle}
 use Rattle.raft_log_record_base.specs.declared.pipe_log.LogFileContext.{LogFileContext}
@@ -9,7 +10,9 @@ use Rattle.raft_log_file_format.specs.Header.{header_bytes}
 use Rattle.raft_log_file_layout.specs.declared.record.LogRecord.{LogRecord}
 use Rattle.raft_log_file_pipe.specs.Appending.{AppendFails, AppendsAt}
 use Rattle.raft_log_file_pipe.specs.Exits.{FailsToSyncPipe, RotationLeaves, Rotates, SyncsPipe}
-use Rattle.raft_log_file_pipe.specs.Purging.{PurgeLeaves, Purges}
+use Rattle.raft_log_file_pipe.specs.Purging.{PurgeLeaves, Purges, paths_going}
+use Rattle.raft_log_file_pipe.specs.Calls.{DropsBy}
+use Rattle.raft_log_file_pipe.specs.Doing.{AppendsBy, FailsToAppendBy, FailsToPurgeBy, FailsToSyncBy, FailsToTurnBy, TurnsPipeBy}
 use Rattle.raft_log_file_pipe.specs.declared.pipe_files.PipeFiles.{PipeFiles}
 use Rattle.raft_log_file_pipe.specs.declared.single_pipe.PipeSettings.{PipeSettings}
 use Rattle.raft_log_directory_laws.specs.Calls.{Which}
@@ -80,3 +83,43 @@ PipePurges which seq = DoesToPipe which (λ layout rules before after.
 abbrev pub PipeFailsToPurge : Which → ℕ → Error → LogPipes → LogPipes → Type 0
 PipeFailsToPurge which seq error = LeavesPipe which (λ layout rules before after.
     PurgeLeaves layout.format layout.own layout.paths rules.capacity seq before after error)
+
+-- The same whatever stands on the disk: no log is asked for, and so it holds also where none is there.
+
+-- the pipe wrote a record, at this place, by these file calls
+abbrev pub PipeAppendsBy : Which → (LogFileContext → List ℕ) → FileBlockHandle → LogPipes → LogPipes → Type 0
+PipeAppendsBy which signed block = DoesToPipe which (λ layout rules before after.
+    AppendsBy layout.paths rules.new_files rules.queue signed before after block)
+
+-- the pipe didn't write a record, and which calls it made
+abbrev pub PipeFailsToAppendBy : Which → (LogFileContext → List ℕ) → Error → LogPipes → LogPipes → Type 0
+PipeFailsToAppendBy which signed error = LeavesPipe which (λ layout rules before after.
+    FailsToAppendBy layout.paths rules.new_files rules.queue signed before after error)
+
+-- the pipe synced the file that it writes
+abbrev pub PipeSyncsBy : Which → LogPipes → LogPipes → Type 0
+PipeSyncsBy which = DoesToPipe which (λ layout rules before after. Syncs before.writer.handle)
+
+-- the sync of that file was refused
+abbrev pub PipeFailsToSyncBy : Which → LogPipes → LogPipes → Type 0
+PipeFailsToSyncBy which = LeavesPipe which (λ layout rules before after. FailsToSyncBy before.writer.handle)
+
+-- the pipe went on in its next file, by these calls
+abbrev pub PipeRotatesBy : Which → LogPipes → LogPipes → Type 0
+PipeRotatesBy which = DoesToPipe which (λ layout rules before after.
+    TurnsPipeBy layout.paths rules.new_files.format before after)
+
+-- the pipe didn't go on in its next file, and which calls it made
+abbrev pub PipeFailsToRotateBy : Which → Error → LogPipes → LogPipes → Type 0
+PipeFailsToRotateBy which error = LeavesPipe which (λ layout rules before after.
+    FailsToTurnBy layout.paths rules.new_files.format before after error)
+
+-- the pipe's files below a number were deleted, but for those that stay for use, and no others
+abbrev pub PipePurgesBy : Which → ℕ → LogPipes → LogPipes → Type 0
+PipePurgesBy which seq = DoesToPipe which (λ layout rules before after.
+    DropsBy (paths_going layout.paths rules.capacity seq before))
+
+-- they weren't, or some first ones of them were
+abbrev pub PipeFailsToPurgeBy : Which → ℕ → Error → LogPipes → LogPipes → Type 0
+PipeFailsToPurgeBy which seq error = LeavesPipe which (λ layout rules before after.
+    FailsToPurgeBy layout.paths rules.capacity seq before error)

@@ -26,7 +26,7 @@ pub trait PipeLog {
     ghost use Rattle.raft_log_file_pair.specs.Numbers.{EndsNumbers, EndsNumbersAt, EndsNumbersBelow};
     ghost use Rattle.raft_log_file_pair.specs.LastFile.{IsNextIfFull, RaisesPipe, TurnsBehind, last_of};
     ghost use Rattle.raft_log_file_pair.specs.Calls.{AppendsTo, ArmsNoPipes, FailsToAppendTo, FailsToPurgeQueue, FailsToRotateQueue, FailsToSyncQueue, IsSpanOf, PurgesQueue, RotatesQueue, StaysFailed, SyncsQueue, TellsFailure, seq_at, size_at};
-    ghost use Rattle.raft_log_file_pair.specs.PipeCalls.{KeepRules, PipeAppends, PipeFailsToAppend, PipeFailsToPurge, PipeFailsToRotate, PipeFailsToSync, PipePurges, PipeRotates, PipeSyncs};
+    ghost use Rattle.raft_log_file_pair.specs.PipeCalls.{KeepRules, PipeAppends, PipeAppendsBy, PipeFailsToAppend, PipeFailsToAppendBy, PipeFailsToPurge, PipeFailsToPurgeBy, PipeFailsToRotate, PipeFailsToRotateBy, PipeFailsToSync, PipeFailsToSyncBy, PipePurges, PipePurgesBy, PipeRotates, PipeRotatesBy, PipeSyncs, PipeSyncsBy};
 
     /// The file system that the files are in, which a close gives back.
     type Files;
@@ -120,6 +120,10 @@ pub trait PipeLog {
             (shown self.old) (shown self.new)) }
         ensures signed { B.signed bytes.new ≡ B.signed bytes.old }
         ensures said { B.said bytes.new ≡ B.said bytes.old }
+        ensures made { IfOk result (λ block. PipeAppendsBy (which_of queue) (B.signed bytes.old) block
+            (shown self.old) (shown self.new)) }
+        ensures refused { IfErr result (λ error. PipeFailsToAppendBy (which_of queue) (B.signed bytes.old)
+            error (shown self.old) (shown self.new)) }
         ensures rules { KeepRules (shown self.old) (shown self.new) }
         ensures failed { StaysFailed result (shown self.old) (shown self.new) }
         ensures fails { TellsFailure result (shown self.new) }
@@ -132,6 +136,8 @@ pub trait PipeLog {
         ensures error { IfErr result (λ error. error ≡ errors.Failed) }
         ensures calls { OnOk result (PipeSyncs (which_of queue) (shown self.old) (shown self.new)) }
         ensures refusal { OnErr result (PipeFailsToSync (which_of queue) (shown self.old) (shown self.new)) }
+        ensures made { OnOk result (PipeSyncsBy (which_of queue) (shown self.old) (shown self.new)) }
+        ensures refused { OnErr result (PipeFailsToSyncBy (which_of queue) (shown self.old) (shown self.new)) }
         ensures rules { KeepRules (shown self.old) (shown self.new) }
         ensures failed { StaysFailed result (shown self.old) (shown self.new) }
         ensures fails { TellsFailure result (shown self.new) }
@@ -149,6 +155,9 @@ pub trait PipeLog {
         ensures range { IfErr result (λ error. EndsNumbers (which_of queue) error (shown self.old)) }
         ensures calls { OnOk result (PipeRotates (which_of queue) (shown self.old) (shown self.new)) }
         ensures refusal { IfErr result (λ error. PipeFailsToRotate (which_of queue) error
+            (shown self.old) (shown self.new)) }
+        ensures made { OnOk result (PipeRotatesBy (which_of queue) (shown self.old) (shown self.new)) }
+        ensures refused { IfErr result (λ error. PipeFailsToRotateBy (which_of queue) error
             (shown self.old) (shown self.new)) }
         ensures rules { KeepRules (shown self.old) (shown self.new) }
         ensures failed { StaysFailed result (shown self.old) (shown self.new) }
@@ -176,6 +185,10 @@ pub trait PipeLog {
         ensures calls { OnOk result (PipePurges (which_of file_id.queue) file_id.seq
             (shown self.old) (shown self.new)) }
         ensures refusal { IfErr result (λ error. PipeFailsToPurge (which_of file_id.queue) file_id.seq error
+            (shown self.old) (shown self.new)) }
+        ensures made { OnOk result (PipePurgesBy (which_of file_id.queue) file_id.seq
+            (shown self.old) (shown self.new)) }
+        ensures refused { IfErr result (λ error. PipeFailsToPurgeBy (which_of file_id.queue) file_id.seq error
             (shown self.old) (shown self.new)) }
         ensures rules { KeepRules (shown self.old) (shown self.new) }
         ensures failed { StaysFailed result (shown self.old) (shown self.new) }

@@ -8,3 +8,6 @@ returns-in_default-clause-range g c = rw c.loop-seq.invariant c.append-answer.en
 
 pub returns-in_default-clause-refusal : goal.returns-in_default-clause-refusal
 returns-in_default-clause-refusal g c = rw c.loop-seq.invariant c.append-answer.ensures.refusal
+
+pub returns-in_default-clause-refused : goal.returns-in_default-clause-refused
+returns-in_default-clause-refused g c = rw c.loop-seq.invariant c.append-answer.ensures.refused

@@ -11,3 +11,9 @@ returns-clause-calls g c = rw c.loop-seq.invariant c.rotate-answer.ensures.calls
 
 pub returns-clause-refusal : goal.returns-clause-refusal
 returns-clause-refusal g c = rw c.loop-seq.invariant c.rotate-answer.ensures.refusal
+
+pub returns-clause-made : goal.returns-clause-made
+returns-clause-made g c = rw c.loop-seq.invariant c.rotate-answer.ensures.made
+
+pub returns-clause-refused : goal.returns-clause-refused
+returns-clause-refused g c = rw c.loop-seq.invariant c.rotate-answer.ensures.refused

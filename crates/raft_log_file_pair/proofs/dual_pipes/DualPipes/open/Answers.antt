@@ -1,6 +1,8 @@
 use Rattle.std.proofs.Common.{map, sym, ◌∙◌, ap, subst}
 use Rattle.std.specs.String.{string_bytes}
 use Rattle.raft_log_disk.specs.Disk.{Disk}
+use Rattle.raft_log_disk.specs.Causes.{IsLater}
+use Rattle.raft_log_disk.proofs.CauseLaws.{later_then}
 use Rattle.raft_log_file_pipe.specs.declared.pipe_files.PipeFiles.{PipeFiles}
 use Rattle.raft_log_file_pair.specs.Opening.{OpensFound}
 use Rattle.raft_log_file_pair.proofs.Opened.{append_not_opened, opens_log, rewrite_not_opened}
@@ -41,3 +43,9 @@ returns-in-Err-open-clause-err g c =
     let D = g.F.FileSystem.disk in
     rewrite_not_opened c.args.append c.args.rewrite c.in-Ok.pipe.files c.in-Err-open.error (D c.args.file_system) (D c.open.new.file_system) (D c.open-2.new.file_system) (g.met.F.FileSystem.sound c.args.file_system)
     (g.met.F.FileSystem.sound c.open.new.file_system) c.in-Ok.ensures.ok c.in-Err-open.ensures.err
+
+pub returns-in-Ok-open-clause-later : goal.returns-in-Ok-open-clause-later
+returns-in-Ok-open-clause-later g c =
+    let D = g.F.FileSystem.disk in
+    subst (λ (d : Disk). IsLater (D c.args.file_system) d) (sym (ap D c.new.ensures.file_system))
+    (later_then (D c.args.file_system) (D c.open.new.file_system) (D c.open-2.new.file_system) c.open.ensures.later c.open-2.ensures.later)

@@ -127,3 +127,19 @@ pub returns-in-Rewrite-clause-rules : goal.returns-in-Rewrite-clause-rules
 returns-in-Rewrite-clause-rules g c =
     let e = c.append-in-Rewrite.ensures in
     (record { queue = refl; directories = refl; settings = refl }, record { queue = ap (λ l. l.queue) e.same.0; directories = ap (λ l. map string_bytes l.paths.items) e.same.0; settings = e.same.1 })
+
+pub returns-in-Append-clause-made : goal.returns-in-Append-clause-made
+returns-in-Append-clause-made g c = rw c.in-Append.is c.append.ensures.calls
+
+pub returns-in-Append-clause-refused : goal.returns-in-Append-clause-refused
+returns-in-Append-clause-refused g c =
+    let alive = (either_false _ _ (sym c.is_failed.ensures ∙ c.if-is_failed.false)).0 in
+    rw c.in-Append.is (when_alive c.append.result _ _ (c.append.ensures.refusal alive))
+
+pub returns-in-Rewrite-clause-made : goal.returns-in-Rewrite-clause-made
+returns-in-Rewrite-clause-made g c = rw c.in-Rewrite.is c.append-in-Rewrite.ensures.calls
+
+pub returns-in-Rewrite-clause-refused : goal.returns-in-Rewrite-clause-refused
+returns-in-Rewrite-clause-refused g c =
+    let alive = (either_false _ _ (sym c.is_failed.ensures ∙ c.if-is_failed.false)).1 in
+    rw c.in-Rewrite.is (when_alive c.append-in-Rewrite.result _ _ (c.append-in-Rewrite.ensures.refusal alive))

@@ -109,7 +109,7 @@ fn a_long_write_lands_whole(rt: HostRuntime) -> Result<(), Fail> {
     files.sync(handle)?;
     let found = fs::read(&rt, "long/a")?;
     assert!(rt; found.len() == 200_003);
-    assert!(rt; (&found[..3] == b"abc") & (&found[3..] == bytes.as_slice()));
+    assert!(rt; (&found[..3] == b"abc".as_slice()) & (&found[3..] == bytes.as_slice()));
     Ok(())
 }
 

@@ -13,8 +13,8 @@ use Rattle.raft_log_table_segments.specs.Machines.{Batch}
 use Rattle.raft_log_table_segments.specs.Segments.{HasReadSegments, all_batches, read_by}
 use Rattle.raft_log_open_found.specs.Segments.{HoldsFile}
 use Rattle.raft_log_open_found.specs.declared.file_ending.FileEnding.{FileEnding}
-use Rattle.raft_log_open_builder.specs.Recovering.{append_files, rewrite_files, RecoversLog}
-use Rattle.raft_log_open_builder.specs.Unaligned.{AreUnaligned}
+use Rattle.raft_log_open_builder.specs.ForReading.{ReadsLog}
+use Rattle.raft_log_open_builder.specs.Recovering.{append_files, rewrite_files}
 use Rattle.raft_log_open_builder.specs.declared.builder.DualPipesBuilder.{DualPipesBuilder}
 use Rattle.raft_log_open_directory.specs.Finding.{FindsLog}
 use Rattle.raft_log_closed.specs.Runs.{Run, finding, runs_of}
@@ -55,41 +55,41 @@ some_threads config found old scanned finds =
     omega (arith, same)
 
 hold_all : (queue : LogQueue) (mode : RecoveryMode) (files : List File) (d : Disk) (workers : ℕ) (c : ConsistencyChecker) (endings : List FileEnding)
-    → read_by workers (length files) ≡ length files → AreUnaligned endings
+    → read_by workers (length files) ≡ length files
     → (read : HasReadSegments (HoldsFile mode queue files d) (KeepsRuns queue) 0 (read_by workers (length files)) c endings)
     → HoldAll queue mode files d (all_batches read.batches) endings
-hold_all queue mode files d workers c endings whole unaligned read =
+hold_all queue mode files d workers c endings whole read =
     let all = read.all in
-    record { segments = read.batches; held = read.held; all = omega (arith, all, whole); joined = refl; unaligned = unaligned }
+    record { segments = read.batches; held = read.held; all = omega (arith, all, whole); joined = refl }
 
 -- both queues were read, and all files of each
-pub reads_runs : (config : Config) (append rewrite : ConsistencyChecker) (found b : DualPipesBuilder) (old scanned new : Disk) → FindsLog config found old scanned
-    → RecoversLog KeepsRuns append rewrite found b scanned new → ReadsRuns config append rewrite old new
-reads_runs config append rewrite found b old scanned new finds recovers =
+pub reads_runs : (config : Config) (append rewrite : ConsistencyChecker) (found : DualPipesBuilder) (old scanned new : Disk) → FindsLog config found old scanned
+    → ReadsLog KeepsRuns append rewrite found scanned new → ReadsRuns config append rewrite old new
+reads_runs config append rewrite found old scanned new finds log =
     let threads = (settings_of found.config).recovery_threads in
     let a = length (append_files found) in
     let r = length (rewrite_files found) in
     let threads_are : 1 ≤ threads = some_threads config found old scanned finds in
     let some : 1 ≤ a + r → 1 ≤ min threads (a + r) = λ le. omega (arith, le, threads_are) in
     record {
-      append_batches = all_batches recovers.read.append_read.batches;
-      rewrite_batches = all_batches recovers.read.rewrite_read.batches;
+      append_batches = all_batches log.read.append_read.batches;
+      rewrite_batches = all_batches log.read.rewrite_read.batches;
       reads = record {
         found = found;
         scanned = scanned;
         finds = finds;
-        append_endings = b.append.endings.items;
-        rewrite_endings = b.rewrite.endings.items;
-        of_append = hold_all _ _ (append_files found) scanned (append_share (min threads (a + r)) a r) append b.append.endings.items (append_whole (min threads (a + r)) a r some)
-            recovers.read.append_unaligned recovers.read.append_read;
-        of_rewrite = hold_all _ _ (rewrite_files found) scanned (rewrite_share (min threads (a + r)) a r) rewrite b.rewrite.endings.items (rewrite_whole (min threads (a + r)) a r some)
-            recovers.read.rewrite_unaligned recovers.read.rewrite_read;
-        between = recovers.between;
-        append_cut = recovers.append_cut;
-        rewrite_cut = recovers.rewrite_cut;
+        append_endings = log.append_endings;
+        rewrite_endings = log.rewrite_endings;
+        of_append = hold_all _ _ (append_files found) scanned (append_share (min threads (a + r)) a r) append log.append_endings (append_whole (min threads (a + r)) a r some)
+            log.read.append_read;
+        of_rewrite = hold_all _ _ (rewrite_files found) scanned (rewrite_share (min threads (a + r)) a r) rewrite log.rewrite_endings (rewrite_whole (min threads (a + r)) a r some)
+            log.read.rewrite_read;
+        between = log.cut.between;
+        append_cut = log.cut.append_cut;
+        rewrite_cut = log.cut.rewrite_cut;
       };
-      append_kept = recovers.read.append_read.read;
-      rewrite_kept = recovers.read.rewrite_read.read;
+      append_kept = log.read.append_read.read;
+      rewrite_kept = log.read.rewrite_read.read;
     }
 
 told_kept : (runs : List Run) → option_and_then (λ k. k.hole_after) (kept runs) ≡ finding runs

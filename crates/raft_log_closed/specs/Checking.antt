@@ -16,24 +16,22 @@ use Rattle.raft_log_table_segments.specs.Sources.{HoldEach}
 use Rattle.raft_log_open_found.specs.Segments.{HoldsFile}
 use Rattle.raft_log_open_found.specs.declared.file_ending.FileEnding.{FileEnding}
 use Rattle.raft_log_open_builder.specs.Cutting.{CutsEach}
-use Rattle.raft_log_open_builder.specs.Recovering.{append_files, rewrite_files, FailsToRecoverLog}
+use Rattle.raft_log_open_builder.specs.ForReading.{FailsToReadLog}
+use Rattle.raft_log_open_builder.specs.Recovering.{append_files, rewrite_files}
 use Rattle.raft_log_open_builder.specs.Scanning.{FailsToScanLog}
-use Rattle.raft_log_open_builder.specs.Unaligned.{AreUnaligned}
 use Rattle.raft_log_open_builder.specs.declared.builder.DualPipesBuilder.{DualPipesBuilder}
 use Rattle.raft_log_open_directory.specs.Finding.{FindsLog, IsBegun}
 use Rattle.raft_log_closed.specs.Findings.{Lists, finding_of}
 use Rattle.raft_log_closed.specs.Kept.{KeepsRuns, IsOutOfMemory}
 use Rattle.raft_log_closed.specs.declared.checker.ConsistencyChecker.{ConsistencyChecker}
 
--- The files of a queue hold these batches, file after file, none of them has an alignment, and this is to be
--- done with each.
+-- the files of a queue hold these batches, file after file, and this is to be done with each
 pub record HoldAll (queue : LogQueue) (mode : RecoveryMode) (files : List File) (d : Disk)
     (batches : List Batch) (endings : List FileEnding) : Type 0 where
   pub segments : List (List Batch)
   pub held : HoldEach (HoldsFile mode queue files d) 0 segments endings
   pub all : length segments ≡ length files
   pub joined : batches ≡ all_batches segments
-  pub unaligned : AreUnaligned endings
 
 -- The log's files were found, and hold these batches of both queues; then those that are damaged were cut,
 -- Append's first.
@@ -72,6 +70,6 @@ pub data FailsToCheck (config : Config) (error : Error) (old new : Disk) : Type 
   unfound : (begun : DualPipesBuilder) → IsBegun config begun → FailsToScanLog begun error old new
       → FailsToCheck config error old new
   unread : (found : DualPipesBuilder) (scanned : Disk) → FindsLog config found old scanned
-      → FailsToRecoverLog KeepsRuns IsOutOfMemory found error scanned new → FailsToCheck config error old new
+      → FailsToReadLog KeepsRuns IsOutOfMemory found error scanned new → FailsToCheck config error old new
   unlisted : (append rewrite : List Batch) → ReadsLogFiles config append rewrite old new
       → error ≡ errors.Memory → FailsToCheck config error old new

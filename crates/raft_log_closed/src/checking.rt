@@ -26,14 +26,14 @@ struct CheckedQueues {
 /// Checks the log of these settings for holes: of each group that has one, the end of the first run of
 /// entries after which the next one starts past the end + 1, in Rewrite or else in Append, sorted by group.
 /// The records are those that an open would read. What is missing before the first run or behind the last
-/// one isn't seen.
+/// one isn't seen. Files with an alignment are read too.
 ///
 /// No engine is opened. As by an open, directories that aren't there are made, and where the settings
 /// tolerate damage, damaged files are cut behind their last good record and synced.
 ///
 /// `Other` where the settings have a fault; then as a scan and a recovery are refused: `Other`, `Corruption`,
 /// `Io` of the directories, `Io` where a file can't be read, `Corruption` or `Codec` for damage that isn't
-/// tolerated, `InvalidArgument` for an alignment, `Io` where a file isn't cut or synced; `Memory`.
+/// tolerated, `Io` where a file isn't cut or synced; `Memory`.
 pub fn check_log<R: Threads + Log + Sync, F: FileSystem + Sync>(
     rt: &R,
     alloc: Global,
@@ -67,12 +67,12 @@ fn read_runs<R: Threads + Log + Sync, F: FileSystem + Sync>(
     ensures err { IfErr result (λ error. FailsToCheck config error
         (F.disk file_system.old) (F.disk file_system.new)) }
 {
-    let mut builder = match find(rt, alloc, config, file_system) {
+    let builder = match find(rt, alloc, config, file_system) {
         Ok(builder) => builder,
         Err(error) => return Err(error),
     };
     let factory = ConsistencyCheckerFactory::new(alloc);
-    match builder.recover(rt, alloc, file_system, &factory) {
+    match builder.recover_for_reading(rt, alloc, file_system, &factory) {
         Ok((append, rewrite)) => Ok(CheckedQueues { append, rewrite }),
         Err(error) => Err(error),
     }

@@ -4,6 +4,8 @@
 #![tactic(auto)]
 
 #[cfg(test)]
+mod aligned;
+#[cfg(test)]
 mod checks;
 #[cfg(test)]
 mod dumps;

@@ -22,8 +22,8 @@ write_change-requires-clause-decided g c =
     let same = same_put c.args.group old put c.new.result.voter c.requires.fresh c.new.ensures c.in-Ok.ensures.own c.in-Ok.ensures.others in
     subst (λ (v : State). ChangesEach v c.args.request.now c.args.change.now) (sym (kept_is put c.args.group c.in-Some.outline.now c.in-Some.ensures.value ∙ same c.args.group)) c.requires.decided
 
-pub returns-in-Some-clause-steps : goal.returns-in-Some-clause-steps
-returns-in-Some-clause-steps g c =
+pub returns-clause-steps : goal.returns-clause-steps
+returns-clause-steps g c =
     let old = c.args.self.now.outlines in
     let put = c.put.new.self in
     let same = same_put c.args.group old put c.new.result.voter c.requires.fresh c.new.ensures c.in-Ok.ensures.own c.in-Ok.ensures.others in
@@ -33,8 +33,8 @@ returns-in-Some-clause-steps g c =
     (steps_lent (c.args.group, c.args.request.now) put (c.get_mut.follows.lender left) c.in-Some.outline.now left c.in-Some.ensures.value (has_lent _ _ c.in-Some.is (c.get_mut.follows.holds left)) becomes))
     c.write_change.ensures.becomes
 
-pub returns-in-Some-clause-same : goal.returns-in-Some-clause-same
-returns-in-Some-clause-same g c =
+pub returns-clause-same : goal.returns-clause-same
+returns-clause-same g c =
     let old = c.args.self.now.outlines in
     let put = c.put.new.self in
     let same = same_put c.args.group old put c.new.result.voter c.requires.fresh c.new.ensures c.in-Ok.ensures.own c.in-Ok.ensures.others in

@@ -520,6 +520,8 @@ fn short(entry: &[u8], size: usize, uneven: bool) -> Result<()> {
 }
 
 fn main() -> Result<()> {
+    // (an open of the engine starts a thread, and from a program's first thread on each call of the heap takes a lock)
+    std::thread::scope(|scope| scope.spawn(|| {}).join().unwrap());
     let entries = entries_of();
     idle(&entries[0], 10, 100_000)?;
     idle(&entries[0], 100_000, 20)?;

@@ -7,3 +7,4 @@ pub mod Owed
 pub mod Coming
 pub mod Purged
 pub mod Growing
+pub mod One

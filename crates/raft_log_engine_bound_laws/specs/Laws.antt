@@ -1,5 +1,7 @@
 -- When nothing is refused as `Full`.
-use Rattle.std.specs.Prelude.{◌≢◌, ◌<◌, ◌≤◌, ◌^◌, ◌++◌, ℕ, Bool, List, [], ◌∷◌, None}
+use Rattle.std.specs.Prelude.{◌≢◌, ◌<◌, ◌≤◌, ◌^◌, ◌++◌, ◌+◌, ℕ, Bool, List, [], ◌∷◌, length, None}
+use Rattle.raft_log_model_laws.specs.Item.Item.{Put}
+use Rattle.raft_log_model_laws.specs.Item.Record.{Plain}
 use Rattle.raft_log_model_laws.specs.Groups.{appended, taken}
 use Rattle.raft_log_record_base.specs.declared.errors.Error.{Error}
 use Rattle.raft_log_record_base.specs.declared.errors.Error.TheVariants as errors
@@ -38,6 +40,11 @@ pub record KnownPairsGrow : Type 0 where
       → ((g : ℕ) → AreShortRuns (appended g (said ∷ [])))
       → AreKnown (taken m (said ∷ [])) (λ g. known g ++ puts_of (appended g (said ∷ [])))
 
+-- So the groups are modest of a log with one value and nothing else, if that and its key have less than 2 ^ 53 bytes.
+abbrev pub OneValueIsModest : Type 0
+OneValueIsModest = (g : ℕ) (k value : List ℕ) → length k + length value < 2 ^ 53
+    → AreModest (taken (λ h s. None) (Plain (record { group = g; item = Put k value } ∷ []) ∷ []))
+
 -- The record of the marks that are owed takes no more bytes than a record of the items that they came of may take.
 abbrev pub MarksTakeNoMore : Type 0
 MarksTakeNoMore = (items : List LogItem) (v : ℕ → Shown) (b : Batch) → CameOf items v → SaysMarks v b
@@ -50,8 +57,8 @@ pub record MarksComeOfBatches : Type 0 where
   pub written : (items : List LogItem) (b : Batch) (sync : Bool) (s t : Shows) → CameOf items s.tables
       → Writes b sync s t → CameOf (items ++ b.items) t.tables
 
--- A purge isn't refused as `Full` where the log's groups are modest, and the marks that are owed came of items of
--- which a record has fewer than 2 ^ 56 bytes by its bound.
+-- A purge isn't refused as `Full` where the log's groups are modest, and the marks that were owed before it came of
+-- items of which a record has fewer than 2 ^ 56 bytes by its bound.
 abbrev pub ModestLogsArePurged : Type 0
 ModestLogsArePurged = (home : Home) (m : LogMap) (items : List LogItem) (error : Error) (s t : Shows)
     → AreModest m → CameOf items s.tables → record_bound items [] < 2 ^ 56

@@ -9,6 +9,7 @@ ghost use Rattle.raft_log_engine_bound_laws.specs.Laws.{
   MarksTakeNoMore,
   ModestLogsArePurged,
   ModestLogsMakeRecords,
+  OneValueIsModest,
 };
 
 /// A batch whose record has fewer than 2^56 bytes by its bound isn't refused as `Full`.
@@ -29,6 +30,11 @@ pub fn known_logs_are_modest()
 /// What is known of a log grows by what its batches put.
 pub fn known_pairs_grow()
     ensures { KnownPairsGrow }
+{}
+
+/// The groups are modest of a log with one value, which is short, and nothing else.
+pub fn one_value_is_modest()
+    ensures { OneValueIsModest }
 {}
 
 /// The record of the marks that are owed takes no more than one of the items that they came of may take.

@@ -194,11 +194,6 @@ module _ {M : Type 0} (reading : List ℕ → Option M) (s t : Shows) (g : ℕ) 
       exact = λ home m pending h. (read_told home m pending h es messages asked read).1;
     }
 
-    -- memory ran out behind them
-    pub fetch_unfit : (es : List EntryIndex) (messages : List M) (error : Error) → error ≡ errors.Memory → AreToRead s g begin end max es → ReadsEntries reading s.pipes es s.cache t.cache messages
-        → FailsToFetch reading g begin end s t error
-    fetch_unfit es messages error is asked read = record { lived = lived; stays = fetch_stays es messages asked read; why = inr (λ home m pending h. inl is) }
-
     nothing_untold : (home : Home) (m : LogMap) (pending : List Said) (h : Holds home s m pending) (es : List EntryIndex) (error : Error) → es ≡ [] → AreUnread reading s.pipes es s.cache t.cache error
         → IsOfLog h.state t.cache × IsOneUntold reading g begin end s (taken m pending) error
     nothing_untold home m pending h es error none unread =

@@ -88,10 +88,8 @@ impl<P: PipeLog> LogEngine<P> {
             return Err(Error::Failed);
         }
         let entries = self.entries_to(raft_group_id, begin, end, max_size)?;
-        let mut messages = self
-            .cache
-            .read_entries(self.alloc, &self.pipes, entries.as_slice())?;
-        vec.append(&mut messages)?;
+        self.cache
+            .read_entries_to(self.alloc, &self.pipes, entries.as_slice(), vec)?;
         Ok(entries.len())
     }
 

@@ -1,12 +1,13 @@
 -- A name's number: that it is found where it is, and that the one that is written is read back.
-use Rattle.std.proofs.Common.{◌≡◌, ℕ, zero, suc, ◌+◌, ◌-◌, ◌^◌, ◌<◌, ◌≤◌, Bool, true, false, eqb, cond, List, [], ◌∷◌, ◌++◌, length, get_or, take, drop, replicate, Some, None, Result, Ok, Err, refl, sym, ap, subst, ◌∙◌, arith}
+use Rattle.std.proofs.Common.{◌≡◌, ℕ, zero, suc, ◌+◌, ◌-◌, ◌^◌, ◌<◌, ◌≤◌, Bool, true, false, eqb, nat_lt, cond, List, [], ◌∷◌, ◌++◌, length, get_or, take, drop, replicate, Some, None, Result, Ok, Err, refl, sym, ap, subst, ◌∙◌, inl, inr, arith}
 use Rattle.std.specs.Result.{result_ok}
 use Rattle.std.specs.Prelude.{IsUtf8}
 use Rattle.std.specs.Str.{IsCharBoundary}
 use Rattle.std.specs.Str.Parse.{AllDigits, IsNumeral, ParsesUnsigned, digits_value, without_leading_plus}
 use Rattle.std.specs.Fmt.{decimal, padded_integral, format_spec, char_count}
 use Rattle.std.proofs.Math.Seq.{take-append_seam}
-use Rattle.std.proofs.lemmas.List.{append-nil, length-take-le, length-append, length-replicate, get_or-append-add, get_or-take}
+use Rattle.std.proofs.lemmas.List.{append-nil, length-take-le, length-append, length-replicate, get_or-append-add, get_or_append_left, get_or-take}
+use Rattle.std.proofs.lemmas.Bool.{cases_Bool, lt-ltb, ltb-true}
 use Rattle.std.proofs.lemmas.Str.{IsCharBoundary-after_ascii}
 use Rattle.std.proofs.lemmas.Str.Parse.{IsNumeralModel, numerals_by_value, tells_digits, digit_at, digits_value_short, without_leading_plus_none}
 use Rattle.std.proofs.lemmas.Option.{same_Some, none-some}
@@ -15,7 +16,7 @@ use Rattle.std.specs.Prelude.{codes}
 use Rattle.raft_log_record_base.specs.declared.pipe_log.LogQueue.{LogQueue}
 use Rattle.raft_log_record_base.specs.declared.pipe_log.LogQueue.TheVariants.{Append, Rewrite}
 use Rattle.raft_log_record_base.specs.declared.pipe_log.FileId.{FileId}
-use Rattle.raft_log_file_format.specs.Name.{EndsWith, IsNumberText, IsNamed, sixteen_digits, suffix_of, OneQueueAName}
+use Rattle.raft_log_file_format.specs.Name.{EndsWith, IsNumberText, IsNamed, name_limit, number_text, signed_digits, sixteen_digits, suffix_of, OneQueueAName}
 
 own : IsNumeralModel (AllDigits 10) (digits_value 10)
 own = numerals_by_value (AllDigits 10) tells_digits
@@ -90,6 +91,67 @@ written_number suffix n fit some =
       digits = subst (IsNumeral 10) (sym whole) digits.0;
       value = sym (ap (digits_value 10) whole ∙ digits.1);
     }
+
+-- ---- the name that has a sign
+
+pub padded_signed : (n : ℕ) → padded_integral (format_spec 32 0 5 16 (2 ^ 64 - 1)) false [] (decimal n) ≡ signed_digits n
+unfolding padded_integral char_count
+padded_signed n =
+    let left : ℕ = 16 - length (decimal n) - 1 - 0 in
+    let same : left ≡ 15 - length (decimal n) = omega arith in
+    ap (λ (l : List ℕ). 43 ∷ (replicate left 48 ++ l)) (append-nil (decimal n)) ∙ ap (λ (k : ℕ). 43 ∷ (replicate k 48 ++ decimal n)) same
+
+fifteen : (n : ℕ) → n < 10 ^ 15 → length (signed_digits n) ≡ 16
+fifteen n fit =
+    let short = length-decimal-le 15 n (omega arith) fit (omega (arith, fit)) in
+    omega (arith, short, length-append (replicate (15 - length (decimal n)) 48) (decimal n), length-replicate {A = ℕ} (15 - length (decimal n)) 48)
+
+-- a sign in front leaves the number
+signed_number : (suffix : List ℕ) (n : ℕ) → n < 10 ^ 15 → 0 < length suffix → IsNumberText (signed_digits n ++ suffix) n
+signed_number suffix n fit some =
+    let digits = zeros (15 - length (decimal n)) n (omega (arith, fit)) in
+    let front : take 16 (signed_digits n ++ suffix) ≡ signed_digits n = ap (λ (k : ℕ). take k (signed_digits n ++ suffix)) (sym (fifteen n fit)) ∙ take-append_seam _ _ in
+    let whole : without_leading_plus (take 16 (signed_digits n ++ suffix)) ≡ replicate (15 - length (decimal n)) 48 ++ decimal n = ap without_leading_plus front in
+    record {
+      longer = omega (arith, fifteen n fit, some, length-append (signed_digits n) suffix);
+      digits = subst (IsNumeral 10) (sym whole) digits.0;
+      value = sym (ap (digits_value 10) whole ∙ digits.1);
+    }
+
+-- with a sign, where there is room for one
+pub text_signed : (n : ℕ) → n < 10 ^ 15 → number_text true n ≡ signed_digits n
+text_signed n fit = ap (λ (b : Bool). cond b (signed_digits n) (sixteen_digits n)) (lt-ltb n (10 ^ 15) fit)
+
+pub text_unsigned : (n : ℕ) → (n < 10 ^ 15 → ⊥) → number_text true n ≡ sixteen_digits n
+text_unsigned n over = elim (cases_Bool (nat_lt n (10 ^ 15))) [
+  | inl under ↦ absurd (over (ltb-true n (10 ^ 15) under))
+  | inr not ↦ ap (λ (b : Bool). cond b (signed_digits n) (sixteen_digits n)) not
+]
+
+-- a number that stands in a name is read back, with a sign or without one
+pub written_text : (signed : Bool) (suffix : List ℕ) (n : ℕ) → n < 10 ^ 16 → 0 < length suffix → IsNumberText (number_text signed n ++ suffix) n
+written_text false suffix n fit some = written_number suffix n fit some
+written_text true suffix n fit some = elim (cases_Bool (nat_lt n (10 ^ 15))) [
+  | inl under ↦ (let room = ltb-true n (10 ^ 15) under in
+      subst (λ (l : List ℕ). IsNumberText (l ++ suffix) n) (sym (text_signed n room)) (signed_number suffix n room some))
+  | inr not ↦ subst (λ (l : List ℕ). IsNumberText (l ++ suffix) n) (sym (ap (λ (b : Bool). cond b (signed_digits n) (sixteen_digits n)) not)) (written_number suffix n fit some)
+]
+
+-- with a sign and without one they are two
+two_signs : (suffix : List ℕ) (m n : ℕ) → m < 10 ^ 15 → n < 10 ^ 16 → number_text true m ++ suffix ≡ sixteen_digits n ++ suffix → ⊥
+two_signs suffix m n room fit same =
+    let digits = zeros (16 - length (decimal n)) n (omega (arith, fit)) in
+    let first = digit_at (sixteen_digits n) 0 digits.0.1 digits.0.0 in
+    let there : get_or (sixteen_digits n ++ suffix) 0 0 ≡ 43 = ap (λ (l : List ℕ). get_or l 0 0) (sym same ∙ ap (λ (l : List ℕ). l ++ suffix) (text_signed m room)) in
+    let kept = get_or_append_left (sixteen_digits n) suffix 0 0 (omega (arith, sixteen n fit)) in
+    omega (arith, first, there, kept)
+
+-- whether there is a sign in front can be seen
+pub signs_apart : (a b : Bool) (suffix : List ℕ) (m n : ℕ) → m < name_limit a → n < name_limit b → number_text a m ++ suffix ≡ number_text b n ++ suffix → a ≡ b
+signs_apart true true suffix m n room fit same = refl
+signs_apart false false suffix m n room fit same = refl
+signs_apart true false suffix m n room fit same = absurd (two_signs suffix m n room fit same)
+signs_apart false true suffix m n fit room same = absurd (two_signs suffix n m room fit (sym same))
 
 -- ---- names of the two queues
 

@@ -1,5 +1,5 @@
 -- Names of log files: sixteen digits, and an end that says what the file is.
-use Rattle.std.specs.Prelude.{◌≡◌, ℕ, ◌<◌, ◌≤◌, ◌-◌, ◌^◌, List, ◌∷◌, ◌++◌, length, take, codes, replicate}
+use Rattle.std.specs.Prelude.{◌≡◌, ℕ, ◌<◌, ◌≤◌, ◌-◌, ◌^◌, Bool, true, false, cond, nat_lt, List, ◌∷◌, ◌++◌, length, take, codes, replicate}
 use Rattle.std.specs.Str.Parse.{IsNumeral, digits_value, without_leading_plus}
 use Rattle.std.specs.Fmt.{decimal}
 use Rattle.raft_log_record_base.specs.declared.errors.Error.{Error}
@@ -35,6 +35,20 @@ reserved_suffix = codes ".raftlog.reserved"
 -- the number in sixteen digits, with zeros in front
 abbrev pub sixteen_digits : ℕ → List ℕ
 sixteen_digits n = replicate (16 - length (decimal n)) 48 ++ decimal n
+
+-- a plus, and the number in fifteen digits, with zeros in front
+abbrev pub signed_digits : ℕ → List ℕ
+signed_digits n = 43 ∷ (replicate (15 - length (decimal n)) 48 ++ decimal n)
+
+-- below which number there are names with a plus in front, or without one
+abbrev pub name_limit : Bool → ℕ
+name_limit true = 10 ^ 15
+name_limit false = 10 ^ 16
+
+-- the number as it stands in a name, with a plus in front or without one; one of sixteen digits has none
+abbrev pub number_text : Bool → ℕ → List ℕ
+number_text true n = cond (nat_lt n (10 ^ 15)) (signed_digits n) (sixteen_digits n)
+number_text false n = sixteen_digits n
 
 -- the name that is built for a file
 abbrev pub file_name : FileId → List ℕ

@@ -7,5 +7,8 @@ pub mod name;
 pub mod padding;
 
 pub use header::LogFileFormat;
-pub use name::{FileNameExt, build_reserved_file_name, parse_reserved_file_name};
+pub use name::{
+    FileNameExt, build_reserved_file_name, build_signed_file_name, build_signed_file_path,
+    build_signed_reserved_file_name, parse_reserved_file_name,
+};
 pub use padding::is_zero_padded;

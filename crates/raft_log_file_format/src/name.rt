@@ -1,8 +1,8 @@
 //! Names of log files: the number in sixteen digits, and an end that says the queue.
-ghost use Rattle.std.specs.Prelude.{◌≡◌, ◌↔◌, ◌≤◌, ◌<◌, ◌^◌, ◌∷◌, ◌++◌, ℕ, length, IsTrue, IfOk, IfErr, Some, Err};
+ghost use Rattle.std.specs.Prelude.{◌≡◌, ◌↔◌, ◌≤◌, ◌<◌, ◌^◌, ◌∷◌, ◌++◌, ℕ, true, length, IsTrue, IfOk, IfErr, Some, Err};
 ghost use Rattle.std.specs.String.{string_bytes};
 ghost use Rattle.raft_log_record_base.specs.declared.errors.Error.TheVariants.{NumberRange, Memory};
-ghost use Rattle.raft_log_file_format.specs.Name.{EndsWith, IsNumberText, IsNamed, IsNameRefusal, suffix_of, reserved_suffix, sixteen_digits};
+ghost use Rattle.raft_log_file_format.specs.Name.{EndsWith, IsNumberText, IsNamed, IsNameRefusal, number_text, suffix_of, reserved_suffix, sixteen_digits};
 
 use raft_log_record_base::{Error, FileId, FileSeq, LogQueue, Result};
 use std::alloc::Global;
@@ -11,6 +11,8 @@ use std::alloc::Global;
 const LOG_SEQ_WIDTH: usize = 16;
 /// The least number that has no name.
 const LOG_SEQ_LIMIT: FileSeq = 10_000_000_000_000_000;
+/// The least number that leaves no room for a sign in a name.
+const LOG_SIGNED_SEQ_LIMIT: FileSeq = 1_000_000_000_000_000;
 /// The end of an Append file's name.
 const LOG_APPEND_SUFFIX: &str = ".raftlog";
 /// The end of a Rewrite file's name.
@@ -90,6 +92,18 @@ fn name_with(alloc: Global, seq: FileSeq, suffix: &str) -> Result<String>
     Ok(format!(in alloc; "{seq:016}{suffix}")?)
 }
 
+/// The name with this number and this end, and a sign in front, where the number leaves room for one.
+fn signed_name_with(alloc: Global, seq: FileSeq, suffix: &str) -> Result<String>
+    ensures ok { IfOk result (λ name. string_bytes name ≡ number_text true seq ++ suffix.now) }
+    ensures err { IfErr result (λ error. IsNameRefusal seq error) }
+    ensures range { (result ≡ Err NumberRange) ↔ (10 ^ 16 ≤ seq) }
+{
+    if seq < LOG_SIGNED_SEQ_LIMIT {
+        return Ok(format!(in alloc; "{seq:+016}{suffix}")?);
+    }
+    name_with(alloc, seq, suffix)
+}
+
 /// What stands at the end of the names of a queue's files.
 fn suffix(queue: LogQueue) -> &'static str
     ensures value { result.now ≡ suffix_of queue }
@@ -141,6 +155,31 @@ impl FileNameExt for FileId {
     }
 }
 
+/// The name of a file with a sign in front of the number, which is read as the name without one. A number of
+/// sixteen digits leaves no room for a sign, and has the name without one; one of more is refused as
+/// `NumberRange`.
+pub fn build_signed_file_name(alloc: Global, id: FileId) -> Result<String>
+    ensures ok { IfOk result (λ name.
+        string_bytes name ≡ number_text true id.seq ++ suffix_of id.queue) }
+    ensures err { IfErr result (λ error. IsNameRefusal id.seq error) }
+    ensures range { (result ≡ Err NumberRange) ↔ (10 ^ 16 ≤ id.seq) }
+{
+    signed_name_with(alloc, id.seq, suffix(id.queue))
+}
+
+/// The path in a directory of the file that has the name with a sign in front. Refused as the name is.
+pub fn build_signed_file_path(alloc: Global, id: FileId, dir: &str) -> Result<String>
+    ensures ok { IfOk result (λ path.
+        string_bytes path ≡ dir.now ++ 47 ∷ (number_text true id.seq ++ suffix_of id.queue)) }
+    ensures err { IfErr result (λ error. IsNameRefusal id.seq error) }
+    ensures range { (result ≡ Err NumberRange) ↔ (10 ^ 16 ≤ id.seq) }
+{
+    match build_signed_file_name(alloc, id) {
+        Ok(name) => path_to(alloc, dir, name.as_str()),
+        Err(error) => Err(error),
+    }
+}
+
 /// The path of a name in a directory.
 fn path_to(alloc: Global, dir: &str, name: &str) -> Result<String>
     ensures ok { IfOk result (λ path. string_bytes path ≡ dir.now ++ 47 ∷ name.now) }
@@ -168,4 +207,14 @@ pub fn build_reserved_file_name(alloc: Global, seq: FileSeq) -> Result<String>
     ensures range { (result ≡ Err NumberRange) ↔ (10 ^ 16 ≤ seq) }
 {
     name_with(alloc, seq, LOG_APPEND_RESERVED_SUFFIX)
+}
+
+/// The name of a file that is kept to be used, with a sign in front of the number, where that leaves room for
+/// one. A number of more than sixteen digits is refused as `NumberRange`.
+pub fn build_signed_reserved_file_name(alloc: Global, seq: FileSeq) -> Result<String>
+    ensures ok { IfOk result (λ name. string_bytes name ≡ number_text true seq ++ reserved_suffix) }
+    ensures err { IfErr result (λ error. IsNameRefusal seq error) }
+    ensures range { (result ≡ Err NumberRange) ↔ (10 ^ 16 ≤ seq) }
+{
+    signed_name_with(alloc, seq, LOG_APPEND_RESERVED_SUFFIX)
 }

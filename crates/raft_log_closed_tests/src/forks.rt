@@ -110,6 +110,16 @@ fn of_a_doubled_number_the_spill_directory_has_the_file(rt: HostRuntime) -> Resu
 }
 
 #[test]
+fn a_file_with_a_sign_is_copied_under_its_number(rt: HostRuntime) -> Result<(), Fail> {
+    let files = ["d/+000000000000001.raftlog", "s/+000000000000007.rewrite"];
+    let mut system = holding(rt.alloc(), &files)?;
+    let wanted = ["t/0000000000000007.rewrite", "t/0000000000000001.raftlog"];
+    assert!(rt; are(copied(&rt, &mut system)?.as_slice(), &wanted));
+    assert!(rt; byte_of(&system, "t/0000000000000007.rewrite")? == 1);
+    Ok(())
+}
+
+#[test]
 fn usual_settings_are_refused(rt: HostRuntime) -> Result<(), Fail> {
     let config = Config::default(rt.alloc());
     assert!(rt; refuses(&rt, &config, "t", "enable_log_recycle should be false")?);

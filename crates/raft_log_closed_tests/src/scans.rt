@@ -40,14 +40,6 @@ fn are(files: &[File], wanted: &[(u64, usize)]) -> bool {
             .all(|(file, one)| file.seq == one.0 && file.path_id == one.1)
 }
 
-// Whether this is a corruption with this text.
-fn is_corruption(error: &Error, text: &str) -> bool {
-    match error {
-        Error::Corruption(found) => found.as_str() == text,
-        _ => false,
-    }
-}
-
 #[test]
 fn directories_are_made(rt: HostRuntime) -> Result<(), Fail> {
     let mut system = MemoryFileSystem::new(rt.alloc());
@@ -103,14 +95,51 @@ fn the_last_file_alone_is_opened_to_be_written(rt: HostRuntime) -> Result<(), Fa
     Ok(())
 }
 
+// Behind the places of the two directories come theirs for names with a sign.
+#[test]
+fn files_keep_names_with_a_sign(rt: HostRuntime) -> Result<(), Fail> {
+    let files = [
+        "d/+000000000000001.raftlog",
+        "s/+000000000000002.raftlog",
+        "s/+000000000000123.raftlog.reserved",
+        "d/+999999999999999.rewrite",
+        "d/1000000000000000.rewrite",
+    ];
+    let scanned = scanned(rt.alloc(), &files)?;
+    assert!(rt; are(scanned.append.as_slice(), &[(1, 2), (2, 3)]));
+    assert!(rt;
+        are(
+            scanned.rewrite.as_slice(),
+            &[(999_999_999_999_999, 2), (1_000_000_000_000_000, 0)],
+        )
+    );
+    assert!(rt; are(scanned.reserved.as_slice(), &[(123, 3)]));
+    Ok(())
+}
+
+#[test]
+fn a_number_with_and_without_a_sign_is_doubled(rt: HostRuntime) -> Result<(), Fail> {
+    let files = [
+        "d/0000000000000001.raftlog",
+        "d/+000000000000002.raftlog",
+        "s/0000000000000002.raftlog",
+        "d/0000000000000003.raftlog",
+    ];
+    let scanned = scanned(rt.alloc(), &files)?;
+    assert!(rt; are(scanned.append.as_slice(), &[(2, 2), (3, 0)]));
+    Ok(())
+}
+
 #[test]
 fn misnamed_files_are_told(rt: HostRuntime) -> Result<(), Fail> {
-    let files = ["d/+000000000000001.raftlog"];
-    let told = match scanned(rt.alloc(), &files) {
-        Err(error) => is_corruption(&error, "misnamed log file: +000000000000001.raftlog"),
-        Ok(_scanned) => false,
-    };
-    assert!(rt; told);
+    for name in ["0000000000000001.a.raftlog", "+000000000000001 .raftlog"] {
+        let path = format!(in rt.alloc(); "d/{name}")?;
+        let told = match scanned(rt.alloc(), &[path.as_str()]) {
+            Err(Error::Corruption(text)) => text.as_str().ends_with(name),
+            _ => false,
+        };
+        assert!(rt; told, "{name}");
+    }
     Ok(())
 }
 

@@ -3,7 +3,7 @@
 use Rattle.std.specs.Prelude.{codes, min}
 use Rattle.std.specs.Fmt.{decimal}
 use Rattle.std.specs.Str.Parse.{AllDigits}
-use Rattle.std.proofs.Common.{◌≡◌, ℕ, zero, suc, ◌+◌, ◌-◌, ◌^◌, ◌<◌, Bool, true, false, cond, List, [], ◌∷◌, ◌++◌, length, get_or, drop, replicate, refl, sym, ◌∙◌, ap, subst, inl, inr, arith, nat_eq, length-append}
+use Rattle.std.proofs.Common.{◌≡◌, ℕ, zero, suc, ◌+◌, ◌-◌, ◌^◌, ◌<◌, Bool, true, false, cond, nat_lt, List, [], ◌∷◌, ◌++◌, length, get_or, drop, replicate, refl, sym, ◌∙◌, ap, subst, inl, inr, arith, nat_eq, length-append}
 use Rattle.std.proofs.lemmas.Bool.{cases_lt, cases_Bool, false≢true}
 use Rattle.std.proofs.lemmas.Bool.Decides.{Decides-eqb}
 use Rattle.std.proofs.lemmas.Fmt.{decimal_is_IsNumeral}
@@ -14,8 +14,10 @@ use Rattle.std.proofs.lemmas.Str.Parse.{digit_at}
 use Rattle.raft_log_record_base.specs.declared.pipe_log.LogQueue.{LogQueue}
 use Rattle.raft_log_record_base.specs.declared.pipe_log.LogQueue.TheVariants.{Append, Rewrite}
 use Rattle.raft_log_disk.specs.Disk.{IsPathIn, IsPlain}
-use Rattle.raft_log_file_format.specs.Name.{IsNamed, EndsWith, file_name, sixteen_digits, suffix_of}
-use Rattle.raft_log_file_format.proofs.Names.{written_number}
+use Rattle.raft_log_file_format.specs.Name.{IsNamed, EndsWith, number_text, reserved_suffix, signed_digits, sixteen_digits, suffix_of}
+use Rattle.raft_log_file_format.proofs.Names.{written_text}
+use Rattle.raft_log_file_queue.specs.Layout.{has_sign, plain_place}
+use Rattle.raft_log_file_queue.proofs.Places.{plain_first}
 use Rattle.raft_log_file_layout.specs.Paths.{IsPathWith, reserved_suffix_of, directory_at, numbered_path, reserved_path}
 
 -- The name behind the last slash.
@@ -77,7 +79,7 @@ no_slash (b ∷ bs) none (suc k) less is = elim (cases_Bool (nat_eq b 47)) [
 ]
 
 -- names without a slash have none when joined
-plain_append : (a b : List ℕ) → IsPlain a → IsPlain b → IsPlain (a ++ b)
+pub plain_append : (a b : List ℕ) → IsPlain a → IsPlain b → IsPlain (a ++ b)
 plain_append a b first next k less is = elim (cases_lt k (length a)) [
   | inl here ↦ first k here (sym (get_or_append_left a b 0 k here) ∙ is)
   | inr beyond ↦ (let long = length-append a b in next (k - length a) (omega (arith, less, beyond, long))
@@ -94,27 +96,67 @@ digits_plain : (n : ℕ) → n < 10 ^ 16 → IsPlain (sixteen_digits n)
 digits_plain n fit k less is = (let digit = digit_at (sixteen_digits n) k
     (padded_digits (16 - length (decimal n)) n (omega (arith, fit))) less in omega (arith, digit, is))
 
+-- nor with a plus in front
+signed_plain : (n : ℕ) → n < 10 ^ 16 → IsPlain (signed_digits n)
+signed_plain n fit zero less is = omega (arith, is)
+signed_plain n fit (suc k) less is =
+    (let digit = digit_at (replicate (15 - length (decimal n)) 48 ++ decimal n) k
+    (padded_digits (15 - length (decimal n)) n (omega (arith, fit))) (omega (arith, less)) in
+    omega (arith, digit, is))
+
+either_plain : (b : Bool) (n : ℕ) → n < 10 ^ 16 → IsPlain (cond b (signed_digits n) (sixteen_digits n))
+either_plain true n fit = signed_plain n fit
+either_plain false n fit = digits_plain n fit
+
+pub text_plain : (signed : Bool) (n : ℕ) → n < 10 ^ 16 → IsPlain (number_text signed n)
+text_plain true n fit = either_plain (nat_lt n (10 ^ 15)) n fit
+text_plain false n fit = digits_plain n fit
+
+-- nor are the ends of names
+pub suffix_plain : (queue : LogQueue) → IsPlain (suffix_of queue)
+unfolding has_no_slash
+suffix_plain Append = no_slash (codes ".raftlog") refl
+suffix_plain Rewrite = no_slash (codes ".rewrite") refl
+
+pub reserved_plain : IsPlain reserved_suffix
+unfolding has_no_slash
+reserved_plain = no_slash (codes ".raftlog.reserved") refl
+
+-- a name without a sign begins with a digit
+pub no_plus : (suffix : List ℕ) (n : ℕ) → n < 10 ^ 16 → get_or (sixteen_digits n ++ suffix) 0 0 ≡ 43 → ⊥
+no_plus suffix n fit plus =
+    let k : ℕ = 16 - length (decimal n) in
+    let some : 0 < length (sixteen_digits n) =
+    omega (arith, (decimal_is_IsNumeral n (omega (arith, fit))).0.0, length-append (replicate k 48) (decimal n)) in
+    let digit = digit_at (sixteen_digits n) 0 (padded_digits k n (omega (arith, fit))) some in
+    omega (arith, digit, plus, get_or_append_left (sixteen_digits n) suffix 0 0 some)
+
 -- The paths that are built.
+
+-- there is a directory in each place, where there are some at all
+has_directory : (directories : List (List ℕ)) (place : ℕ) → 0 < length directories
+    → Contains directories (get_or directories place (get_or directories 0 []))
+has_directory directories place some = elim (cases_lt place (length directories)) [
+  | inl there ↦ Contains-get_or directories place (get_or directories 0 []) there
+  | inr beyond ↦ subst (Contains directories) (sym (get_or_past directories place
+      (get_or directories 0 []) beyond)) (Contains-get_or directories 0 [] some)
+]
 
 -- a number's digits and a suffix behind a directory are that number's path
 written_path : (suffix : List ℕ) (directories : List (List ℕ)) (place n : ℕ) → 0 < length directories
     → n < 10 ^ 16 → 0 < length suffix → has_no_slash suffix ≡ true
-    → IsPathWith suffix directories n (directory_at directories place ++ 47 ∷ (sixteen_digits n ++ suffix))
-written_path suffix directories place n some fit ended slashless = record {
-  directory = directory_at directories place;
-  listed = listed;
-  name = sixteen_digits n ++ suffix;
-  named = (written_number suffix n fit ended, (sixteen_digits n, refl));
-  plain = plain_append (sixteen_digits n) suffix (digits_plain n fit) (no_slash suffix slashless);
-  joined = refl;
-}
-  where
-    listed : Contains directories (directory_at directories place)
-    listed = elim (cases_lt place (length directories)) [
-      | inl there ↦ Contains-get_or directories place (get_or directories 0 []) there
-      | inr beyond ↦ subst (Contains directories) (sym (get_or_past directories place
-          (get_or directories 0 []) beyond)) (Contains-get_or directories 0 [] some)
-    ]
+    → IsPathWith suffix directories n (directory_at directories place
+    ++ 47 ∷ (number_text (has_sign (length directories) place) n ++ suffix))
+written_path suffix directories place n some fit ended slashless =
+    let signed : Bool = has_sign (length directories) place in
+    record {
+      directory = directory_at directories place;
+      listed = has_directory directories (plain_place (length directories) place) some;
+      name = number_text signed n ++ suffix;
+      named = (written_text signed suffix n fit ended, (number_text signed n, refl));
+      plain = plain_append (number_text signed n) suffix (text_plain signed n fit) (no_slash suffix slashless);
+      joined = refl;
+    }
 
 -- the path that is built for a queue's file is that file's
 pub numbered_is : (queue : LogQueue) (directories : List (List ℕ)) (place n : ℕ) → 0 < length directories
@@ -125,23 +167,33 @@ numbered_is Append directories place n some fit = written_path (codes ".raftlog"
 numbered_is Rewrite directories place n some fit = written_path (codes ".rewrite") directories place n some
     fit (omega arith) refl
 
+-- the directory in its first place
+pub directory_first : (directories : List (List ℕ)) (place : ℕ) → place < length directories
+    → directory_at directories place ≡ get_or directories place []
+directory_first directories place inside =
+    ap (λ (k : ℕ). get_or directories k (get_or directories 0 []))
+    (plain_first (length directories) place inside)
+    ∙ get_or_default directories place (get_or directories 0 []) [] inside
+
 -- the path of a number in a directory lies there
 pub numbered_lies : (queue : LogQueue) (directories : List (List ℕ)) (place n : ℕ) → 0 < length directories
     → place < length directories → n < 10 ^ 16
     → IsPathIn (get_or directories place []) (numbered_path queue directories place n)
 unfolding numbered_is written_path
-numbered_lies Append directories place n some inside fit = record {
-  name = file_name (record { queue = Append; seq = n });
-  joined = ap (λ (d : List ℕ). d ++ 47 ∷ file_name (record { queue = Append; seq = n }))
-      (get_or_default directories place (get_or directories 0 []) [] inside);
-  plain = (numbered_is Append directories place n some fit).plain;
-}
-numbered_lies Rewrite directories place n some inside fit = record {
-  name = file_name (record { queue = Rewrite; seq = n });
-  joined = ap (λ (d : List ℕ). d ++ 47 ∷ file_name (record { queue = Rewrite; seq = n }))
-      (get_or_default directories place (get_or directories 0 []) [] inside);
-  plain = (numbered_is Rewrite directories place n some fit).plain;
-}
+numbered_lies Append directories place n some inside fit =
+    let name : List ℕ = number_text (has_sign (length directories) place) n ++ suffix_of Append in
+    record {
+      name = name;
+      joined = ap (λ (d : List ℕ). d ++ 47 ∷ name) (directory_first directories place inside);
+      plain = (numbered_is Append directories place n some fit).plain;
+    }
+numbered_lies Rewrite directories place n some inside fit =
+    let name : List ℕ = number_text (has_sign (length directories) place) n ++ suffix_of Rewrite in
+    record {
+      name = name;
+      joined = ap (λ (d : List ℕ). d ++ 47 ∷ name) (directory_first directories place inside);
+      plain = (numbered_is Rewrite directories place n some fit).plain;
+    }
 
 -- a reserved file's path is that of a file with the reserved suffix
 reserved_written : (queue : LogQueue) (directories : List (List ℕ)) (place n : ℕ) → 0 < length directories
@@ -150,11 +202,12 @@ reserved_written : (queue : LogQueue) (directories : List (List ℕ)) (place n :
     ++ codes ".reserved")
 reserved_written queue directories place n some fit ended slashless =
     let kept : List ℕ = codes ".reserved" in
+    let text : List ℕ = number_text (has_sign (length directories) place) n in
     let joined : numbered_path queue directories place n ++ kept ≡ directory_at directories place
-    ++ 47 ∷ (sixteen_digits n ++ reserved_suffix_of queue) =
-    append_assoc (directory_at directories place) (47 ∷ (sixteen_digits n ++ suffix_of queue)) kept
+    ++ 47 ∷ (text ++ reserved_suffix_of queue) =
+    append_assoc (directory_at directories place) (47 ∷ (text ++ suffix_of queue)) kept
     ∙ ap (λ (l : List ℕ). directory_at directories place ++ 47 ∷ l)
-    (append_assoc (sixteen_digits n) (suffix_of queue) kept) in
+    (append_assoc text (suffix_of queue) kept) in
     subst (IsPathWith (reserved_suffix_of queue) directories n) (sym joined)
     (written_path (reserved_suffix_of queue) directories place n some fit ended slashless)
 

@@ -1,8 +1,9 @@
 -- Under which paths the files of a queue lie: in the log's directories, by their names.
-use Rattle.std.specs.Prelude.{◌≡◌, ℕ, ◌-◌, ◌^◌, ◌⊎◌, List, [], ◌∷◌, ◌++◌, codes, min, slice_index_or, Contains}
+use Rattle.std.specs.Prelude.{◌≡◌, ℕ, ◌-◌, ◌^◌, ◌⊎◌, List, [], ◌∷◌, ◌++◌, codes, min, length, slice_index_or, Contains}
 use Rattle.raft_log_record_base.specs.declared.pipe_log.LogQueue.{LogQueue}
 use Rattle.raft_log_disk.specs.Disk.{IsPlain}
-use Rattle.raft_log_file_format.specs.Name.{IsNamed, suffix_of, file_name}
+use Rattle.raft_log_file_format.specs.Name.{IsNamed, number_text, suffix_of}
+use Rattle.raft_log_file_queue.specs.Layout.{has_sign, plain_place}
 
 -- in one of these directories, under a name with this end and this number
 pub record IsPathWith (suffix : List ℕ) (directories : List (List ℕ)) (n : ℕ) (path : List ℕ) : Type 0 where
@@ -22,14 +23,15 @@ abbrev pub IsOwnPath : LogQueue → List (List ℕ) → List ℕ → Type 0
 IsOwnPath queue directories path = (n : ℕ) × (IsPathWith (suffix_of queue) directories n path
     ⊎ IsPathWith (reserved_suffix_of queue) directories n path)
 
--- the directory in this place, or the main one, where there is none
+-- the directory that has this place, or the main one, where none has
 abbrev pub directory_at : List (List ℕ) → ℕ → List ℕ
-directory_at directories place = slice_index_or directories place (slice_index_or directories 0 [])
+directory_at directories place =
+    slice_index_or directories (plain_place (length directories) place) (slice_index_or directories 0 [])
 
 -- the path of a queue's file
 abbrev pub numbered_path : LogQueue → List (List ℕ) → ℕ → ℕ → List ℕ
-numbered_path queue directories place n =
-    directory_at directories place ++ 47 ∷ file_name (record { queue = queue; seq = n })
+numbered_path queue directories place n = directory_at directories place
+    ++ 47 ∷ (number_text (has_sign (length directories) place) n ++ suffix_of queue)
 
 -- the path of a file that a queue keeps to use it (a number above the greatest has the greatest one's)
 abbrev pub reserved_path : LogQueue → List (List ℕ) → ℕ → ℕ → List ℕ

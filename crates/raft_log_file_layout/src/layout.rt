@@ -1,13 +1,16 @@
 //! Where the files of a queue lie.
 
-ghost use Rattle.std.specs.Prelude.{◌≡◌, ◌<◌, ℕ, length, map, IfOk, IfErr};
+ghost use Rattle.std.specs.Prelude.{◌≡◌, ◌<◌, ◌^◌, ℕ, length, map, IfOk, IfErr, OnOk};
 ghost use Rattle.std.specs.String.{string_bytes};
-ghost use Rattle.raft_log_file_layout.specs.Paths.{directory_at};
+ghost use Rattle.raft_log_file_format.specs.Name.{IsNameRefusal};
+ghost use Rattle.raft_log_file_layout.specs.Paths.{directory_at, numbered_path};
 
 use super::record::LogRecord;
-use raft_log_file_format::FileNameExt;
-use raft_log_file_queue::{DEFAULT_PATH_ID, File, Paths, PipeFormat};
-use raft_log_record_base::{FileId, LogQueue, Result};
+use raft_log_file_format::{FileNameExt, build_signed_file_path};
+use raft_log_file_queue::{
+    DEFAULT_PATH_ID, File, PathId, Paths, PipeFormat, has_sign, plain_place,
+};
+use raft_log_record_base::{FileId, FileSeq, LogQueue, Result};
 use std::alloc::Global;
 
 /// What stands behind the name of a file that is kept to be used.
@@ -39,14 +42,29 @@ impl LogLayout {
         self.queue
     }
 
-    /// The directory in this place, or the main one, where there is none.
-    pub fn directory(&self, path_id: usize) -> &str
+    /// The directory that has this place, or the main one, where none has.
+    pub fn directory(&self, path_id: PathId) -> &str
         ensures { result.now ≡ directory_at (map string_bytes self.now.paths.items) path_id }
     {
-        match self.paths.get(path_id) {
+        match self.paths.get(plain_place(self.paths.len(), path_id)) {
             Some(path) => path.as_str(),
             None => self.paths[DEFAULT_PATH_ID].as_str(),
         }
+    }
+
+    /// The path of the queue's file with this number, by the place of its directory.
+    fn numbered_path(&self, alloc: Global, path_id: PathId, seq: FileSeq) -> Result<String>
+        ensures ok { IfOk result (λ path. string_bytes path
+            ≡ numbered_path self.now.queue (map string_bytes self.now.paths.items) path_id seq) }
+        ensures named { OnOk result (seq < 10 ^ 16) }
+        ensures err { IfErr result (λ error. IsNameRefusal seq error) }
+    {
+        let id = FileId::new(self.queue, seq);
+        let directory = self.directory(path_id);
+        if has_sign(self.paths.len(), path_id) {
+            return build_signed_file_path(alloc, id, directory);
+        }
+        id.build_file_path(alloc, directory)
     }
 }
 
@@ -56,7 +74,6 @@ impl PipeFormat for LogLayout {
     ghost use Rattle.raft_log_file_layout.specs.Layout.{log_format, log_paths};
     ghost use Rattle.raft_log_file_layout.specs.LayoutLaws.{is_layout};
     ghost use Rattle.raft_log_file_layout.specs.Paths.{IsOwnPath};
-    ghost use Rattle.raft_log_file_format.specs.Name.{IsNameRefusal};
     ghost use Rattle.raft_log_file_queue.specs.Layout.{path_of};
 
     type Record = LogRecord;
@@ -68,8 +85,7 @@ impl PipeFormat for LogLayout {
     ghost file_paths = { λ layout. log_paths layout.queue (map string_bytes layout.paths.items) };
 
     fn file_path(&self, alloc: Global, file: &File) -> Result<String> {
-        let id = FileId::new(self.queue, file.seq);
-        let mut path = id.build_file_path(alloc, self.directory(file.path_id))?;
+        let mut path = self.numbered_path(alloc, file.path_id, file.seq)?;
         if file.reserved {
             path.push_str(RESERVED_SUFFIX)?;
         }

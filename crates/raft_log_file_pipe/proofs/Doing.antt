@@ -2,7 +2,7 @@
 use Rattle.std.specs.Prelude.{Result, Ok, Err}
 use Rattle.std.specs.Result.{IfErr, IfOk, OnOk}
 use Rattle.std.specs.declared.io.ErrorKind.{ErrorKind}
-use Rattle.std.proofs.Common.{◌≡◌, inl, inr, ℕ, suc, Option, Some, None, List, [], ◌∷◌, ◌++◌, drop, false, refl, sym, ◌∙◌, ap, subst, arith}
+use Rattle.std.proofs.Common.{◌≡◌, inl, inr, ℕ, ◌≤◌, ◌^◌, suc, Option, Some, None, List, [], ◌∷◌, ◌++◌, drop, length, false, refl, sym, ◌∙◌, ap, subst, arith}
 use Rattle.raft_log_disk.specs.Disk.{Disk}
 use Rattle.raft_log_disk.specs.Calls.{Creates, Renames}
 use Rattle.raft_log_disk.specs.Exits.{FailsToCreate, FailsToRename}
@@ -15,15 +15,15 @@ use Rattle.raft_log_file_format.specs.Header.{header_bytes}
 use Rattle.raft_log_file_format.specs.Name.{IsNameRefusal}
 use Rattle.raft_log_file_format.specs.declared.header.LogFileFormat.{LogFileFormat}
 use Rattle.raft_log_file_writer.specs.declared.writer.LogFileWriter.{LogFileWriter}
-use Rattle.raft_log_file_queue.specs.Layout.{FilePaths, path_of}
+use Rattle.raft_log_file_queue.specs.Layout.{FilePaths, path_of, plain_place}
 use Rattle.raft_log_file_queue.specs.Opening.{BeginsQueueBy}
 use Rattle.raft_log_file_queue.specs.Rotation.{RotatesBy, RotationMakes}
 use Rattle.raft_log_file_queue.specs.TakingUp.{ReopensBy}
 use Rattle.raft_log_file_pipe.specs.declared.pipe_files.PipeFiles.{PipeFiles}
 use Rattle.raft_log_file_pipe.specs.declared.found_files.FoundFiles.{FoundFiles}
 use Rattle.raft_log_file_pipe.specs.Files.{Listed}
-use Rattle.raft_log_file_pipe.specs.Calls.{TurnsBy, TurnsNot}
-use Rattle.raft_log_file_pipe.specs.Exits.{IsTurned, SameFiles, StaysClosed}
+use Rattle.raft_log_file_pipe.specs.Calls.{TurnsBy, TurnsNot, next_path}
+use Rattle.raft_log_file_pipe.specs.Exits.{IsTurned, SameFiles, SameLists, StaysClosed}
 use Rattle.raft_log_file_pipe.specs.Opening.{IsListedAs, taken_up}
 use Rattle.raft_log_file_pipe.specs.Doing.{FailsToTurnBy, OldestIsFar, OpensPipeBy, TurnsPipeBy}
 use Rattle.raft_log_file_pipe.specs.Doing.OpensPipeBy.{takes_up as takes_up_case}
@@ -81,14 +81,14 @@ next_at paths before next number listed = path_numbered paths next listed ∙ ap
 
 -- rotations whose calls were refused
 pub over_not : (paths : FilePaths) (old new : Disk) (before : PipeFiles) (kept next : Listed) (from to lent : List ℕ) (format : LogFileFormat) (kind : ErrorKind) → from ≡ path_of paths kept → to ≡ path_of paths next → lent ≡ header_bytes format
-    → before.recycled.items ≡ kept ∷ drop 1 before.recycled.items → next.seq ≡ suc before.active.seq → next.reserved ≡ false → next.path_id ≡ kept.path_id
+    → before.recycled.items ≡ kept ∷ drop 1 before.recycled.items → next.seq ≡ suc before.active.seq → next.reserved ≡ false → next.path_id ≡ plain_place (length paths.directories) kept.path_id
     → RotationMakes before.writer lent (FailsToRename from to) (λ named. Renames from to) kind old new → TurnsNot paths (header_bytes format) before.recycled.items before.writer (suc before.active.seq) old new
 over_not paths old new before kept next from to lent format kind from_is to_is header_is list number listed beside makes =
-    let at : to ≡ paths.numbered kept.path_id (suc before.active.seq) = to_is ∙ next_at paths before next number listed ∙ ap (λ (n : ℕ). paths.numbered n (suc before.active.seq)) beside in
+    let at : to ≡ next_path paths kept (suc before.active.seq) = to_is ∙ next_at paths before next number listed ∙ ap (λ (n : ℕ). paths.numbered n (suc before.active.seq)) beside in
     subst (λ (fs : List Listed). TurnsNot paths (header_bytes format) fs before.writer (suc before.active.seq) old new) (sym list) (inr (
       kind,
-      subst (λ (h : List ℕ). RotationMakes before.writer h (FailsToRename (path_of paths kept) (paths.numbered kept.path_id (suc before.active.seq))) (λ named. Renames (path_of paths kept) (paths.numbered kept.path_id (suc before.active.seq))) kind old new) header_is
-          (subst (λ (p : List ℕ). RotationMakes before.writer lent (FailsToRename p (paths.numbered kept.path_id (suc before.active.seq))) (λ named. Renames p (paths.numbered kept.path_id (suc before.active.seq))) kind old new) from_is
+      subst (λ (h : List ℕ). RotationMakes before.writer h (FailsToRename (path_of paths kept) (next_path paths kept (suc before.active.seq))) (λ named. Renames (path_of paths kept) (next_path paths kept (suc before.active.seq))) kind old new) header_is
+          (subst (λ (p : List ℕ). RotationMakes before.writer lent (FailsToRename p (next_path paths kept (suc before.active.seq))) (λ named. Renames p (next_path paths kept (suc before.active.seq))) kind old new) from_is
           (subst (λ (p : List ℕ). RotationMakes before.writer lent (FailsToRename from p) (λ named. Renames from p) kind old new) at makes)),
     ))
 

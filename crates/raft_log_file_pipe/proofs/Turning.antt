@@ -4,7 +4,7 @@ use Rattle.std.specs.Result.{IfErr, OnOk}
 use Rattle.std.specs.declared.io.ErrorKind.{ErrorKind}
 use Rattle.std.specs.Map.{update}
 use Rattle.std.specs.Str.{bytes_eq}
-use Rattle.std.proofs.Common.{◌≡◌, ◌⊎◌, inl, inr, true, ℕ, ◌<◌, ◌≤◌, ◌^◌, suc, Some, None, List, [], ◌∷◌, ◌++◌, drop, false, refl, sym, ◌∙◌, ap, subst, arith}
+use Rattle.std.proofs.Common.{◌≡◌, ◌⊎◌, inl, inr, true, ℕ, ◌<◌, ◌≤◌, ◌^◌, suc, Some, None, List, [], ◌∷◌, ◌++◌, drop, length, false, refl, sym, ◌∙◌, ap, subst, arith}
 use Rattle.raft_log_disk.specs.Disk.{Disk}
 use Rattle.raft_log_disk.specs.Calls.{Creates, Renames}
 use Rattle.raft_log_disk.specs.Causes.{Fails}
@@ -24,7 +24,7 @@ use Rattle.raft_log_file_format.specs.Header.{header_bytes}
 use Rattle.raft_log_file_writer.specs.declared.writer.LogFileWriter.{LogFileWriter}
 use Rattle.raft_log_file_queue.specs.Queue.{with_room}
 use Rattle.raft_log_file_queue.specs.Standing.{Names}
-use Rattle.raft_log_file_queue.specs.Layout.{FilePaths, IsLayout, IsUnaligned, path_of}
+use Rattle.raft_log_file_queue.specs.Layout.{FilePaths, IsLayout, IsUnaligned, path_of, plain_place}
 use Rattle.raft_log_file_queue.specs.Exits.{IsOpen}
 use Rattle.raft_log_file_queue.specs.Rotation.{CanRotate, IsSpare, RotatesBy, RotatesToNew, FailsToRotateToNew, RotatesOver, FailsToRotateOver, RotationMakes, FilesStay}
 use Rattle.raft_log_file_queue.proofs.Rotating.{open_left}
@@ -257,7 +257,7 @@ module _ {R : Type 0} (F : Format R) (own : List ℕ → Type 0) (paths : FilePa
 
   -- rotations that a file call refused
   pub stays_over : (old new : Disk) (before : PipeFiles) (kept next : Listed) (rest : List Listed) (header : List ℕ) (handle : Handle) (writer : LogFileWriter) → writer ≡ before.writer → before.recycled.items ≡ kept ∷ rest → IsOpened (path_of paths kept) ReadWrite handle old
-      → IsNext next header before → next.path_id ≡ kept.path_id → FailsToRotateOver F own header handle (path_of paths kept) (path_of paths next) writer old new → NamesStayBut (path_of paths kept) (path_of paths next) old new
+      → IsNext next header before → next.path_id ≡ plain_place (length paths.directories) kept.path_id → FailsToRotateOver F own header handle (path_of paths kept) (path_of paths next) writer old new → NamesStayBut (path_of paths kept) (path_of paths next) old new
       → (error : ErrorKind) → RotationMakes before.writer header (FailsToRename (path_of paths kept) (path_of paths next)) (λ named. Renames (path_of paths kept) (path_of paths next)) error old new → FailsToRotate F own paths header before old new
   stays_over old new before kept next rest header handle writer same list opened is_next beside fails stay error makes base q is =
       let head = header_of next header before is_next in
@@ -319,7 +319,7 @@ module _ {R : Type 0} (F : Format R) (own : List ℕ → Type 0) (paths : FilePa
   closed_leaves d before kept path header _ is list why = absurd why
 
   pub over_refused : (old new : Disk) (before : PipeFiles) (kept next : Listed) (from to header lent : List ℕ) (handle : Handle) (kind : ErrorKind) → from ≡ path_of paths kept → to ≡ path_of paths next → lent ≡ header → before.recycled.items ≡ kept ∷ drop 1 before.recycled.items
-      → IsOpened from ReadWrite handle old → IsNext next header before → next.path_id ≡ kept.path_id → FailsToRotateOver F own lent handle from to before.writer old new
+      → IsOpened from ReadWrite handle old → IsNext next header before → next.path_id ≡ plain_place (length paths.directories) kept.path_id → FailsToRotateOver F own lent handle from to before.writer old new
       → RotationMakes before.writer lent (FailsToRename from to) (λ named. Renames from to) kind old new → FailsToRotate F own paths header before old new
   over_refused old new before kept next from to header lent handle kind from_is to_is header_is list opened is_next beside fails makes =
       stays_over F own paths lawful old new before kept next (drop 1 before.recycled.items) header handle before.writer refl list (subst (λ (p : List ℕ). IsOpened p ReadWrite handle old) from_is opened) is_next beside

@@ -1,5 +1,5 @@
 -- Which file calls a call of a pipe made, in their order: no others, and nothing but what they change.
-use Rattle.std.specs.Prelude.{◌≡◌, ◌⊎◌, ℕ, true, None, List, [], ◌∷◌}
+use Rattle.std.specs.Prelude.{◌≡◌, ◌⊎◌, ℕ, true, None, List, [], ◌∷◌, length}
 use Rattle.std.specs.declared.io.ErrorKind.{ErrorKind}
 use Rattle.raft_log_disk.specs.Disk.{Disk}
 use Rattle.raft_log_disk.specs.Calls.{Creates, Deletes, Renames}
@@ -7,7 +7,7 @@ use Rattle.raft_log_disk.specs.Exits.{FailsToCreate, FailsToDelete, FailsToRenam
 use Rattle.raft_log_disk.specs.Reading.{IsOpened}
 use Rattle.raft_log_disk.specs.declared.handle.Permission.TheVariants.{ReadWrite}
 use Rattle.raft_log_file_writer.specs.declared.writer.LogFileWriter.{LogFileWriter}
-use Rattle.raft_log_file_queue.specs.Layout.{FilePaths, path_of}
+use Rattle.raft_log_file_queue.specs.Layout.{FilePaths, path_of, plain_place}
 use Rattle.raft_log_file_queue.specs.Rotation.{RotatesBy, RotationMakes}
 use Rattle.raft_log_file_pipe.specs.Files.{Listed}
 
@@ -25,6 +25,10 @@ TurnsBy paths header (f ∷ fs) writer next after old new = IsOpened (path_of pa
 abbrev pub IsUnopened : List ℕ → Disk → Type 0
 IsUnopened path d = (d.stopped ≡ true) ⊎ (d.names path ≡ None)
 
+-- the path of a number in the directory of a file, without a sign
+abbrev pub next_path : FilePaths → Listed → ℕ → List ℕ
+next_path paths file = paths.numbered (plain_place (length paths.directories) file.path_id)
+
 -- A rotation that was refused: one of its calls was, and none was made behind it; or no call was made, as the
 -- oldest of the files kept for use wasn't opened.
 abbrev pub TurnsNot : FilePaths → List ℕ → List Listed → LogFileWriter → ℕ → Disk → Disk → Type 0
@@ -33,8 +37,8 @@ TurnsNot paths header [] writer number old new = (directory : ℕ) × (error : E
     (λ handle. Creates (paths.numbered directory number) handle.file) error old new
 TurnsNot paths header (f ∷ fs) writer number old new = (IsUnopened (path_of paths f) old × (new ≡ old))
     ⊎ ((error : ErrorKind)
-    × RotationMakes writer header (FailsToRename (path_of paths f) (paths.numbered f.path_id number))
-    (λ handle. Renames (path_of paths f) (paths.numbered f.path_id number)) error old new)
+    × RotationMakes writer header (FailsToRename (path_of paths f) (next_path paths f number))
+    (λ handle. Renames (path_of paths f) (next_path paths f number)) error old new)
 
 -- the files with these paths are deleted, in their order
 abbrev pub DropsBy : List (List ℕ) → Disk → Disk → Type 0

@@ -3,6 +3,7 @@ use Rattle.std.specs.Prelude.{◌≡◌, ◌⊎◌, ℕ, ◌<◌, ◌≤◌, Boo
 use Rattle.raft_log_disk.specs.Disk.{Disk}
 use Rattle.raft_log_disk.specs.Arguments.{WrongListing}
 use Rattle.std.specs.declared.io.ErrorKind.{ErrorKind}
+use Rattle.raft_log_file_queue.specs.Layout.{plain_place}
 use Rattle.raft_log_file_pipe.specs.Files.{Listed}
 
 -- a directory has room for so many bytes: so much space was told of it
@@ -36,7 +37,8 @@ pub data IsChosen (tells : List ℕ → ℕ → Type 0) (d : Disk) (size : ℕ) 
       → IsChosen tells d size directories place
   none : AllLackRoom tells d size directories → place ≡ 0 → IsChosen tells d size directories place
 
--- The place of the next file's directory: a file that was kept for use stays where it is.
+-- The place of the next file's directory: a file that was kept for use stays in its own, and its new name has no
+-- sign.
 abbrev pub IsPlaced : (List ℕ → ℕ → Type 0) → Disk → ℕ → List (List ℕ) → List Listed → ℕ → Type 0
 IsPlaced tells d size directories [] place = IsChosen tells d size directories place
-IsPlaced tells d size directories (f ∷ fs) place = place ≡ f.path_id
+IsPlaced tells d size directories (f ∷ fs) place = place ≡ plain_place (length directories) f.path_id

@@ -1,11 +1,12 @@
 //! Rotations of a pipe: over the oldest of the files that are kept for use, or into a new one.
 
-ghost use Rattle.std.specs.Prelude.{◌≡◌, ◌<◌, ◌∷◌, [], drop, suc, IfOk, IfErr, OnErr, OnOk};
+ghost use Rattle.std.specs.Prelude.{◌≡◌, ◌<◌, ◌∷◌, [], drop, length, suc, IfOk, IfErr, OnErr, OnOk};
 ghost use Rattle.std.specs.VecDeque.{deque_len, deque_capacity};
 ghost use Rattle.raft_log_disk.specs.Causes.{IsLater};
 ghost use Rattle.raft_log_disk.specs.Reading.{IsOpened};
 ghost use Rattle.raft_log_disk.specs.declared.handle.Permission.TheVariants as permissions;
 ghost use Rattle.raft_log_file_format.specs.Header.{header_bytes};
+ghost use Rattle.raft_log_file_queue.specs.Layout.{plain_place};
 ghost use Rattle.raft_log_file_pipe.specs.Placing.{IsChosen, IsPlaced};
 ghost use Rattle.raft_log_file_pipe.specs.Exits.{IsTurned, Rotates, RotationLeaves, SameLists, StaysClosed};
 ghost use Rattle.raft_log_file_pipe.specs.Doing.{FailsToTurnBy, TurnsPipeBy};
@@ -14,7 +15,7 @@ use crate::new_files::{NewFiles, choose_directory};
 use crate::pipe_files::PipeFiles;
 use log::{Log, error};
 use raft_log_disk::{FileSystem, Handle, Permission};
-use raft_log_file_queue::{File, PipeFormat, rotate_over, rotate_to_new};
+use raft_log_file_queue::{File, PathId, PipeFormat, plain_place, rotate_over, rotate_to_new};
 use raft_log_record_base::{Error, FileSeq, Result};
 use std::alloc::Global;
 use std::io::ErrorKind;
@@ -32,7 +33,15 @@ fn open_kept<F: FileSystem>(file_system: &F, path: &str) -> Result<Handle>
     }
 }
 
-/// Goes on in the oldest of the files that are kept for use, under the next number.
+/// The place of a new name in the directory of a file: it has no sign, whatever the file's name has.
+fn place_beside<G: PipeFormat>(layout: &G, file: &File) -> PathId
+    ensures { result
+        ≡ plain_place (length (G.file_paths layout.now).directories) file.now.path_id }
+{
+    plain_place(layout.paths().len(), file.path_id)
+}
+
+/// Goes on in the oldest of the files that are kept for use, under the next number, in its directory.
 fn go_over<G: PipeFormat, F: FileSystem, L: Log>(
     alloc: Global,
     layout: &G,
@@ -50,7 +59,8 @@ fn go_over<G: PipeFormat, F: FileSystem, L: Log>(
         (header_bytes new_files.now.format) files.old files.new
         (F.disk file_system.old) (F.disk file_system.new)) }
     ensures turned { OnOk result (IsTurned new_files.now.format files.old files.new) }
-    ensures placed { OnOk result (files.new.active.path_id ≡ kept.path_id) }
+    ensures placed { OnOk result (files.new.active.path_id
+        ≡ plain_place (length (G.file_paths layout.now).directories) kept.path_id) }
     ensures err { IfErr result (λ error. RotationLeaves (G.format layout.now) (G.own layout.now)
         (G.file_paths layout.now) (header_bytes new_files.now.format) files.old files.new error
         (F.disk file_system.old) (F.disk file_system.new)) }
@@ -65,9 +75,10 @@ fn go_over<G: PipeFormat, F: FileSystem, L: Log>(
     let header = new_files.header();
     let next = File {
         seq,
+        handle: kept.handle,
         format: new_files.format,
+        path_id: place_beside(layout, &kept),
         reserved: false,
-        ..kept
     };
     let to = layout.file_path(alloc, &next)?;
     let from = layout.file_path(alloc, &kept)?;

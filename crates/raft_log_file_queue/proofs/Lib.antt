@@ -10,3 +10,4 @@ pub mod Calls
 pub mod Rotating
 mod BegunFiles
 pub mod TakenUp
+pub mod Places

@@ -1,11 +1,20 @@
 -- Under which paths the files of a queue lie.
-use Rattle.std.specs.Prelude.{◌≡◌, ℕ, ◌<◌, ◌^◌, cond, List, [], length, slice_index_or}
+use Rattle.std.specs.Prelude.{◌≡◌, ℕ, ◌<◌, ◌-◌, ◌^◌, Bool, cond, nat_le, List, [], length, slice_index_or}
 use Rattle.raft_log_disk.specs.Disk.{IsPathIn}
 use Rattle.raft_log_file_laws.specs.LogFormat.{Format, IsFormat}
 use Rattle.raft_log_file_format.specs.Header.{header_bytes}
 use Rattle.raft_log_file_format.specs.declared.header.LogFileFormat.{LogFileFormat}
 use Rattle.raft_log_file_queue.specs.Standing.{OwnsPaths}
 use Rattle.raft_log_file_queue.specs.declared.format.File.{File}
+
+-- Whether names in this place have a sign in front of the number: behind the places of so many directories
+-- each has a second one, for such names.
+abbrev pub has_sign : ℕ → ℕ → Bool
+has_sign count place = nat_le count place
+
+-- the first place of the directory that has this place, of so many
+abbrev pub plain_place : ℕ → ℕ → ℕ
+plain_place count place = cond (has_sign count place) (place - count) place
 
 -- The directories that a queue's files lie in, the main one first; and the path of a file by its directory's
 -- place among them and its number: of a file in its queue, or of one that is kept under a reserved name.

@@ -4,14 +4,15 @@ ghost use Rattle.std.specs.Prelude.{◌≡◌, ℕ, ◌<◌, ◌^◌, List, OnOk
 ghost use Rattle.std.specs.String.{string_bytes};
 ghost use Rattle.raft_log_file_format.specs.Name.{IsNameRefusal};
 ghost use Rattle.raft_log_file_laws.specs.LogFormat.{Format};
-ghost use Rattle.raft_log_file_queue.specs.Layout.{FilePaths, IsLayout, path_of};
+ghost use Rattle.raft_log_file_queue.specs.Layout.{FilePaths, IsLayout, has_sign, path_of, plain_place};
 
 use raft_log_disk::Handle;
 use raft_log_file_format::LogFileFormat;
 use raft_log_record_base::{FileSeq, Result};
 use std::alloc::Global;
 
-/// The place of a directory in the list of those that a log's files lie in.
+/// The place of a directory in the list of those that a log's files lie in. Behind the last one each directory
+/// has a second place, for files whose names have a sign in front of the number.
 pub type PathId = usize;
 
 /// The directories that a log's files lie in, the main one first.
@@ -23,6 +24,24 @@ pub const DEFAULT_PATH_ID: PathId = 0;
 /// The number of a queue's first file.
 pub const DEFAULT_FIRST_FILE_SEQ: FileSeq = 1;
 
+/// Whether names in this place have a sign in front of the number, of so many directories.
+pub fn has_sign(directories: usize, path_id: PathId) -> bool
+    ensures { result ≡ has_sign directories path_id }
+{
+    directories <= path_id
+}
+
+/// The first place of the directory that has this place, of so many: that of names without a sign, as all new
+/// files have them.
+pub fn plain_place(directories: usize, path_id: PathId) -> PathId
+    ensures { result ≡ plain_place directories path_id }
+{
+    if has_sign(directories, path_id) {
+        return path_id - directories;
+    }
+    path_id
+}
+
 /// A file of a queue.
 #[derive(Clone, Copy, Debug)]
 pub struct File {
@@ -32,7 +51,7 @@ pub struct File {
     pub handle: Handle,
     /// How the file is written.
     pub format: LogFileFormat,
-    /// The directory that the file lies in.
+    /// The place of the directory that the file lies in: the second one where the name has a sign.
     pub path_id: PathId,
     /// Whether the file has a reserved name.
     pub reserved: bool,

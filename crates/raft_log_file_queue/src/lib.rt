@@ -13,7 +13,9 @@ pub mod numbered;
 pub mod opening;
 pub mod rotation;
 
-pub use format::{DEFAULT_FIRST_FILE_SEQ, DEFAULT_PATH_ID, File, PathId, Paths, PipeFormat};
+pub use format::{
+    DEFAULT_FIRST_FILE_SEQ, DEFAULT_PATH_ID, File, PathId, Paths, PipeFormat, has_sign, plain_place,
+};
 pub use last_file::{WriteFault, append_record, begin_file, finish_file, sync_records};
 pub use opening::{begin_queue, reopen_file, trim_leftover};
 pub use rotation::{drop_file, rotate_over, rotate_to_new};

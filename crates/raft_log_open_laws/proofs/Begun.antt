@@ -10,11 +10,12 @@ use Rattle.raft_log_disk.specs.declared.handle.Permission.{Permission}
 use Rattle.raft_log_disk.specs.declared.handle.Permission.TheVariants.{ReadWrite}
 use Rattle.raft_log_file_format.specs.Name.{IsNamed, suffix_of}
 use Rattle.raft_log_engine_laws.specs.raft_log_file_layout.specs.Layout.{log_format}
-use Rattle.raft_log_engine_laws.specs.raft_log_file_layout.specs.Paths.{IsPathWith, directory_at}
+use Rattle.raft_log_engine_laws.specs.raft_log_file_layout.specs.Paths.{IsPathWith}
 use Rattle.raft_log_file_pipe.specs.Files.{Listed}
 use Rattle.raft_log_file_pipe.specs.Opening.{first_number}
-use Rattle.raft_log_open_scan.specs.Found.{AreFilesIn, FileLiesIn, found_path}
-use Rattle.raft_log_open_scan.specs.Names.{IsBuilt, built_name, end_of}
+use Rattle.raft_log_open_scan.specs.Found.{AreFilesIn, FileLiesIn, place_of}
+use Rattle.raft_log_open_scan.specs.Names.{end_of, name_of}
+use Rattle.raft_log_open_scan.proofs.FoundLemmas.{file_lies}
 use Rattle.raft_log_open_scan.specs.Opened.{AreOpen, IsOpenFile, permission_before}
 use Rattle.raft_log_open_scan.specs.declared.scanning.found.FoundFile.{FoundFile}
 use Rattle.raft_log_open_laws.specs.Beginning.{BeginsBehindGap, IsTwice, ScannedFilesBegin}
@@ -28,22 +29,20 @@ same_end queues.Append = refl
 same_end queues.Rewrite = refl
 
 module _ (queue : LogQueue) (directories : List (List ℕ)) (d : Disk) (found : List FoundFile) (are : AreFilesIn (kind_of queue) directories d found) where
-  -- a file under a path of a number has the name that is built for it
+  -- a file under a path of a number has the number's name, with a sign or without one
   pub named_file : (m : ℕ) (path : List ℕ) → IsPathWith (suffix_of queue) directories m path → (d.names path ≡ None → ⊥) → ((f : FoundFile) → FileLiesIn (kind_of queue) directories d f → f.seq ≡ m → ⊥) → ⊥
   named_file m path is there none =
       let kind = kind_of queue in
       let named : IsNamed (end_of kind) is.name m = subst (λ (suffix : List ℕ). IsNamed suffix is.name m) (same_end queue) is.named in
       let has : d.names (is.directory ++ 47 ∷ is.name) ≡ None → ⊥ = subst (λ (p : List ℕ). d.names p ≡ None → ⊥) is.joined there in
-      let file : FoundFile = record { seq = m; path_id = is.listed.0 } in
-      let home : directory_at directories is.listed.0 ≡ is.directory = get_or_default directories is.listed.0 _ is.directory is.listed.1 ∙ is.listed.2 in
+      let home : get_or directories is.listed.0 [] ≡ is.directory = get_or_default directories is.listed.0 [] is.directory is.listed.1 ∙ is.listed.2 in
       are.named is.name (record { directory = is.directory; listed = is.listed; plain = is.plain; there = has }) (
         m,
         named,
-        λ built. none file (record {
-          listed = is.listed.1;
-          small = built.0;
-          there = subst (λ (p : List ℕ). d.names p ≡ None → ⊥) (ap (λ (name : List ℕ). is.directory ++ 47 ∷ name) built.1 ∙ ap (λ (directory : List ℕ). directory ++ 47 ∷ built_name kind m) (sym home)) has;
-        }) refl,
+        λ signed is_name. (let file : FoundFile = record { seq = m; path_id = place_of (length directories) is.listed.0 signed } in
+            none file (file_lies kind directories d file is.listed.0 signed refl is.listed.1 is_name.0
+            (subst (λ (p : List ℕ). d.names p ≡ None → ⊥)
+            (ap (λ (name : List ℕ). is.directory ++ 47 ∷ name) is_name.1 ∙ ap (λ (directory : List ℕ). directory ++ 47 ∷ name_of kind signed m) (sym home)) has)) refl),
       )
 
   absent : (m : ℕ) → ((f : FoundFile) → FileLiesIn (kind_of queue) directories d f → f.seq ≡ m → ⊥) → IsAbsent (log_format queue directories) m d

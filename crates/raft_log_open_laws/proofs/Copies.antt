@@ -2,7 +2,7 @@
 use Rattle.std.specs.Prelude.{Contains, ◌⊎◌}
 use Rattle.std.specs.Option.{option_map}
 use Rattle.std.specs.Str.{bytes_eq}
-use Rattle.std.proofs.Common.{◌≡◌, ℕ, ◌<◌, ◌≤◌, ◌^◌, true, false, Option, Some, None, List, [], ◌∷◌, ◌++◌, length, length-append, refl, sym, ◌∙◌, ap, subst, inl, inr, arith}
+use Rattle.std.proofs.Common.{◌≡◌, ℕ, ◌<◌, ◌≤◌, ◌^◌, true, false, Option, Some, None, List, [], ◌∷◌, ◌++◌, length, get_or, length-append, refl, sym, ◌∙◌, ap, subst, inl, inr, arith}
 use Rattle.std.proofs.lemmas.Bool.{cases_Bool, cases_eq, cases_lt, false≢true}
 use Rattle.std.proofs.lemmas.List.{get_or_default}
 use Rattle.std.proofs.lemmas.Slice.Eq.{bytes_eq-Decides}
@@ -12,15 +12,17 @@ use Rattle.raft_log_disk.specs.Disk.{Disk, File, IsPlain, at_rest}
 use Rattle.raft_log_disk.specs.Image.{as_it_stands}
 use Rattle.raft_log_disk.specs.Calls.{flushed}
 use Rattle.raft_log_file_laws.specs.LogQueue.{IsAbsent, IsThere}
+use Rattle.raft_log_file_queue.specs.Layout.{has_sign}
 use Rattle.raft_log_file_queue.specs.Standing.{IsPlace}
 use Rattle.raft_log_file_format.specs.Name.{IsNamed, suffix_of}
 use Rattle.raft_log_engine_laws.specs.raft_log_file_layout.specs.Layout.{log_format}
 use Rattle.raft_log_engine_laws.specs.raft_log_file_layout.specs.LayoutLaws.{queues_are_apart}
 use Rattle.raft_log_engine_laws.specs.raft_log_file_layout.specs.PathLaws.{numbered_is, one_number}
-use Rattle.raft_log_engine_laws.specs.raft_log_file_layout.specs.Paths.{IsPathWith, directory_at}
+use Rattle.raft_log_engine_laws.specs.raft_log_file_layout.specs.Paths.{IsPathWith}
 use Rattle.raft_log_file_settings.specs.Sanitized.{IsFileName}
-use Rattle.raft_log_open_scan.specs.Found.{AreFilesIn, FileLiesIn, found_path}
-use Rattle.raft_log_open_scan.specs.Names.{built_name, end_of}
+use Rattle.raft_log_open_scan.specs.Found.{AreFilesIn, FileLiesIn, found_path, place_of}
+use Rattle.raft_log_open_scan.specs.Names.{built_name, end_of, name_of}
+use Rattle.raft_log_open_scan.proofs.FoundLemmas.{file_lies, limit_small}
 use Rattle.raft_log_open_scan.specs.declared.file_kind.FileKind.{FileKind}
 use Rattle.raft_log_open_scan.specs.declared.scanning.found.FoundFile.{FoundFile}
 use Rattle.raft_log_open_laws.specs.Scanned.{kind_of}
@@ -109,9 +111,12 @@ module _ (queue : LogQueue) (directories : List (List ℕ)) (d : Disk) where
       some : 0 < length directories
       some = let listed = lies.listed in omega (arith, listed)
 
+      small : f.seq < 10 ^ 16
+      small = limit_small (has_sign (length directories) f.path_id) f.seq lies.small
+
       by_queue : (q : LogQueue) → IsPathWith (suffix_of q) directories f.seq (found_path (kind_of q) directories f)
-      by_queue queues.Append = numbered_is queues.Append directories f.path_id f.seq some lies.small
-      by_queue queues.Rewrite = numbered_is queues.Rewrite directories f.path_id f.seq some lies.small
+      by_queue queues.Append = numbered_is queues.Append directories f.path_id f.seq some small
+      by_queue queues.Rewrite = numbered_is queues.Rewrite directories f.path_id f.seq some small
 
   -- a file under a path of a number was found
   named_file : (found : List FoundFile) → AreFilesIn (kind_of queue) directories d found → (m : ℕ) (path : List ℕ) → IsPathWith (suffix_of queue) directories m path → (d.names path ≡ None → ⊥)
@@ -120,16 +125,14 @@ module _ (queue : LogQueue) (directories : List (List ℕ)) (d : Disk) where
       let kind = kind_of queue in
       let named : IsNamed (end_of kind) is.name m = subst (λ (suffix : List ℕ). IsNamed suffix is.name m) (same_end queue) is.named in
       let has : d.names (is.directory ++ 47 ∷ is.name) ≡ None → ⊥ = subst (λ (p : List ℕ). d.names p ≡ None → ⊥) is.joined there in
-      let file : FoundFile = record { seq = m; path_id = is.listed.0 } in
-      let home : directory_at directories is.listed.0 ≡ is.directory = get_or_default directories is.listed.0 _ is.directory is.listed.1 ∙ is.listed.2 in
+      let home : get_or directories is.listed.0 [] ≡ is.directory = get_or_default directories is.listed.0 [] is.directory is.listed.1 ∙ is.listed.2 in
       are.named is.name (record { directory = is.directory; listed = is.listed; plain = is.plain; there = has }) (
         m,
         named,
-        λ built. none file (are.all file (record {
-          listed = is.listed.1;
-          small = built.0;
-          there = subst (λ (p : List ℕ). d.names p ≡ None → ⊥) (ap (λ (name : List ℕ). is.directory ++ 47 ∷ name) built.1 ∙ ap (λ (directory : List ℕ). directory ++ 47 ∷ built_name kind m) (sym home)) has;
-        })) refl,
+        λ signed is_name. (let file : FoundFile = record { seq = m; path_id = place_of (length directories) is.listed.0 signed } in
+            none file (are.all file (file_lies kind directories d file is.listed.0 signed refl is.listed.1 is_name.0
+            (subst (λ (p : List ℕ). d.names p ≡ None → ⊥)
+            (ap (λ (name : List ℕ). is.directory ++ 47 ∷ name) is_name.1 ∙ ap (λ (directory : List ℕ). directory ++ 47 ∷ name_of kind signed m) (sym home)) has))) refl),
       )
 
 -- Paths in the target.

@@ -8,9 +8,9 @@ use Rattle.raft_log_disk.specs.Disk.{Disk}
 use Rattle.raft_log_disk.specs.Image.{IsSound}
 use Rattle.raft_log_disk.specs.declared.handle.Permission.TheVariants.{ReadOnly}
 use Rattle.raft_log_file_settings.specs.declared.config.Config.{Config}
-use Rattle.raft_log_file_queue.specs.Layout.{path_of}
+use Rattle.raft_log_file_queue.specs.Layout.{has_sign, path_of}
 use Rattle.raft_log_file_queue.specs.declared.format.File.{File}
-use Rattle.raft_log_file_format.specs.Name.{sixteen_digits, suffix_of}
+use Rattle.raft_log_file_format.specs.Name.{number_text, suffix_of}
 use Rattle.raft_log_engine_laws.specs.raft_log_file_layout.specs.Layout.{log_format, log_paths}
 use Rattle.raft_log_engine_laws.specs.raft_log_file_layout.specs.Paths.{directory_at, numbered_path}
 use Rattle.raft_log_file_pipe.specs.Files.{AllKept}
@@ -19,6 +19,7 @@ use Rattle.raft_log_open_scan.specs.Found.{found_path}
 use Rattle.raft_log_open_scan.specs.Opened.{AreOpen, IsOpenFile}
 use Rattle.raft_log_open_scan.specs.Runs.{FollowsNumber, IsConsecutive}
 use Rattle.raft_log_open_scan.specs.Scanned.{IsReserveIn}
+use Rattle.raft_log_open_scan.proofs.FoundLemmas.{limit_small}
 use Rattle.raft_log_open_scan.specs.declared.file_kind.FileKind.TheVariants.{Reserved}
 use Rattle.raft_log_open_scan.specs.declared.scanning.found.FoundFile.{FoundFile}
 use Rattle.raft_log_table_contexts.specs.declared.context.MemTableRecoverContext.{MemTableRecoverContext}
@@ -68,11 +69,12 @@ module _ (directories : List (List ℕ)) (d : Disk) where
   path_found : (g : FoundFile) (f : File) → g.seq < 10 ^ 16 → IsOpenFile Reserved directories d ReadOnly g f → path_of (log_paths Append directories) f ≡ found_path Reserved directories g
   path_found g f small one =
       let capped : min f.seq (10 ^ 16 - 1) ≡ g.seq = omega (arith, small, one.seq) in
+      let text : List ℕ = number_text (has_sign (length directories) g.path_id) g.seq in
       path_reserved (log_paths Append directories) f one.reserved
       ∙ ap (λ (place : ℕ). numbered_path Append directories place (min f.seq (10 ^ 16 - 1)) ++ codes ".reserved") one.path_id
       ∙ ap (λ (n : ℕ). numbered_path Append directories g.path_id n ++ codes ".reserved") capped
-      ∙ append_assoc (directory_at directories g.path_id) (47 ∷ (sixteen_digits g.seq ++ suffix_of Append)) (codes ".reserved")
-      ∙ ap (λ (l : List ℕ). directory_at directories g.path_id ++ 47 ∷ l) (append_assoc (sixteen_digits g.seq) (suffix_of Append) (codes ".reserved"))
+      ∙ append_assoc (directory_at directories g.path_id) (47 ∷ (text ++ suffix_of Append)) (codes ".reserved")
+      ∙ ap (λ (l : List ℕ). directory_at directories g.path_id ++ 47 ∷ l) (append_assoc text (suffix_of Append) (codes ".reserved"))
 
   module _ (some : 0 < length directories) where
     one_spare : (g : FoundFile) (f : File) → g.seq < 10 ^ 16 → IsOpenFile Reserved directories d ReadOnly g f → IsSpareOn directories some d f
@@ -91,7 +93,8 @@ module _ (directories : List (List ℕ)) (d : Disk) where
     found_spares files are =
         let run = are.run.run in
         let all = are.run.all in (
-          each_spare are.kept files (λ g there. (all.found g (Contains-permutation (run.dropped ++ are.kept) are.run.found g (IsPermutation-sym are.run.found (run.dropped ++ are.kept) run.same)
+          each_spare are.kept files (λ g there. limit_small (has_sign (length directories) g.path_id) g.seq
+              (all.found g (Contains-permutation (run.dropped ++ are.kept) are.run.found g (IsPermutation-sym are.run.found (run.dropped ++ are.kept) run.same)
               (Contains-append_right run.dropped are.kept g there))).small) are.opened,
           all_rise are.kept files are.opened run.consecutive,
         )

@@ -1,10 +1,10 @@
 -- Which names the log's files have, and which of them are built.
-use Rattle.std.specs.Prelude.{◌≡◌, ℕ, ◌^◌, ◌<◌, List, ◌++◌, codes}
+use Rattle.std.specs.Prelude.{◌≡◌, ℕ, ◌<◌, Bool, false, List, ◌++◌, codes}
 use Rattle.std.specs.String.{string_bytes}
 use Rattle.raft_log_record_base.specs.declared.errors.Error.{Error}
 use Rattle.raft_log_record_base.specs.declared.errors.Error.TheVariants as errors
 use Rattle.raft_log_record_base.specs.declared.pipe_log.LogQueue.TheVariants as queues
-use Rattle.raft_log_file_format.specs.Name.{IsNamed, suffix_of, reserved_suffix, sixteen_digits}
+use Rattle.raft_log_file_format.specs.Name.{IsNamed, name_limit, number_text, suffix_of, reserved_suffix}
 use Rattle.raft_log_open_scan.specs.declared.file_kind.FileKind.{FileKind}
 use Rattle.raft_log_open_scan.specs.declared.file_kind.FileKind.TheVariants.{Append, Rewrite, Reserved}
 
@@ -14,21 +14,27 @@ end_of Append = suffix_of queues.Append
 end_of Rewrite = suffix_of queues.Rewrite
 end_of Reserved = reserved_suffix
 
+-- the name with a number, with a sign in front or without one
+abbrev pub name_of : FileKind → Bool → ℕ → List ℕ
+name_of kind signed n = number_text signed n ++ end_of kind
+
 -- the name that is built for a number
 abbrev pub built_name : FileKind → ℕ → List ℕ
-built_name kind n = sixteen_digits n ++ end_of kind
+built_name kind n = name_of kind false n
 
--- the number has a name, and it is this one
-abbrev pub IsBuilt : FileKind → ℕ → List ℕ → Type 0
-IsBuilt kind n name = (n < 10 ^ 16) × (name ≡ built_name kind n)
+-- the number has a name with a sign, or without one, and it is this one
+abbrev pub IsNameOf : FileKind → Bool → ℕ → List ℕ → Type 0
+IsNameOf kind signed n name = (n < name_limit signed) × (name ≡ name_of kind signed n)
 
 -- the name is that of no such file
 abbrev pub IsOther : FileKind → List ℕ → Type 0
 IsOther kind name = (n : ℕ) → IsNamed (end_of kind) name n → ⊥
 
--- the name says a number, and isn't the one that is built for it
+-- the name says a number, and isn't the number's with a sign or without one: between the number and the end
+-- there is more
 abbrev pub IsMisnamed : FileKind → List ℕ → Type 0
-IsMisnamed kind name = (n : ℕ) × IsNamed (end_of kind) name n × (IsBuilt kind n name → ⊥)
+IsMisnamed kind name =
+    (n : ℕ) × IsNamed (end_of kind) name n × ((signed : Bool) → IsNameOf kind signed n name → ⊥)
 
 -- how such a name is told
 abbrev pub told_misnamed : List ℕ → List ℕ

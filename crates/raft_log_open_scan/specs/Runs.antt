@@ -6,7 +6,7 @@ use Rattle.std.specs.List.Sorted.{IsPermutation, IsSorted}
 use Rattle.std.specs.Ordering.{nat_cmp, ordering_then}
 use Rattle.raft_log_open_scan.specs.declared.scanning.found.FoundFile.{FoundFile}
 
--- by their numbers, and of two with one number that of the earlier directory first
+-- by their numbers, and of two with one number that in the earlier place first
 abbrev pub found_cmp : FoundFile → FoundFile → Ordering
 found_cmp a b = ordering_then (nat_cmp a.seq b.seq) (nat_cmp a.path_id b.path_id)
 

@@ -1,11 +1,14 @@
 //! The kinds of files of a log, by the ends of their names.
 
-ghost use Rattle.std.specs.Prelude.{◌≡◌, ◌↔◌, ◌<◌, ◌^◌, ℕ, Some, IfOk, IfErr, OnOk, MatchOption};
+ghost use Rattle.std.specs.Prelude.{◌≡◌, ◌↔◌, ◌<◌, ◌^◌, ℕ, true, false, slice_index_or, Some, IsTrue, IfOk, IfErr, OnOk, MatchOption};
 ghost use Rattle.std.specs.String.{string_bytes};
 ghost use Rattle.raft_log_file_format.specs.Name.{IsNamed, IsNameRefusal, suffix_of};
 ghost use Rattle.raft_log_open_scan.specs.Names.{TellsMisnamed};
 
-use raft_log_file_format::{FileNameExt, build_reserved_file_name, parse_reserved_file_name};
+use raft_log_file_format::{
+    FileNameExt, build_reserved_file_name, build_signed_file_name, build_signed_reserved_file_name,
+    parse_reserved_file_name,
+};
 use raft_log_record_base::{Error, FileId, FileSeq, LogQueue, Result};
 use std::alloc::Global;
 
@@ -20,23 +23,35 @@ pub enum FileKind {
     Reserved,
 }
 
-impl FileKind {
-    ghost use Rattle.raft_log_open_scan.specs.Names.{end_of, built_name, IsBuilt, IsOther, FailsToName};
+/// What the name of a file says.
+#[derive(Clone, Copy, Debug, PartialEq, Eq)]
+pub struct FileName {
+    /// The file's number.
+    pub seq: FileSeq,
+    /// Whether a sign stands in front of it.
+    pub signed: bool,
+}
 
-    /// The number of the file of this kind that a directory has under this name; none for other names.
-    /// `Corruption` for a name that says a number and isn't the one that is built for it: the file couldn't
-    /// be found again by its number.
-    pub fn seq_of(self, alloc: Global, name: &str) -> Result<Option<FileSeq>>
+impl FileKind {
+    ghost use Rattle.raft_log_open_scan.specs.Names.{end_of, name_of, IsNameOf, IsOther, FailsToName};
+
+    /// What this name says, if it is that of a file of this kind; none for other names. `Corruption` for a
+    /// name that says a number and has more between it and the end: the file couldn't be found again.
+    pub fn read_name(self, alloc: Global, name: &str) -> Result<Option<FileName>>
         ensures ok { IfOk result (λ found. MatchOption found
-            (IsOther self name.now) (λ seq. IsBuilt self seq name.now)) }
+            (IsOther self name.now) (λ said. IsNameOf self said.signed said.seq name.now)) }
         ensures err { IfErr result (FailsToName self name.now) }
     {
         let Some(seq) = self.parse_name(name) else {
             return Ok(None);
         };
-        let built = self.build_name(alloc, seq)?;
-        if built.as_str() == name {
-            return Ok(Some(seq));
+        let said = FileName {
+            seq,
+            signed: has_plus(name),
+        };
+        let text = self.name_with(alloc, said)?;
+        if text.as_str() == name {
+            return Ok(Some(said));
         }
         Err(misnamed(alloc, name))
     }
@@ -55,7 +70,7 @@ impl FileKind {
     /// The name of the file with this number. A number of more than sixteen digits is refused as
     /// `NumberRange`.
     pub fn build_name(self, alloc: Global, seq: FileSeq) -> Result<String>
-        ensures ok { IfOk result (λ name. IsBuilt self seq (string_bytes name)) }
+        ensures ok { IfOk result (λ name. IsNameOf self false seq (string_bytes name)) }
         ensures err { IfErr result (λ error. IsNameRefusal seq error) }
     {
         match self {
@@ -64,6 +79,43 @@ impl FileKind {
             FileKind::Reserved => build_reserved_file_name(alloc, seq),
         }
     }
+
+    /// The name that says this; a number of sixteen digits leaves no room for a sign. A number of more is
+    /// refused as `NumberRange`.
+    pub fn name_with(self, alloc: Global, said: FileName) -> Result<String>
+        ensures ok { IfOk result (λ name. string_bytes name ≡ name_of self said.signed said.seq) }
+        ensures small { OnOk result (said.seq < 10 ^ 16) }
+        ensures err { IfErr result (λ error. IsNameRefusal said.seq error) }
+    {
+        if !said.signed {
+            return self.build_name(alloc, said.seq);
+        }
+        self.build_signed_name(alloc, said.seq)
+    }
+
+    /// The name with this number and a sign in front, where the number leaves room for one.
+    fn build_signed_name(self, alloc: Global, seq: FileSeq) -> Result<String>
+        ensures ok { IfOk result (λ name. string_bytes name ≡ name_of self true seq) }
+        ensures small { OnOk result (seq < 10 ^ 16) }
+        ensures err { IfErr result (λ error. IsNameRefusal seq error) }
+    {
+        match self {
+            FileKind::Append => {
+                build_signed_file_name(alloc, FileId::new(LogQueue::Append, seq))
+            }
+            FileKind::Rewrite => {
+                build_signed_file_name(alloc, FileId::new(LogQueue::Rewrite, seq))
+            }
+            FileKind::Reserved => build_signed_reserved_file_name(alloc, seq),
+        }
+    }
+}
+
+/// Whether a name begins with a plus.
+fn has_plus(name: &str) -> bool
+    ensures { IsTrue result ↔ (slice_index_or name.now 0 0 ≡ 43) }
+{
+    name.as_bytes().first() == Some(&b'+')
 }
 
 /// The number that a name says, if it is that of a queue's file.
@@ -79,7 +131,7 @@ fn parse_name_in(queue: LogQueue, name: &str) -> Option<FileSeq>
     None
 }
 
-/// The refusal of a name that says a number and isn't the one that is built for it.
+/// The refusal of a name that says a number and has more between it and the end.
 fn misnamed(alloc: Global, name: &str) -> Error
     ensures { TellsMisnamed name.now result }
 {

@@ -8,5 +8,5 @@ pub mod recovery_config;
 pub mod scanning;
 
 pub use chunks::{Workers, share_workers};
-pub use file_kind::FileKind;
+pub use file_kind::{FileKind, FileName};
 pub use recovery_config::RecoveryConfig;

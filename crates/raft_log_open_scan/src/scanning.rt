@@ -1,7 +1,7 @@
 //! What a log's directories hold: they are made where they aren't there, their files found, sorted and
 //! opened.
 
-ghost use Rattle.std.specs.Prelude.{◌≡◌, true, All, IfOk, IfErr, map};
+ghost use Rattle.std.specs.Prelude.{◌≡◌, true, All, IfOk, IfErr, length, map};
 ghost use Rattle.std.specs.List.{AllZip};
 ghost use Rattle.std.specs.String.{string_bytes};
 ghost use Rattle.raft_log_disk.specs.Reading.{IsListing};
@@ -43,8 +43,10 @@ pub struct ScannedFiles {
 /// Of each kind the files are kept behind the last place where a number is missing, or where two files have
 /// one number; the others stay where they are.
 ///
-/// `Other` where a file has the path of a directory, `Corruption` where a name says a number and isn't the
-/// one that is built for it, `Io` where a directory isn't made or the file system has stopped.
+/// A file keeps its name, with a sign in front of the number or without one.
+///
+/// `Other` where a file has the path of a directory, `Corruption` where a name says a number and has more
+/// between it and the end, `Io` where a directory isn't made or the file system has stopped.
 pub fn scan<F: FileSystem>(
     alloc: Global,
     file_system: &mut F,
@@ -133,7 +135,8 @@ fn scan_reserved<F: FileSystem>(
 /// The files of a kind that are kept, among those with these names.
 fn scan_run(alloc: Global, kind: FileKind, listings: &[Vec<String>]) -> Result<Vec<FoundFile>>
     ensures ok { IfOk result (λ kept.
-        IsRunAmong kind (map (λ names. map string_bytes names.items) listings.now) kept.items) }
+        IsRunAmong kind (length listings.now) (map (λ names. map string_bytes names.items) listings.now)
+        kept.items) }
     ensures err { IfErr result
         (FailsAmongAll kind (map (λ names. map string_bytes names.items) listings.now)) }
 {

@@ -23,4 +23,6 @@ mod reads;
 #[cfg(test)]
 mod side_by_side;
 #[cfg(test)]
+mod signed;
+#[cfg(test)]
 mod worked;

@@ -1,55 +1,75 @@
 //! The files of a kind are found among the names of the log's directories.
 
-ghost use Rattle.std.specs.Prelude.{◌≡◌, IfOk, IfErr, map};
+ghost use Rattle.std.specs.Prelude.{◌≡◌, ◌+◌, ◌<◌, ◌^◌, length, IfOk, IfErr, map};
 ghost use Rattle.std.specs.String.{string_bytes};
-ghost use Rattle.raft_log_open_scan.specs.Found.{AreAmong, AreAmongAll, FailsAmong, FailsAmongAll};
+ghost use Rattle.raft_log_open_scan.specs.Found.{AreAmong, AreAmongAll, FailsAmong, FailsAmongAll, place_of};
 
-use crate::file_kind::FileKind;
+use crate::file_kind::{FileKind, FileName};
 use raft_log_file_queue::PathId;
 use raft_log_record_base::{FileSeq, Result};
 use std::alloc::Global;
 
-/// A file that was found: it has the name that is built for its number.
+/// A file that was found: it has the name of its number, with a sign in front or without one.
 #[derive(Clone, Copy, Debug, PartialEq, Eq)]
 pub struct FoundFile {
     /// The file's number.
     pub seq: FileSeq,
-    /// The directory that the file lies in.
+    /// The place of the directory that the file lies in: the second one where the name has a sign.
     pub path_id: PathId,
 }
 
 /// The files of a kind among those with these names, directory by directory, in the order of the names.
-/// `Corruption` where a name says a number and isn't the one that is built for it.
+/// `Corruption` where a name says a number and has more between it and the end.
 pub fn find_files(alloc: Global, kind: FileKind, listings: &[Vec<String>]) -> Result<Vec<FoundFile>>
-    ensures ok { IfOk result (λ files.
-        AreAmongAll kind 0 (map (λ names. map string_bytes names.items) listings.now) files.items) }
+    ensures ok { IfOk result (λ files. AreAmongAll kind (length listings.now) 0
+        (map (λ names. map string_bytes names.items) listings.now) files.items) }
     ensures err { IfErr result
         (FailsAmongAll kind (map (λ names. map string_bytes names.items) listings.now)) }
 {
+    let directories = listings.len();
     let mut files = Vec::new(alloc);
     for (path_id, names) in listings.iter().enumerate() {
-        let mut more = find_in_directory(alloc, kind, path_id, names.as_slice())?;
+        let mut more = find_in_directory(alloc, kind, directories, path_id, names.as_slice())?;
         files.append(&mut more)?;
     }
     Ok(files)
 }
 
-/// The files of a kind among those with these names in a directory.
+/// The files of a kind among those with these names in a directory, of so many.
 fn find_in_directory(
     alloc: Global,
     kind: FileKind,
+    directories: usize,
     path_id: PathId,
     names: &[String],
 ) -> Result<Vec<FoundFile>>
-    ensures ok { IfOk result (λ files. AreAmong kind path_id (map string_bytes names.now) files.items) }
+    requires { directories + path_id < 2 ^ 64 }
+    ensures ok { IfOk result (λ files.
+        AreAmong kind directories path_id (map string_bytes names.now) files.items) }
     ensures err { IfErr result (FailsAmong kind (map string_bytes names.now)) }
 {
     let mut files = Vec::new(alloc);
     for name in names {
-        let found = kind.seq_of(alloc, name.as_str())?;
-        if let Some(seq) = found {
-            files.push(FoundFile { seq, path_id })?;
+        let found = kind.read_name(alloc, name.as_str())?;
+        if let Some(said) = found {
+            files.push(file_in(directories, path_id, said))?;
         }
     }
     Ok(files)
+}
+
+/// The file of a name in a directory, of so many.
+fn file_in(directories: usize, path_id: PathId, said: FileName) -> FoundFile
+    requires { directories + path_id < 2 ^ 64 }
+    ensures seq { result.seq ≡ said.seq }
+    ensures path_id { result.path_id ≡ place_of directories path_id said.signed }
+{
+    FoundFile {
+        seq: said.seq,
+        path_id: if said.signed {
+            directories + path_id
+        } else {
+            path_id
+        },
+    }
 }

@@ -1,20 +1,20 @@
 //! The files that were found are opened.
 
-ghost use Rattle.std.specs.Prelude.{◌≡◌, ◌<◌, ◌∷◌, ◌++◌, IfOk, IfErr, All, map, length};
+ghost use Rattle.std.specs.Prelude.{◌≡◌, ◌<◌, [], ◌∷◌, ◌++◌, IfOk, IfErr, All, map, length, slice_index_or};
 ghost use Rattle.std.specs.String.{string_bytes};
 ghost use Rattle.raft_log_file_format.specs.Name.{IsNameRefusal};
 ghost use Rattle.raft_log_record_base.specs.declared.errors.Error.TheVariants.{Memory};
 ghost use Rattle.raft_log_record_base.specs.declared.pipe_log.Version.TheVariants.{V1};
-ghost use Rattle.raft_log_file_layout.specs.Paths.{directory_at};
+ghost use Rattle.raft_log_file_queue.specs.Layout.{plain_place};
 ghost use Rattle.raft_log_open_scan.specs.Found.{FileLiesIn, found_path};
 ghost use Rattle.raft_log_open_scan.specs.Opened.{AreOpen, FailsToLook, IsOpenFile, IsOpenQueue, is_reserved, permission_before};
 
 use super::directories::refusal;
 use super::found::FoundFile;
-use crate::file_kind::FileKind;
+use crate::file_kind::{FileKind, FileName};
 use raft_log_disk::{FileSystem, Handle, Permission};
 use raft_log_file_format::LogFileFormat;
-use raft_log_file_queue::{File, PathId};
+use raft_log_file_queue::{File, PathId, has_sign, plain_place};
 use raft_log_file_settings::RecoveryMode;
 use raft_log_record_base::{Error, Result};
 use std::alloc::Global;
@@ -149,21 +149,27 @@ pub(crate) fn path_of(
     paths: &[String],
     found: FoundFile,
 ) -> Result<String>
-    requires { found.path_id < length paths.now }
+    requires { plain_place (length paths.now) found.path_id < length paths.now }
     ensures ok { IfOk result (λ path.
         string_bytes path ≡ found_path kind (map string_bytes paths.now) found) }
     ensures err { IfErr result (IsNameRefusal found.seq) }
 {
-    let name = kind.build_name(alloc, found.seq)?;
-    let directory = directory_of(paths, found.path_id);
+    let directories = paths.len();
+    let said = FileName {
+        seq: found.seq,
+        signed: has_sign(directories, found.path_id),
+    };
+    let name = kind.name_with(alloc, said)?;
+    let directory = directory_of(paths, plain_place(directories, found.path_id));
     let path = join(alloc, directory, name.as_str())?;
     Ok(path)
 }
 
-/// The directory in a place.
+/// The directory in its first place.
 fn directory_of(paths: &[String], path_id: PathId) -> &str
     requires { path_id < length paths.now }
-    ensures { result.now ≡ directory_at (map string_bytes paths.now) path_id }
+    ensures { result.now ≡ slice_index_or (map string_bytes paths.now) path_id
+        (slice_index_or (map string_bytes paths.now) 0 []) }
 {
     paths[path_id].as_str()
 }

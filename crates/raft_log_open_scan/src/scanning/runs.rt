@@ -8,7 +8,7 @@ use super::found::FoundFile;
 use raft_log_record_base::Result;
 
 /// The files in the order of their numbers, from the last place on where a number is missing, or where two
-/// have one number; of two with one number that of the main directory comes first. The others are dropped
+/// have one number; of two with one number that in the earlier place comes first. The others are dropped
 /// from the list, and stay where they are.
 pub fn keep_run(mut files: Vec<FoundFile>) -> Result<Vec<FoundFile>>
     ensures ok { IfOk result (λ kept. IsRunOf files.items kept.items) }

@@ -23,16 +23,16 @@ returns-in_err-handle-clause-err g c =
 pub returns-in-Err-clause-err : goal.returns-in-Err-clause-err
 returns-in-Err-clause-err g c =
     let D = g.F.FileSystem.disk in
-    let next : Listed = record { seq = c.args.seq; handle = c.args.kept.handle; format = c.args.new_files.now.format; path_id = c.args.kept.path_id; reserved = false } in
+    let next : Listed = record { seq = c.args.seq; handle = c.args.kept.handle; format = c.args.new_files.now.format; path_id = c.place_beside.result; reserved = false } in
     let is_next : IsNext next (header_bytes c.args.new_files.now.format) c.args.files.now = record { number = c.requires.number; listed = refl; small = c.in_ok-to.ensures.named; header_is = refl; unaligned = c.header-header.ensures.unaligned } in
     over_refused (g.G.PipeFormat.format c.args.layout.now) (g.G.PipeFormat.own c.args.layout.now) (g.G.PipeFormat.file_paths c.args.layout.now) (g.met.G.PipeFormat.lawful c.args.layout.now) (D c.args.file_system.now) (D c.rotate_over.new.file_system)
     c.args.files.now c.args.kept next c.deref-2.result.now c.deref-3.result.now (header_bytes c.args.new_files.now.format) c.header-header.result.now c.in_ok-handle.handle c.in-Err.kind (c.deref-2.ensures ∙ c.in_ok-from.ensures.ok) (c.deref-3.ensures ∙ c.in_ok-to.ensures.ok)
-    c.header-header.ensures.bytes c.requires.oldest (search rules) is_next refl c.in-Err.ensures.err c.in-Err.ensures.refusal
+    c.header-header.ensures.bytes c.requires.oldest (search rules) is_next c.place_beside.ensures c.in-Err.ensures.err c.in-Err.ensures.refusal
 
 pub returns-clause-ok : goal.returns-clause-ok
 returns-clause-ok g c =
     let D = g.F.FileSystem.disk in
-    let next : Listed = record { seq = c.args.seq; handle = c.in_ok-handle.handle; format = c.args.new_files.now.format; path_id = c.args.kept.path_id; reserved = false } in
+    let next : Listed = record { seq = c.args.seq; handle = c.in_ok-handle.handle; format = c.args.new_files.now.format; path_id = c.place_beside.result; reserved = false } in
     let is_next : IsNext next (header_bytes c.args.new_files.now.format) c.args.files.now = record { number = c.requires.number; listed = refl; small = c.in_ok-to.ensures.named; header_is = refl; unaligned = c.header-header.ensures.unaligned } in
     let turns : IsTurnedTo next c.args.files.now c.turn_to.new.self = record { first = c.turn_to.ensures.first; earlier = c.turn_to.ensures.earlier; active = c.turn_to.ensures.active; recycled = search rules } in
     over_done (g.G.PipeFormat.format c.args.layout.now) (g.G.PipeFormat.own c.args.layout.now) (g.G.PipeFormat.file_paths c.args.layout.now) (g.met.G.PipeFormat.lawful c.args.layout.now) (D c.args.file_system.now) (D c.rotate_over.new.file_system)
@@ -62,16 +62,16 @@ returns-in_err-handle-clause-refusal g c =
 pub returns-in-Err-clause-refusal : goal.returns-in-Err-clause-refusal
 returns-in-Err-clause-refusal g c =
     let D = g.F.FileSystem.disk in
-    let next : Listed = record { seq = c.args.seq; handle = c.args.kept.handle; format = c.args.new_files.now.format; path_id = c.args.kept.path_id; reserved = false } in (
+    let next : Listed = record { seq = c.args.seq; handle = c.args.kept.handle; format = c.args.new_files.now.format; path_id = c.place_beside.result; reserved = false } in (
       record { first = refl; earlier = refl; active = refl; recycled = refl },
       over_not (g.G.PipeFormat.file_paths c.args.layout.now) (D c.args.file_system.now) (D c.rotate_over.new.file_system) c.args.files.now c.args.kept next c.deref-2.result.now c.deref-3.result.now c.header-header.result.now c.args.new_files.now.format
-          c.in-Err.kind (c.deref-2.ensures ∙ c.in_ok-from.ensures.ok) (c.deref-3.ensures ∙ c.in_ok-to.ensures.ok) c.header-header.ensures.bytes c.requires.oldest c.requires.number refl refl c.in-Err.ensures.refusal,
+          c.in-Err.kind (c.deref-2.ensures ∙ c.in_ok-from.ensures.ok) (c.deref-3.ensures ∙ c.in_ok-to.ensures.ok) c.header-header.ensures.bytes c.requires.oldest c.requires.number refl c.place_beside.ensures c.in-Err.ensures.refusal,
     )
 
 pub returns-clause-calls : goal.returns-clause-calls
 returns-clause-calls g c =
     let D = g.F.FileSystem.disk in
-    let next : Listed = record { seq = c.args.seq; handle = c.in_ok-handle.handle; format = c.args.new_files.now.format; path_id = c.args.kept.path_id; reserved = false } in
+    let next : Listed = record { seq = c.args.seq; handle = c.in_ok-handle.handle; format = c.args.new_files.now.format; path_id = c.place_beside.result; reserved = false } in
     let turns : IsTurnedTo next c.args.files.now c.turn_to.new.self = record { first = c.turn_to.ensures.first; earlier = c.turn_to.ensures.earlier; active = c.turn_to.ensures.active; recycled = search rules } in
     turns_over (g.G.PipeFormat.file_paths c.args.layout.now) (D c.args.file_system.now) (D c.rotate_over.new.file_system) c.args.files.now c.turn_to.new.self c.args.kept next c.deref-2.result.now c.deref-3.result.now c.header-header.result.now
     c.args.new_files.now.format c.in_ok-handle.handle (c.deref-2.ensures ∙ c.in_ok-from.ensures.ok) (c.deref-3.ensures ∙ c.in_ok-to.ensures.ok) c.header-header.ensures.bytes c.requires.oldest (search rules) c.requires.number refl refl refl turns

@@ -2,8 +2,9 @@ use Rattle.std.proofs.Common.{◌<◌, ◌++◌, ◌∷◌, [], List, ℕ, Optio
 use Rattle.std.specs.Prelude.{MatchOption}
 use Rattle.std.specs.String.{string_bytes}
 use Rattle.std.proofs.lemmas.Result.{err_from_is_err_and}
-use Rattle.raft_log_open_scan.specs.Names.{IsBuilt, IsOther, FailsToName}
+use Rattle.raft_log_open_scan.specs.Names.{IsNameOf, IsOther, FailsToName}
 use Rattle.raft_log_open_scan.specs.Found.{AreAmong}
+use Rattle.raft_log_open_scan.specs.declared.file_kind.FileName.{FileName}
 use Rattle.raft_log_open_scan.specs.declared.scanning.found.FoundFile.{FoundFile}
 use Rattle.raft_log_open_scan.proofs.FoundLemmas.{among_more, among_other}
 use Rattle.raft_log_open_scan.proofs.Steps.{so_far, mapped, fails_among}
@@ -23,22 +24,25 @@ pub loop-name-preserved : goal.loop-name-preserved
 loop-name-preserved c =
     let names = c.args.names.now in
     let kind = c.args.kind in
+    let count = c.args.directories in
     let place = c.args.path_id in
     let i = c.loop-name.name-index in
     let name = string_bytes c.name-item.result in
     let before = map string_bytes (take i names) in
     let lt : i < length names = omega arith in
-    let told : MatchOption c.in_ok-found.found (IsOther kind name) (λ seq. IsBuilt kind seq name) =
-    subst (λ (l : List ℕ). MatchOption c.in_ok-found.found (IsOther kind l) (λ seq. IsBuilt kind seq l)) c.as_str.ensures.value c.in_ok-found.ensures.ok in
-    subst (λ (l : List (List ℕ)). AreAmong kind place l c.match-found.files.items) (sym (so_far string_bytes names i c.name-item.result lt c.name-item.is))
+    let told : MatchOption c.in_ok-found.found (IsOther kind name) (λ said. IsNameOf kind said.signed said.seq name) =
+    subst (λ (l : List ℕ). MatchOption c.in_ok-found.found (IsOther kind l) (λ said. IsNameOf kind said.signed said.seq l)) c.as_str.ensures.value c.in_ok-found.ensures.ok in
+    subst (λ (l : List (List ℕ)). AreAmong kind count place l c.match-found.files.items) (sym (so_far string_bytes names i c.name-item.result lt c.name-item.is))
     (elim c.match-found.branch [
       | in-Some+in_ok-push w ↦
-          let file : FoundFile = record { seq = w.in-Some.seq; path_id = place } in
-          subst (AreAmong kind place (before ++ name ∷ [])) (sym (ap (λ v. v.items) w.files-is ∙ w.in_ok-push.ensures.items))
-          (among_more kind place name before c.loop-name.files.items file c.loop-name.invariant
-          (subst (λ (o : Option ℕ). MatchOption o (IsOther kind name) (λ seq. IsBuilt kind seq name)) w.in-Some.is told) refl)
+          let file : FoundFile = w.file_in.result in
+          let said : IsNameOf kind w.in-Some.said.signed w.in-Some.said.seq name =
+          subst (λ (o : Option FileName). MatchOption o (IsOther kind name) (λ s. IsNameOf kind s.signed s.seq name)) w.in-Some.is told in
+          subst (AreAmong kind count place (before ++ name ∷ [])) (sym (ap (λ v. v.items) w.files-is ∙ w.in_ok-push.ensures.items))
+          (among_more kind count place name before c.loop-name.files.items file w.in-Some.said.signed c.loop-name.invariant
+          (subst (λ (n : ℕ). IsNameOf kind w.in-Some.said.signed n name) (sym w.file_in.ensures.seq) said) w.file_in.ensures.path_id)
       | in_default w ↦
-          subst (λ (l : List FoundFile). AreAmong kind place (before ++ name ∷ []) l) (sym (ap (λ v. v.items) w.files-is))
-          (among_other kind place name before c.loop-name.files.items c.loop-name.invariant
-          (subst (λ (o : Option ℕ). MatchOption o (IsOther kind name) (λ seq. IsBuilt kind seq name)) w.in_default.is told))
+          subst (λ (l : List FoundFile). AreAmong kind count place (before ++ name ∷ []) l) (sym (ap (λ v. v.items) w.files-is))
+          (among_other kind count place name before c.loop-name.files.items c.loop-name.invariant
+          (subst (λ (o : Option FileName). MatchOption o (IsOther kind name) (λ said. IsNameOf kind said.signed said.seq name)) w.in_default.is told))
     ])

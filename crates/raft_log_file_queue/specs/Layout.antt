@@ -1,5 +1,5 @@
 -- Under which paths the files of a queue lie.
-use Rattle.std.specs.Prelude.{◌≡◌, ℕ, ◌<◌, ◌-◌, ◌^◌, Bool, cond, nat_le, List, [], length, slice_index_or}
+use Rattle.std.specs.Prelude.{◌≡◌, ℕ, ◌<◌, ◌+◌, ◌-◌, ◌^◌, Bool, cond, nat_le, List, [], length, slice_index_or}
 use Rattle.raft_log_disk.specs.Disk.{IsPathIn}
 use Rattle.raft_log_file_laws.specs.LogFormat.{Format, IsFormat}
 use Rattle.raft_log_file_format.specs.Header.{header_bytes}
@@ -11,6 +11,10 @@ use Rattle.raft_log_file_queue.specs.declared.format.File.{File}
 -- each has a second one, for such names.
 abbrev pub has_sign : ℕ → ℕ → Bool
 has_sign count place = nat_le count place
+
+-- the place for names in a directory, of so many, with a sign or without one
+abbrev pub place_of : ℕ → ℕ → Bool → ℕ
+place_of count place signed = cond signed (count + place) place
 
 -- the first place of the directory that has this place, of so many
 abbrev pub plain_place : ℕ → ℕ → ℕ

@@ -1,10 +1,10 @@
 //! How the files of a queue are written, and under which paths they lie.
 
-ghost use Rattle.std.specs.Prelude.{◌≡◌, ℕ, ◌<◌, ◌^◌, List, OnOk, IfOk, IfErr, map};
+ghost use Rattle.std.specs.Prelude.{◌≡◌, ℕ, ◌+◌, ◌<◌, ◌^◌, List, OnOk, IfOk, IfErr, map};
 ghost use Rattle.std.specs.String.{string_bytes};
 ghost use Rattle.raft_log_file_format.specs.Name.{IsNameRefusal};
 ghost use Rattle.raft_log_file_laws.specs.LogFormat.{Format};
-ghost use Rattle.raft_log_file_queue.specs.Layout.{FilePaths, IsLayout, has_sign, path_of, plain_place};
+ghost use Rattle.raft_log_file_queue.specs.Layout.{FilePaths, IsLayout, has_sign, path_of, place_of, plain_place};
 
 use raft_log_disk::Handle;
 use raft_log_file_format::LogFileFormat;
@@ -29,6 +29,17 @@ pub fn has_sign(directories: usize, path_id: PathId) -> bool
     ensures { result ≡ has_sign directories path_id }
 {
     directories <= path_id
+}
+
+/// The place for names in a directory, of so many, with a sign in front of the number or without one.
+pub fn place_of(directories: usize, path_id: PathId, signed: bool) -> PathId
+    requires { directories + path_id < 2 ^ 64 }
+    ensures { result ≡ place_of directories path_id signed }
+{
+    if signed {
+        return directories + path_id;
+    }
+    path_id
 }
 
 /// The first place of the directory that has this place, of so many: that of names without a sign, as all new

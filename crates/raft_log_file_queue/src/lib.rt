@@ -14,7 +14,8 @@ pub mod opening;
 pub mod rotation;
 
 pub use format::{
-    DEFAULT_FIRST_FILE_SEQ, DEFAULT_PATH_ID, File, PathId, Paths, PipeFormat, has_sign, plain_place,
+    DEFAULT_FIRST_FILE_SEQ, DEFAULT_PATH_ID, File, PathId, Paths, PipeFormat, has_sign, place_of,
+    plain_place,
 };
 pub use last_file::{WriteFault, append_record, begin_file, finish_file, sync_records};
 pub use opening::{begin_queue, reopen_file, trim_leftover};

@@ -1,5 +1,5 @@
 -- The last run, one file further, and what is kept.
-use Rattle.std.proofs.Common.{◌≡◌, ℕ, ◌+◌, ◌-◌, ◌<◌, ◌≤◌, List, length, take, drop, get_or, refl, sym, ◌∙◌, ap, subst, inl, inr, arith}
+use Rattle.std.proofs.Common.{◌≡◌, ℕ, ◌+◌, ◌-◌, ◌<◌, ◌≤◌, false, List, length, take, drop, get_or, refl, sym, ◌∙◌, ap, subst, inl, inr, arith}
 use Rattle.std.specs.List.Sorted.{IsPermutation, IsSorted}
 use Rattle.std.proofs.lemmas.Bool.{cases_lt}
 use Rattle.std.proofs.lemmas.List.{take_more, drop_more, take-append-drop, get_or-drop, length-drop}
@@ -29,7 +29,7 @@ run_ends files end first is all = (
 )
 
 no_file : FoundFile
-no_file = record { seq = 0; path_id = 0 }
+no_file = record { seq = 0; path_id = 0; signed = false }
 
 break_at : (files : List FoundFile) (first : ℕ) → IsBrokenAt files first → IsBreak (take first files) (drop first files)
 break_at files first (some, lt, breaks) =

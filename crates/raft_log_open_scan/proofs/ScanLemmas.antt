@@ -27,9 +27,9 @@ kept_found found kept f run there =
 pub kept_lie : (kind : FileKind) (directories : List (List ℕ)) (d : Disk) (kept : List FoundFile) → IsRunIn kind directories d kept → All (FileLiesIn kind directories d) kept
 kept_lie kind directories d kept is k e lt = is.all.found (get_or kept k e) (kept_found is.found kept (get_or kept k e) is.run (Contains-get_or kept k e lt))
 
-pub run_in : (kind : FileKind) (directories : List (List ℕ)) (count : ℕ) (listings : List (List (List ℕ))) (d : Disk) (kept : List FoundFile)
-    → count ≡ length directories → AllZip (λ directory listed. IsListing directory d listed) directories listings → IsRunAmong kind count listings kept → IsRunIn kind directories d kept
-run_in kind directories count listings d kept every zip is = record { found = is.found; all = are_files_in kind directories count listings d is.found every zip is.among; run = is.run }
+pub run_in : (kind : FileKind) (directories : List (List ℕ)) (listings : List (List (List ℕ))) (d : Disk) (kept : List FoundFile)
+    → AllZip (λ directory listed. IsListing directory d listed) directories listings → IsRunAmong kind listings kept → IsRunIn kind directories d kept
+run_in kind directories listings d kept zip is = record { found = is.found; all = are_files_in kind directories listings d is.found zip is.among; run = is.run }
 
 -- Refusals.
 

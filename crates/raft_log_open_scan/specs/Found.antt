@@ -1,38 +1,29 @@
 -- Which files of a log its directories hold.
-use Rattle.std.specs.Prelude.{◌≡◌, ℕ, ◌+◌, ◌<◌, ◌⊎◌, Bool, cond, None, List, [], ◌∷◌, ◌++◌, suc, length, Contains}
+use Rattle.std.specs.Prelude.{◌≡◌, ℕ, ◌<◌, ◌⊎◌, None, List, [], ◌∷◌, ◌++◌, suc, length, slice_index_or, Contains}
 use Rattle.std.specs.String.{string_bytes}
 use Rattle.raft_log_record_base.specs.declared.errors.Error.{Error}
 use Rattle.raft_log_record_base.specs.declared.errors.Error.TheVariants as errors
 use Rattle.raft_log_disk.specs.Disk.{Disk, IsPlain}
 use Rattle.raft_log_file_format.specs.Name.{name_limit}
-use Rattle.raft_log_file_queue.specs.Layout.{has_sign, plain_place}
-use Rattle.raft_log_file_layout.specs.Paths.{directory_at}
 use Rattle.raft_log_open_scan.specs.Names.{name_of, IsNameOf, IsOther, IsMisnamed, told_misnamed}
 use Rattle.raft_log_open_scan.specs.declared.file_kind.FileKind.{FileKind}
 use Rattle.raft_log_open_scan.specs.declared.scanning.found.FoundFile.{FoundFile}
 
 -- Among names.
 
--- the place for a name in a directory, of so many: the second one for a name with a sign
-abbrev pub place_of : ℕ → ℕ → Bool → ℕ
-place_of count place signed = cond signed (count + place) place
+-- The files among those with these names in a directory, in the order of the names; none is misnamed.
+abbrev pub AreAmong : FileKind → ℕ → List (List ℕ) → List FoundFile → Type 0
+AreAmong kind place [] files = files ≡ []
+AreAmong kind place (name ∷ names) files = (IsOther kind name × AreAmong kind place names files)
+    ⊎ ((file : FoundFile) × (more : List FoundFile) × IsNameOf kind file.signed file.seq name
+    × (file.path_id ≡ place) × (files ≡ file ∷ more) × AreAmong kind place names more)
 
--- The files among those with these names in a directory, of so many, in the order of the names; none is
--- misnamed.
-abbrev pub AreAmong : FileKind → ℕ → ℕ → List (List ℕ) → List FoundFile → Type 0
-AreAmong kind count place [] files = files ≡ []
-AreAmong kind count place (name ∷ names) files = (IsOther kind name × AreAmong kind count place names files)
-    ⊎ ((file : FoundFile) × (more : List FoundFile) × (signed : Bool) × IsNameOf kind signed file.seq name
-    × (file.path_id ≡ place_of count place signed) × (files ≡ file ∷ more)
-    × AreAmong kind count place names more)
-
--- The files among those with these names in several directories, of so many, from this place on, in the order
--- of the names; none is misnamed.
-abbrev pub AreAmongAll : FileKind → ℕ → ℕ → List (List (List ℕ)) → List FoundFile → Type 0
-AreAmongAll kind count place [] files = files ≡ []
-AreAmongAll kind count place (names ∷ listings) files = (first : List FoundFile) × (more : List FoundFile)
-    × AreAmong kind count place names first × AreAmongAll kind count (suc place) listings more
-    × (files ≡ first ++ more)
+-- The files among those with these names in several directories, from this place on, in the order of the
+-- names; none is misnamed.
+abbrev pub AreAmongAll : FileKind → ℕ → List (List (List ℕ)) → List FoundFile → Type 0
+AreAmongAll kind place [] files = files ≡ []
+AreAmongAll kind place (names ∷ listings) files = (first : List FoundFile) × (more : List FoundFile)
+    × AreAmong kind place names first × AreAmongAll kind (suc place) listings more × (files ≡ first ++ more)
 
 -- one of these names is a misnamed file's, and it is told
 abbrev pub TellsOneOf : FileKind → List (List ℕ) → List ℕ → Type 0
@@ -56,13 +47,13 @@ FailsAmongAll kind listings _ = ⊥
 
 -- the path of a file in these directories
 abbrev pub found_path : FileKind → List (List ℕ) → FoundFile → List ℕ
-found_path kind directories file = directory_at directories file.path_id
-    ++ 47 ∷ name_of kind (has_sign (length directories) file.path_id) file.seq
+found_path kind directories file =
+    slice_index_or directories file.path_id [] ++ 47 ∷ name_of kind file.signed file.seq
 
 -- the file lies in one of these directories, under the name of its number, with a sign or without one
 pub record FileLiesIn (kind : FileKind) (directories : List (List ℕ)) (d : Disk) (file : FoundFile) : Type 0 where
-  pub listed : plain_place (length directories) file.path_id < length directories
-  pub small : file.seq < name_limit (has_sign (length directories) file.path_id)
+  pub listed : file.path_id < length directories
+  pub small : file.seq < name_limit file.signed
   pub there : d.names (found_path kind directories file) ≡ None → ⊥
 
 -- a directory has a file under this name

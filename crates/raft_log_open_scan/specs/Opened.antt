@@ -1,5 +1,5 @@
 -- Files that were found are opened.
-use Rattle.std.specs.Prelude.{◌≡◌, ℕ, ◌⊎◌, Bool, true, false, List, [], ◌∷◌, ◌++◌}
+use Rattle.std.specs.Prelude.{◌≡◌, ℕ, ◌⊎◌, Bool, true, false, List, [], ◌∷◌, ◌++◌, length}
 use Rattle.std.specs.List.{AllZip}
 use Rattle.raft_log_record_base.specs.declared.errors.Error.{Error}
 use Rattle.raft_log_record_base.specs.declared.errors.Error.TheVariants as errors
@@ -11,6 +11,7 @@ use Rattle.raft_log_disk.specs.declared.handle.Permission.{Permission}
 use Rattle.raft_log_disk.specs.declared.handle.Permission.TheVariants.{ReadOnly, ReadWrite}
 use Rattle.raft_log_file_settings.specs.declared.recovery_mode.RecoveryMode.{RecoveryMode}
 use Rattle.raft_log_file_settings.specs.declared.recovery_mode.RecoveryMode.TheVariants.{TolerateAnyCorruption}
+use Rattle.raft_log_file_queue.specs.Layout.{place_of}
 use Rattle.raft_log_file_queue.specs.declared.format.File.{File}
 use Rattle.raft_log_open_scan.specs.Found.{found_path}
 use Rattle.raft_log_open_scan.specs.declared.file_kind.FileKind.{FileKind}
@@ -27,7 +28,7 @@ is_reserved _ = false
 pub record IsOpenFile (kind : FileKind) (directories : List (List ℕ)) (d : Disk) (permission : Permission)
     (found : FoundFile) (file : File) : Type 0 where
   pub seq : file.seq ≡ found.seq
-  pub path_id : file.path_id ≡ found.path_id
+  pub path_id : file.path_id ≡ place_of (length directories) found.path_id found.signed
   pub reserved : file.reserved ≡ is_reserved kind
   pub format : file.format ≡ record { version = V1; alignment = 0 }
   pub opened : IsOpened (found_path kind directories found) permission file.handle d

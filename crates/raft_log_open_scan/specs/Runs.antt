@@ -3,12 +3,14 @@ use Rattle.std.specs.Prelude.{◌≡◌, ℕ, ◌+◌, ◌-◌, ◌<◌, ◌≤�
 use Rattle.std.specs.declared.cmp.Ordering.{Ordering}
 use Rattle.std.specs.List.{AllAdjacentBelow}
 use Rattle.std.specs.List.Sorted.{IsPermutation, IsSorted}
-use Rattle.std.specs.Ordering.{nat_cmp, ordering_then}
+use Rattle.std.specs.Ordering.{bool_cmp, nat_cmp, ordering_then}
 use Rattle.raft_log_open_scan.specs.declared.scanning.found.FoundFile.{FoundFile}
 
--- by their numbers, and of two with one number that in the earlier place first
+-- by their numbers, of two with one number that of the earlier directory first, and of two in one that without
+-- a sign
 abbrev pub found_cmp : FoundFile → FoundFile → Ordering
-found_cmp a b = ordering_then (nat_cmp a.seq b.seq) (nat_cmp a.path_id b.path_id)
+found_cmp a b = ordering_then (nat_cmp a.seq b.seq)
+    (ordering_then (nat_cmp a.path_id b.path_id) (bool_cmp a.signed b.signed))
 
 -- the second has the number behind the first one's
 abbrev pub FollowsNumber : FoundFile → FoundFile → Type 0

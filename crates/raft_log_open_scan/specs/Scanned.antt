@@ -18,11 +18,11 @@ use Rattle.raft_log_open_scan.specs.declared.file_kind.FileKind.TheVariants.{App
 use Rattle.raft_log_open_scan.specs.declared.scanning.found.FoundFile.{FoundFile}
 use Rattle.raft_log_open_scan.specs.declared.scanning.ScannedFiles.{ScannedFiles}
 
--- of the files of a kind among those with these names in so many directories, those that are kept
-pub record IsRunAmong (kind : FileKind) (count : ℕ) (listings : List (List (List ℕ)))
-    (kept : List FoundFile) : Type 0 where
+-- of the files of a kind among those with these names, those that are kept
+pub record IsRunAmong (kind : FileKind) (listings : List (List (List ℕ))) (kept : List FoundFile)
+    : Type 0 where
   pub found : List FoundFile
-  pub among : AreAmongAll kind count 0 listings found
+  pub among : AreAmongAll kind 0 listings found
   pub run : IsRunOf found kept
 
 -- of exactly the files of a kind in these directories, those that are kept

@@ -1,7 +1,7 @@
 //! What a log's directories hold: they are made where they aren't there, their files found, sorted and
 //! opened.
 
-ghost use Rattle.std.specs.Prelude.{◌≡◌, true, All, IfOk, IfErr, length, map};
+ghost use Rattle.std.specs.Prelude.{◌≡◌, true, All, IfOk, IfErr, map};
 ghost use Rattle.std.specs.List.{AllZip};
 ghost use Rattle.std.specs.String.{string_bytes};
 ghost use Rattle.raft_log_disk.specs.Reading.{IsListing};
@@ -135,7 +135,7 @@ fn scan_reserved<F: FileSystem>(
 /// The files of a kind that are kept, among those with these names.
 fn scan_run(alloc: Global, kind: FileKind, listings: &[Vec<String>]) -> Result<Vec<FoundFile>>
     ensures ok { IfOk result (λ kept.
-        IsRunAmong kind (length listings.now) (map (λ names. map string_bytes names.items) listings.now)
+        IsRunAmong kind (map (λ names. map string_bytes names.items) listings.now)
         kept.items) }
     ensures err { IfErr result
         (FailsAmongAll kind (map (λ names. map string_bytes names.items) listings.now)) }

@@ -1,10 +1,10 @@
 //! The files of a kind are found among the names of the log's directories.
 
-ghost use Rattle.std.specs.Prelude.{◌≡◌, ◌+◌, ◌<◌, ◌^◌, length, IfOk, IfErr, map};
+ghost use Rattle.std.specs.Prelude.{◌≡◌, IfOk, IfErr, map};
 ghost use Rattle.std.specs.String.{string_bytes};
-ghost use Rattle.raft_log_open_scan.specs.Found.{AreAmong, AreAmongAll, FailsAmong, FailsAmongAll, place_of};
+ghost use Rattle.raft_log_open_scan.specs.Found.{AreAmong, AreAmongAll, FailsAmong, FailsAmongAll};
 
-use crate::file_kind::{FileKind, FileName};
+use crate::file_kind::FileKind;
 use raft_log_file_queue::PathId;
 use raft_log_record_base::{FileSeq, Result};
 use std::alloc::Global;
@@ -14,62 +14,48 @@ use std::alloc::Global;
 pub struct FoundFile {
     /// The file's number.
     pub seq: FileSeq,
-    /// The place of the directory that the file lies in: the second one where the name has a sign.
+    /// The directory that the file lies in.
     pub path_id: PathId,
+    /// Whether its name has a sign.
+    pub signed: bool,
 }
 
 /// The files of a kind among those with these names, directory by directory, in the order of the names.
 /// `Corruption` where a name says a number and has more between it and the end.
 pub fn find_files(alloc: Global, kind: FileKind, listings: &[Vec<String>]) -> Result<Vec<FoundFile>>
-    ensures ok { IfOk result (λ files. AreAmongAll kind (length listings.now) 0
-        (map (λ names. map string_bytes names.items) listings.now) files.items) }
+    ensures ok { IfOk result (λ files.
+        AreAmongAll kind 0 (map (λ names. map string_bytes names.items) listings.now) files.items) }
     ensures err { IfErr result
         (FailsAmongAll kind (map (λ names. map string_bytes names.items) listings.now)) }
 {
-    let directories = listings.len();
     let mut files = Vec::new(alloc);
     for (path_id, names) in listings.iter().enumerate() {
-        let mut more = find_in_directory(alloc, kind, directories, path_id, names.as_slice())?;
+        let mut more = find_in_directory(alloc, kind, path_id, names.as_slice())?;
         files.append(&mut more)?;
     }
     Ok(files)
 }
 
-/// The files of a kind among those with these names in a directory, of so many.
+/// The files of a kind among those with these names in a directory.
 fn find_in_directory(
     alloc: Global,
     kind: FileKind,
-    directories: usize,
     path_id: PathId,
     names: &[String],
 ) -> Result<Vec<FoundFile>>
-    requires { directories + path_id < 2 ^ 64 }
-    ensures ok { IfOk result (λ files.
-        AreAmong kind directories path_id (map string_bytes names.now) files.items) }
+    ensures ok { IfOk result (λ files. AreAmong kind path_id (map string_bytes names.now) files.items) }
     ensures err { IfErr result (FailsAmong kind (map string_bytes names.now)) }
 {
     let mut files = Vec::new(alloc);
     for name in names {
         let found = kind.read_name(alloc, name.as_str())?;
         if let Some(said) = found {
-            files.push(file_in(directories, path_id, said))?;
+            files.push(FoundFile {
+                seq: said.seq,
+                path_id,
+                signed: said.signed,
+            })?;
         }
     }
     Ok(files)
-}
-
-/// The file of a name in a directory, of so many.
-fn file_in(directories: usize, path_id: PathId, said: FileName) -> FoundFile
-    requires { directories + path_id < 2 ^ 64 }
-    ensures seq { result.seq ≡ said.seq }
-    ensures path_id { result.path_id ≡ place_of directories path_id said.signed }
-{
-    FoundFile {
-        seq: said.seq,
-        path_id: if said.signed {
-            directories + path_id
-        } else {
-            path_id
-        },
-    }
 }

@@ -78,7 +78,16 @@ fn has_metadata<F: FileSystem>(
     ensures err { IfErr result (λ error. error ≡ Memory) }
 {
     for path_id in 0..paths.len() {
-        let path = path_of(alloc, kind, paths, FoundFile { seq, path_id })?;
+        let path = path_of(
+            alloc,
+            kind,
+            paths,
+            FoundFile {
+                seq,
+                path_id,
+                signed: false,
+            },
+        )?;
         if file_system.exists_metadata(path.as_str()) {
             return Ok(true);
         }
@@ -122,7 +131,16 @@ fn clear_file<F: FileSystem, L: Log>(
     ensures err { IfErr result (λ error. error ≡ Memory) }
 {
     for path_id in 0..paths.len() {
-        let path = path_of(alloc, kind, paths, FoundFile { seq, path_id })?;
+        let path = path_of(
+            alloc,
+            kind,
+            paths,
+            FoundFile {
+                seq,
+                path_id,
+                signed: false,
+            },
+        )?;
         if file_system.exists_metadata(path.as_str()) {
             if let Err(kind) = file_system.delete_metadata(path.as_str()) {
                 error!(rt; "metadata of {path} wasn't deleted: {kind}");

@@ -1,11 +1,11 @@
 //! The files that were found are opened.
 
-ghost use Rattle.std.specs.Prelude.{◌≡◌, ◌<◌, [], ◌∷◌, ◌++◌, IfOk, IfErr, All, map, length, slice_index_or};
+ghost use Rattle.std.specs.Prelude.{◌≡◌, ◌+◌, ◌<◌, ◌^◌, [], ◌∷◌, ◌++◌, IfOk, IfErr, All, map, length, slice_index_or};
 ghost use Rattle.std.specs.String.{string_bytes};
 ghost use Rattle.raft_log_file_format.specs.Name.{IsNameRefusal};
 ghost use Rattle.raft_log_record_base.specs.declared.errors.Error.TheVariants.{Memory};
 ghost use Rattle.raft_log_record_base.specs.declared.pipe_log.Version.TheVariants.{V1};
-ghost use Rattle.raft_log_file_queue.specs.Layout.{plain_place};
+ghost use Rattle.raft_log_file_queue.specs.Layout.{place_of};
 ghost use Rattle.raft_log_open_scan.specs.Found.{FileLiesIn, found_path};
 ghost use Rattle.raft_log_open_scan.specs.Opened.{AreOpen, FailsToLook, IsOpenFile, IsOpenQueue, is_reserved, permission_before};
 
@@ -14,7 +14,7 @@ use super::found::FoundFile;
 use crate::file_kind::{FileKind, FileName};
 use raft_log_disk::{FileSystem, Handle, Permission};
 use raft_log_file_format::LogFileFormat;
-use raft_log_file_queue::{File, PathId, has_sign, plain_place};
+use raft_log_file_queue::{File, PathId, place_of};
 use raft_log_file_settings::RecoveryMode;
 use raft_log_record_base::{Error, Result};
 use std::alloc::Global;
@@ -100,13 +100,14 @@ fn open_file<F: FileSystem>(
         Ok(handle) => handle,
         Err(kind) => return Err(refusal(file_system.has_stopped(), kind)),
     };
-    Ok(file_of(kind, found, handle))
+    Ok(file_of(kind, paths.len(), found, handle))
 }
 
-/// The file of a handle.
-fn file_of(kind: FileKind, found: FoundFile, handle: Handle) -> File
+/// The file of a handle, in one of so many directories.
+fn file_of(kind: FileKind, directories: usize, found: FoundFile, handle: Handle) -> File
+    requires { directories + found.path_id < 2 ^ 64 }
     ensures seq { result.seq ≡ found.seq }
-    ensures path_id { result.path_id ≡ found.path_id }
+    ensures path_id { result.path_id ≡ place_of directories found.path_id found.signed }
     ensures reserved { result.reserved ≡ is_reserved kind }
     ensures format { result.format ≡ record { version = V1; alignment = 0 } }
     ensures handle { result.handle ≡ handle }
@@ -115,7 +116,7 @@ fn file_of(kind: FileKind, found: FoundFile, handle: Handle) -> File
         seq: found.seq,
         handle,
         format: LogFileFormat::default(),
-        path_id: found.path_id,
+        path_id: place_of(directories, found.path_id, found.signed),
         reserved: is_reserved(kind),
     }
 }
@@ -149,27 +150,25 @@ pub(crate) fn path_of(
     paths: &[String],
     found: FoundFile,
 ) -> Result<String>
-    requires { plain_place (length paths.now) found.path_id < length paths.now }
+    requires { found.path_id < length paths.now }
     ensures ok { IfOk result (λ path.
         string_bytes path ≡ found_path kind (map string_bytes paths.now) found) }
     ensures err { IfErr result (IsNameRefusal found.seq) }
 {
-    let directories = paths.len();
     let said = FileName {
         seq: found.seq,
-        signed: has_sign(directories, found.path_id),
+        signed: found.signed,
     };
     let name = kind.name_with(alloc, said)?;
-    let directory = directory_of(paths, plain_place(directories, found.path_id));
+    let directory = directory_of(paths, found.path_id);
     let path = join(alloc, directory, name.as_str())?;
     Ok(path)
 }
 
-/// The directory in its first place.
+/// The directory in a place.
 fn directory_of(paths: &[String], path_id: PathId) -> &str
     requires { path_id < length paths.now }
-    ensures { result.now ≡ slice_index_or (map string_bytes paths.now) path_id
-        (slice_index_or (map string_bytes paths.now) 0 []) }
+    ensures { result.now ≡ slice_index_or (map string_bytes paths.now) path_id [] }
 {
     paths[path_id].as_str()
 }

@@ -1,8 +1,7 @@
-use Rattle.std.proofs.Common.{List, ℕ, Vec, String, Global, length, map, subst, sym, ◌∙◌}
+use Rattle.std.proofs.Common.{List, ℕ, Vec, String, Global, map, subst, sym}
 use Rattle.std.specs.Prelude.{All}
 use Rattle.std.specs.List.{AllZip}
 use Rattle.std.specs.String.{string_bytes}
-use Rattle.std.proofs.lemmas.List.{length-map}
 use Rattle.std.proofs.lemmas.Result.{err_from_is_err_and}
 use Rattle.raft_log_disk.specs.Disk.{Disk}
 use Rattle.raft_log_disk.specs.Reading.{IsListing}
@@ -14,7 +13,7 @@ use Rattle.raft_log_open_scan.specs.declared.file_kind.FileKind.{FileKind}
 use Rattle.raft_log_open_scan.specs.declared.file_kind.FileKind.TheVariants.{Reserved}
 use Rattle.raft_log_open_scan.specs.declared.scanning.found.FoundFile.{FoundFile}
 use Rattle.raft_log_open_scan.proofs.ScanLemmas.{fails_to_find, fails_to_open, kept_lie, run_in}
-use Rattle.raft_log_open_scan.proofs.Steps.{zip_length, zip_map}
+use Rattle.raft_log_open_scan.proofs.Steps.{zip_map}
 use Rattle.raft_log_open_scan.proofs.scanning.scan_reserved.Goals as goal
 
 abbrev names_of : Vec (String Global) Global → List (List ℕ)
@@ -22,12 +21,10 @@ names_of v = map string_bytes v.items
 
 -- what is kept, on the disk
 kept_in : (kind : FileKind) (d : Disk) (paths : List (String Global)) (listings : List (Vec (String Global) Global)) (kept : List FoundFile)
-    → AllZip (λ path names. IsListing (string_bytes path) d (map string_bytes names.items)) paths listings → IsRunAmong kind (length listings) (map names_of listings) kept
+    → AllZip (λ path names. IsListing (string_bytes path) d (map string_bytes names.items)) paths listings → IsRunAmong kind (map names_of listings) kept
     → IsRunIn kind (map string_bytes paths) d kept
 kept_in kind d paths listings kept zip run =
-    run_in kind (map string_bytes paths) (length listings) (map names_of listings) d kept
-    (zip_length (λ path names. IsListing (string_bytes path) d (map string_bytes names.items)) paths listings zip ∙ sym (length-map paths string_bytes))
-    (zip_map (λ directory listed. IsListing directory d listed) string_bytes names_of paths listings zip) run
+    run_in kind (map string_bytes paths) (map names_of listings) d kept (zip_map (λ directory listed. IsListing directory d listed) string_bytes names_of paths listings zip) run
 
 pub returns-in_err-kept-clause-err : goal.returns-in_err-kept-clause-err
 returns-in_err-kept-clause-err g c =

@@ -23,15 +23,14 @@ pub loop-path_id-preserved : goal.loop-path_id-preserved
 loop-path_id-preserved c =
     let listings = c.args.listings.now in
     let kind = c.args.kind in
-    let count = length listings in
     let i = c.loop-path_id.path_id in
     let found = c.index-listings-path_id.result in
     let before = map names_of (take i listings) in
     let lt : i < length listings = omega arith in
     let at : i ≡ 0 + length before = omega (arith, length-map (take i listings) names_of, length-take-le i listings, lt) in
-    let among : AreAmong kind count i (names_of found) c.in_ok-more.more.items =
-    subst (λ (l : List (String Global)). AreAmong kind count i (map string_bytes l) c.in_ok-more.more.items) c.as_slice.ensures.value c.in_ok-more.ensures.ok in
-    subst (λ (l : List (List (List ℕ))). AreAmongAll kind count 0 l c.append.new.self.items) (sym (so_far names_of listings i found lt c.index-listings-path_id.is))
-    (subst (AreAmongAll kind count 0 (before ++ names_of found ∷ [])) (sym c.in_ok-append.ensures.items)
-    (all_more kind count 0 before (names_of found) c.loop-path_id.files.items c.in_ok-more.more.items c.loop-path_id.invariant
-    (subst (λ (p : ℕ). AreAmong kind count p (names_of found) c.in_ok-more.more.items) at among)))
+    let among : AreAmong kind i (names_of found) c.in_ok-more.more.items =
+    subst (λ (l : List (String Global)). AreAmong kind i (map string_bytes l) c.in_ok-more.more.items) c.as_slice.ensures.value c.in_ok-more.ensures.ok in
+    subst (λ (l : List (List (List ℕ))). AreAmongAll kind 0 l c.append.new.self.items) (sym (so_far names_of listings i found lt c.index-listings-path_id.is))
+    (subst (AreAmongAll kind 0 (before ++ names_of found ∷ [])) (sym c.in_ok-append.ensures.items)
+    (all_more kind 0 before (names_of found) c.loop-path_id.files.items c.in_ok-more.more.items c.loop-path_id.invariant
+    (subst (λ (p : ℕ). AreAmong kind p (names_of found) c.in_ok-more.more.items) at among)))

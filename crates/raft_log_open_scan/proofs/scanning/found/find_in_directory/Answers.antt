@@ -24,7 +24,6 @@ pub loop-name-preserved : goal.loop-name-preserved
 loop-name-preserved c =
     let names = c.args.names.now in
     let kind = c.args.kind in
-    let count = c.args.directories in
     let place = c.args.path_id in
     let i = c.loop-name.name-index in
     let name = string_bytes c.name-item.result in
@@ -32,17 +31,15 @@ loop-name-preserved c =
     let lt : i < length names = omega arith in
     let told : MatchOption c.in_ok-found.found (IsOther kind name) (λ said. IsNameOf kind said.signed said.seq name) =
     subst (λ (l : List ℕ). MatchOption c.in_ok-found.found (IsOther kind l) (λ said. IsNameOf kind said.signed said.seq l)) c.as_str.ensures.value c.in_ok-found.ensures.ok in
-    subst (λ (l : List (List ℕ)). AreAmong kind count place l c.match-found.files.items) (sym (so_far string_bytes names i c.name-item.result lt c.name-item.is))
+    subst (λ (l : List (List ℕ)). AreAmong kind place l c.match-found.files.items) (sym (so_far string_bytes names i c.name-item.result lt c.name-item.is))
     (elim c.match-found.branch [
       | in-Some+in_ok-push w ↦
-          let file : FoundFile = w.file_in.result in
-          let said : IsNameOf kind w.in-Some.said.signed w.in-Some.said.seq name =
-          subst (λ (o : Option FileName). MatchOption o (IsOther kind name) (λ s. IsNameOf kind s.signed s.seq name)) w.in-Some.is told in
-          subst (AreAmong kind count place (before ++ name ∷ [])) (sym (ap (λ v. v.items) w.files-is ∙ w.in_ok-push.ensures.items))
-          (among_more kind count place name before c.loop-name.files.items file w.in-Some.said.signed c.loop-name.invariant
-          (subst (λ (n : ℕ). IsNameOf kind w.in-Some.said.signed n name) (sym w.file_in.ensures.seq) said) w.file_in.ensures.path_id)
+          let file : FoundFile = record { seq = w.in-Some.said.seq; path_id = place; signed = w.in-Some.said.signed } in
+          subst (AreAmong kind place (before ++ name ∷ [])) (sym (ap (λ v. v.items) w.files-is ∙ w.in_ok-push.ensures.items))
+          (among_more kind place name before c.loop-name.files.items file c.loop-name.invariant
+          (subst (λ (o : Option FileName). MatchOption o (IsOther kind name) (λ said. IsNameOf kind said.signed said.seq name)) w.in-Some.is told) refl)
       | in_default w ↦
-          subst (λ (l : List FoundFile). AreAmong kind count place (before ++ name ∷ []) l) (sym (ap (λ v. v.items) w.files-is))
-          (among_other kind count place name before c.loop-name.files.items c.loop-name.invariant
+          subst (λ (l : List FoundFile). AreAmong kind place (before ++ name ∷ []) l) (sym (ap (λ v. v.items) w.files-is))
+          (among_other kind place name before c.loop-name.files.items c.loop-name.invariant
           (subst (λ (o : Option FileName). MatchOption o (IsOther kind name) (λ said. IsNameOf kind said.signed said.seq name)) w.in_default.is told))
     ])

@@ -5,4 +5,4 @@ use Rattle.raft_log_open_scan.proofs.scanning.found.find_in_directory.Given as g
 
 -- the files among the names so far are found
 abbrev pub invariant-loop-name : goal.invariant-loop-name
-invariant-loop-name l = AreAmong l.kind l.directories l.path_id (map string_bytes (take l.name-index l.names)) l.files.items
+invariant-loop-name l = AreAmong l.kind l.path_id (map string_bytes (take l.name-index l.names)) l.files.items

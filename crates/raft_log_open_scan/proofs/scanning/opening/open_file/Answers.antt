@@ -5,19 +5,16 @@ use Rattle.std.specs.String.{string_bytes}
 use Rattle.raft_log_disk.specs.Reading.{IsOpened}
 use Rattle.raft_log_disk.specs.declared.handle.Handle.{Handle}
 use Rattle.raft_log_open_scan.specs.Found.{found_path}
-use Rattle.raft_log_file_queue.specs.Layout.{has_sign, plain_place}
+use Rattle.raft_log_file_queue.specs.Layout.{place_of}
 use Rattle.raft_log_open_scan.proofs.FoundLemmas.{limit_small}
 use Rattle.raft_log_open_scan.proofs.OpeningLemmas.{name_fails, not_opened}
 use Rattle.raft_log_open_scan.proofs.scanning.opening.open_file.Goals as goal
-
-pub path_of-requires : goal.path_of-requires
-path_of-requires g c = subst (λ (n : ℕ). plain_place n c.args.found.path_id < n) (length-map c.args.paths.now string_bytes) c.requires.listed
 
 pub returns-in_err-path-clause-err : goal.returns-in_err-path-clause-err
 returns-in_err-path-clause-err g c =
     let gave = err_from_is_err_and c.from_residual.result c.from_residual.ensures.1 in
     rw (gave.1, gave.2) (name_fails (g.F.FileSystem.disk c.args.file_system.now) c.args.found.seq c.in_err-path.field-0.0
-    (limit_small (has_sign (length (map string_bytes c.args.paths.now)) c.args.found.path_id) c.args.found.seq c.requires.small) c.in_err-path.ensures.err)
+    (limit_small c.args.found.signed c.args.found.seq c.requires.small) c.in_err-path.ensures.err)
 
 pub returns-in-Err-clause-err : goal.returns-in-Err-clause-err
 returns-in-Err-clause-err g c =
@@ -31,7 +28,7 @@ returns-clause-ok g c =
     let path = c.as_str.ensures.value ∙ c.in_ok-path.ensures.ok in
     record {
       seq = c.file_of.ensures.seq;
-      path_id = c.file_of.ensures.path_id;
+      path_id = c.file_of.ensures.path_id ∙ ap (λ (n : ℕ). place_of n c.args.found.path_id c.args.found.signed) (sym (length-map c.args.paths.now string_bytes));
       reserved = c.file_of.ensures.reserved;
       format = c.file_of.ensures.format;
       opened = subst (λ (h : Handle). IsOpened (found_path c.args.kind (map string_bytes c.args.paths.now) c.args.found) c.args.permission h d) (sym c.file_of.ensures.handle)

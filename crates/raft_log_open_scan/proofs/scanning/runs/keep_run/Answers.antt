@@ -12,4 +12,4 @@ returns-clause-ok c =
     let begins = subst (λ (l : List FoundFile). BeginsRun l (length l) first) c.as_slice.ensures.value c.first_of_run-first.ensures.run in
     subst (IsRunOf c.args.files.items) (sym c.in_ok-kept.ensures.tail)
     (run_is c.args.files.items files first begins c.in_ok-sort_by_key.ensures.permutation
-    (c.in_ok-sort_by_key.ensures.sorted (λ (file : FoundFile). (file.seq, file.path_id)) (answers_always _ _ _ (λ f a r q k. search rules))))
+    (c.in_ok-sort_by_key.ensures.sorted (λ (file : FoundFile). (file.seq, file.path_id, file.signed)) (answers_always _ _ _ (λ f a r q k. search rules))))

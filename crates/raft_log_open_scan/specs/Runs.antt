@@ -9,8 +9,8 @@ use Rattle.raft_log_open_scan.specs.declared.scanning.found.FoundFile.{FoundFile
 -- by their numbers, of two with one number that of the earlier directory first, and of two in one that without
 -- a sign
 abbrev pub found_cmp : FoundFile → FoundFile → Ordering
-found_cmp a b = ordering_then (nat_cmp a.seq b.seq)
-    (ordering_then (nat_cmp a.path_id b.path_id) (bool_cmp a.signed b.signed))
+found_cmp a b = ordering_then (ordering_then (nat_cmp a.seq b.seq) (nat_cmp a.path_id b.path_id))
+    (bool_cmp a.signed b.signed)
 
 -- the second has the number behind the first one's
 abbrev pub FollowsNumber : FoundFile → FoundFile → Type 0

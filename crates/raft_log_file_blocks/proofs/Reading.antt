@@ -82,7 +82,7 @@ module _ {R : Type 0} (layout : QueueLayout R) (lawful : IsQueueLayout layout) (
 
   holds : (n id : ℕ) → IsListed n files id → (file : File) → d.files id ≡ Some file → (more : List ℕ) × (file.content ≡ file_bytes q.files n ++ more)
   holds n id (inl (number, same)) file there = last_holds n id number same file there
-  holds n id (inr (f, from, less, at, same)) file there = earlier_holds n id (n - files.first_seq) f (omega (arith, from)) less at same file there
+  holds n id (inr (f, other, from, less, at, same)) file there = earlier_holds n id (n - files.first_seq) f (omega (arith, from)) less at same file there
 
   -- each number of the span has a file
   pub told_in_span : (n : ℕ) → q.first ≤ n → n ≤ q.files.last → (n ≡ files.active.seq → ⊥) → (files.first_seq ≤ n → n - files.first_seq < length files.earlier.items → ⊥) → ⊥

@@ -6,7 +6,6 @@ use Rattle.raft_log_file_laws.specs.LogFormat.{Format}
 use Rattle.raft_log_file_laws.specs.LogQueue.{Past, LogFiles, IsAbsent}
 use Rattle.raft_log_record_base.specs.declared.errors.Error.{Error}
 use Rattle.raft_log_record_base.specs.declared.errors.Error.TheVariants as errors
-use Rattle.raft_log_record_base.specs.declared.pipe_log.Version.TheVariants.{V1}
 use Rattle.raft_log_file_format.specs.Header.{header_bytes, first_format}
 use Rattle.raft_log_file_format.specs.declared.header.LogFileFormat.{LogFileFormat}
 use Rattle.raft_log_file_queue.specs.Queue.{with_room}

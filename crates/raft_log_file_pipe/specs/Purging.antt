@@ -1,5 +1,5 @@
 -- The files below a number leave the span of a pipe: some stay for use, the others are dropped.
-use Rattle.std.specs.Prelude.{◌≡◌, ℕ, ◌-◌, ◌<◌, ◌≤◌, ◌^◌, Bool, true, false, nat_lt, ◌&&◌, if◌then◌else◌, Some, None, List, [], ◌∷◌, ◌++◌, length, map, take, drop, slice_index_or, suc}
+use Rattle.std.specs.Prelude.{◌≡◌, ℕ, ◌-◌, ◌<◌, ◌≤◌, ◌^◌, false, nat_lt, ◌&&◌, if◌then◌else◌, Some, None, List, [], ◌∷◌, ◌++◌, length, map, take, drop, slice_index_or, suc}
 use Rattle.std.specs.Map.{update}
 use Rattle.std.specs.Str.{bytes_eq}
 use Rattle.raft_log_disk.specs.Disk.{Disk}
@@ -8,8 +8,6 @@ use Rattle.raft_log_file_laws.specs.LogFormat.{Format}
 use Rattle.raft_log_file_laws.specs.LogQueue.{LogFiles}
 use Rattle.raft_log_record_base.specs.declared.errors.Error.{Error}
 use Rattle.raft_log_record_base.specs.declared.errors.Error.TheVariants as errors
-use Rattle.raft_log_record_base.specs.declared.pipe_log.Version.{Version}
-use Rattle.raft_log_record_base.specs.declared.pipe_log.Version.TheVariants.{V1, V2}
 use Rattle.raft_log_file_queue.specs.Standing.{Names}
 use Rattle.raft_log_file_queue.specs.Bridge.{GapsStay}
 use Rattle.raft_log_file_queue.specs.Layout.{FilePaths, path_of}

@@ -10,10 +10,11 @@ use Rattle.raft_log_file_writer.specs.Reader.{AreBytesAt, IsBlockRefusal}
 use Rattle.raft_log_file_pipe.specs.Files.{Listed}
 use Rattle.raft_log_file_pipe.specs.declared.pipe_files.PipeFiles.{PipeFiles}
 
--- the file with a number is that one: the last, or one before it
+-- the file with a number is that one: the last, if that has it, and else one before the last
 abbrev pub IsListed : ℕ → PipeFiles → ℕ → Type 0
 IsListed seq files id = ((seq ≡ files.active.seq) × (id ≡ files.active.handle.file))
-    ⊎ ((f : Listed) × (files.first_seq ≤ seq) × (seq - files.first_seq < length files.earlier.items)
+    ⊎ ((f : Listed) × (seq ≡ files.active.seq → ⊥) × (files.first_seq ≤ seq)
+    × (seq - files.first_seq < length files.earlier.items)
     × (f ≡ slice_index_or files.earlier.items (seq - files.first_seq) f) × (id ≡ f.handle.file))
 
 -- why no file is told: none has the number, or memory was short for saying so

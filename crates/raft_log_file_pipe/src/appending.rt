@@ -6,7 +6,7 @@ ghost use Rattle.raft_log_file_queue.specs.declared.last_file.WriteFault.TheVari
 ghost use Rattle.std.specs.declared.io.ErrorKind.TheVariants.{StorageFull};
 ghost use Rattle.raft_log_file_format.specs.Header.{header_bytes};
 ghost use Rattle.raft_log_file_pipe.specs.Appending.{AppendFails, AppendsAt, GoesElsewhere, GoesInto, GoesOnBy, SaysTryAgain, Tells, TurnsElsewhere, TurnsFirst};
-ghost use Rattle.raft_log_file_pipe.specs.Exits.{IsTurned, Rotates, RotationLeaves};
+ghost use Rattle.raft_log_file_pipe.specs.Exits.{RotationLeaves};
 ghost use Rattle.raft_log_file_pipe.specs.Placing.{IsPlaced};
 ghost use Rattle.raft_log_file_pipe.specs.Doing.{AppendsBy, FailsToAppendBy, FailsToTurnBy, TellsBy, TurnsElsewhereBy, TurnsFirstBy};
 

@@ -7,7 +7,7 @@ ghost use Rattle.raft_log_disk.specs.Causes.{IsLater};
 ghost use Rattle.raft_log_file_queue.specs.Layout.{path_of};
 ghost use Rattle.raft_log_file_format.specs.Name.{IsNameRefusal};
 ghost use Rattle.raft_log_file_pipe.specs.Files.{Listed};
-ghost use Rattle.raft_log_file_pipe.specs.Purging.{CountFails, DropsTo, FailsToDropAll, IsOtherOrMemory, IsInSpan, IsRaised, PartFails, PurgeLeaves, Purges, going, paths_going, room_from, staying};
+ghost use Rattle.raft_log_file_pipe.specs.Purging.{CountFails, DropsTo, FailsToDropAll, IsOtherOrMemory, IsInSpan, IsRaised, PartFails, PurgeLeaves, Purges, going, paths_going, staying};
 ghost use Rattle.raft_log_file_pipe.specs.Calls.{DropsBy, DropsUntil};
 ghost use Rattle.raft_log_file_pipe.specs.Doing.{FailsToPurgeBy};
 ghost use Rattle.raft_log_record_base.specs.Files.{is_signed};

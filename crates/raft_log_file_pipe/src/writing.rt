@@ -1,6 +1,6 @@
 //! Records that are written to the last file of a pipe.
 
-ghost use Rattle.std.specs.Prelude.{◌≡◌, ◌<◌, ◌^◌, length, IfErr, OnErr, OnOk, IfOk};
+ghost use Rattle.std.specs.Prelude.{◌≡◌, ◌<◌, ◌^◌, IfErr, OnErr, OnOk, IfOk};
 ghost use Rattle.raft_log_disk.specs.Causes.{IsLater};
 ghost use Rattle.raft_log_disk.specs.Exits.{FailsToSync, Syncs};
 ghost use Rattle.raft_log_file_writer.specs.Writer.{WritesNext};

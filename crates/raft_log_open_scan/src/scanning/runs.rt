@@ -8,8 +8,8 @@ use super::found::FoundFile;
 use raft_log_record_base::Result;
 
 /// The files in the order of their numbers, from the last place on where a number is missing, or where two
-/// have one number; of two with one number that of the main directory comes first, and that without a sign. The others are dropped
-/// from the list, and stay where they are.
+/// have one number; of two with one number that of the main directory comes first, of two in one directory
+/// that without a sign. The others are dropped from the list, and stay where they are.
 pub fn keep_run(mut files: Vec<FoundFile>) -> Result<Vec<FoundFile>>
     ensures ok { IfOk result (λ kept. IsRunOf files.items kept.items) }
     ensures err { IfErr result (λ error. error ≡ Memory) }

@@ -5,7 +5,6 @@ use Rattle.std.proofs.lemmas.List.Elements.{All-append, All-cons}
 use Rattle.raft_log_disk.specs.Disk.{Disk}
 use Rattle.raft_log_disk.specs.declared.handle.Permission.{Permission}
 use Rattle.raft_log_file_settings.specs.declared.recovery_mode.RecoveryMode.{RecoveryMode}
-use Rattle.raft_log_file_queue.specs.Layout.{has_sign}
 use Rattle.raft_log_file_queue.specs.declared.format.File.{File}
 use Rattle.raft_log_open_scan.specs.Found.{FileLiesIn}
 use Rattle.raft_log_open_scan.specs.Opened.{AreOpen, permission_before}
@@ -28,7 +27,7 @@ open_small kind directories d permission [] (f ∷ fs) lie are = absurd are
 open_small kind directories d permission (g ∷ gs) [] lie are = absurd are
 open_small kind directories d permission (g ∷ gs) (f ∷ fs) lie (one, rest) =
     let here : 0 < suc (length gs) = omega arith in
-    All-cons IsSmall f fs (subst (λ (n : ℕ). n < 10 ^ 16) (sym one.seq) (limit_small (has_sign (length directories) g.path_id) g.seq (lie 0 g here).small))
+    All-cons IsSmall f fs (subst (λ (n : ℕ). n < 10 ^ 16) (sym one.seq) (limit_small g.signed g.seq (lie 0 g here).small))
     (open_small kind directories d permission gs fs (λ k e lt. lie (suc k) e (omega (arith, lt))) rest)
 
 front_lies : (kind : FileKind) (directories : List (List ℕ)) (d : Disk) (before : List FoundFile) (last : FoundFile) → All (FileLiesIn kind directories d) (before ++ last ∷ []) → All (FileLiesIn kind directories d) before × FileLiesIn kind directories d last
@@ -44,7 +43,6 @@ queue_small kind directories d mode files is = elim is.opened [
   | inr behind ↦
       let lie = front_lies kind directories d behind.before behind.last (subst (All (FileLiesIn kind directories d)) behind.found_split (kept_lie kind directories d is.kept is.run)) in
       let earlier = open_small kind directories d (permission_before mode) behind.before behind.opened lie.0 behind.earlier in
-      let active : IsSmall behind.active = subst (λ (n : ℕ). n < 10 ^ 16) (sym behind.writable.seq)
-      (limit_small (has_sign (length directories) behind.last.path_id) behind.last.seq lie.1.small) in
+      let active : IsSmall behind.active = subst (λ (n : ℕ). n < 10 ^ 16) (sym behind.writable.seq) (limit_small behind.last.signed behind.last.seq lie.1.small) in
       subst (All IsSmall) (sym behind.split) (All-append IsSmall behind.opened (behind.active ∷ []) earlier (All-cons IsSmall behind.active [] active none_small))
 ]

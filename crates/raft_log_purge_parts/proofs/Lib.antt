@@ -31,3 +31,5 @@ pub mod Advancing
 pub mod KeysCopied
 pub mod Grouping
 pub mod Owing
+pub mod Adding
+pub mod Together

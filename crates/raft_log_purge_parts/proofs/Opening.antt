@@ -343,7 +343,7 @@ there_left g done count s all es is_all is rest =
     is ∙ take_all count (drop done all) (let left = length-drop done all in omega (arith, left, rest)) ∙ ap (drop done) is_all
 
 module _ (g number done count : ℕ) (parts : List RestatedPart) (s : Shows) (v : LogPipes) (old new : BlockCache) (has : HasParts g number done parts s (at_pipes s v old)) (all es : List EntryIndex) (is_all : all ≡ rewritten_entries (s.tables g))
-    (is : es ≡ take count (drop done all)) (rest : done + count ≡ length all) (pairs : List (List ℕ × List ℕ)) (b made : Batch) (built : BuildsPiece g es pairs v old new b)
+    (is : es ≡ take count (drop done all)) (rest : done + count ≡ length all) (some : 0 < count) (pairs : List (List ℕ × List ℕ)) (b made : Batch) (built : BuildsPiece g es pairs v old new b)
     (marked : IsMarkedPiece g ((s.tables g).first + done) number statuses.End (map (λ e. e.bytes) built.read) pairs made) where
   read_last : (home : Home) (m : LogMap) → Holds home s m [] → HoldsInGroup home (at_pipes s v new) m has.group × AreEntryBytes m g ((s.tables g).first + done) (map (λ e. e.bytes) built.read)
   read_last home m h = more_read g number done count parts s v old new has all es is_all is (omega (arith, rest)) pairs b built home m h
@@ -367,6 +367,7 @@ module _ (g number done count : ℕ) (parts : List RestatedPart) (s : Shows) (v 
     record {
       bytes = map (λ e. e.bytes) built.read;
       is = marked;
+      some = (let long = more_len g number done count parts s v old new has all es is_all is (omega (arith, rest)) pairs b built in omega (arith, long, some));
       piece = λ one. read_piece v es old new built.read (subst MakeOnePiece (sym (there_left g done count s all es is_all is rest)) one) built.reads;
       all = λ home m h.
           (let long = more_len g number done count parts s v old new has all es is_all is (omega (arith, rest)) pairs b built in

@@ -21,7 +21,7 @@ use Rattle.raft_log_table_all.proofs.Items.{none_said}
 use Rattle.raft_log_purge_parts.specs.Promised.{PromisesNoMoves}
 
 -- it doesn't matter what stands for an entry
-entries_for : {F : Type 0} (f : EntryIndex → F) (g : ℕ) (xs : List LogItem) → entries_of g (tagged_items f xs) ≡ entries_of g (tagged_items {E = EntryIndex} (λ e. e) xs)
+pub entries_for : {F : Type 0} (f : EntryIndex → F) (g : ℕ) (xs : List LogItem) → entries_of g (tagged_items f xs) ≡ entries_of g (tagged_items {E = EntryIndex} (λ e. e) xs)
 entries_for {F = F} f g xs =
     ap (λ (l : List (Tagged F (List ℕ))). entries_of g l) (sym (items_renamed f xs)) ∙ ap needs (of_group_renamed f g (tagged_items (λ e. e) xs)) ∙ needs_renamed f (of_group g (tagged_items (λ e. e) xs))
 
@@ -31,11 +31,11 @@ room_forgotten old new items back none g =
     at_bool (mentions g items) (λ b. mentions g items ≡ b → (promise_of new g).moves ≡ 0) (λ _ is. (back.forgotten g is).1) (λ _ is. ap (λ (q : Promise). q.moves) (back.others g is) ∙ none g) refl
 
 -- how much is promised, where nothing was
-moves_promised : (b : Bool) (q : Promise) (n : ℕ) → q.moves ≡ 0 → (moving b q n).moves - n ≡ 0
+pub moves_promised : (b : Bool) (q : Promise) (n : ℕ) → q.moves ≡ 0 → (moving b q n).moves - n ≡ 0
 moves_promised true q n none = omega (arith, none)
 moves_promised false q n none = omega (arith, none)
 
-moves_of_none : (b : Bool) (q : Promise) (n : ℕ) → q.moves ≡ 0 → n ≡ 0 → (moving b q n).moves ≡ 0
+pub moves_of_none : (b : Bool) (q : Promise) (n : ℕ) → q.moves ≡ 0 → n ≡ 0 → (moving b q n).moves ≡ 0
 moves_of_none true q n none zero_is = omega (arith, none, zero_is)
 moves_of_none false q n none zero_is = none
 

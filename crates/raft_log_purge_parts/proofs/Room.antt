@@ -37,12 +37,12 @@ use Rattle.raft_log_purge_parts.proofs.Saying.{tagged_append}
 abbrev pub said : List LogItem → List (Tagged EntryIndex (List ℕ))
 said xs = tagged_items (λ e. e) xs
 
-all_more : (xs : List RestatedPart) (x : RestatedPart) → items_of_all (xs ++ x ∷ []) ≡ items_of_all xs ++ x.items.items
+pub all_more : (xs : List RestatedPart) (x : RestatedPart) → items_of_all (xs ++ x ∷ []) ≡ items_of_all xs ++ x.items.items
 all_more [] x = append-nil x.items.items
 all_more (y ∷ ys) x = ap (λ l. y.items.items ++ l) (all_more ys x) ∙ sym (append_assoc y.items.items (items_of_all ys) x.items.items)
 
 -- the first parts and one more
-parts_more : (parts : List RestatedPart) (i : ℕ) (d x : RestatedPart) → i < length parts → x ≡ get_or parts i d → take (i + 1) parts ≡ take i parts ++ x ∷ []
+pub parts_more : (parts : List RestatedPart) (i : ℕ) (d x : RestatedPart) → i < length parts → x ≡ get_or parts i d → take (i + 1) parts ≡ take i parts ++ x ∷ []
 parts_more parts i d x lt is = take_more parts i d lt ∙ ap (λ (y : RestatedPart). take i parts ++ y ∷ []) (sym is)
 
 -- the part behind those, and the others
@@ -86,10 +86,10 @@ room_then m n parts i items (Ok x) all may promises = room_for_all m n parts i i
 room_then m n parts i items (Err x) all may promises = tt
 
 -- how many entries of a group there are doesn't depend on what stands for one
-counted : {F : Type 0} (entry : EntryIndex → F) (g : ℕ) (xs : List LogItem) → entries_of g (tagged_items entry xs) ≡ entries_of g (said xs)
+pub counted : {F : Type 0} (entry : EntryIndex → F) (g : ℕ) (xs : List LogItem) → entries_of g (tagged_items entry xs) ≡ entries_of g (said xs)
 counted entry g xs = ap (entries_of g) (sym (items_renamed entry xs)) ∙ ap needs (of_group_renamed entry g (said xs)) ∙ needs_renamed entry (of_group g (said xs))
 
-both_counted : (g : ℕ) (xs ys : List LogItem) → entries_of g (said (xs ++ ys)) ≡ entries_of g (said xs) + entries_of g (said ys)
+pub both_counted : (g : ℕ) (xs ys : List LogItem) → entries_of g (said (xs ++ ys)) ≡ entries_of g (said xs) + entries_of g (said ys)
 both_counted g xs ys = ap (entries_of g) (tagged_append (λ e. e) xs ys) ∙ ap needs (of_group_append g (said xs) (said ys)) ∙ needs-append (of_group g (said xs)) (of_group g (said ys))
 
 module _ (m : MemTables) (parts : List RestatedPart) (items : List LogItem) (room : HaveRoom m parts items) where

@@ -1,5 +1,5 @@
 -- The marks that are owed, as a batch, and where they stay.
-use Rattle.std.specs.Prelude.{◌≡◌, ℕ, false, List, [], ◌∷◌, ◌++◌}
+use Rattle.std.specs.Prelude.{◌≡◌, ℕ, true, false, List, [], ◌∷◌, ◌++◌}
 use Rattle.raft_log_record_items.specs.declared.entry.EntryIndex.{EntryIndex}
 use Rattle.raft_log_record_items.specs.declared.item.LogItem.{LogItem}
 use Rattle.raft_log_model_laws.specs.Groups.{of_group}
@@ -10,6 +10,8 @@ use Rattle.raft_log_record_batches.specs.Batch.{Batch}
 use Rattle.raft_log_table_lists.specs.Shown.{Shown}
 use Rattle.raft_log_engine_laws.specs.raft_log_table_one.specs.Moves.{owed_compact}
 use Rattle.raft_log_table_all.specs.Owing.{AreOwedAt}
+use Rattle.raft_log_table_all.specs.declared.mem_tables.MemTables.{MemTables}
+use Rattle.raft_log_table_all.specs.Tables.{shown_of}
 
 -- none of the items is a mark of an atomic group
 abbrev pub AreNoMarks : List LogItem → Type 0
@@ -45,3 +47,17 @@ pub record OwesSame (v w : Shown) : Type 0 where
   pub cleaned : w.cleaned ≡ v.cleaned
   pub compact : owed_compact w ≡ owed_compact v
   pub deleted : w.deleted ≡ v.deleted
+
+-- the group owes no mark that it didn't owe: no Clean, no Compact, and the deletion of no key
+pub record OwesNoMore (v w : Shown) : Type 0 where
+  pub cleaned : w.cleaned ≡ true → v.cleaned ≡ true
+  pub compacted : w.compacted ≡ true → v.compacted ≡ true
+  pub deleted : (k : List ℕ) → w.deleted k ≡ true → v.deleted k ≡ true
+
+-- so it is of each group
+abbrev pub OweNoMore : (ℕ → Shown) → (ℕ → Shown) → Type 0
+OweNoMore v w = (g : ℕ) → OwesNoMore (v g) (w g)
+
+-- no mark is owed that wasn't: whatever all those were among that were owed, those are that are owed now
+abbrev pub AddsNoMarks : MemTables → MemTables → Type 0
+AddsNoMarks old new = (v : ℕ → Shown) → OweNoMore v (shown_of old) → OweNoMore v (shown_of new)

@@ -1,5 +1,5 @@
 -- What each call makes of the parts of an atomic group.
-use Rattle.std.specs.Prelude.{◌≡◌, ◌+◌, ℕ, List, [], ◌∷◌, length, take, drop}
+use Rattle.std.specs.Prelude.{◌≡◌, ◌+◌, ◌<◌, ℕ, List, [], ◌∷◌, length, take, drop}
 use Rattle.raft_log_record_base.specs.declared.errors.Error.{Error}
 use Rattle.raft_log_record_items.specs.declared.entry.EntryIndex.{EntryIndex}
 use Rattle.raft_log_record_marks.specs.declared.status.AtomicGroupStatus.TheVariants.{End}
@@ -57,11 +57,12 @@ GivesUpLast g number es done parts pairs error v old new = (m : MemTables) (s : 
     → ListsAll (rewritten_values (s.tables g)) pairs → HasParts g number done parts s (shows v m old)
     → FailsToRestate error s (shows v m new)
 
--- The batch ends an atomic group: it says the rewritten entries of a group from there on, and all its
--- rewritten keys with their values.
+-- The batch ends an atomic group: it says the rewritten entries of a group from there on, one at least, and all
+-- its rewritten keys with their values.
 pub record IsLastPart (g number done : ℕ) (pairs : List (List ℕ × List ℕ)) (b : Batch) (s : Shows) : Type 0 where
   pub bytes : List (List ℕ)
   pub is : IsMarkedPiece g ((s.tables g).first + done) number End bytes pairs b
+  pub some : 0 < length bytes
   pub all : (home : Home) (m : LogMap) → Holds home s m [] → done + length bytes ≡ (s.tables g).rewritten
   pub piece : MakeOnePiece (drop done (rewritten_entries (s.tables g))) → AreOnePiece bytes
   pub says : (home : Home) (m : LogMap) → Holds home s m []

@@ -9,7 +9,7 @@ ghost use Rattle.raft_log_record_batches.specs.declared.log_batch.BatchState.The
 ghost use Rattle.raft_log_table_all.specs.Owing.{AreOwed};
 ghost use Rattle.raft_log_table_all.specs.Tables.{IsAtRest};
 ghost use Rattle.raft_log_purge_parts.specs.Marks.{CarriesMarks, ItemsAreRefused, WritesItems};
-ghost use Rattle.raft_log_purge_parts.specs.Owed.{AddsSame, SaysSame};
+ghost use Rattle.raft_log_purge_parts.specs.Owed.{AddsNoMarks, AddsSame, SaysSame};
 ghost use Rattle.raft_log_purge_parts.specs.Parts.{PartIsRefused};
 ghost use Rattle.raft_log_purge_parts.specs.Refusals.{AreUnmarked};
 
@@ -39,6 +39,7 @@ pub fn rewrite_marks<P: PipeLog, L: Log>(
         (shows (P.shown pipes.old) tables.old cache) (shows (P.shown pipes.new) tables.new cache)) }
     ensures owed { OnErr result (tables.new ≡ tables.old) }
     ensures rests { IsAtRest tables.old → IsAtRest tables.new }
+    ensures owes { AddsNoMarks tables.old tables.new }
 {
     let marks = tables.owed_marks()?;
     carry_marks(alloc, rt, pipes, tables, marks.as_slice())
@@ -63,6 +64,7 @@ pub fn carry_marks<P: PipeLog, L: Log>(
         (shows (P.shown pipes.old) tables.old cache) (shows (P.shown pipes.new) tables.new cache)) }
     ensures owed { OnErr result (tables.new ≡ tables.old) }
     ensures rests { IsAtRest tables.old → IsAtRest tables.new }
+    ensures owes { AddsNoMarks tables.old tables.new }
 {
     write_marks(alloc, rt, pipes, marks)?;
     pipes.sync(rt, LogQueue::Rewrite)?;

@@ -4,8 +4,11 @@
 ghost use Rattle.std.specs.Prelude.{◌≡◌, ◌≤◌, ◌<◌, IfErr, IfOk, None, OnOk, length, take};
 ghost use Rattle.raft_log_engine_laws.specs.Shows.{shows};
 ghost use Rattle.raft_log_record_batches.specs.declared.log_batch.BatchState.TheVariants.{Filling};
-ghost use Rattle.raft_log_table_all.specs.Tables.{IsAtRest};
+ghost use Rattle.raft_log_engine_laws.specs.raft_log_table_one.specs.Reads.{rewritten_entries};
+ghost use Rattle.raft_log_table_all.specs.Tables.{IsAtRest, shown_of};
+ghost use Rattle.raft_log_purge_parts.specs.Owed.{AddsNoMarks};
 ghost use Rattle.raft_log_purge_parts.specs.Pieces.{MakeOnePiece, piece_count};
+ghost use Rattle.raft_log_purge_parts.specs.Promised.{AreOfOne, LeavesNoMoves};
 ghost use Rattle.raft_log_purge_parts.specs.Restated.{FailsToRestate, RestatesEach, RestatesOne, StopsRestating};
 ghost use Rattle.raft_log_purge_parts.specs.Syncing.{CountsEach, HandsCountOn, WritesOne};
 ghost use Rattle.raft_log_purge_parts.specs.Taking.{
@@ -46,6 +49,8 @@ pub fn restate_groups<P: PipeLog, L: Log>(
     ensures err { IfErr result (λ error. StopsRestating groups.now error
         (shows (P.shown pipes.old) tables.old cache.old) (shows (P.shown pipes.new) tables.new cache.new)) }
     ensures rests { IsAtRest tables.old → IsAtRest tables.new }
+    ensures owes { AddsNoMarks tables.old tables.new }
+    ensures moves { LeavesNoMoves result (P.shown pipes.new) tables.old tables.new }
     ensures handed { OnOk result (CountsEach (P.shown pipes.old) (P.shown pipes.new)) }
     ensures counted { number.old ≤ number.new }
 {
@@ -86,6 +91,8 @@ pub fn restate_group<P: PipeLog, L: Log>(
     ensures err { IfErr result (λ error. FailsToRestate error
         (shows (P.shown pipes.old) tables.old cache.old) (shows (P.shown pipes.new) tables.new cache.new)) }
     ensures rests { IsAtRest tables.old → IsAtRest tables.new }
+    ensures owes { AddsNoMarks tables.old tables.new }
+    ensures moves { LeavesNoMoves result (P.shown pipes.new) tables.old tables.new }
     ensures handed { OnOk result (HandsCountOn unsynced.old unsynced.new (P.shown pipes.old) (P.shown pipes.new)) }
     ensures counted { number.old ≤ number.new }
 {
@@ -133,6 +140,8 @@ fn restate_at_once<P: PipeLog, L: Log>(
     ensures err { IfErr result (λ error. FailsToRestateThese group entries.now pairs.now error
         (shows (P.shown pipes.old) tables.old cache.old) (shows (P.shown pipes.new) tables.new cache.new)) }
     ensures rests { IsAtRest tables.old → IsAtRest tables.new }
+    ensures owes { AddsNoMarks tables.old tables.new }
+    ensures moves { LeavesNoMoves result (P.shown pipes.new) tables.old tables.new }
     ensures handed { OnOk result (HandsCountOn unsynced.old unsynced.new (P.shown pipes.old) (P.shown pipes.new)) }
 {
     let batch = piece_of(alloc, pipes, cache, group, entries, pairs)?;
@@ -168,6 +177,9 @@ fn restate_in_parts<P: PipeLog, L: Log>(
     ensures err { IfErr result (λ error. FailsToRestateThese group entries.now pairs.now error
         (shows (P.shown pipes.old) tables.old cache.old) (shows (P.shown pipes.new) tables.new cache.new)) }
     ensures rests { IsAtRest tables.old → IsAtRest tables.new }
+    ensures owes { AddsNoMarks tables.old tables.new }
+    ensures moves { entries.now ≡ rewritten_entries (shown_of tables.old group)
+        → LeavesNoMoves result (P.shown pipes.new) tables.old tables.new }
     ensures handed { count ≡ piece_count entries.now
         → OnOk result (HandsCountOn unsynced.old unsynced.new (P.shown pipes.old) (P.shown pipes.new)) }
 {
@@ -211,6 +223,9 @@ fn end_parts<P: PipeLog, L: Log>(
     ensures err { IfErr result (λ error. FailsToEnd group parts.now batch error
         (P.shown pipes.old) tables.old (P.shown pipes.new) tables.new) }
     ensures rests { IsAtRest tables.old → IsAtRest tables.new }
+    ensures owes { AddsNoMarks tables.old tables.new }
+    ensures moves { AreOfOne parts.now batch.items
+        → LeavesNoMoves result (P.shown pipes.new) tables.old tables.new }
     ensures counted { OnOk result (WritesOne batch unsynced.old unsynced.new (P.shown pipes.old) (P.shown pipes.new)) }
 {
     let block = write_last(alloc, rt, pipes, tables, parts, batch, unsynced)?;

@@ -3,6 +3,7 @@
 ghost use Rattle.std.specs.Prelude.{◌≡◌, IfErr, IfOk, OnOk};
 ghost use Rattle.raft_log_engine_laws.specs.Shows.{shows};
 ghost use Rattle.raft_log_table_all.specs.Tables.{IsAtRest};
+ghost use Rattle.raft_log_purge_parts.specs.Owed.{AddsNoMarks};
 ghost use Rattle.raft_log_purge_parts.specs.Stale.{FailsToPurgeAll, FailsToTurn, PurgesAllStale, TurnsAndLoses};
 
 use crate::files::purge_stale;
@@ -30,6 +31,7 @@ pub fn purge_all_stale<P: PipeLog, L: Log>(
     ensures err { IfErr result (λ error. FailsToPurgeAll error
         (shows (P.shown pipes.old) tables.old cache.old) (shows (P.shown pipes.new) tables.new cache.new)) }
     ensures rests { IsAtRest tables.old → IsAtRest tables.new }
+    ensures owes { AddsNoMarks tables.old tables.new }
 {
     pipes.sync(rt, LogQueue::Append)?;
     rewrite_marks(alloc, rt, pipes, tables)?;

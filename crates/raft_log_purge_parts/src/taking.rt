@@ -1,10 +1,15 @@
 //! The last record of those that restate a group is written, and the tables take all of them: room is made
 //! before it, and behind it nothing can be refused.
 
-ghost use Rattle.std.specs.Prelude.{◌≡◌, IfErr, IfOk, OnOk};
+ghost use Rattle.std.specs.Prelude.{◌≡◌, ◌-◌, ◌++◌, ℕ, IfErr, IfOk, OnErr, OnOk};
 ghost use Rattle.raft_log_record_batches.specs.declared.log_batch.BatchState.TheVariants.{Filling};
-ghost use Rattle.raft_log_table_all.specs.Rewriting.{GroupsStay};
-ghost use Rattle.raft_log_table_all.specs.Tables.{IsAtRest, ShowsSame};
+ghost use Rattle.raft_log_record_items.specs.declared.entry.EntryIndex.{EntryIndex};
+ghost use Rattle.raft_log_record_marks.specs.Meaning.{tagged_items};
+ghost use Rattle.raft_log_table_all.specs.Rewriting.{GroupsStay, PromisesMoves, entries_of};
+ghost use Rattle.raft_log_table_all.specs.Tables.{IsAtRest, ShowsSame, promise_of};
+ghost use Rattle.raft_log_purge_parts.specs.GroupParts.{items_of_all};
+ghost use Rattle.raft_log_purge_parts.specs.Owed.{AddsNoMarks};
+ghost use Rattle.raft_log_purge_parts.specs.Promised.{AreOfOne, LeavesNoMoves, PromisesNoMoves};
 ghost use Rattle.raft_log_purge_parts.specs.Taking.{
   FailsToWriteLast,
   HaveRoom,
@@ -45,7 +50,10 @@ pub fn write_last<P: PipeLog, L: Log>(
     ensures err { IfErr result (λ error. FailsToWriteLast batch error
         (P.shown pipes.old) tables.old (P.shown pipes.new) tables.new) }
     ensures counted { OnOk result (WritesOne batch unsynced.old unsynced.new (P.shown pipes.old) (P.shown pipes.new)) }
+    ensures moves { AreOfOne parts.now batch.items
+        → LeavesNoMoves result (P.shown pipes.new) tables.old tables.new }
     ensures rests { IsAtRest tables.old → IsAtRest tables.new }
+    ensures owes { AddsNoMarks tables.old tables.new }
 {
     let mut batch = batch;
     let len = batch.finish_populate()?;
@@ -89,6 +97,10 @@ fn make_room(
     ensures shows { ShowsSame tables.old tables.new }
     ensures ok { OnOk result (HaveRoom tables.new parts.now items.now) }
     ensures stay { OnOk result (GroupsStay tables.old tables.new) }
+    ensures asked { OnOk result (PromisesMoves tables.old tables.new
+        (tagged_items {E = EntryIndex} (λ e. e) (items_of_all parts.now ++ items.now))) }
+    ensures moves { OnErr result
+        (AreOfOne parts.now items.now → PromisesNoMoves tables.old → PromisesNoMoves tables.new) }
     ensures rests { IsAtRest tables.old → IsAtRest tables.new }
 {
     for part in parts {
@@ -107,7 +119,10 @@ fn take_items(
 )
     requires { HaveRoom tables.old parts.now items.now }
     ensures took { TakesPartsAndItems parts.now items.now block tables.old tables.new }
+    ensures spent { (g : ℕ) → (promise_of tables.new g).moves ≡ (promise_of tables.old g).moves
+        - entries_of g (tagged_items {E = EntryIndex} (λ e. e) (items_of_all parts.now ++ items.now)) }
     ensures rests { IsAtRest tables.old → IsAtRest tables.new }
+    ensures owes { AddsNoMarks tables.old tables.new }
 {
     for part in parts {
         tables.apply_rewrite_writes(part.items.as_slice(), None, part.block.id.seq);

@@ -1,6 +1,7 @@
 use Rattle.std.proofs.lemmas.Result.{err_from_is_err_and}
 use Rattle.raft_log_table_all.proofs.Segments.{unmarked_rests}
 use Rattle.raft_log_purge_parts.proofs.PartExits.{marks_are_carried, marks_are_unsynced}
+use Rattle.raft_log_purge_parts.proofs.Adding.{unmarked_adds}
 use Rattle.raft_log_purge_parts.proofs.marks.carry_marks.Goals as goal
 
 pub returns-in_err-write_marks-clause-err : goal.returns-in_err-write_marks-clause-err
@@ -25,3 +26,6 @@ returns-clause-ok g c =
 
 pub returns-clause-rests : goal.returns-clause-rests
 returns-clause-rests g c = unmarked_rests c.args.tables.now c.clear_marks.new.self c.clear_marks.ensures.shows c.clear_marks.ensures.promises
+
+pub returns-clause-owes : goal.returns-clause-owes
+returns-clause-owes g c = unmarked_adds c.args.tables.now c.clear_marks.new.self c.clear_marks.ensures.shows

@@ -62,7 +62,7 @@ returns-clause-ok g c =
     let marked = marked_piece c.args.group ((s.tables c.args.group).first + c.args.done) n End (bytes c.args.group es c.args.pairs.now v old new b built) c.args.pairs.now b c.end.new.batch c.args.builder.now c.end.new.self
     (built_piece c.args.group es c.args.pairs.now v old new b built (s.tables c.args.group) c.args.done count (ap (λ l. take count (drop c.args.done l)) is))
     (built_made c.args.group es c.args.pairs.now v old new b built (s.tables c.args.group) c.args.done count (ap (λ l. take count (drop c.args.done l)) is)) built.keys.state refl c.in_ok-end.ensures.ok c.in_ok-end.ensures.part in
-    let made = last_made c.args.group n c.args.done count parts s v old new (at_shown c.args.group n c.args.done parts s v m old has) all es is refl (omega (arith, within)) c.args.pairs.now b c.end.new.batch built marked in
+    let made = last_made c.args.group n c.args.done count parts s v old new (at_shown c.args.group n c.args.done parts s v m old has) all es is refl (omega (arith, within)) (omega (arith, within)) c.args.pairs.now b c.end.new.batch built marked in
     (has_shown c.args.group n c.args.done parts s v v m old new has c.args.done parts made.0, made.1)
 
 pub returns-clause-piece : goal.returns-clause-piece

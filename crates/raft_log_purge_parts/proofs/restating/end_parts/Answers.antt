@@ -1,6 +1,8 @@
-use Rattle.std.proofs.Common.{ap}
+use Rattle.std.proofs.Common.{ap, ◌∙◌}
+use Rattle.raft_log_engine_laws.specs.raft_log_table_one.specs.Room.{Promise}
 use Rattle.std.proofs.lemmas.Result.{err_from_is_err_and}
 use Rattle.raft_log_purge_parts.proofs.Closing.{group_ended, not_ended}
+use Rattle.raft_log_purge_parts.proofs.Adding.{noted_adds}
 use Rattle.raft_log_purge_parts.proofs.restating.end_parts.Goals as goal
 
 pub returns-in_err-block-clause-err : goal.returns-in_err-block-clause-err
@@ -20,3 +22,17 @@ returns-clause-ok g c =
 
 pub returns-clause-counted : goal.returns-clause-counted
 returns-clause-counted g c = c.in_ok-block.ensures.counted
+
+pub returns-clause-owes : goal.returns-clause-owes
+returns-clause-owes g c =
+    let n = c.note_group.ensures in
+    λ v h.
+    noted_adds c.write_last.new.tables c.note_group.new.self c.args.group (record { from = c.first_file-from.result; to = c.in_ok-block.block.id.seq }) n.noted n.others v (c.write_last.ensures.owes v h)
+
+pub returns-in_err-block-clause-moves : goal.returns-in_err-block-clause-moves
+returns-in_err-block-clause-moves g c =
+    let p = err_from_is_err_and c.from_residual.result c.from_residual.ensures.1 in
+    rw p.1 (λ one alive none. c.in_err-block.ensures.moves one alive none)
+
+pub returns-clause-moves : goal.returns-clause-moves
+returns-clause-moves g c = λ one alive none group. ap (λ (q : Promise). q.moves) (c.note_group.ensures.promises group) ∙ c.in_ok-block.ensures.moves one tt none group

@@ -2,7 +2,9 @@ use Rattle.std.proofs.Common.{List, sym, subst, ◌∙◌}
 use Rattle.std.proofs.lemmas.Bool.{false≢true}
 use Rattle.std.proofs.lemmas.Result.{err_from_is_err_and}
 use Rattle.raft_log_purge_parts.specs.declared.parts.RestatedPart.{RestatedPart}
+use Rattle.raft_log_purge_parts.specs.Promised.{AreOfOne}
 use Rattle.raft_log_purge_parts.specs.Taking.{WritesLast}
+use Rattle.raft_log_purge_parts.proofs.Together.{one_of_one}
 use Rattle.raft_log_purge_parts.proofs.Once.{once_nothing, once_refused, once_restated, once_unread}
 use Rattle.raft_log_purge_parts.proofs.Handing.{built_has_piece, none_handed, one_handed}
 use Rattle.raft_log_purge_parts.proofs.restating.restate_at_once.Goals as goal
@@ -46,3 +48,16 @@ returns-clause-handed g c =
     let b = c.in_ok-batch.batch in
     one_handed b c.args.unsynced.now c.write_last.new.unsynced v (g.P.PipeLog.shown c.write_last.new.pipes)
     (built_has_piece c.args.group c.args.entries.now c.args.pairs.now v c.args.cache.now c.piece_of.new.cache b c.in_ok-batch.ensures.ok c.requires) c.in_ok-write_last.ensures.counted
+
+pub returns-in_err-write_last-clause-moves : goal.returns-in_err-write_last-clause-moves
+returns-in_err-write_last-clause-moves g c =
+    let p = err_from_is_err_and c.from_residual-in_err-write_last.result c.from_residual-in_err-write_last.ensures.1 in
+    let b = c.in_ok-batch.batch in
+    let one = subst (λ (l : List RestatedPart). AreOfOne l b.items) (sym (c.as_slice.ensures.value ∙ c.new-none.ensures.items)) (one_of_one b.items) in
+    rw p.1 (λ alive none. c.in_err-write_last.ensures.moves one alive none)
+
+pub returns-clause-moves : goal.returns-clause-moves
+returns-clause-moves g c =
+    let b = c.in_ok-batch.batch in
+    let one = subst (λ (l : List RestatedPart). AreOfOne l b.items) (sym (c.as_slice.ensures.value ∙ c.new-none.ensures.items)) (one_of_one b.items) in
+    λ alive none. c.in_ok-write_last.ensures.moves one tt none

@@ -33,3 +33,6 @@ returns-clause-ok g c =
 
 pub returns-clause-handed : goal.returns-clause-handed
 returns-clause-handed g c = c.restate_in_parts.ensures.handed c.piece_len-count.ensures.most
+
+pub returns-clause-moves : goal.returns-clause-moves
+returns-clause-moves g c = c.restate_in_parts.ensures.moves (c.as_slice-es.ensures.value ∙ c.in_ok-entries.ensures)

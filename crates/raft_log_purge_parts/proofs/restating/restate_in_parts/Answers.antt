@@ -1,10 +1,13 @@
-use Rattle.std.proofs.Common.{◌≡◌, ℕ, List, [], ◌∷◌, ◌++◌, drop, sym, ap, subst, ◌∙◌}
+use Rattle.std.proofs.Common.{◌≡◌, ◌+◌, ℕ, List, [], ◌∷◌, ◌++◌, drop, sym, ap, subst, ◌∙◌}
 use Rattle.std.proofs.lemmas.Result.{err_from_is_err_and}
 use Rattle.raft_log_record_items.specs.declared.entry.EntryIndex.{EntryIndex}
 use Rattle.raft_log_engine_laws.specs.Shows.{shows}
 use Rattle.raft_log_purge_parts.specs.declared.parts.RestatedPart.{RestatedPart}
 use Rattle.raft_log_purge_parts.specs.GroupParts.{HasParts}
+use Rattle.raft_log_engine_laws.specs.Parts.{parts_of}
 use Rattle.raft_log_purge_parts.specs.Pieces.{MakeOnePiece}
+use Rattle.raft_log_purge_parts.specs.Promised.{AreOfOne}
+use Rattle.raft_log_purge_parts.proofs.Together.{parts_of_one}
 use Rattle.raft_log_purge_parts.proofs.Closing.{ended_then, not_ended_then, not_restated_then, restated_then}
 use Rattle.raft_log_purge_parts.proofs.Opening.{given_up}
 use Rattle.raft_log_purge_parts.proofs.Handing.{handed_on, last_handed}
@@ -104,3 +107,24 @@ returns-clause-handed g c =
     λ most.
     last_handed c.in_ok-batch.batch c.args.unsynced.now c.write_middles.new.unsynced c.end_parts.new.unsynced v two (g.P.PipeLog.shown c.end_parts.new.pipes) c.end_parts.result (c.in_ok-batch.ensures.piece c.in_ok-done.ensures.last)
     (handed_on c.args.unsynced.now c.begin_parts.new.unsynced c.write_middles.new.unsynced v one two (c.in_ok-first.ensures.handed most) c.in_ok-done.ensures.handed) c.end_parts.ensures.counted
+
+pub returns-clause-moves : goal.returns-clause-moves
+returns-clause-moves g c =
+    let m = c.args.tables.now in
+    let s = shows (g.P.PipeLog.shown c.args.pipes.now) m c.args.cache.now in
+    let one = shows (g.P.PipeLog.shown c.begin_parts.new.pipes) m c.begin_parts.new.cache in
+    let two = shows (g.P.PipeLog.shown c.write_middles.new.pipes) m c.write_middles.new.cache in
+    let parts = c.write_middles.new.parts.items in
+    let b = c.in_ok-batch.batch in
+    let pushed : c.push.new.self.items ≡ c.in_ok-first.first ∷ [] = c.in_ok-push.ensures.items ∙ ap (λ (l : List RestatedPart). l ++ c.in_ok-first.first ∷ []) c.new-parts.ensures.items in
+    λ entries.
+    let made =
+    c.in_ok-batch.ensures.ok parts m s entries
+    (subst (λ (n : ℕ). HasParts c.args.group n c.in_ok-done.done parts s two) (sym c.in_ok-done.ensures.same)
+    (c.in_ok-done.ensures.ok m s entries
+    (subst (λ (l : List RestatedPart). HasParts c.args.group c.begin_parts.new.builder.id c.args.count l s one) (sym pushed)
+    (subst (λ (n : ℕ). HasParts c.args.group n c.args.count (c.in_ok-first.first ∷ []) s one) (sym c.in_ok-first.ensures.same) (c.in_ok-first.ensures.ok m entries))))) in
+    let (has, last) = made in
+    c.end_parts.ensures.moves
+    (subst (λ (l : List RestatedPart). AreOfOne l b.items) (sym c.as_slice.ensures.value)
+    (parts_of_one c.args.group (s.tables c.args.group).first has.pieces parts (parts_of has.group) has.kept has.are ((s.tables c.args.group).first + c.in_ok-done.done) last.bytes c.args.pairs.now b last.is.piece last.some))

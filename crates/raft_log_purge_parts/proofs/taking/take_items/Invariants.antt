@@ -1,8 +1,11 @@
 use Rattle.std.proofs.Common.{drop, take}
 use Rattle.raft_log_table_all.specs.Rewriting.{GroupsStay}
 use Rattle.raft_log_table_all.specs.Tables.{IsAtRest}
+use Rattle.raft_log_purge_parts.specs.Owed.{AddsNoMarks}
 use Rattle.raft_log_purge_parts.specs.Taking.{HaveRoom}
+use Rattle.raft_log_purge_parts.specs.GroupParts.{items_of_all}
 use Rattle.raft_log_purge_parts.proofs.Room.{TakesParts}
+use Rattle.raft_log_purge_parts.proofs.Together.{Spends}
 use Rattle.raft_log_purge_parts.proofs.taking.take_items.Given as goal
 
 -- the parts so far moved, and there is room for the others
@@ -12,4 +15,6 @@ invariant-loop-part l = record {
   stay : GroupsStay l.fn.tables l.tables;
   room : HaveRoom l.tables (drop l.part-index l.parts) l.items;
   rests : IsAtRest l.fn.tables → IsAtRest l.tables;
+  owes : AddsNoMarks l.fn.tables l.tables;
+  spent : Spends l.fn.tables l.tables (items_of_all (take l.part-index l.parts));
 }

@@ -1,13 +1,21 @@
-use Rattle.std.proofs.Common.{◌≡◌, List, sym, refl, ap, subst, ◌∙◌}
+use Rattle.std.proofs.Common.{◌≡◌, ◌++◌, List, sym, refl, ap, subst, ◌∙◌}
+use Rattle.std.proofs.lemmas.Bool.{false≢true}
+use Rattle.std.proofs.lemmas.Result.{err_from_is_err_and}
 use Rattle.raft_log_record_base.specs.declared.pipe_log.FileBlockHandle.{FileBlockHandle}
 use Rattle.raft_log_record_items.specs.declared.item.LogItem.{LogItem}
 use Rattle.raft_log_record_items.specs.Placed.{written}
 use Rattle.raft_log_record_batches.specs.Batch.{Batch, block_place}
 use Rattle.raft_log_purge_parts.proofs.PartExits.{record_is_made}
 use Rattle.raft_log_purge_parts.proofs.Copying.{written_there}
+use Rattle.raft_log_record_marks.specs.Meaning.{tagged_items}
+use Rattle.raft_log_table_all.specs.Rewriting.{PromisesMoves}
+use Rattle.raft_log_purge_parts.specs.GroupParts.{items_of_all}
+use Rattle.raft_log_purge_parts.specs.Promised.{AreOfOne}
 use Rattle.raft_log_purge_parts.specs.Taking.{HaveRoom}
 use Rattle.raft_log_purge_parts.proofs.Recording.{one_written, record_refused, record_written, takes_made}
 use Rattle.raft_log_purge_parts.proofs.Room.{last_written, room_written, same_twice}
+use Rattle.raft_log_purge_parts.proofs.Adding.{same_adds}
+use Rattle.raft_log_purge_parts.proofs.Together.{all_let_go, room_spent}
 use Rattle.raft_log_purge_parts.proofs.taking.write_last.Goals as goal
 
 pub take_items-requires : goal.take_items-requires
@@ -70,3 +78,57 @@ returns-clause-err g c =
           {A = FileBlockHandle} c.in-Err.error e.fails e.err e.range e.refusal;
       same = same_twice c.args.tables.now c.make_room.new.tables c.take_back.new.self c.make_room.ensures.shows c.take_back.ensures.shows;
     }
+
+pub returns-in_err-make_room-clause-moves : goal.returns-in_err-make_room-clause-moves
+returns-in_err-make_room-clause-moves g c =
+    let pop = c.in_ok-len.ensures.ok in
+    let here : c.items.result.now ≡ c.args.batch.items = c.items.ensures ∙ ap (λ (x : Batch). x.items) pop in
+    λ one alive none. c.in_err-make_room.ensures.moves (subst (AreOfOne c.args.parts.now) (sym here) one) none
+
+-- room is kept where the engine has failed
+pub returns-in_err-sync_if_due-clause-moves : goal.returns-in_err-sync_if_due-clause-moves
+returns-in_err-sync_if_due-clause-moves g c =
+    let p = err_from_is_err_and c.from_residual-in_err-sync_if_due.result c.from_residual-in_err-sync_if_due.ensures.1 in
+    rw p.1 (λ one alive none. absurd (false≢true (sym alive ∙ c.in_err-sync_if_due.ensures.failed)))
+
+pub returns-in-Ok-clause-moves : goal.returns-in-Ok-clause-moves
+returns-in-Ok-clause-moves g c =
+    let b = c.args.batch in
+    let pop = c.in_ok-len.ensures.ok in
+    let made = c.new-signed.ensures in
+    let back = c.into_batch-batch.result in
+    let is_back = c.into_batch-batch.ensures.batch in
+    let said = c.append-appended.ensures.said in
+    let same : back.items ≡ b.items = ap (λ (x : Batch). x.items) is_back ∙ ap (λ (x : Batch). x.items) said ∙ ap (λ (x : Batch). x.items) made ∙ ap (λ (x : Batch). x.items) pop in
+    let bytes : back.entries ≡ b.entries = ap (λ (x : Batch). x.entries) is_back ∙ ap (λ (x : Batch). x.entries) said ∙ ap (λ (x : Batch). x.entries) made ∙ ap (λ (x : Batch). x.entries) pop in
+    let there = written_there b back c.finish_write.new.self c.in-Ok.block c.items-in-Ok.result.now same bytes c.finish_write.ensures.written c.items-in-Ok.ensures in
+    let here : c.items.result.now ≡ b.items = c.items.ensures ∙ ap (λ (x : Batch). x.items) pop in
+    let asked = subst (λ (l : List LogItem). PromisesMoves c.args.tables.now c.make_room.new.tables (tagged_items (λ e. e) (items_of_all c.args.parts.now ++ l))) here c.in_ok-make_room.ensures.asked in
+    λ one alive none.
+    room_spent c.args.tables.now c.make_room.new.tables c.take_items.new.tables c.args.parts.now b.items c.items-in-Ok.result.now (block_place c.in-Ok.block b.entries) there asked c.take_items.ensures.spent none
+
+pub returns-clause-moves : goal.returns-clause-moves
+returns-clause-moves g c =
+    let b = c.args.batch in
+    let pop = c.in_ok-len.ensures.ok in
+    let made = c.new-signed.ensures in
+    let back = c.into_batch-batch.result in
+    let is_back = c.into_batch-batch.ensures.batch in
+    let said = c.append-appended.ensures.said in
+    let same : back.items ≡ b.items = ap (λ (x : Batch). x.items) is_back ∙ ap (λ (x : Batch). x.items) said ∙ ap (λ (x : Batch). x.items) made ∙ ap (λ (x : Batch). x.items) pop in
+    let here : c.items.result.now ≡ b.items = c.items.ensures ∙ ap (λ (x : Batch). x.items) pop in
+    let asked = subst (λ (l : List LogItem). PromisesMoves c.args.tables.now c.make_room.new.tables (tagged_items (λ e. e) (items_of_all c.args.parts.now ++ l))) here c.in_ok-make_room.ensures.asked in
+    let e = c.take_back.ensures in
+    λ one alive none. all_let_go c.args.tables.now c.make_room.new.tables c.take_back.new.self c.args.parts.now b.items c.items-in-Err.result.now (c.items-in-Err.ensures ∙ same) asked e.moves e.others one none
+
+pub returns-in_err-make_room-clause-owes : goal.returns-in_err-make_room-clause-owes
+returns-in_err-make_room-clause-owes g c = same_adds c.args.tables.now c.make_room.new.tables c.make_room.ensures.shows
+
+pub returns-in_err-sync_if_due-clause-owes : goal.returns-in_err-sync_if_due-clause-owes
+returns-in_err-sync_if_due-clause-owes g c = same_adds c.args.tables.now c.make_room.new.tables c.make_room.ensures.shows
+
+pub returns-in-Ok-clause-owes : goal.returns-in-Ok-clause-owes
+returns-in-Ok-clause-owes g c = λ v h. c.take_items.ensures.owes v (same_adds c.args.tables.now c.make_room.new.tables c.make_room.ensures.shows v h)
+
+pub returns-clause-owes : goal.returns-clause-owes
+returns-clause-owes g c = same_adds c.args.tables.now c.take_back.new.self (same_twice c.args.tables.now c.make_room.new.tables c.take_back.new.self c.make_room.ensures.shows c.take_back.ensures.shows)

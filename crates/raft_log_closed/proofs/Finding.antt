@@ -2,8 +2,7 @@
 use Rattle.std.specs.Prelude.{Contains, All, ◌⊎◌}
 use Rattle.std.specs.List.{AllZip}
 use Rattle.std.specs.String.{string_bytes}
-use Rattle.std.proofs.Common.{◌≡◌, ℕ, ◌<◌, ◌^◌, List, [], ◌∷◌, ◌++◌, Vec, String, Global, length, map, get_or, refl, sym, ◌∙◌, ap, subst, inl, inr, arith}
-use Rattle.std.proofs.lemmas.List.{length-map}
+use Rattle.std.proofs.Common.{◌≡◌, ℕ, ◌<◌, ◌^◌, List, [], ◌∷◌, ◌++◌, Vec, String, Global, length, map, get_or, refl, sym, ap, subst, inl, inr, arith}
 use Rattle.std.proofs.lemmas.List.Elements.{Contains-get_or}
 use Rattle.raft_log_record_base.specs.declared.errors.Error.{Error}
 use Rattle.raft_log_record_base.specs.declared.errors.Error.TheVariants as errors
@@ -11,7 +10,6 @@ use Rattle.raft_log_disk.specs.Disk.{Disk}
 use Rattle.raft_log_disk.specs.Image.{IsSound}
 use Rattle.raft_log_disk.specs.Reading.{IsListing}
 use Rattle.raft_log_disk.specs.declared.handle.Permission.TheVariants.{ReadOnly}
-use Rattle.raft_log_file_queue.specs.Layout.{has_sign}
 use Rattle.raft_log_file_queue.specs.declared.format.File.{File}
 use Rattle.raft_log_open_scan.specs.Directories.{FailsToListAll, MakesIfAbsent}
 use Rattle.raft_log_open_scan.specs.Found.{AreAmongAll, AreFilesIn, FileLiesIn}
@@ -20,7 +18,7 @@ use Rattle.raft_log_open_scan.specs.Scanned.{FailsToFindFiles}
 use Rattle.raft_log_open_scan.specs.declared.file_kind.FileKind.{FileKind}
 use Rattle.raft_log_open_scan.specs.declared.scanning.found.FoundFile.{FoundFile}
 use Rattle.raft_log_open_scan.proofs.FoundLemmas.{are_files_in, limit_small}
-use Rattle.raft_log_open_scan.proofs.Steps.{zip_length, zip_map}
+use Rattle.raft_log_open_scan.proofs.Steps.{zip_map}
 use Rattle.raft_log_file_settings.specs.Settings.{Settings, directories_of}
 use Rattle.raft_log_closed.specs.Forks.{AllowsFork, FailsToFork, FailsToMakeTarget, FailsToCopyAll, IsForkRefusal, cut_short, homeless, refused}
 use Rattle.raft_log_closed.specs.Sources.{AreSources, AreSourcesOf, IsOneEach, IsSource, IsSourceRefusal, source_of}
@@ -32,12 +30,10 @@ names_of v = map string_bytes v.items
 
 -- the files that were found are those that lie in the directories
 pub files_in : (kind : FileKind) (d : Disk) (paths : List (String Global)) (listings : List (Vec (String Global) Global)) (found : List FoundFile)
-    → AllZip (λ path names. IsListing (string_bytes path) d (map string_bytes names.items)) paths listings → AreAmongAll kind (length listings) 0 (map names_of listings) found
+    → AllZip (λ path names. IsListing (string_bytes path) d (map string_bytes names.items)) paths listings → AreAmongAll kind 0 (map names_of listings) found
     → AreFilesIn kind (map string_bytes paths) d found
 files_in kind d paths listings found zip among =
-    are_files_in kind (map string_bytes paths) (length listings) (map names_of listings) d found
-    (zip_length (λ path names. IsListing (string_bytes path) d (map string_bytes names.items)) paths listings zip ∙ sym (length-map paths string_bytes))
-    (zip_map (λ directory listed. IsListing directory d listed) string_bytes names_of paths listings zip) among
+    are_files_in kind (map string_bytes paths) (map names_of listings) d found (zip_map (λ directory listed. IsListing directory d listed) string_bytes names_of paths listings zip) among
 
 -- so are those that were chosen
 pub chosen_lie : (kind : FileKind) (directories : List (List ℕ)) (d : Disk) (found chosen : List FoundFile) → AreFilesIn kind directories d found → IsOneEach found chosen → All (FileLiesIn kind directories d) chosen
@@ -61,7 +57,7 @@ sources_of_kind kind directories d found chosen files sources all each opened is
   chosen = chosen;
   each = each;
   opened = subst (λ (l : List SourceFile). AllZip (IsSource kind directories d) chosen l) (sym is)
-      (zip_sources kind directories d chosen files (λ f there. limit_small (has_sign (length directories) f.path_id) f.seq (all.found f (each.are f there).there).small) opened);
+      (zip_sources kind directories d chosen files (λ f there. limit_small f.signed f.seq (all.found f (each.are f there).there).small) opened);
 }
 
 -- want of memory

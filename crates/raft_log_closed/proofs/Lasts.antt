@@ -1,7 +1,7 @@
 -- Of files in the order of their numbers, the last of each number are one a number.
 use Rattle.std.specs.Prelude.{Contains, ◌⊎◌, if◌then◌else◌}
 use Rattle.std.specs.List.Sorted.{IsPermutation, IsSorted}
-use Rattle.std.specs.Ordering.{nat_cmp, is_lt, ordering_then}
+use Rattle.std.specs.Ordering.{bool_cmp, nat_cmp, is_lt, ordering_then}
 use Rattle.std.specs.declared.cmp.Ordering.{Ordering}
 use Rattle.std.specs.declared.cmp.Ordering.TheVariants.{Less, Equal, Greater}
 use Rattle.std.specs.Cmp.{nat_cmp_is}
@@ -13,7 +13,7 @@ use Rattle.std.proofs.lemmas.List.Elements.{Contains-append_cases, Contains-appe
 use Rattle.std.proofs.lemmas.List.Sorted.{IsPermutation-sym, Contains-permutation}
 use Rattle.raft_log_open_scan.specs.Runs.{found_cmp}
 use Rattle.raft_log_open_scan.specs.declared.scanning.found.FoundFile.{FoundFile}
-use Rattle.raft_log_closed.specs.Sources.{AreRising, IsLastOf, IsNextAnother, IsOneEach, lasts, unless_again}
+use Rattle.raft_log_closed.specs.Sources.{AreRising, IsLastOf, IsNextAnother, IsNoLater, IsOneEach, lasts, unless_again}
 
 -- Lists.
 
@@ -32,32 +32,65 @@ in_none y (k, lt, is) = omega (arith, lt)
 
 -- The order of files.
 
--- the first has the lesser number, or the same one and lies in no later directory
+pub itself : (f : FoundFile) → IsNoLater f f
+itself f = inr (refl, λ is. is)
+
+pub no_later_then : (a b c : FoundFile) → IsNoLater a b → IsNoLater b c → IsNoLater a c
+no_later_then a b c (inl x) (inl y) = inl (omega (arith, x, y))
+no_later_then a b c (inl x) (inr y) = inl (omega (arith, x, y.0))
+no_later_then a b c (inr x) (inl y) = inl (omega (arith, x.0, y))
+no_later_then a b c (inr x) (inr y) = inr (x.0 ∙ y.0, λ is. y.1 (x.1 is))
+
+one_sign : (x y : Bool) → (x ≡ true → y ≡ true) → (y ≡ true → x ≡ true) → x ≡ y
+one_sign true true there back = refl
+one_sign false false there back = refl
+one_sign true false there back = sym (there refl)
+one_sign false true there back = back refl
+
+both_ways : (a b : FoundFile) → IsNoLater a b → IsNoLater b a → (a.path_id ≡ b.path_id) × (a.signed ≡ b.signed)
+both_ways a b (inl x) (inl y) = absurd (omega (arith, x, y))
+both_ways a b (inl x) (inr y) = absurd (omega (arith, x, y.0))
+both_ways a b (inr x) (inl y) = absurd (omega (arith, x.0, y))
+both_ways a b (inr x) (inr y) = (x.0, one_sign a.signed b.signed x.1 y.1)
+
+-- the first has the lesser number, or the same one and lies no later
 abbrev Before : FoundFile → FoundFile → Type 0
-Before a b = (a.seq < b.seq) ⊎ ((a.seq ≡ b.seq) × (a.path_id ≤ b.path_id))
+Before a b = (a.seq < b.seq) ⊎ ((a.seq ≡ b.seq) × IsNoLater a b)
 
 before_then : (a b c : FoundFile) → Before a b → Before b c → Before a c
 before_then a b c (inl x) (inl y) = inl (omega (arith, x, y))
 before_then a b c (inl x) (inr y) = inl (omega (arith, x, y.0))
 before_then a b c (inr x) (inl y) = inl (omega (arith, x.0, y))
-before_then a b c (inr x) (inr y) = inr (omega (arith, x.0, y.0), omega (arith, x.1, y.1))
+before_then a b c (inr x) (inr y) = inr (omega (arith, x.0, y.0), no_later_then a b c x.1 y.1)
+
+sign_not_less : (x y : Bool) → is_lt (bool_cmp y x) ≡ false → x ≡ true → y ≡ true
+sign_not_less x true not is = refl
+sign_not_less true false not is = sym not
+sign_not_less false false not is = is
 
 -- what isn't less than the one before it stands behind it
 not_less : (a b : FoundFile) → is_lt (found_cmp b a) ≡ false → Before a b
-not_less a b not = elim (cases_order a.seq b.seq) [
-  | inr (inl below) ↦ inl below
-  | inl same ↦
-      let level : Equal ≡ nat_cmp b.seq a.seq = nat_cmp_is b.seq a.seq Equal (sym same) in
-      elim (cases_lt b.path_id a.path_id) [
-        | inr behind ↦ inr (same, behind)
-        | inl less ↦
-            let under : Less ≡ nat_cmp b.path_id a.path_id = nat_cmp_is b.path_id a.path_id Less less in
-            absurd (false≢true (sym not ∙ (ap (λ (o : Ordering). is_lt (ordering_then o (nat_cmp b.path_id a.path_id))) (sym level) ∙ ap (λ (o : Ordering). is_lt o) (sym under))))
-      ]
-  | inr (inr above) ↦
-      let under : Less ≡ nat_cmp b.seq a.seq = nat_cmp_is b.seq a.seq Less above in
-      absurd (false≢true (sym not ∙ ap (λ (o : Ordering). is_lt (ordering_then o (nat_cmp b.path_id a.path_id))) (sym under)))
-]
+not_less a b not =
+    let signs : Ordering = bool_cmp b.signed a.signed in
+    elim (cases_order a.seq b.seq) [
+      | inr (inl below) ↦ inl below
+      | inl same ↦
+          let level : Equal ≡ nat_cmp b.seq a.seq = nat_cmp_is b.seq a.seq Equal (sym same) in
+          let rest : is_lt (ordering_then (nat_cmp b.path_id a.path_id) signs) ≡ false =
+          ap (λ (o : Ordering). is_lt (ordering_then (ordering_then o (nat_cmp b.path_id a.path_id)) signs)) level ∙ not in
+          elim (cases_order a.path_id b.path_id) [
+            | inr (inl earlier) ↦ inr (same, inl earlier)
+            | inl one ↦
+                let also : Equal ≡ nat_cmp b.path_id a.path_id = nat_cmp_is b.path_id a.path_id Equal (sym one) in
+                inr (same, inr (one, sign_not_less a.signed b.signed (ap (λ (o : Ordering). is_lt (ordering_then o signs)) also ∙ rest)))
+            | inr (inr later) ↦
+                let under : Less ≡ nat_cmp b.path_id a.path_id = nat_cmp_is b.path_id a.path_id Less later in
+                absurd (false≢true (sym rest ∙ ap (λ (o : Ordering). is_lt (ordering_then o signs)) (sym under)))
+          ]
+      | inr (inr above) ↦
+          let under : Less ≡ nat_cmp b.seq a.seq = nat_cmp_is b.seq a.seq Less above in
+          absurd (false≢true (sym not ∙ ap (λ (o : Ordering). is_lt (ordering_then (ordering_then o (nat_cmp b.path_id a.path_id)) signs)) (sym under)))
+    ]
 
 -- each stands before all behind it
 abbrev AreOrdered : List FoundFile → Type 0
@@ -112,22 +145,25 @@ kept_there (f ∷ fs) g order there = elim (kept_or f fs g there) [
   | inr behind ↦ later f fs g (kept_there fs g order.1 behind)
 ]
 
-kept_last : (files : List FoundFile) (g : FoundFile) → AreOrdered files → Contains (lasts files) g → (other : FoundFile) → Contains files other → other.seq ≡ g.seq → other.path_id ≤ g.path_id
+kept_last : (files : List FoundFile) (g : FoundFile) → AreOrdered files → Contains (lasts files) g → (other : FoundFile) → Contains files other → other.seq ≡ g.seq → IsNoLater other g
 kept_last [] g order there other inside same = absurd (in_none other inside)
 kept_last (f ∷ fs) g order there other inside same = elim (kept_or f fs g there) [
   | inl here ↦ (let is = kept_is f fs g order here in elim (first_or_later f fs other inside) [
-    | inl one ↦ (let p = ap (λ (x : FoundFile). x.path_id) one in let q = ap (λ (x : FoundFile). x.path_id) is.0 in omega (arith, p, q))
+    | inl one ↦ subst (IsNoLater other) (sym one ∙ is.0) (itself other)
     | inr more ↦ (let above = is.1 other more in let q = ap (λ (x : FoundFile). x.seq) is.0 in absurd (omega (arith, above, q, same)))
   ])
   | inr behind ↦ elim (first_or_later f fs other inside) [
     | inr more ↦ kept_last fs g order.1 behind other more same
-    | inl one ↦ (let p = ap (λ (x : FoundFile). x.path_id) one in let s = ap (λ (x : FoundFile). x.seq) one in
-        elim (order.0 g (kept_there fs g order.1 behind)) [ inl below ↦ absurd (omega (arith, below, s, same)) | inr level ↦ omega (arith, level.1, p) ])
+    | inl one ↦ (let s = ap (λ (x : FoundFile). x.seq) one in elim (order.0 g (kept_there fs g order.1 behind)) [
+      | inl below ↦ absurd (omega (arith, below, s, same))
+      | inr level ↦ subst (λ (x : FoundFile). IsNoLater x g) one level.1
+    ])
   ]
 ]
 
-same_found : (a b : FoundFile) → a.seq ≡ b.seq → a.path_id ≡ b.path_id → a ≡ b
-same_found a b seq path = ap (λ (n : ℕ). record a { seq = n }) seq ∙ ap (λ (p : ℕ). record b { path_id = p }) path
+same_found : (a b : FoundFile) → a.seq ≡ b.seq → a.path_id ≡ b.path_id → a.signed ≡ b.signed → a ≡ b
+same_found a b seq path sign = ap (λ (n : ℕ). record a { seq = n }) seq
+    ∙ ap (λ (p : ℕ). record { seq = b.seq; path_id = p; signed = a.signed }) path ∙ ap (λ (s : Bool). record b { signed = s }) sign
 
 behind_last : (f : FoundFile) (fs : List FoundFile) (g : FoundFile) → IsLastOf (f ∷ fs) g → Contains fs g → IsLastOf fs g
 behind_last f fs g is there = record { there = there; last = λ other inside same. is.last other (later f fs other inside) same }
@@ -141,9 +177,9 @@ all_kept_more f n fs g true again order is rest = elim (first_or_later f (n ∷ 
       (let one : f.seq ≡ n.seq = (Decides-eqb f.seq n.seq).0 again in
       let s : n.seq ≡ g.seq = sym one ∙ ap (λ (x : FoundFile). x.seq) same in
       let most = is.last n (later f (n ∷ fs) n (first n fs)) s in
-      let least : f.path_id ≤ n.path_id = elim (order.0 n (first n fs)) [ inl below ↦ absurd (omega (arith, below, one)) | inr level ↦ level.1 ] in
-      let p : n.path_id ≡ g.path_id = omega (arith, most, least, ap (λ (x : FoundFile). x.path_id) same) in
-      rest (subst (Contains (n ∷ fs)) (same_found n g s p) (first n fs)))
+      let least : IsNoLater f n = elim (order.0 n (first n fs)) [ inl below ↦ absurd (omega (arith, below, one)) | inr level ↦ level.1 ] in
+      let both = both_ways n g most (subst (λ (x : FoundFile). IsNoLater x n) same least) in
+      rest (subst (Contains (n ∷ fs)) (same_found n g s both.0 both.1) (first n fs)))
 ]
 all_kept_more f n fs g false apart order is rest = elim (first_or_later f (n ∷ fs) g is.there) [
   | inl same ↦ subst (Contains (f ∷ lasts (n ∷ fs))) same (first f (lasts (n ∷ fs)))

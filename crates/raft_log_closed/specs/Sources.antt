@@ -1,5 +1,5 @@
 -- Which files of a log are copied: all of both queues, one a number.
-use Rattle.std.specs.Prelude.{◌≡◌, ℕ, ◌+◌, ◌<◌, ◌≤◌, ◌^◌, ◌⊎◌, Some, List, [], ◌∷◌, ◌++◌, Contains, length, slice_index_or, nat_eq, if◌then◌else◌}
+use Rattle.std.specs.Prelude.{◌≡◌, ℕ, ◌+◌, ◌<◌, ◌≤◌, ◌^◌, ◌⊎◌, true, Some, List, [], ◌∷◌, ◌++◌, Contains, length, slice_index_or, nat_eq, if◌then◌else◌}
 use Rattle.std.specs.List.{AllZip}
 use Rattle.raft_log_record_base.specs.declared.errors.Error.{Error}
 use Rattle.raft_log_disk.specs.Disk.{Disk}
@@ -14,10 +14,17 @@ use Rattle.raft_log_open_scan.specs.declared.scanning.found.FoundFile.{FoundFile
 use Rattle.raft_log_closed.specs.Copies.{IsSourceThere}
 use Rattle.raft_log_closed.specs.declared.source_file.SourceFile.{SourceFile}
 
--- One of these files has the number, and it lies in the last of the directories that have one of this number.
+-- the first lies in an earlier directory than the second, or in the same one, where a name without a sign comes
+-- first
+abbrev pub IsNoLater : FoundFile → FoundFile → Type 0
+IsNoLater a b = (a.path_id < b.path_id)
+    ⊎ ((a.path_id ≡ b.path_id) × (a.signed ≡ true → b.signed ≡ true))
+
+-- One of these files has the number, and it lies in the last of the directories that have one of this number;
+-- of two in that directory it is the one whose name has a sign.
 pub record IsLastOf (found : List FoundFile) (file : FoundFile) : Type 0 where
   pub there : Contains found file
-  pub last : (other : FoundFile) → Contains found other → other.seq ≡ file.seq → other.path_id ≤ file.path_id
+  pub last : (other : FoundFile) → Contains found other → other.seq ≡ file.seq → IsNoLater other file
 
 -- the numbers of these files rise
 abbrev pub AreRising : List FoundFile → Type 0
@@ -25,7 +32,7 @@ AreRising [] = Unit {0}
 AreRising (file ∷ files) =
     ((other : FoundFile) → Contains files other → file.seq < other.seq) × AreRising files
 
--- of these files one for each number, in the order of the numbers: that of the last directory
+-- of these files one for each number, in the order of the numbers: the last of those that have it
 pub record IsOneEach (found chosen : List FoundFile) : Type 0 where
   pub are : (file : FoundFile) → Contains chosen file → IsLastOf found file
   pub all : (file : FoundFile) → IsLastOf found file → Contains chosen file

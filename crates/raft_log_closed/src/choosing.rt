@@ -9,12 +9,12 @@ use raft_log_record_base::Result;
 use std::alloc::Global;
 
 /// Of these files one for each number, in the order of the numbers: of several with one number that of the
-/// last directory. `Memory`.
+/// last directory, and of two there the one whose name has a sign. `Memory`.
 pub fn one_each(alloc: Global, mut found: Vec<FoundFile>) -> Result<Vec<FoundFile>>
     ensures ok { IfOk result (λ chosen. IsOneEach found.items chosen.items) }
     ensures err { IfErr result (λ error. error ≡ Memory) }
 {
-    found.sort_by_key(|file| (file.seq, file.path_id))?;
+    found.sort_by_key(|file| (file.seq, file.path_id, file.signed))?;
     let chosen = last_of_each(alloc, found.as_slice())?;
     Ok(chosen)
 }

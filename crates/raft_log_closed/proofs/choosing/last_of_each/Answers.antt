@@ -1,4 +1,4 @@
-use Rattle.std.proofs.Common.{◌≡◌, ◌+◌, ◌<◌, ℕ, List, [], ◌∷◌, ◌++◌, length, drop, sym, ap, subst, ◌∙◌, arith, append_assoc}
+use Rattle.std.proofs.Common.{◌≡◌, ◌+◌, ◌<◌, ℕ, false, List, [], ◌∷◌, ◌++◌, length, drop, sym, ap, subst, ◌∙◌, arith, append_assoc}
 use Rattle.std.specs.Prelude.{slice_index_or}
 use Rattle.std.proofs.lemmas.Bool.{false≢true}
 use Rattle.raft_log_open_scan.specs.declared.scanning.found.FoundFile.{FoundFile}
@@ -13,7 +13,7 @@ loop-at-preserved c =
     let i = c.loop-at.at in
     let chosen = c.loop-at.chosen.items in
     let rest = lasts (drop (i + 1) files) in
-    let none : FoundFile = record { seq = 0; path_id = 0 } in
+    let none : FoundFile = record { seq = 0; path_id = 0; signed = false } in
     let lt : i < length files = omega arith in
     elim c.if-is_next_another.branch [
       | then-is_next_another+in_ok-push w ↦

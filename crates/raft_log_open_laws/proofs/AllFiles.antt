@@ -2,7 +2,7 @@
 use Rattle.std.specs.Prelude.{Contains, None, Some, Option}
 use Rattle.std.specs.List.Sorted.{IsPermutation, IsSorted}
 use Rattle.std.proofs.Common.{◌≡◌, ℕ, ◌<◌, ◌≤◌, zero, suc, List, [], ◌∷◌, ◌++◌, length, get_or, refl, sym, ap, subst, ◌∙◌, inl, inr, arith, length-append, append_assoc}
-use Rattle.std.proofs.lemmas.Bool.{cases_lt}
+use Rattle.std.proofs.lemmas.Bool.{cases_lt, cases_order}
 use Rattle.std.proofs.lemmas.List.{append_cancel_right}
 use Rattle.std.proofs.lemmas.List.Elements.{Contains-get_or}
 use Rattle.std.proofs.lemmas.List.Sorted.{IsPermutation-sym}
@@ -11,17 +11,17 @@ use Rattle.raft_log_record_base.specs.declared.pipe_log.LogQueue.TheVariants as 
 use Rattle.raft_log_disk.specs.Disk.{Disk}
 use Rattle.raft_log_disk.specs.Image.{IsSound}
 use Rattle.raft_log_file_laws.specs.LogQueue.{LogFiles, IsLeftover}
-use Rattle.raft_log_file_queue.specs.Layout.{has_sign, plain_place}
+use Rattle.raft_log_file_queue.specs.Layout.{place_of}
 use Rattle.raft_log_file_queue.specs.Standing.{Names, Stands}
 use Rattle.raft_log_file_format.specs.Name.{suffix_of}
 use Rattle.raft_log_engine_laws.specs.raft_log_file_layout.specs.Layout.{log_format}
 use Rattle.raft_log_engine_laws.specs.raft_log_file_layout.specs.LayoutLaws.{is_layout}
 use Rattle.raft_log_engine_laws.specs.raft_log_file_layout.specs.PathLaws.{one_name}
-use Rattle.raft_log_engine_laws.specs.raft_log_file_layout.specs.Paths.{IsOwnPath, IsPathWith, directory_at, numbered_path}
+use Rattle.raft_log_engine_laws.specs.raft_log_file_layout.specs.Paths.{IsOwnPath, IsPathWith}
 use Rattle.raft_log_engine_laws.specs.raft_log_file_layout.specs.declared.record.LogRecord.{LogRecord}
-use Rattle.raft_log_open_scan.specs.Found.{AreDistinct, AreFilesIn, FileLiesIn, found_path, place_of}
+use Rattle.raft_log_open_scan.specs.Found.{AreDistinct, AreFilesIn, FileLiesIn, found_path}
 use Rattle.raft_log_open_scan.specs.Names.{name_of}
-use Rattle.raft_log_open_scan.proofs.FoundLemmas.{limit_small, name_plain, place_back, place_less, sign_one}
+use Rattle.raft_log_open_scan.proofs.FoundLemmas.{limit_small, name_plain, sign_one}
 use Rattle.raft_log_open_scan.specs.Runs.{IsRunOf, found_cmp}
 use Rattle.raft_log_open_scan.specs.Scanned.{IsQueueIn}
 use Rattle.raft_log_open_scan.specs.declared.scanning.found.FoundFile.{FoundFile}
@@ -30,6 +30,7 @@ use Rattle.raft_log_open_laws.specs.Beginning.{IsTwice}
 use Rattle.raft_log_open_laws.specs.Scanned.{kind_of}
 use Rattle.raft_log_open_laws.proofs.Beginnings.{at_end, lies_there, listed, rise}
 use Rattle.raft_log_open_laws.proofs.Begun.{named_file, scanned_files_begin}
+use Rattle.raft_log_open_laws.proofs.FoundPaths.{path_found}
 use Rattle.raft_log_open_laws.proofs.Spans.{scanned_files_are_spanned}
 
 -- Lists.
@@ -51,17 +52,13 @@ distinct_at (d ∷ ds) x (suc i) (suc j) (lone, rest) less within same = distinc
 
 -- The files of a queue that lie in the directories.
 
--- a file lies under a path of its number
-path_found : (queue : LogQueue) (directories : List (List ℕ)) (f : FoundFile) → numbered_path queue directories f.path_id f.seq ≡ found_path (kind_of queue) directories f
-path_found queues.Append directories f = refl
-path_found queues.Rewrite directories f = refl
-
 module _ (queue : LogQueue) (directories : List (List ℕ)) (d : Disk) where
   numbered_at : (f : FoundFile) → FileLiesIn (kind_of queue) directories d f → IsPathWith (suffix_of queue) directories f.seq (found_path (kind_of queue) directories f)
   numbered_at f lies =
       let listed = lies.listed in
-      let small = limit_small (has_sign (length directories) f.path_id) f.seq lies.small in
-      subst (IsPathWith (suffix_of queue) directories f.seq) (path_found queue directories f) ((is_layout queue directories (omega (arith, listed))).numbered f.path_id f.seq small)
+      let small = limit_small f.signed f.seq lies.small in
+      subst (IsPathWith (suffix_of queue) directories f.seq) (path_found queue directories f listed)
+      ((is_layout queue directories (omega (arith, listed))).numbered (place_of (length directories) f.path_id f.signed) f.seq small)
 
   module _ (found before : List FoundFile) (last : FoundFile) (are : AreFilesIn (kind_of queue) directories d found) (run : IsRunOf found (before ++ last ∷ [])) where
     abbrev front : List FoundFile
@@ -98,7 +95,7 @@ module _ (queue : LogQueue) (directories : List (List ℕ)) (d : Disk) where
     none_above : (f : FoundFile) → FileLiesIn (kind_of queue) directories d f → q.last < f.seq → ⊥
     none_above f lies above =
         let there = found_path (kind_of queue) directories f in
-        lies.there (ap (λ (g : Names). g there) s.names ∙ s.none f.seq there above (limit_small (has_sign (length directories) f.path_id) f.seq lies.small) (numbered_at f lies))
+        lies.there (ap (λ (g : Names). g there) s.names ∙ s.none f.seq there above (limit_small f.signed f.seq lies.small) (numbered_at f lies))
 
     -- no number has two files
     not_twice : AreDistinct directories → IsSound d → (n : ℕ) → IsTwice (kind_of queue) directories d n → ⊥
@@ -123,25 +120,22 @@ module _ (queue : LogQueue) (directories : List (List ℕ)) (d : Disk) where
         ] in
         let joined : a ≡ b = sound.one_name a b i is_i (is_j ∙ ap Some (sym one)) in
         let kind = kind_of queue in
-        let count = length directories in
-        let here_sign = has_sign count t.here.path_id in
-        let there_sign = has_sign count t.there.path_id in
-        let here_home = directory_at directories t.here.path_id in
-        let there_home = directory_at directories t.there.path_id in
-        let here_name = name_of kind here_sign t.here.seq in
-        let there_name = name_of kind there_sign t.there.seq in
+        let here_home : List ℕ = get_or directories t.here.path_id [] in
+        let there_home : List ℕ = get_or directories t.there.path_id [] in
+        let here_name : List ℕ = name_of kind t.here.signed t.here.seq in
+        let there_name : List ℕ = name_of kind t.there.signed t.there.seq in
+        let here_small = limit_small t.here.signed t.here.seq t.here_lies.small in
+        let there_small = limit_small t.there.signed t.there.seq t.there_lies.small in
         let names : here_name ≡ there_name =
-        one_name here_home there_home here_name there_name (name_plain kind here_sign t.here.seq (limit_small here_sign t.here.seq t.here_lies.small))
-        (name_plain kind there_sign t.there.seq (limit_small there_sign t.there.seq t.there_lies.small)) joined in
-        let signs : here_sign ≡ there_sign = sign_one kind here_sign there_sign t.here.seq t.there.seq here_name (t.here_lies.small, refl) (t.there_lies.small, names) in
-        let homes : here_home ≡ there_home =
-        append_cancel_right here_home there_home (47 ∷ there_name) (sym (ap (λ (l : List ℕ). here_home ++ 47 ∷ l) names) ∙ joined) in
-        let here_at : t.here.path_id ≡ place_of count (plain_place count t.here.path_id) there_sign =
-        place_back count t.here.path_id ∙ ap (place_of count (plain_place count t.here.path_id)) signs in
-        let less : plain_place count t.here.path_id < plain_place count t.there.path_id =
-        place_less count (plain_place count t.here.path_id) (plain_place count t.there.path_id) there_sign
-        (omega (arith, t.apart, here_at, place_back count t.there.path_id)) in
-        distinct_at directories _ (plain_place count t.here.path_id) (plain_place count t.there.path_id) distinct less t.there_lies.listed homes
+        one_name here_home there_home here_name there_name (name_plain kind t.here.signed t.here.seq here_small) (name_plain kind t.there.signed t.there.seq there_small) joined in
+        let seqs : t.here.seq ≡ t.there.seq = t.here_number ∙ sym t.there_number in
+        let signs : t.here.signed ≡ t.there.signed = sign_one kind t.here.signed t.there.signed t.here.seq t.there.seq here_name (t.here_lies.small, refl) (t.there_lies.small, names) in
+        let homes : here_home ≡ there_home = append_cancel_right here_home there_home (47 ∷ there_name) (sym (ap (λ (l : List ℕ). here_home ++ 47 ∷ l) names) ∙ joined) in
+        elim (cases_order t.here.path_id t.there.path_id) [
+          | inl path ↦ t.apart (λ i. record { seq = seqs i; path_id = path i; signed = signs i })
+          | inr (inl less) ↦ distinct_at directories [] t.here.path_id t.there.path_id distinct less t.there_lies.listed homes
+          | inr (inr more) ↦ distinct_at directories [] t.there.path_id t.here.path_id distinct more t.here_lies.listed (sym homes)
+        ]
 
     -- the last file that is kept is the last one
     last_is : (found before : List FoundFile) (last : FoundFile) → AreFilesIn (kind_of queue) directories d found → IsRunOf found (before ++ last ∷ []) → last.seq ≡ q.last
@@ -187,5 +181,5 @@ no_files_are_scanned queue directories mode d none files scanned = elim scanned.
   | inr behind ↦
       let run : IsRunOf scanned.run.found (behind.before ++ behind.last ∷ []) = subst (IsRunOf scanned.run.found) behind.found_split scanned.run.run in
       let lies = last_lies queue directories d scanned.run.found behind.before behind.last scanned.run.all run in
-      absurd (lies.there (none behind.last.seq (limit_small (has_sign (length directories) behind.last.path_id) behind.last.seq lies.small) (found_path (kind_of queue) directories behind.last) (numbered_at queue directories d behind.last lies)))
+      absurd (lies.there (none behind.last.seq (limit_small behind.last.signed behind.last.seq lies.small) (found_path (kind_of queue) directories behind.last) (numbered_at queue directories d behind.last lies)))
 ]

@@ -3,9 +3,9 @@ use Rattle.std.specs.Prelude.{Contains, ◌⊎◌, None, Some}
 use Rattle.std.specs.List.{sum_by}
 use Rattle.std.specs.List.Sorted.{IsPermutation, IsSorted}
 use Rattle.std.specs.Cmp.{nat_cmp_is}
-use Rattle.std.specs.Ordering.{is_lt, nat_cmp, ordering_then}
+use Rattle.std.specs.Ordering.{bool_cmp, is_lt, nat_cmp, ordering_then}
 use Rattle.std.specs.declared.cmp.Ordering.{Ordering}
-use Rattle.std.specs.declared.cmp.Ordering.TheVariants.{Less, Equal}
+use Rattle.std.specs.declared.cmp.Ordering.TheVariants.{Less}
 use Rattle.std.proofs.Common.{◌≡◌, ℕ, ◌+◌, ◌-◌, ◌<◌, ◌≤◌, zero, suc, Bool, List, [], ◌∷◌, ◌++◌, length, get_or, cond, eqb, ◌&&◌, refl, sym, ap, subst, ◌∙◌, inl, inr, true, false, arith, length-append, append_assoc}
 use Rattle.std.proofs.lemmas.Bool.{cases_lt, cases_eq, false≢true}
 use Rattle.std.proofs.lemmas.List.Elements.{Contains-get_or}
@@ -23,23 +23,11 @@ use Rattle.raft_log_open_laws.specs.Beginning.{IsTwice}
 -- a file with a lower number is before the others
 lower_first : (a b : FoundFile) → b.seq < a.seq → is_lt (found_cmp b a) ≡ true
 lower_first a b less =
-    subst (λ (o : Ordering). is_lt (ordering_then o (nat_cmp b.path_id a.path_id)) ≡ true) (nat_cmp_is b.seq a.seq Less less) refl
-
--- and of two with one number that of the earlier directory
-earlier_first : (a b : FoundFile) → b.seq ≡ a.seq → b.path_id < a.path_id → is_lt (found_cmp b a) ≡ true
-earlier_first a b same less =
-    subst (λ (o : Ordering). is_lt (ordering_then o (nat_cmp b.path_id a.path_id)) ≡ true) (nat_cmp_is b.seq a.seq Equal same)
-    (subst (λ (o : Ordering). is_lt o ≡ true) (nat_cmp_is b.path_id a.path_id Less less) refl)
+    subst (λ (o : Ordering). is_lt (ordering_then (ordering_then o (nat_cmp b.path_id a.path_id)) (bool_cmp b.signed a.signed)) ≡ true) (nat_cmp_is b.seq a.seq Less less) refl
 
 numbers_rise : (a b : FoundFile) → is_lt (found_cmp b a) ≡ false → a.seq ≤ b.seq
 numbers_rise a b sorted = elim (cases_lt b.seq a.seq) [
   | inl less ↦ absurd (false≢true (sym sorted ∙ lower_first a b less))
-  | inr up ↦ up
-]
-
-directories_rise : (a b : FoundFile) → is_lt (found_cmp b a) ≡ false → b.seq ≡ a.seq → a.path_id ≤ b.path_id
-directories_rise a b sorted same = elim (cases_lt b.path_id a.path_id) [
-  | inl less ↦ absurd (false≢true (sym sorted ∙ earlier_first a b same less))
   | inr up ↦ up
 ]
 
@@ -63,19 +51,45 @@ rise files f i j sorted up within =
 
 -- Each once.
 
+same_sign : Bool → Bool → ℕ
+same_sign true b = cond b 1 0
+same_sign false b = cond b 0 1
+
+sign_itself : (b : Bool) → same_sign b b ≡ 1
+unfolding same_sign
+sign_itself true = refl
+sign_itself false = refl
+
+sign_or_none : (a b : Bool) → (a ≡ b) ⊎ (same_sign a b ≡ 0)
+unfolding same_sign
+sign_or_none true true = inl refl
+sign_or_none false false = inl refl
+sign_or_none true false = inr refl
+sign_or_none false true = inr refl
+
+same_sign-le : (a b : Bool) → same_sign a b ≤ 1
+unfolding same_sign
+same_sign-le true true = omega arith
+same_sign-le false false = omega arith
+same_sign-le true false = omega arith
+same_sign-le false true = omega arith
+
 -- whether a file is this one
 is_one : FoundFile → FoundFile → ℕ
-is_one f g = cond (eqb f.seq g.seq && eqb f.path_id g.path_id) 1 0
+is_one f g = cond (eqb f.seq g.seq && eqb f.path_id g.path_id) (same_sign f.signed g.signed) 0
 
 itself : (f : FoundFile) → is_one f f ≡ 1
 unfolding is_one
-itself f = grind arith
+itself f = let sign = sign_itself f.signed in grind (arith, sign)
 
 one_or_none : (f g : FoundFile) → (f ≡ g) ⊎ (is_one f g ≡ 0)
 unfolding is_one
 one_or_none f g = elim (cases_eq f.seq g.seq) [
   | inl seq ↦ elim (cases_eq f.path_id g.path_id) [
-    | inl path ↦ inl (λ i. record { seq = seq i; path_id = path i })
+    | inl path ↦ elim (sign_or_none f.signed g.signed) [
+      | inl sign ↦ inl (λ i. record { seq = seq i; path_id = path i; signed = sign i })
+      | inr other ↦ inr (grind (arith, other))
+    ]
     | inr apart ↦ inr (grind arith)
   ]
   | inr apart ↦ inr (grind arith)
@@ -90,7 +104,7 @@ none_of f (g ∷ files) absent =
 
 is_one-le : (f g : FoundFile) → is_one f g ≤ 1
 unfolding is_one
-is_one-le f g = grind arith
+is_one-le f g = let sign = same_sign-le f.signed g.signed in grind (arith, sign)
 
 once : (f : FoundFile) (files : List FoundFile) → AreDistinct files → sum_by (is_one f) files ≤ 1
 once f [] distinct = omega arith
@@ -189,12 +203,6 @@ module _ (kind : FileKind) (directories : List (List ℕ)) (d : Disk) (found bef
   twice : first.seq ≤ last.seq → IsTwice kind directories d first.seq
   twice up =
       let one : first.seq ≡ last.seq = omega (arith, up, numbers_rise last first ordered) in
-      let near = directories_rise last first ordered one in
-      let other : last.path_id < first.path_id = elim (cases_lt last.path_id first.path_id) [
-        | inl less ↦ less
-        | inr even ↦ (let path : last.path_id ≡ first.path_id = omega (arith, near, even) in
-            absurd (apart found before behind last first are.once same (λ i. record { seq = (sym one) i; path_id = path i })))
-      ] in
       record {
         here = last;
         there = first;
@@ -202,13 +210,13 @@ module _ (kind : FileKind) (directories : List (List ℕ)) (d : Disk) (found bef
         there_lies = lies_there kind directories d found all first are (IsPermutation-sym found all same) (subst (Contains all) (next_to before behind last first last) (Contains-get_or all (length before + 1) last long));
         here_number = sym one;
         there_number = refl;
-        apart = other;
+        apart = apart found before behind last first are.once same;
       }
 
   broken : NoneBelow kind directories d first.seq ⊎ IsTwice kind directories d first.seq
   broken = elim (cases_lt last.seq first.seq) [ inl less ↦ inl (gap less) | inr up ↦ inr (twice up) ]
 
--- the kept files begin behind a gap, or with a number that two directories have
+-- the kept files begin behind a gap, or with a number that two files have
 pub kept_begin : (kind : FileKind) (directories : List (List ℕ)) (d : Disk) (found kept : List FoundFile) (g : FoundFile) (gs : List FoundFile) → AreFilesIn kind directories d found → IsRunOf found kept → kept ≡ g ∷ gs
     → NoneBelow kind directories d g.seq ⊎ IsTwice kind directories d g.seq
 kept_begin kind directories d found kept g gs are run is = elim run.broken [

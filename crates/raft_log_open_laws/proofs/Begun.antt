@@ -13,9 +13,8 @@ use Rattle.raft_log_engine_laws.specs.raft_log_file_layout.specs.Layout.{log_for
 use Rattle.raft_log_engine_laws.specs.raft_log_file_layout.specs.Paths.{IsPathWith}
 use Rattle.raft_log_file_pipe.specs.Files.{Listed}
 use Rattle.raft_log_file_pipe.specs.Opening.{first_number}
-use Rattle.raft_log_open_scan.specs.Found.{AreFilesIn, FileLiesIn, place_of}
+use Rattle.raft_log_open_scan.specs.Found.{AreFilesIn, FileLiesIn}
 use Rattle.raft_log_open_scan.specs.Names.{end_of, name_of}
-use Rattle.raft_log_open_scan.proofs.FoundLemmas.{file_lies}
 use Rattle.raft_log_open_scan.specs.Opened.{AreOpen, IsOpenFile, permission_before}
 use Rattle.raft_log_open_scan.specs.declared.scanning.found.FoundFile.{FoundFile}
 use Rattle.raft_log_open_laws.specs.Beginning.{BeginsBehindGap, IsTwice, ScannedFilesBegin}
@@ -39,10 +38,11 @@ module _ (queue : LogQueue) (directories : List (List ℕ)) (d : Disk) (found : 
       are.named is.name (record { directory = is.directory; listed = is.listed; plain = is.plain; there = has }) (
         m,
         named,
-        λ signed is_name. (let file : FoundFile = record { seq = m; path_id = place_of (length directories) is.listed.0 signed } in
-            none file (file_lies kind directories d file is.listed.0 signed refl is.listed.1 is_name.0
-            (subst (λ (p : List ℕ). d.names p ≡ None → ⊥)
-            (ap (λ (name : List ℕ). is.directory ++ 47 ∷ name) is_name.1 ∙ ap (λ (directory : List ℕ). directory ++ 47 ∷ name_of kind signed m) (sym home)) has)) refl),
+        λ signed its. none (record { seq = m; path_id = is.listed.0; signed = signed }) (record {
+          listed = is.listed.1;
+          small = its.0;
+          there = subst (λ (p : List ℕ). d.names p ≡ None → ⊥) (ap (λ (name : List ℕ). is.directory ++ 47 ∷ name) its.1 ∙ ap (λ (directory : List ℕ). directory ++ 47 ∷ name_of kind signed m) (sym home)) has;
+        }) refl,
       )
 
   absent : (m : ℕ) → ((f : FoundFile) → FileLiesIn (kind_of queue) directories d f → f.seq ≡ m → ⊥) → IsAbsent (log_format queue directories) m d

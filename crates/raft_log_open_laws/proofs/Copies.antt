@@ -2,8 +2,8 @@
 use Rattle.std.specs.Prelude.{Contains, ◌⊎◌}
 use Rattle.std.specs.Option.{option_map}
 use Rattle.std.specs.Str.{bytes_eq}
-use Rattle.std.proofs.Common.{◌≡◌, ℕ, ◌<◌, ◌≤◌, ◌^◌, true, false, Option, Some, None, List, [], ◌∷◌, ◌++◌, length, get_or, length-append, refl, sym, ◌∙◌, ap, subst, inl, inr, arith}
-use Rattle.std.proofs.lemmas.Bool.{cases_Bool, cases_eq, cases_lt, false≢true}
+use Rattle.std.proofs.Common.{◌≡◌, ℕ, ◌<◌, ◌^◌, Bool, true, false, Option, Some, None, List, [], ◌∷◌, ◌++◌, length, get_or, length-append, refl, sym, ◌∙◌, ap, subst, inl, inr, arith}
+use Rattle.std.proofs.lemmas.Bool.{cases_Bool, cases_eq, cases_order, false≢true}
 use Rattle.std.proofs.lemmas.List.{get_or_default}
 use Rattle.std.proofs.lemmas.Slice.Eq.{bytes_eq-Decides}
 use Rattle.raft_log_record_base.specs.declared.pipe_log.LogQueue.{LogQueue}
@@ -12,7 +12,7 @@ use Rattle.raft_log_disk.specs.Disk.{Disk, File, IsPlain, at_rest}
 use Rattle.raft_log_disk.specs.Image.{as_it_stands}
 use Rattle.raft_log_disk.specs.Calls.{flushed}
 use Rattle.raft_log_file_laws.specs.LogQueue.{IsAbsent, IsThere}
-use Rattle.raft_log_file_queue.specs.Layout.{has_sign}
+use Rattle.raft_log_file_queue.specs.Layout.{place_of}
 use Rattle.raft_log_file_queue.specs.Standing.{IsPlace}
 use Rattle.raft_log_file_format.specs.Name.{IsNamed, suffix_of}
 use Rattle.raft_log_engine_laws.specs.raft_log_file_layout.specs.Layout.{log_format}
@@ -20,23 +20,38 @@ use Rattle.raft_log_engine_laws.specs.raft_log_file_layout.specs.LayoutLaws.{que
 use Rattle.raft_log_engine_laws.specs.raft_log_file_layout.specs.PathLaws.{numbered_is, one_number}
 use Rattle.raft_log_engine_laws.specs.raft_log_file_layout.specs.Paths.{IsPathWith}
 use Rattle.raft_log_file_settings.specs.Sanitized.{IsFileName}
-use Rattle.raft_log_open_scan.specs.Found.{AreFilesIn, FileLiesIn, found_path, place_of}
+use Rattle.raft_log_open_scan.specs.Found.{AreFilesIn, FileLiesIn, found_path}
 use Rattle.raft_log_open_scan.specs.Names.{built_name, end_of, name_of}
-use Rattle.raft_log_open_scan.proofs.FoundLemmas.{file_lies, limit_small}
+use Rattle.raft_log_open_scan.proofs.FoundLemmas.{limit_small}
 use Rattle.raft_log_open_scan.specs.declared.file_kind.FileKind.{FileKind}
 use Rattle.raft_log_open_scan.specs.declared.scanning.found.FoundFile.{FoundFile}
 use Rattle.raft_log_open_laws.specs.Scanned.{kind_of}
 use Rattle.raft_log_closed.specs.Copies.{copy_path}
 use Rattle.raft_log_closed.specs.Forks.{CopiesAll, IsCopyPath}
-use Rattle.raft_log_closed.specs.Sources.{AreSources, IsLastOf, IsSource}
+use Rattle.raft_log_closed.specs.Sources.{AreSources, IsLastOf, IsNoLater, IsSource}
 use Rattle.raft_log_closed.specs.declared.source_file.SourceFile.{SourceFile}
-use Rattle.raft_log_closed.proofs.Lasts.{first, first_or_later, in_none, later}
+use Rattle.raft_log_closed.proofs.Lasts.{first, first_or_later, in_none, itself, later, no_later_then}
+use Rattle.raft_log_open_laws.proofs.FoundPaths.{path_found}
 use Rattle.raft_log_open_laws.proofs.Sources.{copied_at, copied_to, has_sources, in_one, path_in, source_is, to_source}
 
 pub none_is_some : (id : ℕ) → None ≡ Some id → ⊥
 none_is_some id e = absurd (cc)
 
 -- Files that were found.
+
+one_sign_less : (a b : Bool) → (a ≡ true → b ≡ true) ⊎ (b ≡ true → a ≡ true)
+one_sign_less a true = inl (λ is. refl)
+one_sign_less a false = inr (λ is. absurd (false≢true is))
+
+one_no_later : (f g : FoundFile) → IsNoLater f g ⊎ IsNoLater g f
+one_no_later f g = elim (cases_order f.path_id g.path_id) [
+  | inr (inl less) ↦ inl (inl less)
+  | inr (inr more) ↦ inr (inl more)
+  | inl same ↦ elim (one_sign_less f.signed g.signed) [
+    | inl up ↦ inl (inr (same, up))
+    | inr down ↦ inr (inr (sym same, down))
+  ]
+]
 
 -- of files with a number one is the last, or none has it
 last_of : (files : List FoundFile) (n : ℕ) → ((f : FoundFile) → Contains files f → f.seq ≡ n → ⊥) ⊎ ((f : FoundFile) × IsLastOf files f × (f.seq ≡ n))
@@ -48,7 +63,7 @@ last_of (f ∷ fs) n = elim (last_of fs n) [
       record {
         there = first f fs;
         last = λ other there same. elim (first_or_later f fs other there) [
-          | inl this ↦ subst (λ (g : FoundFile). g.path_id ≤ f.path_id) this (omega arith)
+          | inl this ↦ subst (λ (g : FoundFile). IsNoLater g f) this (itself f)
           | inr behind ↦ absurd (none other behind (same ∙ is))
         ];
       },
@@ -71,24 +86,24 @@ last_of (f ∷ fs) n = elim (last_of fs n) [
       },
       is,
     )
-    | inl also ↦ elim (cases_lt g.path_id f.path_id) [
-      | inl less ↦ inr (
+    | inl also ↦ elim (one_no_later f g) [
+      | inr down ↦ inr (
         f,
         record {
           there = first f fs;
           last = λ other there same. elim (first_or_later f fs other there) [
-            | inl this ↦ subst (λ (h : FoundFile). h.path_id ≤ f.path_id) this (omega arith)
-            | inr behind ↦ (let below = last.last other behind (same ∙ also ∙ sym is) in omega (arith, below, less))
+            | inl this ↦ subst (λ (h : FoundFile). IsNoLater h f) this (itself f)
+            | inr behind ↦ no_later_then other g f (last.last other behind (same ∙ also ∙ sym is)) down
           ];
         },
         also,
       )
-      | inr up ↦ inr (
+      | inl up ↦ inr (
         g,
         record {
           there = later f fs g last.there;
           last = λ other there same. elim (first_or_later f fs other there) [
-            | inl this ↦ subst (λ (h : FoundFile). h.path_id ≤ g.path_id) this (omega (arith, up))
+            | inl this ↦ subst (λ (h : FoundFile). IsNoLater h g) this up
             | inr behind ↦ last.last other behind same
           ];
         },
@@ -106,17 +121,11 @@ same_end queues.Rewrite = refl
 module _ (queue : LogQueue) (directories : List (List ℕ)) (d : Disk) where
   -- a file that was found lies under a path of its number
   pub found_at : (f : FoundFile) → FileLiesIn (kind_of queue) directories d f → IsPathWith (suffix_of queue) directories f.seq (found_path (kind_of queue) directories f)
-  found_at f lies = by_queue queue
-    where
-      some : 0 < length directories
-      some = let listed = lies.listed in omega (arith, listed)
-
-      small : f.seq < 10 ^ 16
-      small = limit_small (has_sign (length directories) f.path_id) f.seq lies.small
-
-      by_queue : (q : LogQueue) → IsPathWith (suffix_of q) directories f.seq (found_path (kind_of q) directories f)
-      by_queue queues.Append = numbered_is queues.Append directories f.path_id f.seq some small
-      by_queue queues.Rewrite = numbered_is queues.Rewrite directories f.path_id f.seq some small
+  found_at f lies =
+      let listed = lies.listed in
+      let small = limit_small f.signed f.seq lies.small in
+      subst (IsPathWith (suffix_of queue) directories f.seq) (path_found queue directories f listed)
+      (numbered_is queue directories (place_of (length directories) f.path_id f.signed) f.seq (omega (arith, listed)) small)
 
   -- a file under a path of a number was found
   named_file : (found : List FoundFile) → AreFilesIn (kind_of queue) directories d found → (m : ℕ) (path : List ℕ) → IsPathWith (suffix_of queue) directories m path → (d.names path ≡ None → ⊥)
@@ -129,10 +138,12 @@ module _ (queue : LogQueue) (directories : List (List ℕ)) (d : Disk) where
       are.named is.name (record { directory = is.directory; listed = is.listed; plain = is.plain; there = has }) (
         m,
         named,
-        λ signed is_name. (let file : FoundFile = record { seq = m; path_id = place_of (length directories) is.listed.0 signed } in
-            none file (are.all file (file_lies kind directories d file is.listed.0 signed refl is.listed.1 is_name.0
-            (subst (λ (p : List ℕ). d.names p ≡ None → ⊥)
-            (ap (λ (name : List ℕ). is.directory ++ 47 ∷ name) is_name.1 ∙ ap (λ (directory : List ℕ). directory ++ 47 ∷ name_of kind signed m) (sym home)) has))) refl),
+        λ signed its. (let file : FoundFile = record { seq = m; path_id = is.listed.0; signed = signed } in
+            none file (are.all file (record {
+              listed = is.listed.1;
+              small = its.0;
+              there = subst (λ (p : List ℕ). d.names p ≡ None → ⊥) (ap (λ (name : List ℕ). is.directory ++ 47 ∷ name) its.1 ∙ ap (λ (directory : List ℕ). directory ++ 47 ∷ name_of kind signed m) (sym home)) has;
+            })) refl),
       )
 
 -- Paths in the target.

@@ -5,6 +5,7 @@ pub mod ForkQueues
 pub mod Resting
 pub mod Opening
 pub mod ForkLeft
+mod FoundPaths
 pub mod Spans
 pub mod Places
 pub mod LastFiles

@@ -8,14 +8,14 @@ use Rattle.raft_log_disk.specs.Disk.{Disk}
 use Rattle.raft_log_disk.specs.Image.{IsSound}
 use Rattle.raft_log_disk.specs.declared.handle.Permission.TheVariants.{ReadOnly}
 use Rattle.raft_log_file_settings.specs.declared.config.Config.{Config}
-use Rattle.raft_log_file_queue.specs.Layout.{has_sign, path_of}
+use Rattle.raft_log_file_queue.specs.Layout.{path_of, place_of}
 use Rattle.raft_log_file_queue.specs.declared.format.File.{File}
 use Rattle.raft_log_file_format.specs.Name.{number_text, suffix_of}
 use Rattle.raft_log_engine_laws.specs.raft_log_file_layout.specs.Layout.{log_format, log_paths}
-use Rattle.raft_log_engine_laws.specs.raft_log_file_layout.specs.Paths.{directory_at, numbered_path}
+use Rattle.raft_log_engine_laws.specs.raft_log_file_layout.specs.Paths.{numbered_path}
 use Rattle.raft_log_file_pipe.specs.Files.{AllKept}
 use Rattle.raft_log_file_pipe.proofs.Lists.{path_reserved}
-use Rattle.raft_log_open_scan.specs.Found.{found_path}
+use Rattle.raft_log_open_scan.specs.Found.{FileLiesIn, found_path}
 use Rattle.raft_log_open_scan.specs.Opened.{AreOpen, IsOpenFile}
 use Rattle.raft_log_open_scan.specs.Runs.{FollowsNumber, IsConsecutive}
 use Rattle.raft_log_open_scan.specs.Scanned.{IsReserveIn}
@@ -35,6 +35,7 @@ use Rattle.raft_log_open_builder.specs.declared.builder.DualPipesBuilder.{DualPi
 use Rattle.raft_log_engine_laws.specs.raft_log_file_blocks.specs.Stored.{Each}
 use Rattle.raft_log_open_laws.specs.ByCalls.{home_of, LogIsRecovered, SyncedSparesCanBeUsed}
 use Rattle.raft_log_open_laws.proofs.Finding.{begun_directories, found_set, some_directory}
+use Rattle.raft_log_open_laws.proofs.FoundPaths.{numbered_found}
 use Rattle.raft_log_open_laws.proofs.Parts.{LiesAsSet}
 use Rattle.raft_log_open_laws.proofs.Readying.{each_append, each_reverse}
 use Rattle.raft_log_open_laws.proofs.SpareCalls.{cuts_names, drops_keep, made_rise, makes_spares, spare_kept, spares_named, syncs_names, MakesSpares}
@@ -66,36 +67,40 @@ module _ (directories : List (List ℕ)) (d : Disk) where
   all_rise (g ∷ gs) files are run = found_rise 0 g gs files are run (omega arith)
 
   -- each lies under its reserved path
-  path_found : (g : FoundFile) (f : File) → g.seq < 10 ^ 16 → IsOpenFile Reserved directories d ReadOnly g f → path_of (log_paths Append directories) f ≡ found_path Reserved directories g
-  path_found g f small one =
+  path_found : (g : FoundFile) (f : File) → g.path_id < length directories → g.seq < 10 ^ 16 → IsOpenFile Reserved directories d ReadOnly g f → path_of (log_paths Append directories) f ≡ found_path Reserved directories g
+  path_found g f inside small one =
       let capped : min f.seq (10 ^ 16 - 1) ≡ g.seq = omega (arith, small, one.seq) in
-      let text : List ℕ = number_text (has_sign (length directories) g.path_id) g.seq in
+      let place : ℕ = place_of (length directories) g.path_id g.signed in
+      let home : List ℕ = get_or directories g.path_id [] in
+      let text : List ℕ = number_text g.signed g.seq in
       path_reserved (log_paths Append directories) f one.reserved
-      ∙ ap (λ (place : ℕ). numbered_path Append directories place (min f.seq (10 ^ 16 - 1)) ++ codes ".reserved") one.path_id
-      ∙ ap (λ (n : ℕ). numbered_path Append directories g.path_id n ++ codes ".reserved") capped
-      ∙ append_assoc (directory_at directories g.path_id) (47 ∷ (text ++ suffix_of Append)) (codes ".reserved")
-      ∙ ap (λ (l : List ℕ). directory_at directories g.path_id ++ 47 ∷ l) (append_assoc text (suffix_of Append) (codes ".reserved"))
+      ∙ ap (λ (k : ℕ). numbered_path Append directories k (min f.seq (10 ^ 16 - 1)) ++ codes ".reserved") one.path_id
+      ∙ ap (λ (n : ℕ). numbered_path Append directories place n ++ codes ".reserved") capped
+      ∙ ap (λ (l : List ℕ). l ++ codes ".reserved") (numbered_found Append directories g g.seq inside)
+      ∙ append_assoc home (47 ∷ (text ++ suffix_of Append)) (codes ".reserved")
+      ∙ ap (λ (l : List ℕ). home ++ 47 ∷ l) (append_assoc text (suffix_of Append) (codes ".reserved"))
 
   module _ (some : 0 < length directories) where
-    one_spare : (g : FoundFile) (f : File) → g.seq < 10 ^ 16 → IsOpenFile Reserved directories d ReadOnly g f → IsSpareOn directories some d f
-    one_spare g f small one = record { reserved = one.reserved; small = omega (arith, small, one.seq); named = ap d.names (path_found g f small one) ∙ one.opened.is }
+    one_spare : (g : FoundFile) (f : File) → FileLiesIn Reserved directories d g → IsOpenFile Reserved directories d ReadOnly g f → IsSpareOn directories some d f
+    one_spare g f lies one =
+        let small = limit_small g.signed g.seq lies.small in
+        record { reserved = one.reserved; small = omega (arith, small, one.seq); named = ap d.names (path_found g f lies.listed small one) ∙ one.opened.is }
 
-    each_spare : (kept : List FoundFile) (files : List File) → ((g : FoundFile) → Contains kept g → g.seq < 10 ^ 16) → AreOpened kept files → Each (IsSpareOn directories some d) files
-    each_spare [] [] small are = tt
-    each_spare [] (f ∷ files) small are = absurd are
-    each_spare (g ∷ gs) [] small are = absurd are
-    each_spare (g ∷ gs) (f ∷ files) small (one, are) = (
-      one_spare g f (small g (0, omega arith, refl)) one,
-      each_spare gs files (λ h (k, less, is). small h (suc k, omega (arith, less), is)) are,
+    each_spare : (kept : List FoundFile) (files : List File) → ((g : FoundFile) → Contains kept g → FileLiesIn Reserved directories d g) → AreOpened kept files → Each (IsSpareOn directories some d) files
+    each_spare [] [] lie are = tt
+    each_spare [] (f ∷ files) lie are = absurd are
+    each_spare (g ∷ gs) [] lie are = absurd are
+    each_spare (g ∷ gs) (f ∷ files) lie (one, are) = (
+      one_spare g f (lie g (0, omega arith, refl)) one,
+      each_spare gs files (λ h (k, less, is). lie h (suc k, omega (arith, less), is)) are,
     )
 
     pub found_spares : (files : List File) → IsReserveIn directories d files → Each (IsSpareOn directories some d) files × AreRising 0 files
     found_spares files are =
         let run = are.run.run in
         let all = are.run.all in (
-          each_spare are.kept files (λ g there. limit_small (has_sign (length directories) g.path_id) g.seq
-              (all.found g (Contains-permutation (run.dropped ++ are.kept) are.run.found g (IsPermutation-sym are.run.found (run.dropped ++ are.kept) run.same)
-              (Contains-append_right run.dropped are.kept g there))).small) are.opened,
+          each_spare are.kept files (λ g there. all.found g (Contains-permutation (run.dropped ++ are.kept) are.run.found g (IsPermutation-sym are.run.found (run.dropped ++ are.kept) run.same)
+              (Contains-append_right run.dropped are.kept g there))) are.opened,
           all_rise are.kept files are.opened run.consecutive,
         )
 

@@ -1,5 +1,5 @@
 -- Where the files of a queue that a scan answered begin.
-use Rattle.std.specs.Prelude.{◌≡◌, ℕ, ◌<◌, ◌⊎◌, suc, List, [], ◌∷◌, ◌++◌}
+use Rattle.std.specs.Prelude.{◌≡◌, ℕ, ◌⊎◌, suc, List, [], ◌∷◌, ◌++◌}
 use Rattle.raft_log_record_base.specs.declared.pipe_log.LogQueue.{LogQueue}
 use Rattle.raft_log_disk.specs.Disk.{Disk}
 use Rattle.raft_log_file_laws.specs.LogQueue.{IsAbsent}
@@ -21,7 +21,7 @@ pub record IsTwice (kind : FileKind) (directories : List (List ℕ)) (d : Disk) 
   pub there_lies : FileLiesIn kind directories d there
   pub here_number : here.seq ≡ n
   pub there_number : there.seq ≡ n
-  pub apart : here.path_id < there.path_id
+  pub apart : here ≡ there → ⊥
 
 -- files that begin with this number begin behind a gap: no file has the number below it; or two files have
 -- this number
@@ -31,7 +31,7 @@ BeginsBehindGap queue directories d first =
     ⊎ IsTwice (kind_of queue) directories d first
 
 -- The files of a queue that a scan answered begin behind a gap. (Of a number that two files have, that in the
--- later place is kept with those behind it, also where the number below is there.)
+-- later directory, or with a sign, is kept with those behind it, also where the number below is there.)
 abbrev pub ScannedFilesBegin : Type 0
 ScannedFilesBegin = (queue : LogQueue) (directories : List (List ℕ)) (mode : RecoveryMode) (d : Disk)
     (earlier : List Listed) (last : Listed)

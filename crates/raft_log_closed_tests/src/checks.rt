@@ -71,6 +71,57 @@ const BOTH_QUEUES: [Row; 2] = [
     ),
 ];
 
+/// File 2 has a sign in its name; index 4 of group 1 is missing in it.
+const SIGNED: [Row; 3] = [
+    (
+        "d/0000000000000001.raftlog",
+        LogQueue::Append,
+        1,
+        &[(1, 1, 2)],
+    ),
+    (
+        "d/+000000000000002.raftlog",
+        LogQueue::Append,
+        2,
+        &[(1, 3, 1), (1, 5, 1)],
+    ),
+    (
+        "d/0000000000000003.raftlog",
+        LogQueue::Append,
+        3,
+        &[(1, 6, 1)],
+    ),
+];
+
+/// Two files have the number 2: that with the sign is read, and file 3 behind it. Index 6 of group 1 is missing
+/// between the two; in the other file 2 index 4 would be.
+const DOUBLED: [Row; 4] = [
+    (
+        "d/0000000000000001.raftlog",
+        LogQueue::Append,
+        1,
+        &[(1, 1, 2)],
+    ),
+    (
+        "d/0000000000000002.raftlog",
+        LogQueue::Append,
+        2,
+        &[(1, 3, 1), (1, 5, 1)],
+    ),
+    (
+        "d/+000000000000002.raftlog",
+        LogQueue::Append,
+        2,
+        &[(1, 3, 3)],
+    ),
+    (
+        "d/0000000000000003.raftlog",
+        LogQueue::Append,
+        3,
+        &[(1, 7, 1)],
+    ),
+];
+
 // Whether a check by so many workers finds this in a log.
 fn finds<R: Threads + Log + Sync>(
     rt: &R,
@@ -167,6 +218,25 @@ fn a_directory_is_checked(rt: HostRuntime) -> std::result::Result<(), Fail> {
     let size = size_of(&files, LAST)?;
     assert!(rt; tells(&rt, rt.alloc(), &mut files, &[(3, 2), (9, 3)])?);
     assert!(rt; size_of(&files, LAST)?.wrapping_add(6) == size);
+    Ok(())
+}
+
+#[test]
+fn a_file_with_a_sign_is_checked(rt: HostRuntime) -> std::result::Result<(), Fail> {
+    assert!(rt; finds(&rt, rt.alloc(), &SIGNED, 1, &[(1, 3)])?);
+    assert!(rt; finds(&rt, rt.alloc(), &SIGNED, 4, &[(1, 3)])?);
+    let mut files = log_of(rt.alloc(), &SIGNED)?;
+    assert!(rt; tells(&rt, rt.alloc(), &mut files, &[(1, 3)])?);
+    assert!(rt; size_of(&files, "d/+000000000000002.raftlog")? > 16);
+    assert!(rt; files.list("d")?.len() == 3);
+    Ok(())
+}
+
+#[test]
+fn of_a_doubled_number_the_file_with_a_sign_is_checked(
+    rt: HostRuntime,
+) -> std::result::Result<(), Fail> {
+    assert!(rt; finds(&rt, rt.alloc(), &DOUBLED, 1, &[(1, 5)])?);
     Ok(())
 }
 

@@ -18,11 +18,24 @@ const FILES: [(&str, usize); 4] = [
     ("d/notes.txt", 85),
 ];
 
+/// Files with a sign in front of their numbers; one of them has the number of a file without a sign.
+const SIGNED: [(&str, usize); 4] = [
+    ("d/+000000000000002.raftlog", 84),
+    ("d/+000000000000001.raftlog", 85),
+    ("d/0000000000000001.raftlog", 85),
+    ("d/+000000000000007.rewrite", 85),
+];
+
 /// A file system with the directory.
 fn prepared(alloc: Global) -> Result<MemoryFileSystem> {
+    prepared_with(alloc, &FILES)
+}
+
+/// A file system with the directory `d` and these files.
+fn prepared_with(alloc: Global, files: &[(&str, usize)]) -> Result<MemoryFileSystem> {
     let mut system = MemoryFileSystem::new(alloc);
     system.create_dir("d")?;
-    for (path, size) in FILES.iter() {
+    for (path, size) in files.iter() {
         let handle = system.create(path)?;
         system.write_at(handle, 0, &CLEAN[..*size % 86])?;
     }
@@ -112,6 +125,20 @@ fn paths_are_dumped(rt: HostRuntime) {
     for (number, what) in HOLDS.iter().enumerate() {
         assert!(rt; holds(rt.alloc(), number).ok() == Some(true), "{what}");
     }
+}
+
+/// Whether this is dumped of a path, where files have signs.
+fn gives_signed(alloc: Global, path: &str, want: u64) -> Result<bool> {
+    let system = prepared_with(alloc, &SIGNED)?;
+    Ok(dumped(alloc, &system, path)? == want)
+}
+
+// File 7 of Rewrite, both files 1 of Append, and file 2, which is broken.
+#[test]
+fn files_with_a_sign_are_dumped(rt: HostRuntime) {
+    assert!(rt; gives_signed(rt.alloc(), "d", 1117).ok() == Some(true));
+    assert!(rt; gives_signed(rt.alloc(), SIGNED[1].0, 1).ok() == Some(true));
+    assert!(rt; gives_signed(rt.alloc(), SIGNED[0].0, 7).ok() == Some(true));
 }
 
 /// What is dumped of the directory; asked for once more where that is refused.

@@ -109,6 +109,39 @@ fn of_a_doubled_number_the_spill_directory_has_the_file(rt: HostRuntime) -> Resu
     Ok(())
 }
 
+// Two files of a number, and the place of that which is copied: that of the later directory, and of two in one
+// directory that with a sign.
+const DOUBLED: [([&str; 2], u8); 4] = [
+    (
+        ["d/0000000000000002.raftlog", "d/+000000000000002.raftlog"],
+        1,
+    ),
+    (
+        ["s/+000000000000002.raftlog", "s/0000000000000002.raftlog"],
+        0,
+    ),
+    (
+        ["d/+000000000000002.raftlog", "s/0000000000000002.raftlog"],
+        1,
+    ),
+    (
+        ["s/+000000000000002.raftlog", "d/0000000000000002.raftlog"],
+        0,
+    ),
+];
+
+#[test]
+fn of_a_doubled_number_one_file_is_copied(rt: HostRuntime) -> Result<(), Fail> {
+    for (files, place) in DOUBLED.iter() {
+        let mut system = holding(rt.alloc(), files)?;
+        let wanted = ["t/0000000000000002.raftlog"];
+        assert!(rt; are(copied(&rt, &mut system)?.as_slice(), &wanted));
+        assert!(rt; byte_of(&system, wanted[0])? == *place);
+        assert!(rt; system.list("t")?.len() == 1);
+    }
+    Ok(())
+}
+
 #[test]
 fn a_file_with_a_sign_is_copied_under_its_number(rt: HostRuntime) -> Result<(), Fail> {
     let files = ["d/+000000000000001.raftlog", "s/+000000000000007.rewrite"];

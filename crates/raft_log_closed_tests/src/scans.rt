@@ -126,7 +126,20 @@ fn a_number_with_and_without_a_sign_is_doubled(rt: HostRuntime) -> Result<(), Fa
         "d/0000000000000003.raftlog",
     ];
     let scanned = scanned(rt.alloc(), &files)?;
-    assert!(rt; are(scanned.append.as_slice(), &[(2, 2), (3, 0)]));
+    assert!(rt; are(scanned.append.as_slice(), &[(2, 1), (3, 0)]));
+    Ok(())
+}
+
+#[test]
+fn of_a_doubled_number_in_one_directory_the_sign_is_kept(rt: HostRuntime) -> Result<(), Fail> {
+    let files = [
+        "d/0000000000000001.raftlog",
+        "d/+000000000000002.raftlog",
+        "d/0000000000000002.raftlog",
+        "d/+000000000000003.raftlog",
+    ];
+    let scanned = scanned(rt.alloc(), &files)?;
+    assert!(rt; are(scanned.append.as_slice(), &[(2, 2), (3, 2)]));
     Ok(())
 }
 

@@ -19,8 +19,9 @@ use Rattle.raft_log_record_batches.specs.Batch.{Batch, block_place}
 use Rattle.raft_log_table_runs.specs.declared.place.Place.{Place}
 use Rattle.raft_log_table_runs.specs.Entries.{place_of}
 use Rattle.raft_log_table_lists.specs.Shown.{Shown, all_stepped, stepped}
-use Rattle.raft_log_engine_laws.specs.Shows.{Shows}
-use Rattle.raft_log_engine_laws.specs.Writing.{Writes, items_at}
+use Rattle.raft_log_record_base.specs.declared.errors.Error.{Error}
+use Rattle.raft_log_engine_laws.specs.Shows.{Shows, has_failed}
+use Rattle.raft_log_engine_laws.specs.Writing.{NotWritten, Writes, items_at}
 use Rattle.raft_log_engine_laws.proofs.Renaming.{placed_items}
 use Rattle.raft_log_engine_bound_laws.specs.Marks.{CameOf, said_in}
 use Rattle.raft_log_engine_bound_laws.specs.Laws.{MarksComeOfBatches}
@@ -161,6 +162,15 @@ module _ (items : List LogItem) (b : Batch) (sync : Bool) (s t : Shows) (came : 
     | inr now ↦ said_now items b g (Del k) (deletion_named name k (said_in b.items g) (subst (λ (l : List (Item Place (List ℕ))). Among (Del k) l) named now))
   ]
 
+-- A refusal.
+
+refused_none : (items : List LogItem) (b : Batch) (error : Error) (s t : Shows) → CameOf items s.tables → NotWritten b error s t → has_failed t ≡ false → CameOf items t.tables
+refused_none items b error s t came refused lives = elim refused [
+  | inl unfit ↦ subst (λ (x : Shows). CameOf items x.tables) (sym unfit.1) came
+  | inr (inl failed) ↦ subst (λ (x : Shows). CameOf items x.tables) (sym failed.2) came
+  | inr (inr pipes) ↦ subst (CameOf items) (sym (pipes.same lives).tables) came
+]
+
 pub marks_come_of_batches : MarksComeOfBatches
 marks_come_of_batches = record {
   none = λ v owes. record {
@@ -172,5 +182,11 @@ marks_come_of_batches = record {
     cleans = cleans_came items b sync s t came wrote;
     compacts = compacts_came items b sync s t came wrote;
     deletions = deletions_came items b sync s t came wrote;
+  };
+  unwritten = refused_none;
+  purged = λ items v w came no_more. record {
+    cleans = λ g owed. came.cleans g ((no_more g).cleaned owed);
+    compacts = λ g owed. came.compacts g ((no_more g).compacted owed);
+    deletions = λ g k owed. came.deletions g k ((no_more g).deleted k owed);
   };
 }

@@ -1,5 +1,5 @@
 -- When nothing is refused as `Full`.
-use Rattle.std.specs.Prelude.{◌≢◌, ◌<◌, ◌≤◌, ◌^◌, ◌++◌, ◌+◌, ℕ, Bool, List, [], ◌∷◌, length, None}
+use Rattle.std.specs.Prelude.{◌≡◌, ◌≢◌, ◌<◌, ◌≤◌, ◌^◌, ◌++◌, ◌+◌, ℕ, Bool, false, List, [], ◌∷◌, length, None}
 use Rattle.raft_log_model_laws.specs.Item.Item.{Put}
 use Rattle.raft_log_model_laws.specs.Item.Record.{Plain}
 use Rattle.raft_log_model_laws.specs.Groups.{appended, taken}
@@ -10,10 +10,10 @@ use Rattle.raft_log_record_batches.specs.Batch.{Batch}
 use Rattle.raft_log_record_bound_laws.specs.Bounds.{batch_bound, record_bound}
 use Rattle.raft_log_file_blocks.specs.raft_log_file_pair.specs.Pipes.{Said}
 use Rattle.raft_log_table_lists.specs.Shown.{Shown}
-use Rattle.raft_log_engine_laws.specs.Shows.{Home, LogMap, Shows}
+use Rattle.raft_log_engine_laws.specs.Shows.{Home, LogMap, Shows, has_failed}
 use Rattle.raft_log_engine_laws.specs.Writing.{NotWritten, Writes}
 use Rattle.raft_log_purge_parts.specs.Lengths.{HasLongGroup}
-use Rattle.raft_log_purge_parts.specs.Owed.{SaysMarks}
+use Rattle.raft_log_purge_parts.specs.Owed.{OweNoMore, SaysMarks}
 use Rattle.raft_log_purge_parts.specs.Reasons.{HasPurgeReason}
 use Rattle.raft_log_purge_parts.specs.Rewriting.{OweNothing}
 use Rattle.raft_log_engine_bound_laws.specs.Lengths.{AreKnown, AreModest, AreShortRuns, HasLog, pairs_bound, puts_of}
@@ -50,12 +50,15 @@ abbrev pub MarksTakeNoMore : Type 0
 MarksTakeNoMore = (items : List LogItem) (v : ℕ → Shown) (b : Batch) → CameOf items v → SaysMarks v b
     → batch_bound b ≤ record_bound items []
 
--- Which items the marks came of that are owed: of none where none is owed; and a batch that is written adds its
--- own.
+-- Which items the marks came of that are owed: of none where none is owed; a batch that is written adds its own,
+-- and one that is refused none, while the engine lives; nor does a purge, answered or refused, which owes no more.
 pub record MarksComeOfBatches : Type 0 where
   pub none : (v : ℕ → Shown) → OweNothing v → CameOf [] v
   pub written : (items : List LogItem) (b : Batch) (sync : Bool) (s t : Shows) → CameOf items s.tables
       → Writes b sync s t → CameOf (items ++ b.items) t.tables
+  pub unwritten : (items : List LogItem) (b : Batch) (error : Error) (s t : Shows) → CameOf items s.tables
+      → NotWritten b error s t → has_failed t ≡ false → CameOf items t.tables
+  pub purged : (items : List LogItem) (v w : ℕ → Shown) → CameOf items v → OweNoMore v w → CameOf items w
 
 -- A purge isn't refused as `Full` where the log's groups are modest, and the marks that were owed before it came of
 -- items of which a record has fewer than 2 ^ 56 bytes by its bound.

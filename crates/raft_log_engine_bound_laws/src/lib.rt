@@ -42,7 +42,7 @@ pub fn marks_take_no_more()
     ensures { MarksTakeNoMore }
 {}
 
-/// The marks that are owed came of the batches that were written since none was owed.
+/// The marks that are owed came of the batches that were written since none was owed: what is refused adds none.
 pub fn marks_come_of_batches()
     ensures { MarksComeOfBatches }
 {}

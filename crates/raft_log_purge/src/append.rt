@@ -8,6 +8,7 @@ ghost use Rattle.raft_log_file_pair.specs.Numbers.{EndsNumbers};
 ghost use Rattle.raft_log_purge_parts.specs.raft_log_engine_laws.specs.Shows.{shows};
 ghost use Rattle.raft_log_table_all.specs.Tables.{IsAtRest};
 ghost use Rattle.raft_log_purge_parts.specs.Groups.{StopsAtGroups, StopsRewriting};
+ghost use Rattle.raft_log_purge_parts.specs.Owed.{AddsNoMarks};
 ghost use Rattle.raft_log_purge.specs.Append.{
   FailsToLoseTo,
   FailsToRewriteAppend,
@@ -50,6 +51,7 @@ pub fn rewrite_append_queue<P: PipeLog, L: Log>(
     ensures err { IfErr result (λ error. FailsToRewriteAppend error
         (shows (P.shown pipes.old) tables.old cache.old) (shows (P.shown pipes.new) tables.new cache.new)) }
     ensures rests { IsAtRest tables.old → IsAtRest tables.new }
+    ensures owes { AddsNoMarks tables.old tables.new }
 {
     pipes.sync(rt, LogQueue::Append)?;
     let gate = pass_gate(alloc, rt, pipes, watermark)?;
@@ -117,6 +119,7 @@ fn go_on<P: PipeLog, L: Log>(
     ensures err { IfErr result (λ error. StopsGoingOn gate error
         (shows (P.shown pipes.old) tables.old cache.old) (shows (P.shown pipes.new) tables.new cache.new)) }
     ensures rests { IsAtRest tables.old → IsAtRest tables.new }
+    ensures owes { AddsNoMarks tables.old tables.new }
 {
     if ends_after(1, exit_after_step) {
         return Ok(());
@@ -142,6 +145,7 @@ fn rewrite_all<P: PipeLog, L: Log>(
     ensures err { IfErr result (λ error. StopsRewriting (λ g. true) gate error
         (shows (P.shown pipes.old) tables.old cache.old) (shows (P.shown pipes.new) tables.new cache.new)) }
     ensures rests { IsAtRest tables.old → IsAtRest tables.new }
+    ensures owes { AddsNoMarks tables.old tables.new }
 {
     let groups = tables.known_groups()?;
     rewrite_synced(alloc, rt, pipes, tables, cache, groups.as_slice(), gate)
@@ -162,6 +166,7 @@ pub(crate) fn rewrite_synced<P: PipeLog, L: Log>(
     ensures err { IfErr result (λ error. StopsAtGroups groups.now gate error
         (shows (P.shown pipes.old) tables.old cache.old) (shows (P.shown pipes.new) tables.new cache.new)) }
     ensures rests { IsAtRest tables.old → IsAtRest tables.new }
+    ensures owes { AddsNoMarks tables.old tables.new }
 {
     rewrite_groups(alloc, rt, pipes, tables, cache, groups, gate)?;
     pipes.sync(rt, LogQueue::Rewrite)

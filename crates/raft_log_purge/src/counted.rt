@@ -7,6 +7,7 @@ ghost use Rattle.raft_log_record_base.specs.declared.pipe_log.LogQueue.TheVarian
 ghost use Rattle.raft_log_file_pair.specs.HoldingBack.{PipesHoldBack};
 ghost use Rattle.raft_log_purge_parts.specs.raft_log_engine_laws.specs.Shows.{shows};
 ghost use Rattle.raft_log_table_all.specs.Tables.{IsAtRest};
+ghost use Rattle.raft_log_purge_parts.specs.Owed.{AddsNoMarks};
 ghost use Rattle.raft_log_purge.specs.Append.{FailsToRewriteAppend, RewritesAppend};
 ghost use Rattle.raft_log_purge.specs.Counted.{
   CountsAndKeeps,
@@ -49,6 +50,7 @@ pub fn purge_and_count<P: PipeLog, L: Log>(
     ensures kept { OnErr result (CountsIfPast thresholds.now tables.old counts.old counts.new
         (shows (P.shown pipes.old) tables.old cache.old) (shows (P.shown pipes.new) tables.new cache.new)) }
     ensures rests { IsAtRest tables.old → IsAtRest tables.new }
+    ensures owes { AddsNoMarks tables.old tables.new }
     ensures numbered { counts.old.number ≤ counts.new.number }
 {
     let past = is_any_past(thresholds, pipes);
@@ -79,6 +81,7 @@ pub fn rewrite_and_count<P: PipeLog, L: Log>(
     ensures kept { OnErr result (CountsAndKeeps tables.old counts.old counts.new
         (shows (P.shown pipes.old) tables.old cache.old) (shows (P.shown pipes.new) tables.new cache.new)) }
     ensures rests { IsAtRest tables.old → IsAtRest tables.new }
+    ensures owes { AddsNoMarks tables.old tables.new }
     ensures numbered { counts.old.number ≤ counts.new.number }
 {
     counts.count_standing(tables);
@@ -106,6 +109,7 @@ pub fn rewrite_append_and_count<P: PipeLog, L: Log>(
     ensures counted { OnOk result (CountsTwice tables.old tables.new counts.old counts.new) }
     ensures kept { OnErr result (CountsStanding tables.old counts.old counts.new) }
     ensures rests { IsAtRest tables.old → IsAtRest tables.new }
+    ensures owes { AddsNoMarks tables.old tables.new }
 {
     counts.count_standing(tables);
     let rewritten = rewrite_append_queue(

@@ -7,6 +7,7 @@ ghost use Rattle.raft_log_purge_parts.specs.raft_log_engine_laws.specs.Shows.{sh
 ghost use Rattle.raft_log_table_all.specs.Owing.{AreOwed};
 ghost use Rattle.raft_log_table_all.specs.Tables.{IsAtRest};
 ghost use Rattle.raft_log_table_all.specs.Walking.{Stand};
+ghost use Rattle.raft_log_purge_parts.specs.Owed.{AddsNoMarks};
 ghost use Rattle.raft_log_purge_rules.specs.Picking.{count_of};
 ghost use Rattle.raft_log_purge_rules.specs.Surveying.{SurveysIfTold};
 ghost use Rattle.raft_log_purge_rules.specs.Watermarks.{TakesAppend};
@@ -88,6 +89,7 @@ pub fn purge_append<P: PipeLog, L: Log>(
     ensures standing { IfOk result (λ purged. StandIfTold purged.standing tables.new) }
     ensures uncounted { OnErr result (rounds.new ≡ rounds.old) }
     ensures rests { IsAtRest tables.old → IsAtRest tables.new }
+    ensures owes { AddsNoMarks tables.old tables.new }
 {
     if !takes_append(thresholds, pipes) {
         let answered = answered_groups(alloc, tables, None, restated)?;
@@ -142,6 +144,7 @@ fn purge_by_rules<P: PipeLog, L: Log>(
     ensures standing { IfOk result (λ purged. StandIfTold purged.standing tables.new) }
     ensures uncounted { OnErr result (rounds.new ≡ rounds.old) }
     ensures rests { IsAtRest tables.old → IsAtRest tables.new }
+    ensures owes { AddsNoMarks tables.old tables.new }
 {
     let watermarks = append_watermarks(pipes);
     let picked = pick_groups(alloc, tables, &watermarks, rounds, restated, known)?;
@@ -214,6 +217,7 @@ fn rewrite_picked<P: PipeLog, L: Log>(
         (shows (P.shown pipes.old) tables.old cache.old) (shows (P.shown pipes.new) tables.new cache.new)) }
     ensures standing { IfOk result (Stand tables.new) }
     ensures rests { IsAtRest tables.old → IsAtRest tables.new }
+    ensures owes { AddsNoMarks tables.old tables.new }
 {
     carry_marks(alloc, rt, pipes, tables, marks)?;
     rewrite_synced(alloc, rt, pipes, tables, cache, groups, gate)?;

@@ -5,6 +5,7 @@ ghost use Rattle.raft_log_record_base.specs.declared.pipe_log.LogQueue.TheVarian
 ghost use Rattle.raft_log_file_pair.specs.HoldingBack.{PipesHoldBack};
 ghost use Rattle.raft_log_purge_parts.specs.raft_log_engine_laws.specs.Shows.{shows};
 ghost use Rattle.raft_log_table_all.specs.Tables.{IsAtRest};
+ghost use Rattle.raft_log_purge_parts.specs.Owed.{AddsNoMarks};
 ghost use Rattle.raft_log_purge_rules.specs.Picking.{count_of};
 ghost use Rattle.raft_log_purge_rules.specs.Surveying.{SurveysIfTold};
 ghost use Rattle.raft_log_purge.specs.Garbage.{CountsRefused};
@@ -163,6 +164,7 @@ pub fn purge_expired_files<P: PipeLog, L: Log>(
     ensures kept { OnErr result (KeepsCounts thresholds.now tables.old counts.old counts.new
         (shows (P.shown pipes.old) tables.old cache.old) (shows (P.shown pipes.new) tables.new cache.new)) }
     ensures rests { IsAtRest tables.old → IsAtRest tables.new }
+    ensures owes { AddsNoMarks tables.old tables.new }
     ensures numbered { counts.old.number ≤ counts.new.number }
 {
     pipes.sync(rt, LogQueue::Append)?;
@@ -194,6 +196,7 @@ fn purge_rewrite<P: PipeLog, L: Log>(
     ensures kept { OnErr result (CountsRefused tables.old stats.old stats.new
         (shows (P.shown pipes.old) tables.old cache.old) (shows (P.shown pipes.new) tables.new cache.new)) }
     ensures rests { IsAtRest tables.old → IsAtRest tables.new }
+    ensures owes { AddsNoMarks tables.old tables.new }
     ensures numbered { number.old ≤ number.new }
 {
     if !takes_rewrite(thresholds, stats, pipes) {
@@ -225,6 +228,7 @@ pub fn sync_and_rewrite<P: PipeLog, L: Log>(
     ensures kept { OnErr result (StopsAtRewrite tables.old stats.old stats.new
         (shows (P.shown pipes.old) tables.old cache.old) (shows (P.shown pipes.new) tables.new cache.new)) }
     ensures rests { IsAtRest tables.old → IsAtRest tables.new }
+    ensures owes { AddsNoMarks tables.old tables.new }
     ensures numbered { number.old ≤ number.new }
 {
     pipes.sync(rt, LogQueue::Append)?;

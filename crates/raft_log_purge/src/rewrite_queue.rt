@@ -4,6 +4,7 @@ ghost use Rattle.std.specs.Prelude.{◌≡◌, ◌≤◌, IfErr, OnErr, OnOk};
 ghost use Rattle.raft_log_purge_parts.specs.raft_log_engine_laws.specs.Shows.{shows};
 ghost use Rattle.raft_log_table_all.specs.Tables.{IsAtRest, has_table};
 ghost use Rattle.raft_log_table_all.specs.Walking.{ListsGroups};
+ghost use Rattle.raft_log_purge_parts.specs.Owed.{AddsNoMarks};
 ghost use Rattle.raft_log_purge.specs.Garbage.{CountsRefused};
 ghost use Rattle.raft_log_purge.specs.RewriteQueue.{FailsToRewriteRewrite, RestatesAll, RewritesRewrite, reset_counts};
 
@@ -40,6 +41,7 @@ pub fn rewrite_rewrite_queue<P: PipeLog, L: Log>(
     ensures err { IfErr result (λ error. FailsToRewriteRewrite error
         (shows (P.shown pipes.old) tables.old cache.old) (shows (P.shown pipes.new) tables.new cache.new)) }
     ensures rests { IsAtRest tables.old → IsAtRest tables.new }
+    ensures owes { AddsNoMarks tables.old tables.new }
     ensures reset { OnOk result (stats.new ≡ reset_counts stats.old) }
     ensures kept { OnErr result (CountsRefused tables.old stats.old stats.new
         (shows (P.shown pipes.old) tables.old cache.old) (shows (P.shown pipes.new) tables.new cache.new)) }
@@ -75,6 +77,7 @@ fn restate_all<P: PipeLog, L: Log>(
     ensures err { IfErr result (λ error. FailsToRewriteRewrite error
         (shows (P.shown pipes.old) tables.old cache.old) (shows (P.shown pipes.new) tables.new cache.new)) }
     ensures rests { IsAtRest tables.old → IsAtRest tables.new }
+    ensures owes { AddsNoMarks tables.old tables.new }
     ensures counted { number.old ≤ number.new }
 {
     restate_groups(alloc, rt, pipes, tables, cache, groups, number)?;

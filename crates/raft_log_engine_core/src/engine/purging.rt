@@ -3,6 +3,7 @@
 ghost use Rattle.std.specs.Prelude.{◌≡◌, IfErr, IfOk, OnErr, OnOk};
 ghost use Rattle.raft_log_record_base.specs.declared.pipe_log.LogQueue.TheVariants.{Append};
 ghost use Rattle.raft_log_file_pair.specs.HoldingBack.{PipesHoldBack};
+ghost use Rattle.raft_log_purge.specs.raft_log_purge_parts.specs.Owed.{OweNoMore};
 ghost use Rattle.raft_log_purge.specs.raft_log_purge_parts.specs.Stale.{PurgesAllStale};
 ghost use Rattle.raft_log_purge.specs.Append.{RewritesAppend};
 ghost use Rattle.raft_log_purge.specs.Counted.{CountsAndResets, PurgesAndCounts};
@@ -49,6 +50,7 @@ impl<P: PipeLog> LogEngine<P> {
         ensures kept { OnErr result (StopsCountingIfPast self.old.thresholds self.old.tables
             self.old.counts self.new.counts (shows_of P.shown self.old) (shows_of P.shown self.new)) }
         ensures sizes { self.new.thresholds ≡ self.old.thresholds }
+        ensures owes { OweNoMore (shows_of P.shown self.old).tables (shows_of P.shown self.new).tables }
     {
         if self.is_failed() {
             return Err(Error::Failed);
@@ -79,6 +81,7 @@ impl<P: PipeLog> LogEngine<P> {
         ensures kept { OnErr result (StopsCounting self.old.tables self.old.counts self.new.counts
             (shows_of P.shown self.old) (shows_of P.shown self.new)) }
         ensures sizes { self.new.thresholds ≡ self.old.thresholds }
+        ensures owes { OweNoMore (shows_of P.shown self.old).tables (shows_of P.shown self.new).tables }
     {
         if self.is_failed() {
             return Err(Error::Failed);
@@ -116,6 +119,7 @@ impl<P: PipeLog> LogEngine<P> {
             self.old.counts self.new.counts) }
         ensures kept { OnErr result (MayCountStanding self.old.tables self.old.counts self.new.counts) }
         ensures sizes { self.new.thresholds ≡ self.old.thresholds }
+        ensures owes { OweNoMore (shows_of P.shown self.old).tables (shows_of P.shown self.new).tables }
     {
         if self.is_failed() {
             return Err(Error::Failed);
@@ -145,6 +149,7 @@ impl<P: PipeLog> LogEngine<P> {
         ensures err { IfErr result (StopsPurging
             (shows_of P.shown self.old) (shows_of P.shown self.new)) }
         ensures purges { StaysPurged self.old self.new }
+        ensures owes { OweNoMore (shows_of P.shown self.old).tables (shows_of P.shown self.new).tables }
     {
         if self.is_failed() {
             return Err(Error::Failed);

@@ -52,3 +52,6 @@ returns-clause-err g c =
     let t = shows (g.P.PipeLog.shown c.go_on.new.pipes) c.go_on.new.tables c.go_on.new.cache in
     whole_stopped s synced e.ok e.later (alive_ok c.in_ok-sync.field-0 synced e.fails) c.args.watermark c.in_ok-gate.gate past c.in_ok-gate.ensures.ok carried (c.in_ok-rewrite_marks.ensures.ok c.args.cache.now) t c.go_on.result
     c.go_on.ensures.err
+
+pub returns-clause-owes : goal.returns-clause-owes
+returns-clause-owes g c = λ v h. c.go_on.ensures.owes v (c.rewrite_marks.ensures.owes v h)

@@ -1,5 +1,6 @@
 use Rattle.std.proofs.lemmas.Result.{err_from_is_err_and}
 use Rattle.raft_log_purge_parts.specs.raft_log_engine_laws.specs.Shows.{shows}
+use Rattle.raft_log_purge_parts.proofs.Adding.{part_adds}
 use Rattle.raft_log_purge_parts.proofs.Grouping.{among}
 use Rattle.raft_log_purge.proofs.Past.{whole_synced, whole_unsynced}
 use Rattle.raft_log_purge.proofs.append.rewrite_synced.Goals as goal
@@ -22,3 +23,13 @@ returns-clause-err g c =
     let t = shows (g.P.PipeLog.shown c.rewrite_groups.new.pipes) c.rewrite_groups.new.tables c.rewrite_groups.new.cache in
     let e = c.sync.ensures in
     whole_unsynced (among c.args.groups.now) c.args.gate s t c.in_ok-rewrite_groups.ensures.ok (g.P.PipeLog.shown c.sync.new.self) e.later c.sync.result e.fails e.error e.err
+
+pub returns-in_err-rewrite_groups-clause-owes : goal.returns-in_err-rewrite_groups-clause-owes
+returns-in_err-rewrite_groups-clause-owes g c =
+    part_adds (among c.args.groups.now) c.args.gate (shows (g.P.PipeLog.shown c.args.pipes.now) c.args.tables.now c.args.cache.now)
+    (shows (g.P.PipeLog.shown c.rewrite_groups.new.pipes) c.rewrite_groups.new.tables c.rewrite_groups.new.cache) c.in_err-rewrite_groups.ensures.err.part
+
+pub returns-clause-owes : goal.returns-clause-owes
+returns-clause-owes g c =
+    part_adds (among c.args.groups.now) c.args.gate (shows (g.P.PipeLog.shown c.args.pipes.now) c.args.tables.now c.args.cache.now)
+    (shows (g.P.PipeLog.shown c.rewrite_groups.new.pipes) c.rewrite_groups.new.tables c.rewrite_groups.new.cache) c.in_ok-rewrite_groups.ensures.ok.part

@@ -35,3 +35,9 @@ returns-clause-err g c =
     let copied = shows (g.P.PipeLog.shown c.rewrite_synced.new.pipes) c.rewrite_synced.new.tables c.rewrite_synced.new.cache in
     let t = shows (g.P.PipeLog.shown c.purge_below.new.pipes) c.rewrite_synced.new.tables c.purge_below.new.cache in
     whole_unpicked s carried (c.in_ok-carry_marks.ensures.ok c.args.cache.now) (among c.args.groups.now) c.args.gate copied c.in_ok-rewrite_synced.ensures.ok t c.purge_below.result c.purge_below.ensures.err
+
+pub returns-in_err-rewrite_synced-clause-owes : goal.returns-in_err-rewrite_synced-clause-owes
+returns-in_err-rewrite_synced-clause-owes g c = λ v h. c.rewrite_synced.ensures.owes v (c.carry_marks.ensures.owes v h)
+
+pub returns-clause-owes : goal.returns-clause-owes
+returns-clause-owes g c = λ v h. c.rewrite_synced.ensures.owes v (c.carry_marks.ensures.owes v h)

@@ -80,3 +80,6 @@ returns-clause-kept g c =
         rewrites = c.in_ok-restated.ensures.ok;
       });
     }) c.purge_append.ensures.uncounted
+
+pub returns-clause-owes : goal.returns-clause-owes
+returns-clause-owes g c = λ v h. c.purge_append.ensures.owes v (c.purge_rewrite.ensures.owes v h)

@@ -1,0 +1,7 @@
+use Rattle.raft_log_engine_core.proofs.engine.LogEngine.must_purge_all_stale.Goals as goal
+
+pub returns-clause-owes : goal.returns-clause-owes
+returns-clause-owes g c = c.purge_all_stale.ensures.owes _ (λ k. record { cleaned = λ is. is; compacted = λ is. is; deleted = λ key is. is })
+
+pub returns-then-is_failed-clause-owes : goal.returns-then-is_failed-clause-owes
+returns-then-is_failed-clause-owes g c = λ k. record { cleaned = λ is. is; compacted = λ is. is; deleted = λ key is. is }

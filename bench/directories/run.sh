@@ -7,7 +7,8 @@
 # new files, whose blocks are made by zeros ahead; `prefilled` files that are there from the start.
 # Opens: all files are loaded by as many threads as the machine has, and recovered by one or by four workers; `alone` has one
 # processor for all of it. `load` is the loading alone. Beside them stands reading the same bytes whole into memory that is kept.
-# Usage: bench/directories/run.sh [ROUNDS [WORK..]]; the works are new-128, .., prefilled-2118 and open.
+# Usage: bench/directories/run.sh [ROUNDS [WORK..]]; the works are new-128, .., prefilled-2118 and open; new-128x4 has four entries
+# in each batch.
 # RT names the toolchain's command, or PROGRAM one that is built. FOLDER is where the logs are made (the current directory's disk
 # if it isn't said); the log that is opened has LOG MB (1,000), in files of FILE MB (128), of which BLOCK bytes (16,384) are read
 # at once. With COLD=1, as root, what the system keeps of files is dropped before each open. QUIET is a command that runs each of
@@ -32,10 +33,12 @@ block="${BLOCK:-16384}"
 noted() { local before="$1" behind="$2"; shift 2; ${QUIET:-} "$@" | sed "s/^\([^ ]*\)/$before \1-$behind/" >> "$room/lines"; }
 cool() { if [ "${COLD:-0}" = 1 ]; then sync; echo 3 > /proc/sys/vm/drop_caches; fi; }
 turn() {
+    local size="${1##*-}" entries=0
+    case "$size" in *x*) entries="${size#*x}" size="${size%x*}" ;; esac
     case "$1" in
-        rust-*) noted rust "${1#rust-}" "$rust" append "${1##*-}" 2000; rm -f plain ;;
-        rattle-new-*) noted rattle "${1#rattle-}" "$rattle" append "${1##*-}" 2000; rm -rf log ;;
-        rattle-*) noted rattle "${1#rattle-}" "$rattle" append-prefilled "${1##*-}" 2000; rm -rf log ;;
+        rust-*) noted rust "${1#rust-}" "$rust" append "$size" 2000 "$entries"; rm -f plain ;;
+        rattle-new-*) noted rattle "${1#rattle-}" "$rattle" append "$size" 2000 128 4 16384 "$entries"; rm -rf log ;;
+        rattle-*) noted rattle "${1#rattle-}" "$rattle" append-prefilled "$size" 2000 128 4 16384 "$entries"; rm -rf log ;;
         read-*) cool; noted rust "${1#read-}" "$rust" open "${log[@]}" "${1#read-by-}" ;;
         open-by-*) cool; noted rattle "${1#open-}" "$rattle" open "${log[@]}" "${1#open-by-}" "$block" ;;
         open-alone) cool; noted rattle alone taskset -c 0 "$rattle" open "${log[@]}" 1 "$block" ;;

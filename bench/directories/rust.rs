@@ -14,20 +14,26 @@ const MORE: usize = 64;
 const PIECE: usize = 1 << 16;
 
 fn report(work: &str, bytes: u64, start: Instant, check: u64) {
-    println!("{work} {} {check}", bytes as u128 * 1000 / start.elapsed().as_nanos().max(1));
+    println!("{work} {} {check}", bytes as u128 * 1_000_000 / start.elapsed().as_nanos().max(1));
 }
 
-fn append(size: usize, batches: u64) {
+// How many entries the batch of a number has.
+fn entries_of(number: u64, given: u64) -> u64 {
+    if given == 0 { number % 16 + 1 } else { given }
+}
+
+fn append(size: usize, batches: u64, given: u64) {
     let file = OpenOptions::new().write(true).create(true).truncate(true).open("plain").unwrap();
-    for at in (0..batches * (17 * size as u64 / 2 + MORE as u64)).step_by(PIECE) {
+    let all: u64 = (0..batches).map(|number| entries_of(number, given) * size as u64 + MORE as u64).sum();
+    for at in (0..all).step_by(PIECE) {
         file.write_all_at(&[0; PIECE], at).unwrap();
     }
     file.sync_all().unwrap();
-    let bytes = vec![7u8; 16 * size + MORE];
+    let bytes = vec![7u8; given.max(16) as usize * size + MORE];
     let start = Instant::now();
     let (mut at, mut written) = (0, 0);
     for number in 0..batches {
-        let len = (number % 16 + 1) as usize * size;
+        let len = entries_of(number, given) as usize * size;
         file.write_all_at(&bytes[..len + MORE], at).unwrap();
         file.sync_data().unwrap();
         at += (len + MORE) as u64;
@@ -68,6 +74,6 @@ fn main() {
     let number = |place: usize| words[place].parse::<u64>().unwrap();
     match words[0].as_str() {
         "open" => open(number(1), number(2), number(4) as usize),
-        _ => append(number(1) as usize, number(2)),
+        _ => append(number(1) as usize, number(2), words.get(3).map_or(0, |word| word.parse().unwrap())),
     }
 }

@@ -1,4 +1,4 @@
-"""told.py FILE: a table of what a benchmark's programs told, a line each: who, the work, its MB/s and a sum."""
+"""told.py FILE: a table of what a benchmark's programs told, a line each: who, the work, its KB/s and a sum; in MB/s."""
 import statistics
 import sys
 
@@ -10,7 +10,7 @@ def main(file):
     rates, sums = {"rust": {}, "rattle": {}}, {"rust": {}, "rattle": {}}
     for line in open(file):
         who, work, rate, check = line.split()
-        rates[who].setdefault(work, []).append(int(rate))
+        rates[who].setdefault(work, []).append(int(rate) / 1000)
         sums[who].setdefault(work, set()).add(check)
     print(f"{'work':22}{'best':>7}{'median':>7}  {'beside':22}{'best':>7}{'median':>7}{'ratio':>7}{'median':>7}")
     wrong = False
@@ -18,7 +18,7 @@ def main(file):
         beside = BESIDE.get(work, work)
         rust = rates["rust"][beside]
         best, middle, rust_best, rust_middle = max(ours), statistics.median(ours), max(rust), statistics.median(rust)
-        print(f"{work:22}{best:7}{middle:7.0f}  {beside:22}{rust_best:7}{rust_middle:7.0f}{best / rust_best:7.2f}{middle / rust_middle:7.2f}")
+        print(f"{work:22}{best:7.1f}{middle:7.1f}  {beside:22}{rust_best:7.1f}{rust_middle:7.1f}{best / rust_best:7.2f}{middle / rust_middle:7.2f}")
         wrong |= len(sums["rattle"][work] | sums["rust"][beside]) > 1
     return "the sums differ" if wrong else 0
 

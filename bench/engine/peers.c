@@ -1,7 +1,7 @@
 // The same batches as the engine's benchmark writes, given to LMDB, RocksDB, LevelDB and SQLite in a folder that
 // should lie in memory: 60,000 batches, the one of number n with n % 16 + 1 entries of 2,118 bytes of group
-// n % 100 + 1, made durable each (-DBATCHES, -DSIZE for others). A line each: the store, MB/s of wall time, MB/s of
-// processor time.
+// n % 100 + 1, made durable each (-DBATCHES, -DSIZE for others, -DENTRIES for as many in each batch). A line each: the
+// store, MB/s of wall time, MB/s of processor time.
 // Usage: peers FOLDER STORE (lmdb, rocksdb, leveldb or sqlite); each store gets a folder of its own.
 #include <leveldb/c.h>
 #include <lmdb.h>
@@ -18,6 +18,11 @@
 #endif
 #ifndef SIZE
 #define SIZE 2118
+#endif
+#ifdef ENTRIES
+#define ENTRIES_OF(n) (ENTRIES)
+#else
+#define ENTRIES_OF(n) ((n) % 16 + 1)
 #endif
 enum { GROUPS = 100, KEY = 16 };
 
@@ -52,7 +57,7 @@ static void lmdb(const char *path) {
     if (mdb_txn_begin(env, NULL, 0, &txn) || mdb_dbi_open(txn, NULL, 0, &table) || mdb_txn_commit(txn)) fail("lmdb has no table");
     for (unsigned n = 0; n < BATCHES; n++) {
         if (mdb_txn_begin(env, NULL, 0, &txn)) fail("lmdb begins nothing");
-        for (unsigned i = 0; i <= n % 16; i++) {
+        for (unsigned i = 0; i < ENTRIES_OF(n); i++) {
             unsigned char bytes[KEY];
             next_key(n % GROUPS, bytes);
             MDB_val key = {KEY, bytes}, value = {SIZE, entry};
@@ -73,7 +78,7 @@ static void rocksdb(const char *path) {
     rocksdb_writeoptions_set_sync(synced, 1);
     for (unsigned n = 0; n < BATCHES; n++) {
         rocksdb_writebatch_t *batch = rocksdb_writebatch_create();
-        for (unsigned i = 0; i <= n % 16; i++) {
+        for (unsigned i = 0; i < ENTRIES_OF(n); i++) {
             unsigned char key[KEY];
             next_key(n % GROUPS, key);
             rocksdb_writebatch_put(batch, (char *)key, KEY, entry, SIZE);
@@ -95,7 +100,7 @@ static void leveldb(const char *path) {
     leveldb_writeoptions_set_sync(synced, 1);
     for (unsigned n = 0; n < BATCHES; n++) {
         leveldb_writebatch_t *batch = leveldb_writebatch_create();
-        for (unsigned i = 0; i <= n % 16; i++) {
+        for (unsigned i = 0; i < ENTRIES_OF(n); i++) {
             unsigned char key[KEY];
             next_key(n % GROUPS, key);
             leveldb_writebatch_put(batch, (char *)key, KEY, entry, SIZE);
@@ -115,7 +120,7 @@ static void sqlite(const char *path) {
     if (sqlite3_prepare_v2(db, "insert into entries values (?, ?)", -1, &put, NULL)) fail("sqlite has no table");
     for (unsigned n = 0; n < BATCHES; n++) {
         if (sqlite3_exec(db, "begin", NULL, NULL, NULL)) fail("sqlite begins nothing");
-        for (unsigned i = 0; i <= n % 16; i++) {
+        for (unsigned i = 0; i < ENTRIES_OF(n); i++) {
             unsigned char key[KEY];
             next_key(n % GROUPS, key);
             sqlite3_bind_blob(put, 1, key, KEY, SQLITE_STATIC);
@@ -141,6 +146,6 @@ int main(int count, char **words) {
     else if (!strcmp(words[2], "sqlite")) sqlite(path);
     else fail("no such store");
     wall = seconds(CLOCK_MONOTONIC) - wall, processor = seconds(CLOCK_PROCESS_CPUTIME_ID) - processor;
-    printf("%-8s %8.0f MB/s %8.0f MB/s of processor time\n", words[2], written / 1e6 / wall, written / 1e6 / processor);
+    printf("%-8s %8.2f MB/s %8.2f MB/s of processor time\n", words[2], written / 1e6 / wall, written / 1e6 / processor);
     return 0;
 }

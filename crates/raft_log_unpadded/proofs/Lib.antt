@@ -1,0 +1,4 @@
+mod Making
+mod Joining
+mod Steps
+mod Places

@@ -1,0 +1,168 @@
+//! The bytes of a log file without the padding between its records.
+
+ghost use Rattle.std.specs.Prelude.{◌≡◌, ◌↔◌, Some, IsTrue, OnOk, IfOk, IfErr, MatchBool, MatchOption};
+ghost use Rattle.raft_log_file_reader.specs.Reader.{IsReading, file_of, end_of};
+ghost use Rattle.raft_log_file_reader.specs.Source.{bytes_in, bytes_of, CannotRead};
+ghost use Rattle.raft_log_file_reader.specs.declared.open_file.OpenFile.{OpenFile};
+ghost use Rattle.raft_log_open_found.specs.Behind.{HasFileOpen};
+ghost use Rattle.raft_log_open_found.specs.Faults.{IsDamage};
+ghost use Rattle.raft_log_open_found.specs.Reading.{FailsToRead};
+ghost use Rattle.raft_log_unpadded.specs.Content.{IsPadded};
+ghost use Rattle.raft_log_unpadded.specs.Reading.{FindsNext, HasOpen, Joins, NeedsBytes, NeedsNothing, content_of};
+
+use crate::passing::Passing;
+use raft_log_disk::{FileSystem, Handle};
+use raft_log_file_format::LogFileFormat;
+use raft_log_file_reader::LogItemBatchFileReader;
+use raft_log_open_found::{ListedFile, read_file};
+use raft_log_record_base::{Error, Result};
+use raft_log_record_frames::LOG_BATCH_HEADER_LEN;
+use std::alloc::Global;
+
+/// How many bytes of a file are read at a time.
+const READ_BLOCK_SIZE: usize = 1 << 16;
+
+/// What stands behind what was read of a file.
+#[derive(Drop)]
+pub enum Next {
+    /// A record, which begins at this offset.
+    Record(usize),
+    /// Nothing more.
+    End,
+    /// A record that is broken.
+    Broken,
+}
+
+/// What a log file is to hold: a header without an alignment, its records one behind the other, and where one of them
+/// is broken the rest from there on as it is; so it reads as before, damage with it. `None` where its bytes stay: it
+/// has no alignment, or no header, or it is the last one of its queue and has no whole record behind its header, which
+/// an open takes for a torn one.
+///
+/// The file's bytes are held twice. `Io` where they can't be read; `Memory`. Nothing is changed.
+pub fn unpadded<F: FileSystem>(
+    alloc: Global,
+    file_system: &F,
+    file: ListedFile,
+) -> Result<Option<Vec<u8>>>
+    ensures ok { IfOk result (λ found. MatchOption found (NeedsNothing (F.disk file_system.now) file)
+        (λ bytes. NeedsBytes (F.disk file_system.now) file bytes.items)) }
+    ensures err { IfErr result (FailsToRead file.handle (F.disk file_system.now)) }
+{
+    let mut reader = LogItemBatchFileReader::new(alloc, READ_BLOCK_SIZE);
+    if !is_padded(alloc, file_system, &mut reader, file)? {
+        return Ok(None);
+    }
+    let format = reader.open(alloc, file_system, file.id, file.handle)?;
+    let bytes = read_whole(alloc, file_system, file.handle)?;
+    let mut new = Vec::new(alloc);
+    LogFileFormat::new(format.version, 0).encode(alloc, &mut new)?;
+    join_records(alloc, file_system, &mut reader, bytes.as_slice(), &mut new)?;
+    Ok(Some(new))
+}
+
+/// Whether a file reads as one with an alignment.
+fn is_padded<F: FileSystem>(
+    alloc: Global,
+    file_system: &F,
+    reader: &mut LogItemBatchFileReader,
+    file: ListedFile,
+) -> Result<bool>
+    ensures ok { IfOk result (λ padded. MatchBool padded
+        (IsPadded file.is_last file.id (content_of file (F.disk file_system.now)))
+        (NeedsNothing (F.disk file_system.now) file)) }
+    ensures err { IfErr result (FailsToRead file.handle (F.disk file_system.now)) }
+{
+    let mut passing = Passing;
+    let found = read_file(alloc, file_system, reader, file, &mut passing)?;
+    Ok(found.format.alignment != 0)
+}
+
+/// All bytes of a file.
+fn read_whole<F: FileSystem>(alloc: Global, file_system: &F, handle: Handle) -> Result<Vec<u8>>
+    ensures ok { IfOk result (λ bytes.
+        bytes.items ≡ bytes_in ((F.disk file_system.now).files handle.file)) }
+    ensures err { IfErr result (FailsToRead handle (F.disk file_system.now)) }
+{
+    let size = file_system.file_size(handle)?;
+    let mut bytes = vec![in alloc; 0u8; size]?;
+    file_system.read_at(handle, 0, bytes.as_mut_slice())?;
+    Ok(bytes)
+}
+
+/// The records behind what was read of the open file, whose bytes these are, come behind what is there, one behind
+/// the other; and where one is broken, all bytes from there on. Refused, some of them do.
+fn join_records<F: FileSystem>(
+    alloc: Global,
+    file_system: &F,
+    reader: &mut LogItemBatchFileReader,
+    bytes: &[u8],
+    new: &mut Vec<u8>,
+) -> Result<()>
+    requires reading { IsReading (F.disk file_system.now) reader.old }
+    requires open { HasOpen (F.disk file_system.now) reader.old bytes.now }
+    ensures ok { (file : OpenFile) → file_of reader.old ≡ Some file
+        → IfOk result (λ done. Joins file bytes.now (end_of reader.old) new.old.items new.new.items) }
+    ensures err { (file : OpenFile) → file_of reader.old ≡ Some file
+        → IfErr result (CannotRead file.source 0 (F.disk file_system.now)) }
+{
+    loop {
+        match read_next(alloc, file_system, reader)? {
+            Next::Record(start) => {
+                let end = reader.valid_offset();
+                new.extend_from_slice(&bytes[start..end])?;
+            }
+            Next::End => return Ok(()),
+            Next::Broken => {
+                let end = reader.valid_offset();
+                new.extend_from_slice(&bytes[end..])?;
+                return Ok(());
+            }
+        }
+    }
+}
+
+/// Reads the record behind what was read of the open file, if there is one. Its entry block isn't looked at.
+fn read_next<F: FileSystem>(
+    alloc: Global,
+    file_system: &F,
+    reader: &mut LogItemBatchFileReader,
+) -> Result<Next>
+    requires reading { IsReading (F.disk file_system.now) reader.old }
+    requires open { HasFileOpen reader.old }
+    ensures reading { IsReading (F.disk file_system.now) reader.new }
+    ensures file { file_of reader.new ≡ file_of reader.old }
+    ensures ok { (file : OpenFile) → file_of reader.old ≡ Some file
+        → IfOk result (FindsNext file (bytes_of file.source (F.disk file_system.now)) reader.old reader.new) }
+    ensures err { (file : OpenFile) → file_of reader.old ≡ Some file
+        → IfErr result (CannotRead file.source 0 (F.disk file_system.now)) }
+{
+    match reader.next(alloc, file_system) {
+        Ok(Some(_batch)) => {
+            let block = reader.last_block().offset as usize;
+            Ok(Next::Record(block - LOG_BATCH_HEADER_LEN))
+        }
+        Ok(None) => Ok(Next::End),
+        Err(error) => {
+            pass_damage(error)?;
+            Ok(Next::Broken)
+        }
+    }
+}
+
+/// Whether a refusal is of the bytes that were read.
+fn is_damage(error: &Error) -> bool
+    ensures { IsTrue result ↔ IsDamage error.now }
+{
+    matches!(error, Error::Corruption(_) | Error::Codec(_))
+}
+
+/// Refuses with what is no refusal of bytes that were read.
+fn pass_damage(error: Error) -> Result<()>
+    ensures ok { OnOk result (IsDamage error) }
+    ensures err { IfErr result (λ other. (other ≡ error) × (IsDamage error → ⊥)) }
+{
+    if is_damage(&error) {
+        return Ok(());
+    }
+    Err(error)
+}

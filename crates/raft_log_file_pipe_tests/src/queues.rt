@@ -261,16 +261,16 @@ fn each_call_of_a_reopening_is_refused_in_turn(rt: HostRuntime) -> Result<(), Fa
     Ok(())
 }
 
-// The directory's place, the number, whether the name is reserved, and the path. Behind the places of the two
-// directories come theirs for names with a sign, where a number leaves room for one.
+// The directory's place, the number, whether the name is reserved, and the path. Behind the place of the
+// directory comes its second one, for names with a sign, where a number leaves room for one.
 const PATHS: [(usize, u64, bool, &str); 6] = [
     (0, 1, false, FIRST),
-    (1, 2, false, SECOND),
+    (0, 2, false, SECOND),
     (0, 3, true, "d/0000000000000003.raftlog.reserved"),
-    (2, 123, false, "d/+000000000000123.raftlog"),
-    (3, 4, true, "s/+000000000000004.raftlog.reserved"),
+    (1, 123, false, "d/+000000000000123.raftlog"),
+    (1, 4, true, "d/+000000000000004.raftlog.reserved"),
     (
-        2,
+        1,
         1_000_000_000_000_000,
         false,
         "d/1000000000000000.raftlog",

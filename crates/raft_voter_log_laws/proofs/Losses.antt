@@ -22,7 +22,7 @@ use Rattle.raft_log_open_laws.proofs.Running.{crashed_engines_open}
 use Rattle.raft_voter_meaning_laws.specs.Voters.{Means}
 use Rattle.raft_voter_meaning_laws.proofs.Pending.{taken_in_two}
 use Rattle.raft_voter_opening_laws.proofs.Finding.{crashed_stores_are_found, found_as}
-use Rattle.raft_voter_log_laws.specs.Chance.{ForeignRecordsAreChance, HasForeign, IsBlank, IsOwnFrame, IsTorn, LeavesForeign, LosesOwn, LossesAreFound, LossesInRoundsAreFound, LossesLeaveNoChance}
+use Rattle.raft_voter_log_laws.specs.Chance.{ForeignRecordsAreChance, HasForeign, IsOwnFrame, IsTorn, IsWhole, LeavesForeign, LosesOwn, LossesAreFound, LossesInRoundsAreFound, LossesLeaveNoChance, ZerosBeginNoRecord}
 
 -- a record that is met lies where it is met
 met_lies : {R : Type 0} (IsFrame : List ℕ → R → Type 0) (start at : ℕ) (w : Written R) (bytes : List ℕ) → Meets IsFrame start at w bytes → LiesIn start (drop start bytes) at w.bytes
@@ -35,9 +35,8 @@ met_lies IsFrame start at w bytes met = record {
   place = met.place;
 }
 
--- Of the file that a pipe writes to, whose header is one, and where no record lies in zeros.
-module _ (F : Format LogRecord) (form : IsFormat F) (none : (n size : ℕ) (header ahead inside behind : List ℕ) (r : LogRecord) → zeros size ≡ ahead ++ (inside ++ behind) → F.IsFrame n header inside r → ⊥)
-    (files : PipeFiles) (file : File) (headed : F.IsHeader (active_header files)) where
+-- Of the file that a pipe writes to, whose header is one.
+module _ (F : Format LogRecord) (form : IsFormat F) (files : PipeFiles) (file : File) (headed : F.IsHeader (active_header files)) where
   free : IsSelfDelimiting (IsOwnFrame F files)
   free = form.free files.active.seq (active_header files)
 
@@ -60,19 +59,15 @@ module _ (F : Format LogRecord) (form : IsFormat F) (none : (n size : ℕ) (head
         inl (subst (λ (b : List ℕ). LiesIn (length (active_header files)) b at w.bytes) (take-append-drop kept (own_bytes files file)) lies);
   }
 
-  -- zeros are no record
-  zeros_refuse : (room : ℕ) → Refuses (IsOwnFrame F files) (zeros room)
-  zeros_refuse room w rest is splits = none files.active.seq room (active_header files) [] w.bytes rest w.value splits is
-
-  blank : (bytes : List ℕ) → IsBlank F files file bytes → MeetsOwnAlone F files file bytes
-  blank bytes b = record {
-    headers = one_header bytes (spelled b.kept ++ zeros b.room) b.are;
+  whole : (bytes : List ℕ) → IsWhole F files file bytes → MeetsOwnAlone F files file bytes
+  whole bytes b = record {
+    headers = one_header bytes (spelled b.kept ++ b.behind) b.are;
     records = λ at w met.
         let reads : Reads (IsOwnFrame F files) (length (active_header files)) b.kept bytes = record {
-          rest = zeros b.room;
-          splits = ap (λ (x : List ℕ). drop (length (active_header files)) x) b.are ∙ drop_at (active_header files) (spelled b.kept ++ zeros b.room) (length (active_header files)) refl;
+          rest = b.behind;
+          splits = ap (λ (x : List ℕ). drop (length (active_header files)) x) b.are ∙ drop_at (active_header files) (spelled b.kept ++ b.behind) (length (active_header files)) refl;
           frames = b.frames;
-          ends = zeros_refuse b.room;
+          ends = b.refuses;
         } in
         let more = reads_further (IsOwnFrame F files) free (length (active_header files)) (met.before ++ w ∷ []) b.kept bytes met.begins reads in
         let lies = record_lies (IsOwnFrame F files) (length (active_header files)) b.kept met.before more.0 w more.1 in
@@ -80,9 +75,9 @@ module _ (F : Format LogRecord) (form : IsFormat F) (none : (n size : ℕ) (head
         inl (subst (λ (x : List ℕ). LiesIn (length (active_header files)) x at w.bytes) (sym b.wrote) (lies_in_more (length (active_header files)) at (spelled b.kept) b.lost w.bytes there));
   }
 
-  loses : (bytes : List ℕ) → IsTorn files file bytes ⊎ IsBlank F files file bytes → MeetsOwnAlone F files file bytes
+  loses : (bytes : List ℕ) → IsTorn files file bytes ⊎ IsWhole F files file bytes → MeetsOwnAlone F files file bytes
   loses bytes (inl t) = torn bytes t
-  loses bytes (inr b) = blank bytes b
+  loses bytes (inr b) = whole bytes b
 
 -- a record that was brought is met, and is none of the pipe's
 module _ (F : Format LogRecord) (form : IsFormat F) (files : PipeFiles) (file : File) (bytes : List ℕ) (h : HasForeign F files file bytes) where
@@ -122,7 +117,10 @@ active_headed layout files q d runs =
 losing : (queue : LogQueue) (directories : List (List ℕ)) → 0 < length directories → (files : PipeFiles) → (log_format queue directories).IsHeader (active_header files) → (d image : Disk)
     → LosesOwn (log_format queue directories) files d image → LeavesOwnAlone (log_format queue directories) files d image
 losing queue directories some files headed d image l file after was is =
-    loses (log_format queue directories) (is_layout queue directories some).format zeros_hold_none files file headed after.content (l file after was is)
+    loses (log_format queue directories) (is_layout queue directories some).format files file headed after.content (l file after was is)
+
+pub zeros_begin_no_record : ZerosBeginNoRecord
+zeros_begin_no_record queue directories files room w rest is splits = zeros_hold_none files.active.seq room (active_header files) [] w.bytes rest w.value splits is
 
 pub losses_leave_no_chance : LossesLeaveNoChance
 losses_leave_no_chance home e m pending h image l =

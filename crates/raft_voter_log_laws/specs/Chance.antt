@@ -3,11 +3,13 @@
 use Rattle.std.specs.Prelude.{◌≡◌, ◌⊎◌, ◌+◌, ℕ, Bool, Some, List, ◌++◌, length, take}
 use Rattle.raft_log_disk.specs.Disk.{Disk, File, zeros}
 use Rattle.raft_log_disk.specs.Image.{IsImage, IsSound}
-use Rattle.raft_log_file_laws.specs.Chains.{AreFrames, Written, spelled}
+use Rattle.raft_log_file_laws.specs.Chains.{AreFrames, Refuses, Written, spelled}
 use Rattle.raft_log_file_laws.specs.KeepsSynced.{IsHandedIn}
 use Rattle.raft_log_file_laws.specs.LogFormat.{Format}
 use Rattle.raft_log_file_pipe.specs.declared.pipe_files.PipeFiles.{PipeFiles}
 use Rattle.raft_log_engine_laws.specs.raft_log_file_layout.specs.declared.record.LogRecord.{LogRecord}
+use Rattle.raft_log_engine_laws.specs.raft_log_file_layout.specs.Layout.{log_format}
+use Rattle.raft_log_record_base.specs.declared.pipe_log.LogQueue.{LogQueue}
 use Rattle.raft_log_engine_laws.specs.raft_log_file_pair.specs.Pipes.{LogPipes, Said}
 use Rattle.raft_log_engine_laws.specs.Holding.{Holds}
 use Rattle.raft_log_engine_laws.specs.Shows.{Home, LogMap, Shows, log_in}
@@ -32,21 +34,27 @@ IsOwnFrame F files = F.IsFrame files.active.seq (active_header files)
 abbrev pub IsTorn : PipeFiles → File → List ℕ → Type 0
 IsTorn files file bytes = (kept : ℕ) × (bytes ≡ active_header files ++ take kept (own_bytes files file))
 
--- Some first records of those that a pipe wrote are there, whole, and zeros behind them, as room is made ahead of a
--- write.
-pub record IsBlank (F : Format LogRecord) (files : PipeFiles) (file : File) (bytes : List ℕ) : Type 0 where
+-- Some first records of those that a pipe wrote are there, whole, and behind them bytes that begin no record of the
+-- file: room that was made ahead of a write, or what a file had that is used again.
+pub record IsWhole (F : Format LogRecord) (files : PipeFiles) (file : File) (bytes : List ℕ) : Type 0 where
   pub kept : List (Written LogRecord)
   pub lost : List ℕ
-  pub room : ℕ
+  pub behind : List ℕ
   pub frames : AreFrames (IsOwnFrame F files) kept
   pub wrote : own_bytes files file ≡ spelled kept ++ lost
-  pub are : bytes ≡ active_header files ++ (spelled kept ++ zeros room)
+  pub are : bytes ≡ active_header files ++ (spelled kept ++ behind)
+  pub refuses : Refuses (IsOwnFrame F files) behind
+
+-- Zeros begin no record, so room that was made ahead of a write is such bytes.
+abbrev pub ZerosBeginNoRecord : Type 0
+ZerosBeginNoRecord = (queue : LogQueue) (directories : List (List ℕ)) (files : PipeFiles) (room : ℕ)
+    → Refuses (IsOwnFrame (log_format queue directories) files) (zeros room)
 
 -- a crash left so much of the last file of a pipe
 abbrev pub LosesOwn : Format LogRecord → PipeFiles → Disk → Disk → Type 0
 LosesOwn F files d image = (file after : File) → d.files files.writer.handle.file ≡ Some file
     → image.files files.writer.handle.file ≡ Some after
-    → IsTorn files file after.content ⊎ IsBlank F files file after.content
+    → IsTorn files file after.content ⊎ IsWhole F files file after.content
 
 -- so it is of the last files of both queues
 pub record LosesWrites (home : Home) (v : LogPipes) (image : Disk) : Type 0 where

@@ -1,13 +1,19 @@
 //! Which crashes leave nothing to chance, told by the bytes that they leave.
 
-ghost use Rattle.raft_voter_log_laws.specs.Chance.{ForeignRecordsAreChance, LossesAreFound, LossesInRoundsAreFound, LossesLeaveNoChance};
+ghost use Rattle.raft_voter_log_laws.specs.Chance.{ForeignRecordsAreChance, LossesAreFound, LossesInRoundsAreFound, LossesLeaveNoChance, ZerosBeginNoRecord};
 
 use raft_log_disk::FileSystem;
 
 /// The premise on chance is met: a crash under an engine that runs, which leaves of each last file the front of what was
-/// written there, a record torn at its end, or whole ones and zeros behind, leaves nothing to chance.
+/// written there, a record torn at its end, or whole ones and behind them bytes that begin no record of that file, as
+/// one that is used again has, leaves nothing to chance.
 pub fn losses_leave_no_chance()
     ensures { LossesLeaveNoChance }
+{}
+
+/// Such bytes are zeros, as room is made ahead of a write.
+pub fn zeros_begin_no_record()
+    ensures { ZerosBeginNoRecord }
 {}
 
 /// So whatever such a crash leaves of a store between rounds is opened as the voters that the store kept, by any settings

@@ -3,10 +3,12 @@ use Rattle.std.specs.Prelude.{◌≡◌, ℕ, false, List, String, string_bytes}
 use Rattle.std.specs.Option.{option_map}
 use Rattle.std.specs.declared.alloc.Global.{Global}
 use Rattle.raft_log_disk.specs.Disk.{Disk}
-use Rattle.raft_log_file_settings.specs.Settings.{Settings, default_settings}
+use Rattle.raft_log_file_settings.specs.Settings.{Settings, default_settings, directories_of}
 use Rattle.raft_log_closed.specs.Forks.{FailsToFork, Forks}
+use Rattle.raft_log_record_base.specs.declared.pipe_log.FileId.{FileId}
+use Rattle.raft_log_unpadded.specs.Unpadding.{FailsToUnpad, Unpads}
 use Rattle.raft_log_operator.specs.declared.command.Task.{Task}
-use Rattle.raft_log_operator.specs.declared.command.Task.TheVariants.{Check, Dump, Fork, Stat}
+use Rattle.raft_log_operator.specs.declared.command.Task.TheVariants.{Check, Dump, Fork, Stat, Unpad}
 use Rattle.raft_log_operator.specs.declared.fault.CommandFault.{CommandFault}
 use Rattle.raft_log_operator.specs.declared.fault.CommandFault.TheVariants.{Log, Output}
 use Rattle.raft_log_operator.specs.declared.place.Place.{Place}
@@ -29,12 +31,24 @@ abbrev pub FailsToCopy : Place → String Global → CommandFault → Disk → D
 FailsToCopy place target (Log error) old new = FailsToFork (kept_settings place) (string_bytes target) error old new
 FailsToCopy place target (Output _) old new = Copies place target old new
 
--- what a task leaves that is done: only a copy changes anything
+-- of the log in these directories each file that has an alignment was written anew without it
+abbrev pub TakesPadding : Place → Disk → Disk → Type 0
+TakesPadding place old new =
+    (written : List FileId) × Unpads (directories_of (kept_settings place)) written old new
+
+-- Not all of that was done; or it was, and the output was refused.
+abbrev pub FailsToTakePadding : Place → CommandFault → Disk → Disk → Type 0
+FailsToTakePadding place (Log error) old new = FailsToUnpad (directories_of (kept_settings place)) error old new
+FailsToTakePadding place (Output _) old new = TakesPadding place old new
+
+-- what a task leaves that is done: only a copy and the taking out of padding change anything
 abbrev pub Does : Place → Task → Disk → Disk → Type 0
 Does place (Fork target) old new = Copies place target old new
+Does place Unpad old new = TakesPadding place old new
 Does place _ old new = new ≡ old
 
 -- what a task leaves that is refused
 abbrev pub FailsToDo : Place → Task → CommandFault → Disk → Disk → Type 0
 FailsToDo place (Fork target) fault old new = FailsToCopy place target fault old new
+FailsToDo place Unpad fault old new = FailsToTakePadding place fault old new
 FailsToDo place _ fault old new = new ≡ old

@@ -4,7 +4,7 @@ use Rattle.std.specs.declared.alloc.Global.{Global}
 use Rattle.raft_log_operator.specs.declared.command.Command.{Command}
 use Rattle.raft_log_operator.specs.declared.command.Command.TheVariants.{Help, On}
 use Rattle.raft_log_operator.specs.declared.command.Task.{Task}
-use Rattle.raft_log_operator.specs.declared.command.Task.TheVariants.{Check, Dump, Fork, Stat}
+use Rattle.raft_log_operator.specs.declared.command.Task.TheVariants.{Check, Dump, Fork, Stat, Unpad}
 use Rattle.raft_log_operator.specs.declared.place.Place.{Place}
 
 -- the words that name a log's second directory, where it has one
@@ -26,6 +26,7 @@ task_words place Dump = codes "dump" ∷ place_words place
 task_words place Check = codes "check" ∷ place_words place
 task_words place Stat = codes "stat" ∷ place_words place
 task_words place (Fork target) = codes "fork" ∷ fork_words place target
+task_words place Unpad = codes "unpad" ∷ place_words place
 
 -- how a command is spelled, behind the program's name
 abbrev pub words_of : Command → List (List ℕ)

@@ -14,10 +14,12 @@ pub const USAGE: &str = "usage: raft_log_ctl COMMAND
   check DIR         each group of the log in DIR that has a hole in its entries, or 'no holes'
   stat DIR          what the log in DIR holds, in numbers
   fork DIR TARGET   copies the log in DIR into TARGET, which may not be there, and tells each copy
+  unpad DIR         writes each file of the log in DIR that has an alignment anew without it, and tells which,
+                    or 'no padding'
   --help            this text
 
 Of a log with a second directory that one is named last, by --spill-dir DIR2. A log that is in use
-is refused, and only fork changes anything: it makes TARGET.
+is refused. Only fork and unpad change anything: fork makes TARGET, unpad writes files of the log anew.
 
 status: 0 done; 1 done, and a hole or a damaged file was found; 2 wrong arguments; 3 refused
 ";
@@ -42,6 +44,8 @@ pub enum Task {
     Stat,
     /// The log is copied into the directory with this path.
     Fork(String),
+    /// The log's files that have an alignment are written anew without it.
+    Unpad,
 }
 
 impl Task {
@@ -55,6 +59,7 @@ impl Task {
                 let target = String::from_str(alloc, trimmed(target.as_str()))?;
                 Ok(Task::Fork(target))
             }
+            Task::Unpad => Ok(Task::Unpad),
         }
     }
 
@@ -65,6 +70,7 @@ impl Task {
             Task::Check => "check",
             Task::Stat => "stat",
             Task::Fork(_) => "fork",
+            Task::Unpad => "unpad",
         }
     }
 }
@@ -118,6 +124,10 @@ impl Command {
         if is(word, "fork") {
             let (place, target) = parse_fork(alloc, rest)?;
             return Ok(Command::On(place, Task::Fork(target)));
+        }
+        if is(word, "unpad") {
+            let place = parse_place(alloc, rest)?;
+            return Ok(Command::On(place, Task::Unpad));
         }
         if is(word, "--help") && rest.is_empty() {
             return Ok(Command::Help);

@@ -1,5 +1,5 @@
-//! What an operator does with a log that nobody has open: its items are listed, it is checked for holes, copied, and
-//! told in numbers.
+//! What an operator does with a log that nobody has open: its items are listed, it is checked for holes, copied, told
+//! in numbers, and rid of padding.
 //!
 //! [`Command::parse`] reads what is asked for, and [`run`] does it over a file system that is lent.
 #![tactic(auto)]
@@ -16,6 +16,7 @@ mod running;
 mod settings;
 mod statistics;
 pub mod text;
+mod unpadding;
 
 pub use command::{Command, Task, USAGE, Unread};
 pub use fault::{CommandFault, Outcome};

@@ -9,14 +9,15 @@ use crate::fault::{CommandFault, Outcome};
 use crate::forking::fork_into;
 use crate::place::Place;
 use crate::statistics::stat;
+use crate::unpadding::unpad_log;
 use log::Log;
 use raft_log_engine::FileSystem;
 use std::alloc::Global;
 use std::io::Write;
 use std::thread::Threads;
 
-/// Does a task on the log in these directories of a file system, and writes what it tells. Only a copy changes
-/// anything. Refused as the task is.
+/// Does a task on the log in these directories of a file system, and writes what it tells. Only a copy
+/// and the taking out of padding change anything. Refused as the task is.
 pub fn run<R: Threads + Log + Sync, F: FileSystem, W: Write>(
     rt: &R,
     alloc: Global,
@@ -34,5 +35,6 @@ pub fn run<R: Threads + Log + Sync, F: FileSystem, W: Write>(
         Task::Check => check(rt, alloc, files, place, out),
         Task::Stat => stat(rt, alloc, files, place, out),
         Task::Fork(target) => fork_into(rt, alloc, files, place, target, out),
+        Task::Unpad => unpad_log(alloc, files, place, out),
     }
 }

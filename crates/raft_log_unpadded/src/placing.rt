@@ -13,9 +13,9 @@ use crate::placed_file::PlacedFile;
 use raft_log_closed::choosing::one_each;
 use raft_log_disk::FileSystem;
 use raft_log_file_queue::PathId;
-use raft_log_open_scan::{FileKind, FileName};
 use raft_log_open_scan::scanning::directories::list_directories;
 use raft_log_open_scan::scanning::found::{FoundFile, find_files};
+use raft_log_open_scan::{FileKind, FileName};
 use raft_log_record_base::{Error, FileId, FileSeq, LogQueue, Result};
 use std::alloc::Global;
 

@@ -1,0 +1,9 @@
+//! Tests of `unpad`: a log with an alignment, as another program may write it, is opened once its padding is taken out.
+#![tactic(auto)]
+
+#[cfg(test)]
+mod logs;
+#[cfg(test)]
+mod refusals;
+#[cfg(test)]
+mod unpadded;

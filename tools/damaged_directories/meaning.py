@@ -38,12 +38,12 @@ def files_of(files, directories, kind):
             number = number_of(name, ENDS[kind])
             if number is None:
                 continue
-            if name != f"{number:016}{ENDS[kind]}":
+            if name not in (f"{number:016}{ENDS[kind]}", f"+{number:015}{ENDS[kind]}"):
                 raise Refused("corruption")
-            found.append((number, place, path))
+            found.append((number, place, name.startswith("+"), path))
     found.sort()
     first = max([at for at in range(1, len(found)) if found[at][0] != found[at - 1][0] + 1], default=0)
-    return [(number, path) for number, _, path in found[first:]]
+    return [(number, path) for number, _, _, path in found[first:]]
 
 
 def is_tolerated(mode, is_last):

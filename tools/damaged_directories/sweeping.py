@@ -1,4 +1,6 @@
 """A run of steps on a log, played again and again with one fault: at each changing call, each growth of memory, each place."""
+from damage import number_in
+from formats import read_file
 from histories import PURGES, Wrong
 from player import shown, told_map
 from world import World, batch, spelled
@@ -296,6 +298,8 @@ class DeniedRun(Run):
     def __init__(self, player, settings, fault, number):
         super().__init__(player, settings, fault, number)
         self.at, self.pick = fault[1], fault[2]
+        # how many places there are at that step
+        self.places = 0
 
     def step(self, place, step):
         if place == self.at:
@@ -303,11 +307,17 @@ class DeniedRun(Run):
         super().step(place, step)
 
     def deny(self):
-        """A place can't be read: of the files that are there the one that is picked, and a place in it."""
-        files = [word.split("=") for word in self.ask("sizes").split(" ")[1:]]
-        files = sorted((path, int(size)) for path, size in files if int(size))
-        if files:
-            path, size = files[self.pick % len(files)]
-            at = (self.pick // len(files) * 7919) % size
+        """A place can't be read: of those of the files that are there the one that is picked."""
+        files = sorted(word.split("=") for word in self.ask("dump").split(" ")[1:])
+        places = [(path, at) for path, text in files for at in places_of(path, bytes.fromhex(text))]
+        self.places = len(places)
+        if self.pick < len(places):
+            self.denied = path, at = places[self.pick]
             self.want(self.ask(f"arm deny {path} {at}"))
-            self.denied = (path, at)
+
+
+def places_of(path, bytes_):
+    """Places of a file: each read of it that the log makes covers one of them at least."""
+    records = read_file(bytes_, number_in(path), False).records
+    parts = [at for record in records for at in (record.begin, record.begin + 16, record.end - 1)]
+    return sorted({0, len(bytes_) - 1, *parts} - {-1, len(bytes_)}) if bytes_ else []

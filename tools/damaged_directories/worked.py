@@ -74,7 +74,9 @@ def rows():
     assert means({**log((1, b""), (2, b"x")), **log((2, spell_record([("clean", 1)], b"", 2)), directory="s")}, spill="s") == {}
     aligned = spell_header(2, 128) + bytes(128 - 69) + SEVEN_IN_ONE
     assert means({"d/0000000000000001.raftlog": aligned}) == "invalid-argument"
-    assert means({"d/+000000000000001.raftlog": b""}) == "corruption"
+    signed = {"d/+000000000000001.raftlog": spell_header(2) + SEVEN_IN_ONE}
+    assert means(signed) == seven and means({**log((1, b"")), **signed}) == seven
+    assert means({"d/0000000000000001.a.raftlog": b""}) == "corruption"
     assert means({"d/0000000000000001.raftlog": b"", "d/notes": b"x"}) == {}
     # Rewrite [1..10], Append [4..5] and a Compact to 3: of Rewrite 3 stands, then 4 and 5
     both = {**log((1, run(1, 1, 10, 1)), end=".rewrite"), **log((1, run(1, 4, 2, 1) + spell_record([("compact", 1, 3)], b"", 1)))}

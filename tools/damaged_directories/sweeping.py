@@ -317,7 +317,7 @@ class DeniedRun(Run):
 
 
 def places_of(path, bytes_):
-    """Places of a file: each read of it that the log makes covers one of them at least."""
+    """Places of a file: its first and last byte, and of each record the first one, that behind its head and the last one. A read of room behind the last record may cover none."""
     records = read_file(bytes_, number_in(path), False).records
     parts = [at for record in records for at in (record.begin, record.begin + 16, record.end - 1)]
     return sorted({0, len(bytes_) - 1, *parts} - {-1, len(bytes_)}) if bytes_ else []

@@ -35,7 +35,7 @@ abbrev pub IsTorn : PipeFiles → File → List ℕ → Type 0
 IsTorn files file bytes = (kept : ℕ) × (bytes ≡ active_header files ++ take kept (own_bytes files file))
 
 -- Some first records of those that a pipe wrote are there, whole, and behind them bytes that begin no record of the
--- file: room that was made ahead of a write, or what a file had that is used again.
+-- file, as room that was made ahead of a write.
 pub record IsWhole (F : Format LogRecord) (files : PipeFiles) (file : File) (bytes : List ℕ) : Type 0 where
   pub kept : List (Written LogRecord)
   pub lost : List ℕ

@@ -5,8 +5,8 @@ ghost use Rattle.raft_voter_log_laws.specs.Chance.{ForeignRecordsAreChance, Loss
 use raft_log_disk::FileSystem;
 
 /// The premise on chance is met: a crash under an engine that runs, which leaves of each last file the front of what was
-/// written there, a record torn at its end, or whole ones and behind them bytes that begin no record of that file, as
-/// one that is used again has, leaves nothing to chance.
+/// written there, a record torn at its end, or whole ones and behind them bytes that begin no record of that file,
+/// leaves nothing to chance. That what a file held that is used again is such bytes isn't shown.
 pub fn losses_leave_no_chance()
     ensures { LossesLeaveNoChance }
 {}

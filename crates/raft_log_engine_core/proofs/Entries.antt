@@ -8,7 +8,6 @@ use Rattle.raft_log_model_laws.specs.Meaning.Slot.{Index}
 use Rattle.raft_log_model_laws.specs.Meaning.Content.{Entry}
 use Rattle.raft_log_model_laws.specs.Renamed.{renamed_content}
 use Rattle.raft_log_record_base.specs.declared.errors.Error.{Error}
-use Rattle.raft_log_record_base.specs.declared.errors.Error.TheVariants as errors
 use Rattle.raft_log_record_items.specs.declared.entry.EntryIndex.{EntryIndex}
 use Rattle.raft_log_table_runs.specs.declared.place.Place.{Place}
 use Rattle.raft_log_table_runs.specs.Counts.{sized}

@@ -1,4 +1,6 @@
 mod Tables
 mod Put
+mod Hearing
 mod Entries
+mod Pieces
 mod Scans

@@ -1,6 +1,6 @@
 -- What a write was told by its pipes and its tables, put together.
 use Rattle.std.proofs.Common.{◌≡◌, ◌↔◌, ℕ, true, false, None, Some, List, [], length, inl, inr, refl, sym, ap, ap₂, subst, ◌∙◌, arith}
-use Rattle.std.specs.Prelude.{Bool, Option, IsTrue, IsOk, IfErr, IfOk, OnErr, OnOk, Result, Ok, Err, is_err}
+use Rattle.std.specs.Prelude.{Bool, IsTrue, IsOk, IfErr, IfOk, OnErr, OnOk, Result, Ok, Err, is_err}
 use Rattle.std.proofs.lemmas.Bool.{cases_Bool, false≢true}
 use std.Path.{fun_ext}
 use Rattle.raft_log_model_laws.specs.Groups.{of_group}
@@ -227,7 +227,7 @@ refused_unsynced_files b error v w (inl left) = left
 refused_unsynced_files b error v w (inr (asked, rest)) = absurd (false≢true asked)
 
 -- a batch that says that entries go isn't empty
-says_some : (g index : ℕ) (b : Batch) → SaysCompact g index b → b.items ≡ [] → ⊥
+pub says_some : (g index : ℕ) (b : Batch) → SaysCompact g index b → b.items ≡ [] → ⊥
 says_some g index b says none =
     let is : 1 ≡ 0 = sym (ap length says.items) ∙ ap length none in
     omega (arith, is)

@@ -1,4 +1,5 @@
 pub mod Compacting
+pub mod Hearing
 pub mod Messages
 pub mod Purging
 pub mod Reads

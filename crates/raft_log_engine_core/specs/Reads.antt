@@ -1,8 +1,11 @@
 -- What an engine tells of its tables, and that a failed one tells nothing.
-use Rattle.std.specs.Prelude.{◌≡◌, ◌⊎◌, ℕ, Bool, false, true, List, Option}
+use Rattle.std.specs.Prelude.{◌≡◌, ◌⊎◌, ◌-◌, ℕ, Bool, false, true, List, Option, drop, take}
 use Rattle.raft_log_record_base.specs.declared.errors.Error.{Error}
 use Rattle.raft_log_record_base.specs.declared.errors.Error.TheVariants as errors
+use Rattle.raft_log_record_items.specs.declared.entry.EntryIndex.{EntryIndex}
 use Rattle.raft_log_table_lists.specs.Listing.{Visits, in_direction}
+use Rattle.raft_log_table_lists.specs.Shown.{Shown}
+use Rattle.raft_log_table_one.specs.Reads.{entries_from}
 use Rattle.raft_log_file_pair.specs.Pipes.{LogPipes}
 use Rattle.raft_log_purge.specs.raft_log_engine_laws.specs.Reading.{ReadsKeys}
 use Rattle.raft_log_purge.specs.raft_log_engine_laws.specs.Shows.{Shows, has_failed, shows}
@@ -23,6 +26,11 @@ IsFailed s error = (error ≡ errors.Failed) × (has_failed s ≡ true)
 -- why nothing is copied: the engine has failed; or memory ran out of one that hasn't
 abbrev pub IsUncopied : Shows → Error → Type 0
 IsUncopied s error = IsFailed s error ⊎ ((error ≡ errors.Memory) × Lives s)
+
+-- so many entries of a table, from an index on
+abbrev pub entries_on : Shown → ℕ → ℕ → List EntryIndex
+entries_on v index count =
+    entries_from v (index - v.first) (take count (drop (index - v.first) v.places))
 
 -- no group counts: each took nothing since it was cleaned
 abbrev pub NoneCounts : (ℕ → Bool) → Type 0

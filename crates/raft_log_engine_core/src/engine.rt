@@ -39,38 +39,21 @@ pub struct LogEngine<P> {
 
 impl<P: PipeLog> LogEngine<P> {
     ghost use Rattle.raft_log_purge.specs.raft_log_engine_laws.specs.Syncing.{NotSynced, SyncsAppend};
-    ghost use Rattle.raft_log_purge.specs.raft_log_engine_laws.specs.Writing.{
-      IsEmptied,
-      IsBatchKept,
-      IsKeptUnlessFailed,
-      NotWritten,
-      Writes,
-      WritesBytes,
-    };
+    ghost use Rattle.raft_log_purge.specs.raft_log_engine_laws.specs.Writing.{IsEmptied, IsBatchKept, IsKeptUnlessFailed, NotWritten, Writes, WritesBytes};
     ghost use Rattle.raft_log_record_batches.specs.Batch.{emptied, max_kept_len, IsButBuffer, IsReadyForEach};
-    ghost use Rattle.raft_log_record_base.specs.declared.pipe_log.LogQueue.TheVariants.{Rewrite};
+    ghost use Rattle.raft_log_record_base.specs.declared.pipe_log.LogQueue.TheVariants.{Append, Rewrite};
     ghost use Rattle.raft_log_table_one.specs.Stats.{added, no_entries};
+    ghost use Rattle.raft_log_engine_core.specs.Hearing.{HearsBatch, HearsRecord, HearsRefused};
     ghost use Rattle.raft_log_engine_core.specs.Reads.{shows_of};
-    ghost use Rattle.raft_log_engine_core.specs.Room.{
-      IsMadeIfTried,
-      IsMadeUnlessFailed,
-      KeepsLittle,
-      PutFails,
-      StaysWritable,
-    };
-    ghost use Rattle.raft_log_engine_core.specs.Touching.{
-      LeavesFiles,
-      LeavesRecord,
-      StaysPurged,
-      WritesFiles,
-      WritesRecord,
-    };
+    ghost use Rattle.raft_log_engine_core.specs.Room.{IsMadeIfTried, IsMadeUnlessFailed, KeepsLittle, PutFails, StaysWritable};
+    ghost use Rattle.raft_log_engine_core.specs.Touching.{LeavesFiles, LeavesRecord, StaysPurged, WritesFiles, WritesRecord};
     ghost use Rattle.raft_log_directory_laws.specs.Calls.Which.{InAppend};
     ghost use Rattle.raft_log_file_pair.specs.Calls.{FailsToSyncQueue, SyncsQueue};
     ghost use Rattle.std.specs.Prelude.{false, true};
     ghost use Rattle.raft_log_disk.specs.Causes.{IsLater};
     ghost use Rattle.raft_log_file_pair.specs.ClosingCalls.{ClosesInOrder, ClosesLog};
     ghost use Rattle.raft_log_file_pair.specs.Pipes.{is_failed};
+    ghost use Rattle.raft_log_file_pair.specs.Telling.{Hears, files_begun};
 
     /// An engine over these pipes, whose tables these are, with these thresholds. So many entries and values
     /// were written to Rewrite before. No block is kept, and no group was asked to be compacted yet.
@@ -114,6 +97,7 @@ impl<P: PipeLog> LogEngine<P> {
         ensures files { OnOk result (SyncsQueue InAppend (P.shown self.old.pipes) (P.shown self.new.pipes)) }
         ensures left { OnErr result (FailsToSyncQueue InAppend
             (P.shown self.old.pipes) (P.shown self.new.pipes)) }
+        ensures told { P.listener self.new.pipes ≡ P.listener self.old.pipes }
         ensures purges { StaysPurged self.old self.new }
     {
         self.pipes.sync(rt, LogQueue::Append)
@@ -129,6 +113,11 @@ impl<P: PipeLog> LogEngine<P> {
     /// space, in two files, one after the other. `Memory`, `NumberRange`: for want of memory, or of a number,
     /// Append didn't go on in its next file. In each of these cases the batch is kept, and its record made.
     /// `Failed`: nothing is taken any more, and the batch may be in the log or not.
+    ///
+    /// Whoever listens is told of each file that Append went on in, and twice of a batch that is written: of the
+    /// place of its record, in Append's last file, and that what it says is in the tables. Nothing is told of the
+    /// sync. So behind an answered write, and one whose sync was refused, the engine's own hook holds back what it
+    /// held back before, and besides only a file that it couldn't list (`laws::batches_hold_nothing_back`).
     pub fn write<L: Log>(&mut self, rt: &L, batch: &mut LogBatch, sync: bool) -> Result<usize>
         ensures ok { IfOk result (λ len. WritesBytes batch.old sync len
             (shows_of P.shown self.old) (shows_of P.shown self.new)) }
@@ -144,6 +133,11 @@ impl<P: PipeLog> LogEngine<P> {
             (P.shown self.old.pipes) (P.shown self.new.pipes)) }
         ensures left { IfErr result (λ error. LeavesFiles batch.old sync error
             (P.shown self.old.pipes) (P.shown self.new.pipes)) }
+        ensures told { OnOk result (HearsBatch batch.old sync P.hears (P.shown self.old.pipes)
+            (P.shown self.new.pipes) (P.listener self.old.pipes) (P.listener self.new.pipes)) }
+        ensures told_less { IfErr result (λ error. HearsRefused batch.old sync P.hears error
+            (P.shown self.old.pipes) (P.shown self.new.pipes)
+            (P.listener self.old.pipes) (P.listener self.new.pipes)) }
         ensures purges { StaysPurged self.old self.new }
     {
         if self.is_failed() {
@@ -190,6 +184,11 @@ impl<P: PipeLog> LogEngine<P> {
             (P.shown self.old.pipes) (P.shown self.new.pipes)) }
         ensures left { IfErr result (λ error. LeavesRecord batch.old error
             (P.shown self.old.pipes) (P.shown self.new.pipes)) }
+        ensures told { OnOk result (HearsRecord batch.old P.hears (P.shown self.old.pipes)
+            (P.shown self.new.pipes) (P.listener self.old.pipes) (P.listener self.new.pipes)) }
+        ensures told_less { OnErr result (Hears P.hears
+            (files_begun Append (P.shown self.old.pipes) (P.shown self.new.pipes))
+            (P.listener self.old.pipes) (P.listener self.new.pipes)) }
         ensures purges { StaysPurged self.old self.new }
     {
         let alloc = self.alloc;

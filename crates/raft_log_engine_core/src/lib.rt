@@ -8,6 +8,7 @@
 #![tactic(auto)]
 
 pub mod engine;
+pub mod laws;
 mod writing;
 
 pub use engine::LogEngine;

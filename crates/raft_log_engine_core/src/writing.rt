@@ -1,7 +1,7 @@
 //! How a batch is written: room for it is made before, in memory, so that what comes after the write can't be
 //! refused.
 
-ghost use Rattle.std.specs.Prelude.{◌≡◌, ◌+◌, ◌≤◌, ◌<◌, ◌^◌, ◌↔◌, ℕ, [], length, vec_capacity, vec_len, false, IfErr, IfOk, OnErr, OnOk, IsTrue};
+ghost use Rattle.std.specs.Prelude.{◌≡◌, ◌+◌, ◌++◌, ◌≤◌, ◌<◌, ◌^◌, ◌↔◌, ℕ, [], ◌∷◌, length, vec_capacity, vec_len, false, IfErr, IfOk, OnErr, OnOk, IsTrue};
 ghost use Rattle.raft_log_record_marks.specs.declared.marking.Marking.TheVariants.{Broken};
 ghost use Rattle.raft_log_record_marks.specs.Marking.{marking_of_items};
 ghost use Rattle.raft_log_record_marks.specs.Meaning.{tagged_items};
@@ -14,12 +14,16 @@ ghost use Rattle.raft_log_table_all.specs.Batch.{all_shown, counts_at_end, IsRea
 ghost use Rattle.raft_log_table_all.specs.Tables.{counts, shown_of, IsAtRest, ShowsSame};
 ghost use Rattle.raft_log_file_pair.specs.Calls.{TellsFailure};
 ghost use Rattle.raft_log_file_pair.specs.Pipes.{is_failed};
+ghost use Rattle.raft_log_file_pair.specs.Telling.{Hears, files_begun};
+ghost use Rattle.raft_log_file_pair.specs.Telling.Told.{RecordWritten};
+ghost use Rattle.raft_log_record_base.specs.declared.pipe_log.LogQueue.TheVariants.{Append};
 ghost use Rattle.raft_log_disk.specs.Causes.{IsLater};
 ghost use Rattle.raft_log_file_blocks.specs.Signing.{signed_for};
 ghost use Rattle.raft_log_purge.specs.raft_log_engine_laws.specs.Trying.{RefusesAt, WritesAt};
 ghost use Rattle.raft_log_file_blocks.specs.raft_log_file_pipe.specs.Appending.{SaysTryAgain};
 ghost use Rattle.raft_log_purge.specs.raft_log_engine_laws.specs.Shows.{shows, IsWellMarked, IsWritable};
 ghost use Rattle.raft_log_purge.specs.raft_log_engine_laws.specs.Writing.{items_at, IsBatchKept, IsUnfit, PipesRefused, Writes};
+ghost use Rattle.raft_log_engine_core.specs.Hearing.{HearsRecord};
 ghost use Rattle.raft_log_engine_core.specs.Room.{HasListFor, IsUnfitItself, StaysWritable};
 ghost use Rattle.raft_log_engine_core.specs.Touching.{PipeRefuses, PipeTakes, RefusesBatch, WritesRecord};
 
@@ -104,6 +108,10 @@ pub fn append<P: PipeLog, L: Log>(
     ensures files { OnOk result (WritesRecord batch.old (P.shown pipes.old) (P.shown pipes.new)) }
     ensures left { IfErr result (λ error. RefusesBatch batch.old error
         (P.shown pipes.old) (P.shown pipes.new)) }
+    ensures told { OnOk result (HearsRecord batch.old P.hears (P.shown pipes.old) (P.shown pipes.new)
+        (P.listener pipes.old) (P.listener pipes.new)) }
+    ensures told_less { OnErr result (Hears P.hears (files_begun Append (P.shown pipes.old) (P.shown pipes.new))
+        (P.listener pipes.old) (P.listener pipes.new)) }
     ensures rests { IsAtRest tables.new }
     ensures emptied { OnOk result (batch.new ≡ emptied batch.old) }
     ensures bounded { OnOk result (batch.new.buffer ≤ max_kept_len) }
@@ -147,6 +155,11 @@ fn append_or_again<P: PipeLog, L: Log>(
         (P.shown pipes.old) (P.shown pipes.new)) }
     ensures told { IfErr result (λ error. PipeRefuses (signed_for signed.old.batch) error
         (P.shown pipes.old) (P.shown pipes.new)) }
+    ensures heard { IfOk result (λ block. Hears P.hears
+        (files_begun Append (P.shown pipes.old) (P.shown pipes.new) ++ RecordWritten block ∷ [])
+        (P.listener pipes.old) (P.listener pipes.new)) }
+    ensures heard_less { OnErr result (Hears P.hears
+        (files_begun Append (P.shown pipes.old) (P.shown pipes.new)) (P.listener pipes.old) (P.listener pipes.new)) }
     ensures said { record signed.new.batch { state = Populated }
         ≡ record signed.old.batch { state = Populated } }
     ensures fails { TellsFailure result (P.shown pipes.new) }

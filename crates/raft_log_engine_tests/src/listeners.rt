@@ -53,9 +53,17 @@ impl EventListener for Noting {
 struct Idle;
 
 impl EventListener for Idle {
+    fn post_new_log_file(&mut self, _file_id: FileId) {}
+
+    fn on_append_log_file(&mut self, _handle: FileBlockHandle) {}
+
+    fn post_apply_memtables(&mut self, _file_id: FileId) {}
+
     fn first_file_not_ready_for_purge(&self, _queue: LogQueue) -> Option<FileSeq> {
         None
     }
+
+    fn post_purge(&mut self, _file_id: FileId) {}
 }
 
 #[test]

@@ -69,6 +69,12 @@ module _ {M : Type 0} (reading : List ℕ → Option M) (v : LogPipes) where
   unread_behind (e ∷ es) more old next last [] error never rest = absurd never
   unread_behind (e ∷ es) more old next last (m ∷ ms) error (mid, one, first) rest = inr (inr (mid, m, one, unread_behind es more mid next last ms error first rest))
 
+  pub unread_front : (es more : List EntryIndex) (old new : BlockCache) (error : Error) → AreUnread reading v es old new error → AreUnread reading v (es ++ more) old new error
+  unread_front [] more old new error (memory, same) = subst (λ c. AreUnread reading v more old c error) (sym same) (none_read reading v more old error memory)
+  unread_front (e ∷ es) more old new error (inl memory) = inl memory
+  unread_front (e ∷ es) more old new error (inr (inl one)) = inr (inl one)
+  unread_front (e ∷ es) more old new error (inr (inr (next, m, one, others))) = inr (inr (next, m, one, unread_front es more next new error others))
+
   -- a block that is kept stays so as it is read again
   kept_again : (block : FileBlockHandle) (old mid next : BlockCache) → KeepsBlock v block old mid → KeepsBlock v block mid next → KeepsBlock v block old next
   kept_again block old mid next first (there, inl (was, same)) = subst (KeepsBlock v block old) (sym same) first

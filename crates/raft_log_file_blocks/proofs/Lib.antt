@@ -1,5 +1,6 @@
 pub mod KeptBlocks
-mod Entries
+pub mod Entries
+mod Bounds
 mod Signed
 pub mod WholeBlocks
 mod Parts

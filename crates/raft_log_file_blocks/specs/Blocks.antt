@@ -60,9 +60,9 @@ LosesBlock v block old new error =
 abbrev pub entries_in : BlockCache → ℕ
 entries_in cache = length cache.bytes.items - 4
 
--- why no entry is answered: it doesn't lie in the block; or memory ran out for saying so
+-- why no entry is answered: it doesn't lie in the block, also where memory ran out for saying so
 abbrev pub IsNoEntry : ℕ → ℕ → BlockCache → Error → Type 0
-IsNoEntry offset len cache errors.Memory = Unit {0}
+IsNoEntry offset len cache errors.Memory = offset + len ≤ entries_in cache → ⊥
 IsNoEntry offset len cache (errors.Corruption text) = offset + len ≤ entries_in cache → ⊥
 IsNoEntry offset len cache _ = ⊥
 

@@ -1,6 +1,6 @@
 //! The entry block that was read last.
 
-ghost use Rattle.std.specs.Prelude.{◌≡◌, ◌↔◌, IsTrue, ◌+◌, ◌<◌, ◌≤◌, None, Some, IfErr, IfOk, OnErr, OnOk, length, take, vec_capacity, vec_len};
+ghost use Rattle.std.specs.Prelude.{◌≡◌, ◌↔◌, IsTrue, ℕ, ◌+◌, ◌-◌, ◌<◌, ◌≤◌, None, Some, IfErr, IfOk, OnErr, OnOk, length, take, vec_capacity, vec_len};
 
 use raft_log_file_pair::PipeLog;
 use raft_log_record_base::{Error, FileBlockHandle, Result};
@@ -11,7 +11,8 @@ use std::alloc::Global;
 /// The entry block that was read last, with its checksum, and its place; or none.
 ///
 /// It is emptied where what stands at a place may no longer be what was read there: where a write was cut
-/// back, and where a file left the span.
+/// back, and where a file left the span. A block is read over the bytes of the one before, so that the cache
+/// has the room of the longest that it read.
 #[derive(Drop)]
 pub struct BlockCache {
     place: Option<FileBlockHandle>,
@@ -21,6 +22,7 @@ pub struct BlockCache {
 impl BlockCache {
     ghost use Rattle.raft_log_file_blocks.specs.Stored.{part};
     ghost use Rattle.raft_log_file_blocks.specs.Blocks.{AddsEntries, AreUnread, IsEntryUnread, IsNoEntry, KeepsBlock, LosesBlock, ReadsEntries, ReadsEntry, entries_in};
+    ghost use Rattle.raft_log_table_runs.specs.Entries.{entries_between};
 
     /// A cache without a block. It takes no memory.
     pub fn new(alloc: Global) -> BlockCache
@@ -56,7 +58,7 @@ impl BlockCache {
             return Ok(());
         }
         self.place = None;
-        self.bytes = pipes.read_bytes(alloc, block)?;
+        pipes.read_over(alloc, block, &mut self.bytes)?;
         decode_entries_block(alloc, self.bytes.as_slice(), CompressionType::None)?;
         self.place = Some(block);
         Ok(())
@@ -70,13 +72,33 @@ impl BlockCache {
             × (bytes.now ≡ part offset len self.now.bytes.items)) }
         ensures err { IfErr result (IsNoEntry offset len self.now) }
     {
-        let end = offset as usize + len as usize;
-        if end > self.bytes.len().saturating_sub(LOG_BATCH_CHECKSUM_LEN) {
-            return Err(Error::Corruption(format!(in alloc;
-                "Entry past the end of its block: {end}"
-            )?));
+        self.entry_between(alloc, offset as u64, offset as u64 + len as u64)
+    }
+
+    /// The bytes of an entry of the block that is kept, from one bound up to another, or where that is lower no
+    /// bytes from the first bound on: nothing is copied. Refuses what `entry` refuses.
+    fn entry_between(&self, alloc: Global, start: u64, end: u64) -> Result<&[u8]>
+        ensures ok { IfOk result (λ bytes. (start + (end - start) ≤ entries_in self.now)
+            × (bytes.now ≡ part start (end - start) self.now.bytes.items)) }
+        ensures err { IfErr result (IsNoEntry start (end - start) self.now) }
+    {
+        let end = end.max(start);
+        if end > self.bytes.len().saturating_sub(LOG_BATCH_CHECKSUM_LEN) as u64 {
+            return Err(self.past_the_end(alloc, end));
         }
-        Ok(&self.bytes[offset as usize..end])
+        Ok(&self.bytes[start as usize..end as usize])
+    }
+
+    /// Why no entry is answered that ends there, past the last of the block that is kept; or `Memory`.
+    #[cold]
+    fn past_the_end(&self, alloc: Global, end: u64) -> Error
+        requires { entries_in self.now < end }
+        ensures { (offset : ℕ) → (len : ℕ) → offset + len ≡ end → IsNoEntry offset len self.now result }
+    {
+        match format!(in alloc; "Entry past the end of its block: {end}") {
+            Ok(text) => Error::Corruption(text),
+            Err(_) => Error::Memory,
+        }
     }
 
     /// The entry that lies at a place, as a message. Its block is kept then.
@@ -119,6 +141,37 @@ impl BlockCache {
         Ok(messages)
     }
 
+    /// Adds the entries of a block, each from one of these bounds up to the next, as messages, for which there
+    /// is room: the block is read once. A refusal keeps what was there, and may leave some of these behind it.
+    ///
+    /// Refuses what `read_entry` refuses of the first entry that isn't read.
+    pub fn read_between<M: Message, P: PipeLog>(
+        &mut self,
+        alloc: Global,
+        pipes: &P,
+        block: FileBlockHandle,
+        bounds: &[u64],
+        messages: &mut Vec<M>,
+    ) -> Result<()>
+        requires some { 1 < length bounds.now }
+        requires room { vec_len messages.old + length bounds.now ≤ vec_capacity messages.old + 1 }
+        ensures ok { OnOk result ((n : ℕ) → AddsEntries M.reading (P.shown pipes.now)
+            (entries_between block n bounds.now) self.old self.new messages.old.items messages.new.items) }
+        ensures kept { take (length messages.old.items) messages.new.items ≡ messages.old.items }
+        ensures capacity { OnOk result (vec_capacity messages.new ≡ vec_capacity messages.old) }
+        ensures len { OnOk result (vec_len messages.new + 1 ≡ vec_len messages.old + length bounds.now) }
+        ensures err { IfErr result (λ error. (n : ℕ) → AreUnread M.reading (P.shown pipes.now)
+            (entries_between block n bounds.now) self.old self.new error) }
+    {
+        self.read(alloc, pipes, block)?;
+        for i in 1..bounds.len() {
+            let bytes = self.entry_between(alloc, bounds[i - 1], bounds[i])?;
+            let message = M::parse(alloc, bytes)?;
+            messages.push_reserved(message);
+        }
+        Ok(())
+    }
+
     /// Adds the entries that lie at these places, as messages, and refuses what `read_entries` refuses. A
     /// refusal adds nothing.
     pub fn read_entries_to<M: Message, P: PipeLog>(
@@ -145,8 +198,8 @@ impl BlockCache {
         }
     }
 
-    /// Adds the entries that lie at these places, as messages, for which there is room. A refusal leaves
-    /// those that were read before.
+    /// Adds the entries that lie at these places, as messages, for which there is room. A refusal keeps what
+    /// was there, and may leave some of these behind it.
     fn push_entries<M: Message, P: PipeLog>(
         &mut self,
         alloc: Global,
@@ -171,7 +224,8 @@ impl BlockCache {
     }
 
     /// Adds the first of these entries, as messages, up to the first that lies in another block, and answers
-    /// how many. There are some, and there is room. A refusal leaves those that were read before.
+    /// how many. There are some, and there is room. A refusal keeps what was there, and may leave some of these
+    /// behind it.
     fn push_piece<M: Message, P: PipeLog>(
         &mut self,
         alloc: Global,

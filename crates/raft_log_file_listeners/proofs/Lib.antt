@@ -1,2 +1,4 @@
 pub mod Held
+pub mod Hook
 pub mod Least
+mod Tellings

@@ -2,31 +2,40 @@
 
 ghost use Rattle.std.specs.Prelude.{◌≡◌, ℕ, Option, None};
 ghost use Rattle.raft_log_record_base.specs.declared.pipe_log.LogQueue.{LogQueue};
+ghost use Rattle.raft_log_file_pair.specs.Telling.{Told};
+ghost use Rattle.raft_log_file_pair.specs.Telling.Told.{FileBegun, FilesPurged, RecordApplied, RecordWritten};
 
 use raft_log_record_base::{FileBlockHandle, FileId, FileSeq, LogQueue};
 
 /// Is told what happens to a log's files. A listener may hold back a purge, and changes nothing else: it has
-/// neither the pipes nor the tables. By default it does nothing when it is told; what it holds back it has to
-/// say.
+/// neither the pipes nor the tables. It has to say what it does when it is told, and what it holds back; by
+/// default nothing is asked of either.
 pub trait EventListener: Send + Drop {
     /// What the listener holds back of a queue: nothing, or the files from a number on.
     ghost holds_back: { Self → LogQueue → Option ℕ → Type 0 } = { λ listener queue held. held ≡ None };
 
+    /// What each thing that is told makes of the listener: by default anything.
+    ghost hears: { Told → Self → Self → Type 0 } = { λ one old new. Unit {0} };
+
     /// A file was begun, or found at an open.
-    fn post_new_log_file(&mut self, _file_id: FileId) {}
+    fn post_new_log_file(&mut self, file_id: FileId)
+        ensures { hears (FileBegun file_id) self.old self.new };
 
     /// A record was written at this place.
-    fn on_append_log_file(&mut self, _handle: FileBlockHandle) {}
+    fn on_append_log_file(&mut self, handle: FileBlockHandle)
+        ensures { hears (RecordWritten handle) self.old self.new };
 
     /// What the last record of this file says is in the tables.
-    fn post_apply_memtables(&mut self, _file_id: FileId) {}
+    fn post_apply_memtables(&mut self, file_id: FileId)
+        ensures { hears (RecordApplied file_id) self.old self.new };
 
     /// The number of the first file of a queue that must not be purged yet, if there is one.
     fn first_file_not_ready_for_purge(&self, queue: LogQueue) -> Option<FileSeq>
         ensures { holds_back self.now queue result };
 
     /// The files of a queue up to this one were purged.
-    fn post_purge(&mut self, _file_id: FileId) {}
+    fn post_purge(&mut self, file_id: FileId)
+        ensures { hears (FilesPurged file_id) self.old self.new };
 }
 
 /// Nobody listens: nothing is done, and nothing held back.
@@ -34,7 +43,15 @@ pub trait EventListener: Send + Drop {
 pub struct Nobody;
 
 impl EventListener for Nobody {
+    fn post_new_log_file(&mut self, _file_id: FileId) {}
+
+    fn on_append_log_file(&mut self, _handle: FileBlockHandle) {}
+
+    fn post_apply_memtables(&mut self, _file_id: FileId) {}
+
     fn first_file_not_ready_for_purge(&self, _queue: LogQueue) -> Option<FileSeq> {
         None
     }
+
+    fn post_purge(&mut self, _file_id: FileId) {}
 }

@@ -35,6 +35,8 @@ impl<H: EventListener> EventListener for Listeners<H> {
         (AllHoldBack (λ one. (EventListener-box one).holds_back one.value queue) all.listeners.items)
         (H.holds_back all.hook queue) };
 
+    ghost hears = { λ one old new. H.hears one old.hook new.hook };
+
     fn post_new_log_file(&mut self, file_id: FileId) {
         for listener in self.listeners.iter_mut() {
             listener.post_new_log_file(file_id);

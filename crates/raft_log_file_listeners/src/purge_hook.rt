@@ -156,8 +156,11 @@ impl PurgeHook {
 
 impl EventListener for PurgeHook {
     ghost use Rattle.raft_log_file_listeners.specs.Active.{DropsListed, ListsOrMisses};
+    ghost use Rattle.raft_log_file_listeners.specs.Hearing.{HookHears};
 
     ghost holds_back = { λ hook queue held. held ≡ first_held queue hook };
+
+    ghost hears = { HookHears };
 
     /// A file that can't be listed holds back a purge from its number on.
     fn post_new_log_file(&mut self, file_id: FileId)

@@ -1,6 +1,8 @@
 //! A log's pipes, and who listens.
 
-ghost use Rattle.std.specs.Prelude.{◌≡◌};
+ghost use Rattle.std.specs.Prelude.{◌≡◌, ◌++◌, ◌-◌};
+ghost use Rattle.raft_log_record_base.specs.declared.pipe_log.LogQueue.TheVariants.{Append, Rewrite};
+ghost use Rattle.raft_log_file_pair.specs.Telling.{Hears, begun, files_found};
 
 use crate::{EventListener, lesser};
 use log::Log;
@@ -24,13 +26,12 @@ impl<P: PipeLog, E: EventListener> ToldPipes<P, E> {
     pub fn new(pipes: P, listener: E) -> ToldPipes<P, E>
         ensures pipes { result.pipes ≡ pipes }
         ensures shown { ⟦<ToldPipes<P, E> as PipeLog>⟧.shown result ≡ P.shown pipes }
+        ensures told { Hears E.hears
+            (files_found Append (P.shown pipes) ++ files_found Rewrite (P.shown pipes)) listener result.listener }
     {
         let mut listener = listener;
-        for queue in [LogQueue::Append, LogQueue::Rewrite] {
-            let (first, last) = pipes.file_span(queue);
-            listener.post_new_log_file(FileId::new(queue, first));
-            tell_new_files(&mut listener, queue, first, last);
-        }
+        tell_files(&mut listener, &pipes, LogQueue::Append);
+        tell_files(&mut listener, &pipes, LogQueue::Rewrite);
         ToldPipes { pipes, listener }
     }
 
@@ -49,22 +50,36 @@ impl<P: PipeLog, E: EventListener> ToldPipes<P, E> {
     }
 }
 
+/// Tells a listener of all files of a queue, in their order.
+fn tell_files<P: PipeLog, E: EventListener>(listener: &mut E, pipes: &P, queue: LogQueue)
+    ensures { Hears E.hears (files_found queue (P.shown pipes.now)) listener.old listener.new }
+{
+    let (first, last) = pipes.file_span(queue);
+    listener.post_new_log_file(FileId::new(queue, first));
+    tell_new_files(listener, queue, first, last);
+}
+
 /// Tells a listener of the files of a queue behind this one, up to the last one, in their order.
 fn tell_new_files<E: EventListener>(
     listener: &mut E,
     queue: LogQueue,
     before: FileSeq,
     last: FileSeq,
-) {
+)
+    ensures { Hears E.hears (begun queue before (last - before)) listener.old listener.new }
+{
     for seq in before..last {
         listener.post_new_log_file(FileId::new(queue, seq + 1));
     }
 }
 
 impl<P: PipeLog, E: EventListener> PipeLog for ToldPipes<P, E> {
+    ghost use Rattle.raft_log_file_pair.specs.Telling.{BothHear};
     ghost use Rattle.raft_log_file_listeners.specs.Least.{BothHoldBack};
 
     type Files = P::Files;
+
+    type Listener = (P::Listener, E);
 
     ghost shown = { λ told. P.shown told.pipes };
 
@@ -76,6 +91,10 @@ impl<P: PipeLog, E: EventListener> PipeLog for ToldPipes<P, E> {
 
     ghost holds_back = { λ told queue.
         BothHoldBack (P.holds_back told.pipes queue) (E.holds_back told.listener queue) };
+
+    ghost listener = { λ told. (P.listener told.pipes, told.listener) };
+
+    ghost hears = { BothHear P.hears E.hears };
 
     fn is_failed(&self) -> bool {
         self.pipes.is_failed()
@@ -103,6 +122,10 @@ impl<P: PipeLog, E: EventListener> PipeLog for ToldPipes<P, E> {
 
     fn read_bytes(&self, alloc: Global, block: FileBlockHandle) -> Result<Vec<u8>> {
         self.pipes.read_bytes(alloc, block)
+    }
+
+    fn read_over(&self, alloc: Global, block: FileBlockHandle, bytes: &mut Vec<u8>) -> Result<()> {
+        self.pipes.read_over(alloc, block, bytes)
     }
 
     /// The listener is told of each file that the queue went on in, also where the record is refused, and then
@@ -142,9 +165,11 @@ impl<P: PipeLog, E: EventListener> PipeLog for ToldPipes<P, E> {
     /// The listener is told of the last file that left the span, if there is one.
     fn purge_to<L: Log>(&mut self, alloc: Global, rt: &L, file_id: FileId) -> Result<usize> {
         let answer = self.pipes.purge_to(alloc, rt, file_id);
-        if matches!(answer, Ok(count) if count > 0) {
-            let last = file_id.seq.saturating_sub(1);
-            self.listener.post_purge(FileId::new(file_id.queue, last));
+        if let Ok(count) = &answer {
+            if *count > 0 {
+                let last = file_id.seq.saturating_sub(1);
+                self.listener.post_purge(FileId::new(file_id.queue, last));
+            }
         }
         answer
     }

@@ -1,4 +1,4 @@
-mod Pairing
+pub mod Pairing
 mod Exits
 mod PairSpans
 mod Ends
@@ -27,3 +27,4 @@ pub mod CloseSteps
 pub mod OpenSteps
 pub mod OnDiskLaws
 pub mod FailingLaws
+pub mod Telling

@@ -6,6 +6,7 @@ pub mod LastFile
 pub mod ClosingCalls
 pub mod Opening
 pub mod HoldingBack
+pub mod Telling
 pub mod Queues
 pub mod State
 pub mod Crash

@@ -53,6 +53,8 @@ impl<F: FileSystem> PipeLog for DualPipes<F> {
 
     type Files = F;
 
+    type Listener = ();
+
     ghost shown = { λ pipes. record {
       append = record {
         queue = pipes.append.layout.queue;
@@ -78,6 +80,10 @@ impl<F: FileSystem> PipeLog for DualPipes<F> {
     ghost arms_files = { λ fault old new. F.arms fault old new };
 
     ghost holds_back = { λ pipes queue held. held ≡ None };
+
+    ghost listener = { λ pipes. tt };
+
+    ghost hears = { λ one old new. Unit {0} };
 
     fn is_failed(&self) -> bool {
         self.append.is_failed() || self.rewrite.is_failed()
@@ -117,6 +123,17 @@ impl<F: FileSystem> PipeLog for DualPipes<F> {
         match block.id.queue {
             LogQueue::Append => self.append.read_bytes(alloc, &self.file_system, block),
             LogQueue::Rewrite => self.rewrite.read_bytes(alloc, &self.file_system, block),
+        }
+    }
+
+    fn read_over(&self, alloc: Global, block: FileBlockHandle, bytes: &mut Vec<u8>) -> Result<()> {
+        match block.id.queue {
+            LogQueue::Append => self
+                .append
+                .read_over(alloc, &self.file_system, block, bytes),
+            LogQueue::Rewrite => self
+                .rewrite
+                .read_over(alloc, &self.file_system, block, bytes),
         }
     }
 
@@ -166,6 +183,9 @@ impl<F: FileSystem> PipeLog for DualPipes<F> {
             LogQueue::Rewrite => self.rewrite.purge_to(alloc, rt, &mut self.file_system, seq),
         }
     }
+
+    /// Nobody listens.
+    fn post_apply_memtables(&mut self, _file_id: FileId) {}
 
     /// Nobody listens.
     fn first_file_not_ready_for_purge(&self, _queue: LogQueue) -> Option<FileSeq> {

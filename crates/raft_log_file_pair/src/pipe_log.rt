@@ -1,6 +1,6 @@
 //! A log's two queues of files, as an engine uses them.
 
-ghost use Rattle.std.specs.Prelude.{◌≡◌, ◌-◌, ◌≤◌, ◌<◌, ◌^◌, ℕ, Option, false, true, IfErr, IfOk, OnErr, OnOk};
+ghost use Rattle.std.specs.Prelude.{◌≡◌, ◌++◌, ◌-◌, ◌≤◌, ◌<◌, ◌^◌, ℕ, Option, [], ◌∷◌, false, true, IfErr, IfOk, OnErr, OnOk};
 ghost use Rattle.raft_log_record_base.specs.declared.errors.Error.TheVariants as errors;
 ghost use Rattle.raft_log_disk.specs.Causes.{IsLater};
 
@@ -25,11 +25,16 @@ pub trait PipeLog {
     ghost use Rattle.raft_log_file_pair.specs.ClosingCalls.{ClosesInOrder, ClosesLog};
     ghost use Rattle.raft_log_file_pair.specs.Numbers.{EndsNumbers, EndsNumbersAt, EndsNumbersBelow};
     ghost use Rattle.raft_log_file_pair.specs.LastFile.{IsNextIfFull, RaisesPipe, TurnsBehind, last_of};
+    ghost use Rattle.raft_log_file_pair.specs.Telling.{Hears, Told, files_begun, files_purged};
+    ghost use Rattle.raft_log_file_pair.specs.Telling.Told.{RecordApplied, RecordWritten};
     ghost use Rattle.raft_log_file_pair.specs.Calls.{AppendsTo, ArmsNoPipes, FailsToAppendTo, FailsToPurgeQueue, FailsToRotateQueue, FailsToSyncQueue, IsSpanOf, PurgesQueue, RotatesQueue, StaysFailed, SyncsQueue, TellsFailure, seq_at, size_at};
     ghost use Rattle.raft_log_file_pair.specs.PipeCalls.{KeepRules, PipeAppends, PipeAppendsBy, PipeFailsToAppend, PipeFailsToAppendBy, PipeFailsToPurge, PipeFailsToPurgeBy, PipeFailsToRotate, PipeFailsToRotateBy, PipeFailsToSync, PipeFailsToSyncBy, PipePurges, PipePurgesBy, PipeRotates, PipeRotatesBy, PipeSyncs, PipeSyncsBy};
 
     /// The file system that the files are in, which a close gives back.
     type Files;
+
+    /// Whoever listens.
+    type Listener;
 
     /// The pipes, and their disk.
     ghost shown: { Self → LogPipes };
@@ -45,6 +50,12 @@ pub trait PipeLog {
 
     /// What whoever listens holds back of a queue: nothing, or the files from a number on.
     ghost holds_back: { Self → LogQueue → Option ℕ → Type 0 };
+
+    /// Whoever listens.
+    ghost listener: { Self → Self.Listener };
+
+    /// What each thing that is told makes of whoever listens.
+    ghost hears: { Told → Self.Listener → Self.Listener → Type 0 };
 
     /// Whether a call was refused that couldn't be mended.
     fn is_failed(&self) -> bool
@@ -62,7 +73,8 @@ pub trait PipeLog {
         ensures ok { OnOk result (ArmsPipes fault.now (shown self.old) (shown self.new)) }
         ensures armed { OnOk result (arms_files fault.now (files self.old) (files self.new)) }
         ensures err { OnErr result (shown self.new ≡ shown self.old) }
-        ensures cause { IfErr result (ArmsNoPipes (shown self.old)) };
+        ensures cause { IfErr result (ArmsNoPipes (shown self.old)) }
+        ensures told { listener self.new ≡ listener self.old };
 
     /// The numbers of the first and the last file of a queue.
     fn file_span(&self, queue: LogQueue) -> (FileSeq, FileSeq)
@@ -90,12 +102,23 @@ pub trait PipeLog {
         ensures err { IfErr result (IsReadRefused (pipe_at (which_of block.id.queue)
             (files_of (shown self.now))) block (shown self.now).disk) };
 
+    /// The bytes at a place come in the stead of those that the list has, fewer where its file ends before.
+    /// `Corruption` where its file isn't of the queue's span. A refusal leaves any bytes.
+    fn read_over(&self, alloc: Global, block: FileBlockHandle, bytes: &mut Vec<u8>) -> Result<()>
+        ensures ok { OnOk result (IsReadAt (pipe_at (which_of block.id.queue)
+            (files_of (shown self.now))) block bytes.new.items (shown self.now).disk) }
+        ensures err { IfErr result (IsReadRefused (pipe_at (which_of block.id.queue)
+            (files_of (shown self.now))) block (shown self.now).disk) };
+
     /// Writes a record behind the others of a queue, and answers its place. It is signed for the file that it
     /// goes into, which is the next one where the last one is as long as it is to be.
     ///
     /// `Io`: the write was refused and cut off, and all before it is durable. `TryAgain`: the same for want
     /// of space, and the queue went on in its next file. `Memory`, `NumberRange`: there is no next file, and
     /// nothing is lost; the numbers that a file's name can have have run out. `Failed`: the pipes have failed.
+    ///
+    /// Whoever listens is told of each file that the queue went on in, and then, if it is written, of the record
+    /// at its place.
     fn append<L: Log, B: ReactiveBytes>(
         &mut self,
         alloc: Global,
@@ -118,6 +141,13 @@ pub trait PipeLog {
             (shown self.old) (shown self.new)) }
         ensures refusal { IfErr result (λ error. PipeFailsToAppend (which_of queue) (B.signed bytes.old) error
             (shown self.old) (shown self.new)) }
+        ensures grows { OnErr result
+            (last_of (which_of queue) (shown self.old) ≤ last_of (which_of queue) (shown self.new)) }
+        ensures told { IfOk result (λ block. Hears hears
+            (files_begun queue (shown self.old) (shown self.new) ++ RecordWritten block ∷ [])
+            (listener self.old) (listener self.new)) }
+        ensures told_less { OnErr result (Hears hears (files_begun queue (shown self.old) (shown self.new))
+            (listener self.old) (listener self.new)) }
         ensures signed { B.signed bytes.new ≡ B.signed bytes.old }
         ensures said { B.said bytes.new ≡ B.said bytes.old }
         ensures made { IfOk result (λ block. PipeAppendsBy (which_of queue) (B.signed bytes.old) block
@@ -138,6 +168,7 @@ pub trait PipeLog {
         ensures refusal { OnErr result (PipeFailsToSync (which_of queue) (shown self.old) (shown self.new)) }
         ensures made { OnOk result (PipeSyncsBy (which_of queue) (shown self.old) (shown self.new)) }
         ensures refused { OnErr result (PipeFailsToSyncBy (which_of queue) (shown self.old) (shown self.new)) }
+        ensures told { listener self.new ≡ listener self.old }
         ensures rules { KeepRules (shown self.old) (shown self.new) }
         ensures failed { StaysFailed result (shown self.old) (shown self.new) }
         ensures fails { TellsFailure result (shown self.new) }
@@ -159,6 +190,8 @@ pub trait PipeLog {
         ensures made { OnOk result (PipeRotatesBy (which_of queue) (shown self.old) (shown self.new)) }
         ensures refused { IfErr result (λ error. PipeFailsToRotateBy (which_of queue) error
             (shown self.old) (shown self.new)) }
+        ensures told { Hears hears (files_begun queue (shown self.old) (shown self.new))
+            (listener self.old) (listener self.new) }
         ensures rules { KeepRules (shown self.old) (shown self.new) }
         ensures failed { StaysFailed result (shown self.old) (shown self.new) }
         ensures fails { TellsFailure result (shown self.new) }
@@ -190,16 +223,17 @@ pub trait PipeLog {
             (shown self.old) (shown self.new)) }
         ensures refused { IfErr result (λ error. PipeFailsToPurgeBy (which_of file_id.queue) file_id.seq error
             (shown self.old) (shown self.new)) }
+        ensures told { Hears hears (files_purged file_id result) (listener self.old) (listener self.new) }
         ensures rules { KeepRules (shown self.old) (shown self.new) }
         ensures failed { StaysFailed result (shown self.old) (shown self.new) }
         ensures fails { TellsFailure result (shown self.new) }
         ensures later { IsLater (shown self.old).disk (shown self.new).disk };
 
     /// What the last record of this file says is in the tables: whoever listens is told, and nothing changes.
-    fn post_apply_memtables(&mut self, _file_id: FileId)
+    fn post_apply_memtables(&mut self, file_id: FileId)
         ensures shown { shown self.new ≡ shown self.old }
         ensures files { files self.new ≡ files self.old }
-    {}
+        ensures told { Hears hears (RecordApplied file_id ∷ []) (listener self.old) (listener self.new) };
 
     /// The number of the first file of a queue that must not be purged yet, if there is one, as whoever listens
     /// has it.

@@ -336,6 +336,23 @@ impl<G: PipeFormat> SinglePipe<G> {
         let handle = self.files.handle_of(alloc, block.id.seq)?;
         LogFileReader::open(handle).read(alloc, file_system, block)
     }
+
+    /// The bytes at a place come in the stead of those that the list has, fewer where the file ends before.
+    /// `Corruption` where its file isn't listed. A refusal leaves any bytes.
+    pub fn read_over<F: FileSystem>(
+        &self,
+        alloc: Global,
+        file_system: &F,
+        block: FileBlockHandle,
+        bytes: &mut Vec<u8>,
+    ) -> Result<()>
+        ensures ok { OnOk result (IsReadAt self.now.files block bytes.new.items
+            (F.disk file_system.now)) }
+        ensures err { IfErr result (IsReadRefused self.now.files block (F.disk file_system.now)) }
+    {
+        let handle = self.files.handle_of(alloc, block.id.seq)?;
+        LogFileReader::open(handle).read_over(file_system, block, bytes)
+    }
 }
 
 impl<G: PipeFormat + Drop> SinglePipe<G> {

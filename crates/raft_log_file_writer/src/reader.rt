@@ -1,6 +1,6 @@
 //! Reading one log file.
 
-ghost use Rattle.std.specs.Prelude.{◌≡◌, ℕ, length, IfOk, IfErr};
+ghost use Rattle.std.specs.Prelude.{◌≡◌, ℕ, length, IfOk, IfErr, OnOk};
 ghost use Rattle.raft_log_disk.specs.Reading.{FillsRoom, IsOpened, IsSize};
 ghost use Rattle.raft_log_disk.specs.Touching.{HasFile};
 ghost use Rattle.raft_log_file_writer.specs.Reader.{AreBytesAt, BeginsWithHeader, GivesFormat, IsBlockRefusal, IsFormatRefusal, IsOpenRefusal, IsReadRefusal, IsSizeRefusal};
@@ -89,10 +89,28 @@ impl LogFileReader {
         ensures err { IfErr result (λ error. IsBlockRefusal self.now.handle block.offset block.len
             (F.disk file_system.now) error) }
     {
-        let mut bytes = vec![in alloc; 0u8; block.len]?;
-        let count = self.read_to(file_system, block.offset, &mut bytes)?;
-        bytes.truncate(count);
+        let mut bytes = Vec::new(alloc);
+        self.read_over(file_system, block, &mut bytes)?;
         Ok(bytes)
+    }
+
+    /// The bytes of a block come in the stead of those that the list has; fewer where the file ends before the
+    /// block does. A refusal leaves any bytes.
+    pub fn read_over<F: FileSystem>(
+        &self,
+        file_system: &F,
+        block: FileBlockHandle,
+        bytes: &mut Vec<u8>,
+    ) -> Result<()>
+        ensures ok { OnOk result (HasFile self.now.handle.file
+            (AreBytesAt block.offset block.len bytes.new.items) (F.disk file_system.now)) }
+        ensures err { IfErr result (λ error. IsBlockRefusal self.now.handle block.offset block.len
+            (F.disk file_system.now) error) }
+    {
+        bytes.resize(block.len, 0)?;
+        let count = self.read_to(file_system, block.offset, bytes)?;
+        bytes.truncate(count);
+        Ok(())
     }
 
     /// Reads bytes from an offset on until the room is full or the file ends, and answers how many.

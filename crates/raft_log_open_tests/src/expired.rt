@@ -12,7 +12,7 @@ use raft_log_open_player::steps::Step::{
 };
 use raft_log_open_player::steps::{Step, play};
 use raft_log_open_player::store::open_with;
-use raft_log_record_base::{FileSeq, LogQueue, Result, Version};
+use raft_log_record_base::{FileBlockHandle, FileId, FileSeq, LogQueue, Result, Version};
 use std::alloc::Global;
 use std::thread::Threads;
 
@@ -215,9 +215,17 @@ impl EventListener for HoldsBack {
 
     ghost holds_back = { λ listener queue held. held ≡ Some 3 };
 
+    fn post_new_log_file(&mut self, _file_id: FileId) {}
+
+    fn on_append_log_file(&mut self, _handle: FileBlockHandle) {}
+
+    fn post_apply_memtables(&mut self, _file_id: FileId) {}
+
     fn first_file_not_ready_for_purge(&self, _queue: LogQueue) -> Option<FileSeq> {
         Some(3)
     }
+
+    fn post_purge(&mut self, _file_id: FileId) {}
 }
 
 /// Whether steps on a log of which files are held back so are answered as they say.

@@ -1,11 +1,13 @@
 -- Entries that are read: those in Rewrite, and behind them those in Append.
-use Rattle.std.proofs.Common.{◌≡◌, ℕ, suc, ◌+◌, ◌-◌, ◌<◌, ◌≤◌, List, [], ◌∷◌, ◌++◌, length, take, drop, nat_lt, refl, sym, ap, ap₂, ◌∙◌, arith, append_assoc, drop-drop, length-drop, length-take-le, take-append-drop, take-take}
+use Rattle.std.proofs.Common.{◌≡◌, ℕ, suc, ◌+◌, ◌-◌, ◌<◌, ◌≤◌, List, [], ◌∷◌, ◌++◌, length, take, drop, nat_lt, refl, sym, ap, ap₂, ◌∙◌, arith, append_assoc, drop-drop, length-drop, length-take, length-take-le, take-append-drop, take-take}
 use Rattle.std.proofs.lemmas.List.{drop-take}
+use Rattle.raft_log_record_base.specs.declared.pipe_log.FileBlockHandle.{FileBlockHandle}
 use Rattle.raft_log_record_base.specs.declared.pipe_log.LogQueue.TheVariants.{Append, Rewrite}
 use Rattle.raft_log_record_items.specs.declared.entry.EntryIndex.{EntryIndex}
 use Rattle.raft_log_model_laws.proofs.Cases.{lt_false, lt_true}
 use Rattle.raft_log_table_runs.specs.declared.place.Place.{Place}
-use Rattle.raft_log_table_runs.specs.Entries.{entries_of, entry_of, queue_of}
+use Rattle.raft_log_table_runs.specs.Blocks.{between, in_block}
+use Rattle.raft_log_table_runs.specs.Entries.{entries_between, entries_of, entry_of, place_at, queue_of}
 use Rattle.raft_log_table_lists.specs.Shown.{Shown}
 use Rattle.raft_log_table_one.specs.Reads.{entries_from}
 
@@ -58,3 +60,27 @@ parts_read v n count before first ps qs old mid new e same h few low high one tw
     (one ∙ ap (λ q. old ++ entries_of Rewrite (first + n) (take before (drop n q))) same) same
     ∙ append_assoc old (entries_of Rewrite (first + n) front) (entries_of Append (first + (n + before)) back)
     ∙ ap (λ l. old ++ l) (sym (ap (entries_from v n) whole ∙ from_append v n front back ∙ ap₂ ◌++◌ first_part last_part))
+
+-- where a place in its block is makes no difference to the places between bounds of that block
+between_block : (p : Place) (xs : List ℕ) → between (in_block p 0 0) xs ≡ between p xs
+between_block p [] = refl
+between_block p (x ∷ []) = refl
+between_block p (x ∷ (y ∷ ys)) = ap (λ l. in_block p x (y - x) ∷ l) (between_block p (y ∷ ys))
+
+-- the entries between bounds of one block, all before the border, or all from it on
+module _ (v : Shown) (n index limit : ℕ) (ps : List Place) (block : FileBlockHandle) (p : Place) (bounds : List ℕ) (at : index ≡ v.first + n)
+    (same : place_at block ≡ in_block p 0 0) (long : length bounds ≤ limit + 1) (are : between p bounds ≡ take (length bounds - 1) (drop n ps)) where
+  abbrev pub part : List Place
+  part = take (length bounds - 1) (drop n ps)
+
+  as_places : entries_between block index bounds ≡ entries_of block.id.queue index part
+  as_places = ap (entries_of block.id.queue index) (ap (λ b. between b bounds) same ∙ between_block p bounds ∙ are)
+
+  pub rewritten_between : block.id.queue ≡ Rewrite → n + limit ≤ v.rewritten → entries_between block index bounds ≡ entries_from v n (take (length bounds - 1) (drop n ps))
+  rewritten_between queue low =
+      let few = length-take (length bounds - 1) (drop n ps) in
+      as_places ∙ ap (λ q. entries_of q index part) queue ∙ sym (rewritten_only v n index part at (λ some. omega (arith, few, low, long)))
+
+  pub appended_between : block.id.queue ≡ Append → v.rewritten ≤ n → entries_between block index bounds ≡ entries_from v n (take (length bounds - 1) (drop n ps))
+  appended_between queue high =
+      as_places ∙ ap (λ q. entries_of q index part) queue ∙ sym (appended_only v n index part at (λ some. high))

@@ -4,35 +4,15 @@ ghost use Rattle.raft_log_record_base.specs.declared.errors.Error.TheVariants as
 ghost use Rattle.raft_log_record_items.specs.Run.{IsRun};
 ghost use Rattle.raft_log_model_laws.specs.Item.Item.{Clean, Compact, Del, Put};
 ghost use Rattle.raft_log_table_runs.specs.declared.place.Place.{Place};
-ghost use Rattle.raft_log_table_lists.specs.Shown.{
-  IsOrderly,
-  MayFollow,
-  nothing_shown,
-  span,
-  stepped,
-  with_clean,
-  with_compact,
-  with_del,
-  with_put,
-};
+ghost use Rattle.raft_log_table_lists.specs.Shown.{IsOrderly, MayFollow, nothing_shown, span, stepped, with_clean, with_compact, with_del, with_put};
 ghost use Rattle.raft_log_table_runs.specs.Blocks.{pieces};
-ghost use Rattle.raft_log_table_runs.specs.Entries.{entry_of, place_of, queue_of, run_of};
+ghost use Rattle.raft_log_table_runs.specs.Counts.{sized};
+ghost use Rattle.raft_log_table_runs.specs.Entries.{entries_between, entry_of, place_of, queue_of, run_of};
 ghost use Rattle.raft_log_table_lists.specs.Bridge.{moved_key, unmarked};
 ghost use Rattle.raft_log_table_one.specs.Moves.{key_rewritten, may_move, moved_by, owed_compact, rewritten_by, RunStandsIn};
 ghost use Rattle.raft_log_table_lists.specs.Keys.{shown_value, value_of};
-ghost use Rattle.raft_log_table_one.specs.Reads.{entries_from, entry_at, first_of, last_of, AreIn, Fetches, FetchRefused};
-ghost use Rattle.raft_log_table_one.specs.Room.{
-  kept,
-  no_promise,
-  promised,
-  taken_back,
-  with_moves,
-  with_room_for,
-  with_room_of,
-  without_moves,
-  CanTake,
-  IsVacant,
-};
+ghost use Rattle.raft_log_table_one.specs.Reads.{entries_from, entry_at, places_between, first_of, last_of, AreIn, Fetches, FetchRefused};
+ghost use Rattle.raft_log_table_one.specs.Room.{kept, no_promise, promised, taken_back, with_moves, with_room_for, with_room_of, without_moves, CanTake, IsVacant};
 ghost use Rattle.raft_log_table_lists.specs.Replayed.{nothing_replayed};
 ghost use Rattle.raft_log_table_one.specs.Table.{promise, replay_of, runs_of, shown, window_of, IsBoundAs, OwesNothing, PromisesNothing, RunRefused, StandsEmpty};
 
@@ -42,7 +22,7 @@ mod reads;
 mod replay;
 
 use crate::ends::Ends;
-use raft_log_record_base::{Error, FileSeq, LogQueue, Result};
+use raft_log_record_base::{Error, FileBlockHandle, FileId, FileSeq, LogQueue, Result};
 use raft_log_record_items::{Bytes, EntryIndex};
 use raft_log_table_lists::{GroupFiles, HeldValue, KeyMap};
 use raft_log_table_runs::{Places, entry_of};
@@ -209,6 +189,24 @@ impl MemTable {
         ensures err { OnErr result (entries.new.items ≡ entries.old.items) }
         ensures errors { IfErr result (λ e. FetchRefused (shown self.now) begin end e) }
     {
+        let count = self.count_to(begin, end, max_size)?;
+        if count == 0 {
+            return Ok(0);
+        }
+        entries.reserve(count)?;
+        self.copy_entries((begin - self.first) as usize, count, entries);
+        Ok(count)
+    }
+
+    /// How many entries from `begin` on, below `end`, a fetch adds, and refuses what it refuses but for
+    /// `Memory`.
+    pub fn count_to(&self, begin: u64, end: u64, max_size: Option<u64>) -> Result<usize>
+        ensures ok { IfOk result (λ count. count ≡ sized max_size (places_between (shown self.now) begin end)) }
+        ensures few { IfOk result (λ count. count ≤ end - begin) }
+        ensures within { OnOk result (AreIn (shown self.now) begin end) }
+        ensures err { IfErr result (λ e. FetchRefused (shown self.now) begin end e) }
+        ensures told { IfErr result (λ e. e ≡ errors.Memory → ⊥) }
+    {
         if begin >= end {
             return Ok(0);
         }
@@ -222,12 +220,44 @@ impl MemTable {
             return Err(Error::EntryNotFound);
         }
         let position = (begin - self.first) as usize;
-        let count = self
-            .places
-            .sized(position, (end - begin) as usize, max_size);
-        entries.reserve(count)?;
-        self.copy_entries(position, count, entries);
-        Ok(count)
+        Ok(
+            self.places
+                .sized(position, (end - begin) as usize, max_size),
+        )
+    }
+
+    /// Of the entries from this index on, at most so many, those that lie one behind another in one block:
+    /// the bounds are where each of them starts in its block, and where the last one ends. Answers that block.
+    /// It is looked for at the hint first.
+    pub fn copy_bounds(
+        &self,
+        index: u64,
+        limit: usize,
+        hint: &mut usize,
+        bounds: &mut Vec<u64>,
+    ) -> FileBlockHandle
+        requires first { (shown self.now).first ≤ index }
+        requires within { index + limit ≤ (shown self.now).first + length (shown self.now).places }
+        requires some { 0 < limit }
+        requires room { limit < vec_capacity bounds.old }
+        ensures entries { entries_between result index bounds.new.items
+            ≡ entries_from (shown self.now) (index - (shown self.now).first) (take (length bounds.new.items - 1)
+            (drop (index - (shown self.now).first) (shown self.now).places)) }
+        ensures count { (1 < length bounds.new.items) × (length bounds.new.items ≤ limit + 1) }
+        ensures capacity { vec_capacity bounds.new ≡ vec_capacity bounds.old }
+    {
+        let position = (index - self.first) as usize;
+        let (queue, limit) = if position < self.rewritten {
+            (LogQueue::Rewrite, limit.min(self.rewritten - position))
+        } else {
+            (LogQueue::Append, limit)
+        };
+        let place = self.places.copy_bounds(position, limit, hint, bounds);
+        FileBlockHandle {
+            id: FileId::new(queue, place.file),
+            offset: place.offset,
+            len: place.len,
+        }
     }
 
     /// Adds so many entries from this position on, for which there is room.

@@ -11,3 +11,4 @@ pub mod RunRoom
 pub mod RunReplacing
 pub mod RunPieces
 pub mod RunCopies
+pub mod RunBounds

@@ -38,3 +38,9 @@ abbrev pub uneven_places : Place → ℕ → List ℕ → List Place
 uneven_places b size [] = []
 uneven_places b size (o ∷ []) = in_block b o size ∷ []
 uneven_places b size (o ∷ (p ∷ os)) = in_block b o (p - o) ∷ uneven_places b size (p ∷ os)
+
+-- the places in a block from each of these bounds up to the next
+abbrev pub between : Place → List ℕ → List Place
+between b [] = []
+between b (x ∷ []) = []
+between b (x ∷ (y ∷ ys)) = in_block b x (y - x) ∷ between b (y ∷ ys)

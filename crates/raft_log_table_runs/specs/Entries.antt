@@ -8,6 +8,7 @@ use Rattle.raft_log_record_items.specs.declared.compression.CompressionType.TheV
 use Rattle.raft_log_model_laws.specs.Item.{Item}
 use Rattle.raft_log_model_laws.specs.Item.Item.{Run}
 use Rattle.raft_log_table_runs.specs.declared.place.Place.{Place}
+use Rattle.raft_log_table_runs.specs.Blocks.{between}
 
 -- the places that a table has, and in how many runs they are kept; how many more it has promised room for; and
 -- for how many of those that it has others may come
@@ -56,3 +57,17 @@ entries_of queue index (p ∷ ps) = entry_of queue index p ∷ entries_of queue 
 abbrev pub run_of : List EntryIndex → Item Place (List ℕ)
 run_of [] = Run 0 []
 run_of (e ∷ es) = Run e.index (map place_of (e ∷ es))
+
+-- a block, as a place of no bytes
+abbrev pub place_at : FileBlockHandle → Place
+place_at block = record {
+  file = block.id.seq;
+  offset = block.offset;
+  len = block.len;
+  entry_offset = 0;
+  entry_len = 0;
+}
+
+-- the entries in a block from each of these bounds up to the next, the first of this index
+abbrev pub entries_between : FileBlockHandle → ℕ → List ℕ → List EntryIndex
+entries_between block index bounds = entries_of block.id.queue index (between (place_at block) bounds)

@@ -6,6 +6,7 @@ ghost use Rattle.raft_log_table_runs.specs.Blocks.{pieces};
 ghost use Rattle.raft_log_table_runs.specs.Runs.{counts, places_of, width, IsFound, IsSound, IsSound-prop};
 ghost use Rattle.raft_log_table_runs.specs.Spots.{IsSpot};
 
+mod bounds;
 mod copying;
 mod cutting;
 mod pieces;

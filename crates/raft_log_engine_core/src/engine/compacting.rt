@@ -1,10 +1,13 @@
 //! A group's entries below an index go.
 
-ghost use Rattle.std.specs.Prelude.{◌≡◌, IfErr, IfOk};
+ghost use Rattle.std.specs.Prelude.{◌≡◌, IfErr, IfOk, OnErr, OnOk};
 ghost use Rattle.raft_log_record_base.specs.declared.errors.Error.TheVariants as errors;
 ghost use Rattle.raft_log_record_batches.specs.declared.log_batch.BatchState.TheVariants.{Filling};
+ghost use Rattle.raft_log_record_base.specs.declared.pipe_log.LogQueue.TheVariants.{Append};
 ghost use Rattle.raft_log_table_all.specs.Tables.{shown_of};
+ghost use Rattle.raft_log_file_pair.specs.Telling.{Hears, files_begun};
 ghost use Rattle.raft_log_engine_core.specs.Compacting.{entries_below, CompactsTo, FailsToCompact, SaysCompact};
+ghost use Rattle.raft_log_engine_core.specs.Hearing.{HearsCompact};
 ghost use Rattle.raft_log_engine_core.specs.Reads.{shows_of};
 ghost use Rattle.raft_log_engine_core.specs.Touching.{StaysPurged};
 
@@ -19,7 +22,7 @@ use std::alloc::Global;
 impl<P: PipeLog> LogEngine<P> {
     /// Writes that a group's entries below an index go, and answers how many do; nothing is written for a
     /// group without entries. It isn't synced: nothing is done to the files but that its record is written, before
-    /// which Append may go on in its next file.
+    /// which Append may go on in its next file. Whoever listens is told as of any `write`.
     ///
     /// `Failed` of an engine that has failed. `Memory` before anything is done. Then what `write` refuses.
     pub fn compact_to<L: Log>(&mut self, rt: &L, raft_group_id: u64, index: u64) -> Result<u64>
@@ -27,6 +30,12 @@ impl<P: PipeLog> LogEngine<P> {
             (shows_of P.shown self.old) (shows_of P.shown self.new)) }
         ensures err { IfErr result (λ error. FailsToCompact raft_group_id index error
             (shows_of P.shown self.old) (shows_of P.shown self.new)) }
+        ensures told { OnOk result (HearsCompact raft_group_id index P.hears
+            (shows_of P.shown self.old) (shows_of P.shown self.new)
+            (P.listener self.old.pipes) (P.listener self.new.pipes)) }
+        ensures told_less { OnErr result (Hears P.hears
+            (files_begun Append (P.shown self.old.pipes) (P.shown self.new.pipes))
+            (P.listener self.old.pipes) (P.listener self.new.pipes)) }
         ensures purges { StaysPurged self.old self.new }
     {
         if self.is_failed() {

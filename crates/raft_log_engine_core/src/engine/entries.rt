@@ -1,24 +1,21 @@
 //! Entries are read through their blocks, of which the last is kept.
 
-ghost use Rattle.std.specs.Prelude.{◌≡◌, ◌⊎◌, true, IfErr, IfOk, OnErr, OnOk};
-ghost use Rattle.raft_log_table_one.specs.Reads.{entry_at, FetchRefused};
+ghost use Rattle.std.specs.Prelude.{◌≡◌, ◌⊎◌, ◌+◌, ◌^◌, ◌<◌, ◌≤◌, length, take, vec_capacity, vec_len, IfErr, IfOk, OnErr, OnOk};
+ghost use Rattle.raft_log_table_one.specs.Reads.{entry_at};
 ghost use Rattle.raft_log_table_one.specs.Table.{shown};
-ghost use Rattle.raft_log_table_all.specs.Tables.{counts, shown_of};
-ghost use Rattle.raft_log_purge.specs.raft_log_engine_laws.specs.Fetching.{
-  AreToRead,
-  FailsToFetch,
-  FailsToTell,
-  FetchesTo,
-  HadFailed,
-  TellsEntry,
-};
-ghost use Rattle.raft_log_engine_core.specs.Reads.{shows_of};
+ghost use Rattle.raft_log_table_all.specs.Tables.{shown_of};
+ghost use Rattle.raft_log_file_blocks.specs.Blocks.{AddsEntries, AreUnread};
+ghost use Rattle.raft_log_purge.specs.raft_log_engine_laws.specs.Fetching.{FailsToFetch, FailsToTell, FetchesTo, HadFailed, TellsEntry};
+ghost use Rattle.raft_log_engine_core.specs.Reads.{entries_on, shows_of, Lives};
 ghost use Rattle.raft_log_engine_core.specs.Touching.{StaysPurged};
 
 use super::LogEngine;
+use raft_log_file_blocks::BlockCache;
 use raft_log_file_pair::PipeLog;
 use raft_log_record_base::{Error, Result};
-use raft_log_record_items::{EntryIndex, MessageExt};
+use raft_log_record_items::{EntryIndex, Message, MessageExt};
+use raft_log_table_one::MemTable;
+use std::alloc::Global;
 
 impl<P: PipeLog> LogEngine<P> {
     /// The entry of a group at an index, if there is one.
@@ -87,10 +84,56 @@ impl<P: PipeLog> LogEngine<P> {
         if self.is_failed() {
             return Err(Error::Failed);
         }
-        let entries = self.entries_to(raft_group_id, begin, end, max_size)?;
-        self.cache
-            .read_entries_to(self.alloc, &self.pipes, entries.as_slice(), vec)?;
-        Ok(entries.len())
+        let len = vec.len();
+        match self.read_to(raft_group_id, begin, end, max_size, vec) {
+            Ok(count) => Ok(count),
+            Err(error) => {
+                vec.truncate(len);
+                Err(error)
+            }
+        }
+    }
+
+    /// Adds the entries of a group, of an engine that hasn't failed, as `fetch_entries_to` does. A refusal
+    /// keeps what was there, and may leave some of these behind it.
+    fn read_to<M: Message>(
+        &mut self,
+        raft_group_id: u64,
+        begin: u64,
+        end: u64,
+        max_size: Option<usize>,
+        messages: &mut Vec<M>,
+    ) -> Result<usize>
+        requires { Lives (shows_of P.shown self.old) }
+        ensures ok { IfOk result (FetchesTo M.reading raft_group_id begin end max_size
+            (shows_of P.shown self.old)
+            (shows_of P.shown self.new) messages.old.items messages.new.items) }
+        ensures kept { take (length messages.old.items) messages.new.items ≡ messages.old.items }
+        ensures err { IfErr result (FailsToFetch M.reading raft_group_id begin end
+            (shows_of P.shown self.old)
+            (shows_of P.shown self.new)) }
+        ensures pipes { self.new.pipes ≡ self.old.pipes }
+        ensures purges { StaysPurged self.old self.new }
+    {
+        let Some(table) = self.tables.get(raft_group_id) else {
+            return Ok(0);
+        };
+        let count = table.count_to(begin, end, in_bytes(max_size))?;
+        if count == 0 {
+            return Ok(0);
+        }
+        messages.reserve(count)?;
+        let cache = &mut self.cache;
+        push_entries(
+            self.alloc,
+            &self.pipes,
+            table,
+            cache,
+            begin,
+            count,
+            messages,
+        )?;
+        Ok(count)
     }
 
     /// Where the entry of a group at an index lies, if there is one.
@@ -102,28 +145,44 @@ impl<P: PipeLog> LogEngine<P> {
             None => None,
         }
     }
+}
 
-    /// Where the entries lie that a fetch is to read.
-    fn entries_to(
-        &self,
-        raft_group_id: u64,
-        begin: u64,
-        end: u64,
-        max_size: Option<usize>,
-    ) -> Result<Vec<EntryIndex>>
-        ensures ok { IfOk result (λ entries.
-            AreToRead (shows_of P.shown self.now)
-            raft_group_id begin end max_size entries.items) }
-        ensures err { IfErr result (λ error. (counts self.now.tables raft_group_id ≡ true)
-            × FetchRefused (shown_of self.now.tables raft_group_id) begin end error) }
-    {
-        let Some(table) = self.tables.get(raft_group_id) else {
-            return Ok(Vec::new(self.alloc));
-        };
-        let mut entries = Vec::new(self.alloc);
-        table.fetch_entries_to(begin, end, in_bytes(max_size), &mut entries)?;
-        Ok(entries)
+/// How many entries are read at a time, at most.
+const PIECE: usize = 1_024;
+
+/// Adds so many entries of a table, from an index on, as messages, for which there is room: a block is read
+/// once for those that lie in it one behind another. A refusal keeps what was there, and may leave some of
+/// these behind it.
+fn push_entries<M: Message, P: PipeLog>(
+    alloc: Global,
+    pipes: &P,
+    table: &MemTable,
+    cache: &mut BlockCache,
+    index: u64,
+    count: usize,
+    messages: &mut Vec<M>,
+) -> Result<()>
+    requires first { (shown table.now).first ≤ index }
+    requires within { index + count ≤ (shown table.now).first + length (shown table.now).places }
+    requires fits { index + count < 2 ^ 64 }
+    requires room { vec_len messages.old + count ≤ vec_capacity messages.old }
+    ensures ok { OnOk result (AddsEntries M.reading (P.shown pipes.now)
+        (entries_on (shown table.now) index count) cache.old cache.new messages.old.items messages.new.items) }
+    ensures kept { take (length messages.old.items) messages.new.items ≡ messages.old.items }
+    ensures err { IfErr result (AreUnread M.reading (P.shown pipes.now)
+        (entries_on (shown table.now) index count) cache.old cache.new) }
+{
+    let piece = count.min(PIECE);
+    let mut bounds = Vec::with_capacity(alloc, piece + 1)?;
+    let mut hint = 0;
+    let mut done = 0;
+    while done < count {
+        let limit = piece.min(count - done);
+        let block = table.copy_bounds(index + done as u64, limit, &mut hint, &mut bounds);
+        cache.read_between(alloc, pipes, block, bounds.as_slice(), messages)?;
+        done += bounds.len() - 1;
     }
+    Ok(())
 }
 
 /// A size as a number of bytes.

@@ -30,6 +30,7 @@ impl<P: PipeLog> LogEngine<P> {
             (P.arms_files fault.now (P.files self.old.pipes) (P.files self.new.pipes)) }
         ensures err { OnErr result (shows_of P.shown self.new ≡ shows_of P.shown self.old) }
         ensures purges { StaysPurged self.old self.new }
+        ensures told { P.listener self.new.pipes ≡ P.listener self.old.pipes }
         ensures cause { IfErr result (ArmsNoPipes (P.shown self.old.pipes)) }
     {
         self.pipes.arm(fault)

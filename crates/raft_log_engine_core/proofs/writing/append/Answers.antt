@@ -8,6 +8,12 @@ use Rattle.raft_log_purge.specs.raft_log_engine_laws.specs.Shows.{shows}
 use Rattle.raft_log_purge.specs.raft_log_engine_laws.specs.Trying.{RefusesAt, WritesAt}
 use Rattle.raft_log_purge.specs.raft_log_engine_laws.specs.Writing.{Writes}
 use Rattle.raft_log_engine_core.specs.Touching.{PipeRefuses, PipeTakes, WritesRecord}
+use Rattle.raft_log_file_pair.specs.Telling.{files_begun}
+use Rattle.raft_log_file_pair.specs.Telling.Told.{RecordApplied, RecordWritten}
+use Rattle.raft_log_file_pair.proofs.Telling.{hears_after}
+use Rattle.raft_log_record_base.specs.declared.pipe_log.LogQueue.TheVariants.{Append}
+use Rattle.raft_log_engine_core.specs.Hearing.{HearsRecord}
+use Rattle.raft_log_engine_core.proofs.Hearing.{goes_into_last}
 use Rattle.raft_log_engine_core.proofs.Put.{ready_of, refuses_with, writes_at}
 use Rattle.raft_log_engine_core.proofs.writing.append.Goals as goal
 
@@ -63,4 +69,25 @@ returns-in-Err-clause-left g c =
     let told = c.in-Err.ensures in (
       subst (λ (x : Batch). RefusesAt (signed_for x) c.in-Err.error v w) was told.err,
       subst (λ (x : Batch). PipeRefuses (signed_for x) c.in-Err.error v w) was told.told,
+    )
+
+pub returns-in-Ok-clause-told : goal.returns-in-Ok-clause-told
+returns-in-Ok-clause-told g c =
+    let pipes = g.P.PipeLog in
+    let b = c.args.batch.now in
+    let v = pipes.shown c.args.pipes.now in
+    let w = pipes.shown c.append_or_again-appended.new.pipes in
+    let old = pipes.listener c.args.pipes.now in
+    let mid = pipes.listener c.append_or_again-appended.new.pipes in
+    let new = pipes.listener c.post_apply_memtables.new.self in
+    let block = c.in-Ok.block in
+    let was : c.new-signed.result.batch ≡ signed_as None b = c.new-signed.ensures ∙ ap (signed_as None) c.replace.ensures.value in
+    let call = subst (λ (x : Batch). WritesAt (signed_for x) block v w) was c.in-Ok.ensures.ok in
+    let takes = subst (λ (x : Batch). PipeTakes (signed_for x) block v w) was c.in-Ok.ensures.takes in
+    subst (λ (x : LogPipes). HearsRecord b pipes.hears v x old new) (sym c.post_apply_memtables.ensures.shown) (
+      block,
+      call,
+      takes,
+      goes_into_last (signed_for b) block v w takes,
+      hears_after pipes.hears (files_begun Append v w) (RecordWritten block) (RecordApplied block.id) old mid new c.in-Ok.ensures.heard c.post_apply_memtables.ensures.told,
     )

@@ -1,5 +1,10 @@
 use Rattle.raft_log_table_all.specs.Tables.{shown_of}
 use Rattle.raft_log_purge.specs.raft_log_engine_laws.specs.Shows.{shows}
+use Rattle.raft_log_record_base.specs.declared.pipe_log.LogQueue.TheVariants.{Append}
+use Rattle.raft_log_directory_laws.specs.Calls.Which.{InAppend}
+use Rattle.raft_log_file_pair.specs.LastFile.{last_of}
+use Rattle.raft_log_file_pair.proofs.Telling.{hears_none}
+use Rattle.raft_log_engine_core.proofs.Hearing.{heard_kept}
 use Rattle.raft_log_engine_core.proofs.Put.{kept_record, kept_unrecorded, put_answers, put_refuses, refused_made, unfit_made, unfit_unrecorded}
 use Rattle.raft_log_engine_core.proofs.engine.LogEngine.put.Goals as goal
 
@@ -31,3 +36,14 @@ returns-in-Ok-clause-made g c =
 pub returns-in-Err-clause-made : goal.returns-in-Err-clause-made
 returns-in-Err-clause-made g c =
     unfit_made c.args.batch.now c.make_room.new.batch c.in-Err.error (g.P.PipeLog.shown c.args.self.now.pipes) c.args.self.now.tables c.make_room.new.tables c.args.self.now.cache c.make_room.ensures.shows c.in-Err.ensures.errors
+
+pub returns-in-Err-clause-told_less : goal.returns-in-Err-clause-told_less
+returns-in-Err-clause-told_less g c =
+    let pipes = g.P.PipeLog in
+    hears_none pipes.hears Append (last_of InAppend (pipes.shown c.args.self.now.pipes)) (pipes.listener c.args.self.now.pipes)
+
+pub returns-in-Ok-clause-told : goal.returns-in-Ok-clause-told
+returns-in-Ok-clause-told g c =
+    let pipes = g.P.PipeLog in
+    heard_kept c.args.batch.now c.make_room.new.batch pipes.hears (pipes.shown c.args.self.now.pipes) (pipes.shown c.append.new.pipes)
+    (pipes.listener c.args.self.now.pipes) (pipes.listener c.append.new.pipes) c.append.result c.make_room.ensures.kept c.append.ensures.told

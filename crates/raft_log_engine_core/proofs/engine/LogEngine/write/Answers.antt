@@ -1,7 +1,13 @@
-use Rattle.std.proofs.Common.{◌≡◌, true, inl, inr, refl, sym, subst, arith}
+use Rattle.std.proofs.Common.{◌≡◌, true, [], inl, inr, refl, sym, subst, ◌∙◌, arith}
+use Rattle.std.proofs.lemmas.Bool.{false≢true}
 use Rattle.raft_log_purge.specs.raft_log_engine_laws.specs.Shows.{shows}
 use Rattle.raft_log_purge.specs.raft_log_engine_laws.specs.Writing.{WritesBytes}
 use Rattle.raft_log_engine_core.specs.Touching.{WritesFiles}
+use Rattle.raft_log_record_base.specs.declared.pipe_log.LogQueue.TheVariants.{Append}
+use Rattle.raft_log_directory_laws.specs.Calls.Which.{InAppend}
+use Rattle.raft_log_file_pair.specs.LastFile.{last_of}
+use Rattle.raft_log_file_pair.proofs.Telling.{hears_none}
+use Rattle.raft_log_engine_core.proofs.Hearing.{heard_not_synced, heard_synced, heard_unsynced}
 use Rattle.raft_log_engine_core.proofs.Put.{none_unsynced, none_unsynced_files, put_synced, put_synced_files, put_unsynced, put_unsynced_files, unsynced_made}
 use Rattle.raft_log_engine_core.proofs.engine.LogEngine.write.Goals as goal
 
@@ -73,3 +79,61 @@ returns-in-Err-sync-clause-made g c =
     let mid = shows (g.P.PipeLog.shown c.put.new.self.pipes) c.put.new.self.tables c.put.new.self.cache in
     let t = shows (g.P.PipeLog.shown c.sync-in-Ok-put.new.self.pipes) c.sync-in-Ok-put.new.self.tables c.sync-in-Ok-put.new.self.cache in
     unsynced_made c.args.batch.now c.put.new.batch c.in-Err-sync.error s mid t c.in-Err-sync.ensures.err
+
+pub returns-then-is_failed-clause-told_less : goal.returns-then-is_failed-clause-told_less
+returns-then-is_failed-clause-told_less g c =
+    let pipes = g.P.PipeLog in
+    inl (inl (tt, refl), hears_none pipes.hears Append (last_of InAppend (pipes.shown c.args.self.now.pipes)) (pipes.listener c.args.self.now.pipes))
+
+pub returns-then-not-sync-clause-told : goal.returns-then-not-sync-clause-told
+returns-then-not-sync-clause-told g c =
+    let pipes = g.P.PipeLog in
+    let v = pipes.shown c.args.self.now.pipes in
+    let old = pipes.listener c.args.self.now.pipes in
+    heard_unsynced c.args.batch.now c.args.sync pipes.hears v v old old c.if-not-sync.true (inl (c.if-is_empty.ensures.0 refl, refl, refl))
+
+pub returns-in-Ok-clause-told : goal.returns-in-Ok-clause-told
+returns-in-Ok-clause-told g c =
+    let pipes = g.P.PipeLog in
+    let v = pipes.shown c.args.self.now.pipes in
+    let old = pipes.listener c.args.self.now.pipes in
+    let asked : c.args.sync ≡ true = grind (arith, c.if-not-sync.false) in
+    heard_synced c.args.batch.now c.args.sync pipes.hears v v (pipes.shown c.sync.new.self.pipes) old old (pipes.listener c.sync.new.self.pipes)
+    asked (inl (c.if-is_empty.ensures.0 refl, refl, refl)) c.sync.ensures.told c.in-Ok.ensures.files
+
+pub returns-in-Err-clause-told_less : goal.returns-in-Err-clause-told_less
+returns-in-Err-clause-told_less g c =
+    let pipes = g.P.PipeLog in
+    let v = pipes.shown c.args.self.now.pipes in
+    let old = pipes.listener c.args.self.now.pipes in
+    let asked : c.args.sync ≡ true = grind (arith, c.if-not-sync.false) in
+    heard_not_synced c.args.batch.now c.args.sync pipes.hears c.in-Err.error v v (pipes.shown c.sync.new.self.pipes) old old (pipes.listener c.sync.new.self.pipes)
+    asked c.in-Err.ensures.err.0 (sym c.is_failed.ensures ∙ c.if-is_failed.false) (inl (c.if-is_empty.ensures.0 refl, refl, refl)) c.sync.ensures.told c.in-Err.ensures.left
+
+pub returns-then-not-sync-2-clause-told : goal.returns-then-not-sync-2-clause-told
+returns-then-not-sync-2-clause-told g c =
+    let pipes = g.P.PipeLog in
+    let some : c.args.batch.now.items ≡ [] → ⊥ = λ none. false≢true (sym c.if-is_empty.false ∙ c.is_empty.ensures.1 none) in
+    heard_unsynced c.args.batch.now c.args.sync pipes.hears (pipes.shown c.args.self.now.pipes) (pipes.shown c.put.new.self.pipes)
+    (pipes.listener c.args.self.now.pipes) (pipes.listener c.put.new.self.pipes) c.if-not-sync-2.true (inr (some, c.in-Ok-put.ensures.told))
+
+pub returns-in-Ok-sync-clause-told : goal.returns-in-Ok-sync-clause-told
+returns-in-Ok-sync-clause-told g c =
+    let pipes = g.P.PipeLog in
+    let asked : c.args.sync ≡ true = grind (arith, c.if-not-sync-2.false) in
+    let some : c.args.batch.now.items ≡ [] → ⊥ = λ none. false≢true (sym c.if-is_empty.false ∙ c.is_empty.ensures.1 none) in
+    heard_synced c.args.batch.now c.args.sync pipes.hears (pipes.shown c.args.self.now.pipes) (pipes.shown c.put.new.self.pipes) (pipes.shown c.sync-in-Ok-put.new.self.pipes)
+    (pipes.listener c.args.self.now.pipes) (pipes.listener c.put.new.self.pipes) (pipes.listener c.sync-in-Ok-put.new.self.pipes)
+    asked (inr (some, c.in-Ok-put.ensures.told)) c.sync-in-Ok-put.ensures.told c.in-Ok-sync.ensures.files
+
+pub returns-in-Err-sync-clause-told_less : goal.returns-in-Err-sync-clause-told_less
+returns-in-Err-sync-clause-told_less g c =
+    let pipes = g.P.PipeLog in
+    let asked : c.args.sync ≡ true = grind (arith, c.if-not-sync-2.false) in
+    let some : c.args.batch.now.items ≡ [] → ⊥ = λ none. false≢true (sym c.if-is_empty.false ∙ c.is_empty.ensures.1 none) in
+    heard_not_synced c.args.batch.now c.args.sync pipes.hears c.in-Err-sync.error (pipes.shown c.args.self.now.pipes) (pipes.shown c.put.new.self.pipes) (pipes.shown c.sync-in-Ok-put.new.self.pipes)
+    (pipes.listener c.args.self.now.pipes) (pipes.listener c.put.new.self.pipes) (pipes.listener c.sync-in-Ok-put.new.self.pipes)
+    asked c.in-Err-sync.ensures.err.0 (sym c.is_failed.ensures ∙ c.if-is_failed.false) (inr (some, c.in-Ok-put.ensures.told)) c.sync-in-Ok-put.ensures.told c.in-Err-sync.ensures.left
+
+pub returns-in-Err-put-clause-told_less : goal.returns-in-Err-put-clause-told_less
+returns-in-Err-put-clause-told_less g c = inl (c.in-Err-put.ensures.left, c.in-Err-put.ensures.told_less)

@@ -6,6 +6,7 @@ use Rattle.raft_log_file_pair.specs.Pipes.{LogPipes, OnePipe}
 use Rattle.raft_log_file_pair.proofs.PairNumbers.{append_ends_when}
 use Rattle.raft_log_file_pair.proofs.LastFile.{lasts_when, turns_when}
 use Rattle.raft_log_file_pair.proofs.Pairing.{either_false, when_alive}
+use Rattle.raft_log_file_pair.proofs.Telling.{grows_when, nobody_hears_err, nobody_hears_ok}
 use Rattle.raft_log_file_pair.proofs.dual_pipes.DualPipesPipeLog.append.Goals as goal
 
 pub returns-in-Append-clause-ok : goal.returns-in-Append-clause-ok
@@ -143,3 +144,21 @@ pub returns-in-Rewrite-clause-refused : goal.returns-in-Rewrite-clause-refused
 returns-in-Rewrite-clause-refused g c =
     let alive = (either_false _ _ (sym c.is_failed.ensures ∙ c.if-is_failed.false)).1 in
     rw c.in-Rewrite.is (when_alive c.append-in-Rewrite.result _ _ (c.append-in-Rewrite.ensures.refusal alive))
+
+pub returns-in-Append-clause-grows : goal.returns-in-Append-clause-grows
+returns-in-Append-clause-grows g c = rw c.in-Append.is (grows_when c.append.result 2 c.args.self.now.append.files c.append.new.self.files c.append.ensures.near)
+
+pub returns-in-Append-clause-told : goal.returns-in-Append-clause-told
+returns-in-Append-clause-told g c = nobody_hears_ok c.append.result _ _ _
+
+pub returns-in-Append-clause-told_less : goal.returns-in-Append-clause-told_less
+returns-in-Append-clause-told_less g c = nobody_hears_err c.append.result _ _ _
+
+pub returns-in-Rewrite-clause-grows : goal.returns-in-Rewrite-clause-grows
+returns-in-Rewrite-clause-grows g c = rw c.in-Rewrite.is (grows_when c.append-in-Rewrite.result 2 c.args.self.now.rewrite.files c.append-in-Rewrite.new.self.files c.append-in-Rewrite.ensures.near)
+
+pub returns-in-Rewrite-clause-told : goal.returns-in-Rewrite-clause-told
+returns-in-Rewrite-clause-told g c = nobody_hears_ok c.append-in-Rewrite.result _ _ _
+
+pub returns-in-Rewrite-clause-told_less : goal.returns-in-Rewrite-clause-told_less
+returns-in-Rewrite-clause-told_less g c = nobody_hears_err c.append-in-Rewrite.result _ _ _

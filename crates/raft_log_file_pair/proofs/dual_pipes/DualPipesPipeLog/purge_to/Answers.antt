@@ -6,6 +6,7 @@ use Rattle.raft_log_file_pair.proofs.PairNumbers.{purge_ends_when}
 use Rattle.raft_log_file_pair.proofs.LastFile.{raises_when}
 use Rattle.raft_log_file_pair.proofs.PairSpans.{purges_not_when, purges_when}
 use Rattle.raft_log_file_pair.proofs.Pairing.{either_false, when_alive}
+use Rattle.raft_log_file_pair.proofs.Telling.{nobody_hears}
 use Rattle.raft_log_file_pair.proofs.dual_pipes.DualPipesPipeLog.purge_to.Goals as goal
 
 pub returns-in-Append-clause-ok : goal.returns-in-Append-clause-ok
@@ -109,3 +110,9 @@ pub returns-in-Rewrite-clause-refused : goal.returns-in-Rewrite-clause-refused
 returns-in-Rewrite-clause-refused g c =
     let alive = (either_false _ _ (sym c.is_failed.ensures ∙ c.if-is_failed.false)).1 in
     rw c.in-Rewrite.is (when_alive c.purge_to-in-Rewrite.result _ _ (c.purge_to-in-Rewrite.ensures.refusal alive))
+
+pub returns-in-Append-clause-told : goal.returns-in-Append-clause-told
+returns-in-Append-clause-told g c = nobody_hears _ _ _
+
+pub returns-in-Rewrite-clause-told : goal.returns-in-Rewrite-clause-told
+returns-in-Rewrite-clause-told g c = nobody_hears _ _ _

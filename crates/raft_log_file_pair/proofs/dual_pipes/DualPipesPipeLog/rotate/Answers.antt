@@ -5,6 +5,7 @@ use Rattle.raft_log_file_pair.specs.Pipes.{OnePipe}
 use Rattle.raft_log_file_pair.proofs.PairNumbers.{ends_when}
 use Rattle.raft_log_file_pair.proofs.PairSpans.{rotates_not_when, rotates_when}
 use Rattle.raft_log_file_pair.proofs.Pairing.{either_false, when_alive}
+use Rattle.raft_log_file_pair.proofs.Telling.{nobody_hears}
 use Rattle.raft_log_file_pair.proofs.dual_pipes.DualPipesPipeLog.rotate.Goals as goal
 
 pub returns-in-Append-clause-ok : goal.returns-in-Append-clause-ok
@@ -84,3 +85,9 @@ pub returns-in-Rewrite-clause-refused : goal.returns-in-Rewrite-clause-refused
 returns-in-Rewrite-clause-refused g c =
     let alive = (either_false _ _ (sym c.is_failed.ensures ∙ c.if-is_failed.false)).1 in
     rw c.in-Rewrite.is (when_alive c.rotate-in-Rewrite.result _ _ (c.rotate-in-Rewrite.ensures.refusal alive))
+
+pub returns-in-Append-clause-told : goal.returns-in-Append-clause-told
+returns-in-Append-clause-told g c = nobody_hears _ _ _
+
+pub returns-in-Rewrite-clause-told : goal.returns-in-Rewrite-clause-told
+returns-in-Rewrite-clause-told g c = nobody_hears _ _ _

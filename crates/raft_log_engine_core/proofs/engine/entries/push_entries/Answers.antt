@@ -1,0 +1,120 @@
+use Rattle.std.proofs.Common.{◌≡◌, ◌+◌, ◌-◌, ℕ, List, [], ◌++◌, ap, ap₂, append-nil, append_assoc, arith, length, rules, refl, subst, sym, ◌∙◌}
+use Rattle.std.proofs.lemmas.Result.{err_from_is_err_and}
+use Rattle.raft_log_record_items.specs.declared.entry.EntryIndex.{EntryIndex}
+use Rattle.raft_log_table_runs.specs.Entries.{entries_between}
+use Rattle.raft_log_table_one.specs.Table.{shown}
+use Rattle.raft_log_file_blocks.specs.Blocks.{AreUnread, ReadsEntries}
+use Rattle.raft_log_file_blocks.proofs.Entries.{front_kept, kept_through, none_read, read_both, unread_behind, unread_front}
+use Rattle.raft_log_engine_core.specs.Reads.{entries_on}
+use Rattle.raft_log_engine_core.proofs.Pieces.{on_split}
+use Rattle.raft_log_engine_core.proofs.engine.entries.push_entries.Goals as goal
+
+pub returns-in_err-bounds-clause-err : goal.returns-in_err-bounds-clause-err
+returns-in_err-bounds-clause-err g c =
+    let p = err_from_is_err_and c.from_residual.result c.from_residual.ensures.1 in
+    rw p.1 (none_read g.M.Message.reading (g.P.PipeLog.shown c.args.pipes.now) (entries_on (shown c.args.table.now) c.args.index c.args.count) c.args.cache.now p.0 p.2)
+
+pub loop-done-init : goal.loop-done-init
+loop-done-init g c =
+    let v = g.P.PipeLog.shown c.args.pipes.now in
+    let table = shown c.args.table.now in
+    let begin : c.args.index + 0 ≡ c.args.index = omega arith in
+    let every : c.args.count - 0 ≡ c.args.count = omega arith in
+    let all : entries_on table (c.args.index + 0) (c.args.count - 0) ≡ entries_on table c.args.index c.args.count = ap₂ (λ (i k : ℕ). entries_on table i k) begin every in
+    record {
+      got = [];
+      adds = sym (append-nil c.args.messages.now.items);
+      read = λ last more others. subst (λ (l : List EntryIndex). ReadsEntries g.M.Message.reading v l c.args.cache.now last more) all others;
+      unread = λ last error others. subst (λ (l : List EntryIndex). AreUnread g.M.Message.reading v l c.args.cache.now last error) all others;
+      within = omega arith;
+      room = omega (arith, c.requires.room);
+      bounds = search rules;
+    }
+
+pub loop-done-preserved : goal.loop-done-preserved
+loop-done-preserved g c =
+    let v = g.P.PipeLog.shown c.args.pipes.now in
+    let table = shown c.args.table.now in
+    let i = c.loop-done.invariant in
+    let done = c.loop-done.done in
+    let index = c.args.index in
+    let count = c.args.count in
+    let n = c.len.result - 1 in
+    let told = c.as_slice.ensures.value in
+    let bounds : c.as_slice.result.now ≡ c.copy_bounds-block.new.bounds.items = cc in
+    let many : c.len.result ≡ length c.copy_bounds-block.new.bounds.items = omega (arith, c.len.ensures) in
+    let some = c.copy_bounds-block.ensures.count.0 in
+    let few = c.copy_bounds-block.ensures.count.1 in
+    let (more, adds, read) = c.in_ok-read_between.ensures.ok (index + done) in
+    let long = c.in_ok-read_between.ensures.len in
+    let same_long = ap length bounds in
+    let within = i.within in
+    let room = i.room in
+    let going = c.loop-done-test.true in
+    let piece : entries_between c.copy_bounds-block.result (index + done) c.as_slice.result.now ≡ entries_on table (index + done) n =
+    ap (entries_between c.copy_bounds-block.result (index + done)) bounds ∙ c.copy_bounds-block.ensures.entries ∙ ap (λ (k : ℕ). entries_on table (index + done) (k - 1)) (sym many) in
+    let on : index + done + n ≡ index + (done + n) = omega arith in
+    let left : count - done - n ≡ count - (done + n) = omega arith in
+    let cut : entries_on table (index + done) (count - done) ≡ entries_between c.copy_bounds-block.result (index + done) c.as_slice.result.now ++ entries_on table (index + (done + n)) (count - (done + n)) =
+    on_split table (index + done) n (count - done) (omega (arith, c.requires.first)) (omega (arith, many, few, going))
+    ∙ ap₂ (λ (m k : ℕ). entries_on table (index + done) n ++ entries_on table m k) on left
+    ∙ ap (λ (l : List EntryIndex). l ++ entries_on table (index + (done + n)) (count - (done + n))) (sym piece) in
+    record {
+      got = i.got ++ more;
+      adds = adds ∙ ap (λ (l : List g.row.M.Denot). l ++ more) i.adds ∙ append_assoc c.args.messages.now.items i.got more;
+      read = λ last others behind.
+          subst (λ (ms : List g.row.M.Denot). ReadsEntries g.M.Message.reading v (entries_on table index count) c.args.cache.now last ms) (sym (append_assoc i.got more others))
+          (i.read last (more ++ others)
+          (subst (λ (l : List EntryIndex). ReadsEntries g.M.Message.reading v l c.loop-done.cache last (more ++ others)) (sym cut)
+          (read_both g.M.Message.reading v (entries_between c.copy_bounds-block.result (index + done) c.as_slice.result.now) (entries_on table (index + (done + n)) (count - (done + n))) c.loop-done.cache c.read_between.new.self last more others read behind)));
+      unread = λ last error behind.
+          i.unread last error
+          (subst (λ (l : List EntryIndex). AreUnread g.M.Message.reading v l c.loop-done.cache last error) (sym cut)
+          (unread_behind g.M.Message.reading v (entries_between c.copy_bounds-block.result (index + done) c.as_slice.result.now) (entries_on table (index + (done + n)) (count - (done + n))) c.loop-done.cache c.read_between.new.self last more error read behind));
+      within = omega (arith, many, few, within, going);
+      room = omega (arith, many, room, long, same_long, c.in_ok-read_between.ensures.capacity);
+      bounds = let bounds_room = i.bounds in omega (arith, bounds_room, c.copy_bounds-block.ensures.capacity);
+    }
+
+pub returns-in_err-read_between-clause-err : goal.returns-in_err-read_between-clause-err
+returns-in_err-read_between-clause-err g c =
+    let v = g.P.PipeLog.shown c.args.pipes.now in
+    let table = shown c.args.table.now in
+    let p = err_from_is_err_and c.from_residual-in_err-read_between.result c.from_residual-in_err-read_between.ensures.1 in
+    let i = c.loop-done.invariant in
+    let done = c.loop-done.done in
+    let n = length c.copy_bounds-block.new.bounds.items - 1 in
+    let told = c.as_slice.ensures.value in
+    let bounds : c.as_slice.result.now ≡ c.copy_bounds-block.new.bounds.items = cc in
+    let few = c.copy_bounds-block.ensures.count.1 in
+    let going = c.loop-done-test.true in
+    let piece : entries_between c.copy_bounds-block.result (c.args.index + done) c.as_slice.result.now ≡ entries_on table (c.args.index + done) n =
+    ap (entries_between c.copy_bounds-block.result (c.args.index + done)) bounds ∙ c.copy_bounds-block.ensures.entries in
+    let cut = on_split table (c.args.index + done) n (c.args.count - done) (omega (arith, c.requires.first)) (omega (arith, few, going)) in
+    rw (p.1, p.2) (i.unread c.read_between.new.self c.in_err-read_between.field-0.0
+    (subst (λ (l : List EntryIndex). AreUnread g.M.Message.reading v l c.loop-done.cache c.read_between.new.self c.in_err-read_between.field-0.0) (sym cut)
+    (unread_front g.M.Message.reading v (entries_on table (c.args.index + done) n) (entries_on table (c.args.index + done + n) (c.args.count - done - n)) c.loop-done.cache c.read_between.new.self c.in_err-read_between.field-0.0
+    (subst (λ (l : List EntryIndex). AreUnread g.M.Message.reading v l c.loop-done.cache c.read_between.new.self c.in_err-read_between.field-0.0) piece (c.in_err-read_between.ensures.err (c.args.index + done))))))
+
+pub returns-in_err-read_between-clause-kept : goal.returns-in_err-read_between-clause-kept
+returns-in_err-read_between-clause-kept g c =
+    let i = c.loop-done.invariant in
+    kept_through c.args.messages.now.items i.got c.loop-done.messages.items c.read_between.new.messages.items i.adds c.read_between.ensures.kept
+
+pub returns-clause-kept : goal.returns-clause-kept
+returns-clause-kept g c =
+    let i = c.loop-done.invariant in
+    front_kept c.args.messages.now.items i.got c.loop-done.messages.items i.adds
+
+pub returns-clause-ok : goal.returns-clause-ok
+returns-clause-ok g c =
+    let v = g.P.PipeLog.shown c.args.pipes.now in
+    let table = shown c.args.table.now in
+    let i = c.loop-done.invariant in
+    let none : c.args.count - c.loop-done.done ≡ 0 = omega (arith, c.loop-done-test.false) in (
+      i.got,
+      i.adds,
+      subst (λ (ms : List g.row.M.Denot). ReadsEntries g.M.Message.reading v (entries_on table c.args.index c.args.count) c.args.cache.now c.loop-done.cache ms) (append-nil i.got)
+          (i.read c.loop-done.cache []
+          (subst (λ (k : ℕ). ReadsEntries g.M.Message.reading v (entries_on table (c.args.index + c.loop-done.done) k) c.loop-done.cache c.loop-done.cache []) (sym none) (refl, refl))),
+    )

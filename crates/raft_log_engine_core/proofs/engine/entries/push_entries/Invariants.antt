@@ -1,0 +1,24 @@
+use Rattle.std.proofs.Common.{◌≡◌, ◌+◌, ◌-◌, ◌<◌, ◌≤◌, List, ◌++◌, vec_capacity, vec_len}
+use Rattle.raft_log_record_base.specs.declared.errors.Error.{Error}
+use Rattle.raft_log_table_one.specs.Table.{shown}
+use Rattle.raft_log_file_blocks.specs.declared.block_cache.BlockCache.{BlockCache}
+use Rattle.raft_log_file_blocks.specs.Blocks.{AreUnread, ReadsEntries}
+use Rattle.raft_log_engine_core.specs.Reads.{entries_on}
+use Rattle.raft_log_engine_core.proofs.engine.entries.push_entries.Given as goal
+
+-- what comes of the entries that are left comes of all, behind those that were read
+abbrev pub invariant-loop-done : goal.invariant-loop-done
+invariant-loop-done g l = record {
+  got : List g.row.M.Denot;
+  adds : l.messages.items ≡ l.fn.messages.items ++ got;
+  read : (last : BlockCache) (more : List g.row.M.Denot) → ReadsEntries g.M.Message.reading (g.P.PipeLog.shown l.pipes) (entries_on (shown l.table) (l.index + l.done) (l.count - l.done)) l.cache last more
+      → ReadsEntries g.M.Message.reading (g.P.PipeLog.shown l.pipes) (entries_on (shown l.table) l.index l.count) l.fn.cache last (got ++ more);
+  unread : (last : BlockCache) (error : Error) → AreUnread g.M.Message.reading (g.P.PipeLog.shown l.pipes) (entries_on (shown l.table) (l.index + l.done) (l.count - l.done)) l.cache last error
+      → AreUnread g.M.Message.reading (g.P.PipeLog.shown l.pipes) (entries_on (shown l.table) l.index l.count) l.fn.cache last error;
+  within : l.done ≤ l.count;
+  room : vec_len l.messages + l.count ≤ vec_capacity l.messages + l.done;
+  bounds : l.piece < vec_capacity l.bounds;
+}
+
+abbrev pub decreases-loop-done : goal.decreases-loop-done
+decreases-loop-done g l = l.count - l.done

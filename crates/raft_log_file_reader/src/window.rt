@@ -8,6 +8,12 @@ use raft_log_disk::FileSystem;
 use raft_log_record_base::{Error, Result};
 use std::alloc::Global;
 
+/// How many bytes are skipped at least, as long entries are, where fewer than a block are read behind them.
+const SKIPPED: usize = 1_024;
+
+/// How many bytes are read at once there, if fewer are asked for.
+const BEHIND_SKIPPED: usize = 256;
+
 /// The part of a file's bytes that a reader holds, in one buffer that is kept.
 #[derive(Drop, Debug)]
 pub(crate) struct Window {
@@ -58,7 +64,7 @@ impl Window {
     ///
     /// What is held in front of the offset is dropped where something is read. Where the offset doesn't lie
     /// within what is held, reading begins anew there. At least a block is read at once, up to the file's
-    /// end.
+    /// end, or fewer bytes where long entries are skipped, which nobody looks at.
     pub fn peek<F: FileSystem>(
         &mut self,
         file_system: &F,
@@ -81,10 +87,23 @@ impl Window {
         if self.start <= offset && wanted <= self.end() {
             return Ok(());
         }
+        let at_once = self.at_once(offset);
         self.move_to(offset);
         let missing = wanted.saturating_sub(self.end());
-        let room = missing.max(self.block_size).min(source.size - self.end());
+        let room = missing.max(at_once).min(source.size - self.end());
         self.read_on(file_system, source, room)
+    }
+
+    /// How many bytes are read at once from an offset on: a block, or fewer where many bytes between what is
+    /// held and the offset are skipped.
+    fn at_once(&self, offset: usize) -> usize
+        requires { self.now.start + length self.now.bytes.items < 2 ^ 64 }
+        ensures { result ≤ self.now.block_size }
+    {
+        if offset > self.end().saturating_add(SKIPPED) {
+            return self.block_size.min(BEHIND_SKIPPED);
+        }
+        self.block_size
     }
 
     /// Drops what is held in front of an offset, or all where it doesn't lie within what is held.

@@ -1,5 +1,5 @@
 //! Which bytes are asked for, in which pieces, and that the answers don't depend on it.
-use crate::files::records;
+use crate::files::{append_entry, append_record, header, records};
 use crate::padding::{is_broken_behind_padding, is_read_behind_zeros};
 use crate::steps::{NOWHERE, Said, Step, ends_of, steps_of};
 use raft_log_record_base::Result;
@@ -35,6 +35,17 @@ const PIECES: [Step; 6] = [
     (Said::Nothing, 0, 4, 150),
 ];
 
+/// A record with an entry of 3,000 bytes, from 69 to 3,100, whose footer is at 3,089, and behind it one to
+/// 3,432, by blocks of 512: behind the entry, which is skipped, 256 bytes are read.
+const BEHIND_AN_ENTRY: [Step; 6] = [
+    (Said::Header(0), 69, 1, 0),
+    (Said::Batch, 3_100, 3, 3_089),
+    (Said::Batch, 3_432, 4, 3_345),
+    (Said::Nothing, 3_432, 4, 3_345),
+    (Said::Nothing, 3_432, 4, 3_345),
+    (Said::Nothing, 0, 4, 3_345),
+];
+
 /// Four records, the last one broken, which begins at 2,198.
 fn broken(alloc: Global) -> Result<Vec<u8>> {
     let mut bytes = records(alloc, &[34, 1_400, 600, 34])?;
@@ -48,6 +59,15 @@ fn is_read_at_0_and_at_69(alloc: Global) -> Result<bool> {
     let bytes = records(alloc, &[42])?;
     let read = steps_of(alloc, bytes.as_slice(), NOWHERE, 512)? == ONE;
     Ok((bytes.len() == 142) & read)
+}
+
+/// Whether a long entry is skipped, and fewer bytes than a block are read behind it.
+fn is_skipped(alloc: Global) -> Result<bool> {
+    let mut bytes = header(alloc, 0)?;
+    append_entry(alloc, &mut bytes, 3_000)?;
+    append_record(alloc, &mut bytes, 300)?;
+    let read = steps_of(alloc, bytes.as_slice(), NOWHERE, 512)? == BEHIND_AN_ENTRY;
+    Ok((bytes.len() == 3_432) & read)
 }
 
 /// Whether these steps come of a file with values of so many bytes, read by blocks of a size.
@@ -67,12 +87,13 @@ fn ends_so(alloc: Global, number: usize) -> Result<bool> {
 }
 
 /// What holds, by its number; the last five are the sizes of blocks, 0 first.
-const HOLDS: [&str; 10] = [
+const HOLDS: [&str; 11] = [
     "a file of one record is read at 0 and at 69",
     "a record over three blocks is read at once behind the first",
     "a footer brings the next header along",
     "a record behind zeros is read, and zeros at the end are no record",
     "other padding is a broken record",
+    "a long entry is skipped, and less than a block read behind it",
     "blocks of 0 bytes change no answer",
     "blocks of 512 bytes change no answer",
     "blocks of 513 bytes change no answer",
@@ -88,7 +109,8 @@ fn holds(alloc: Global, number: usize) -> Result<bool> {
         2 => has_steps(alloc, &[34, 34], 0, &PIECES),
         3 => is_read_behind_zeros(alloc),
         4 => is_broken_behind_padding(alloc),
-        _ => ends_so(alloc, number),
+        5 => is_skipped(alloc),
+        _ => ends_so(alloc, number.saturating_sub(6)),
     }
 }
 

@@ -5,7 +5,6 @@ ghost use Rattle.raft_log_disk_storage.specs.Storage.{IsStorageSound, IsWhole-pr
 ghost use Rattle.raft_log_disk_directory.specs.Loading.{FillsFile};
 
 use raft_log_disk_storage::{Content, Storage, Stored};
-use rayon::prelude::*;
 use std::alloc::Global;
 use std::collections::BTreeMap;
 use std::fs::File;
@@ -13,10 +12,13 @@ use std::io;
 use std::io::ErrorKind;
 use std::os::unix::fs::FileExt;
 use std::rt::Files;
-use std::thread::Threads;
+use std::thread::{Threads, map_chunks};
 
 /// How many bytes are read at a time: so few that the room for them is still in the processor's cache when they come.
 const PIECE: usize = 1 << 18;
+
+/// How many threads read files at most.
+const READERS: usize = 32;
 
 /// What lies in directories: a model of it, its files, open by the model's numbers, and the directories,
 /// locked.
@@ -90,31 +92,32 @@ impl Found {
     }
 }
 
-/// The bytes of files, each of which is synced first, and read whole by a thread. `rayon` has two threads for
-/// each processor; each of them has one more beside it, so that no file of a few waits for another one.
+/// The bytes of files, each of which is synced first, and read whole. Each of a few files has a thread of its own, so that
+/// none waits for another one while a processor is idle; of more than `READERS` a thread reads several.
 fn contents_of<R: Threads + Sync>(
     rt: &R,
     alloc: Global,
     opened: &[File],
 ) -> io::Result<Vec<Vec<u8>>> {
-    let pairs = opened
-        .par_chunks(2)
-        .with_min_len(1)
-        .map(|pair: &[File]| -> io::Result<Vec<Vec<u8>>> { pair_of(rt, alloc, pair) })
-        .collect::<Vec<_>>(rt, alloc)?;
+    let share = opened.len().div_ceil(READERS).max(1);
+    let read = |_: usize, files: &[File]| -> io::Result<Vec<Vec<u8>>> {
+        contents_in_turn(alloc, files)
+    };
+    let parts = map_chunks(rt, alloc, opened, share, &read)?;
     let mut contents = Vec::with_capacity(alloc, opened.len())?;
-    for pair in pairs {
-        contents.append(&mut pair?)?;
+    for part in parts {
+        contents.append(&mut part?)?;
     }
     Ok(contents)
 }
 
-/// The bytes of two files, read side by side.
-fn pair_of<R: Threads + Sync>(rt: &R, alloc: Global, pair: &[File]) -> io::Result<Vec<Vec<u8>>> {
-    pair.par_iter()
-        .with_min_len(1)
-        .map(|file: &File| -> io::Result<Vec<u8>> { content_of(alloc, file) })
-        .collect::<io::Result<Vec<_>>>(rt, alloc)?
+/// The bytes of files, read one after another.
+fn contents_in_turn(alloc: Global, files: &[File]) -> io::Result<Vec<Vec<u8>>> {
+    let mut contents = Vec::with_capacity(alloc, files.len())?;
+    for file in files {
+        contents.push(content_of(alloc, file)?)?;
+    }
+    Ok(contents)
 }
 
 /// Puts other bytes into a file that is there, as synced ones.

@@ -88,39 +88,65 @@ fn lock<R: Files<File = File> + AllocGlobal>(
     ))
 }
 
-// Reads the files of a directory, and syncs their names.
+// Reads the regular files of a directory, and syncs it. A refusal names the file where one isn't opened.
 fn load<R: Files<File = File> + Threads + AllocGlobal + Clone + Sync + Drop>(
     rt: &R,
     found: &mut Found,
     directory: &str,
 ) -> Result<(), DirectoryFault> {
-    load_files(rt, found, directory).map_err(|error| DirectoryFault::of_files(
+    let paths = file_paths(rt, directory).map_err(|error| DirectoryFault::of_files(
         rt.alloc(),
         directory,
         error,
-    ))
+    ))?;
+    let opened = open_files(rt, paths.as_slice())?;
+    load_files(rt, found, directory, paths.as_slice(), opened).map_err(
+        |error| DirectoryFault::of_files(rt.alloc(), directory, error),
+    )
 }
 
-// Reads the regular files of a directory, and syncs it.
+// The paths of the regular files of a directory.
+fn file_paths<R: Files<File = File> + AllocGlobal + Clone>(
+    rt: &R,
+    directory: &str,
+) -> io::Result<Vec<String>> {
+    let mut paths = Vec::new(rt.alloc());
+    for entry in fs::read_dir(rt, directory)? {
+        let entry = entry?;
+        if entry.file_type()?.is_file() {
+            paths.push(format!(in rt.alloc(); "{directory}/{}", entry.file_name())?)?;
+        }
+    }
+    Ok(paths)
+}
+
+// Opens files. A refusal names the one that isn't opened.
+fn open_files<R: Files<File = File> + AllocGlobal>(
+    rt: &R,
+    paths: &[String],
+) -> Result<Vec<File>, DirectoryFault> {
+    let mut opened = Vec::with_capacity(rt.alloc(), paths.len())?;
+    for path in paths {
+        let file = OpenOptions::new()
+            .read(true)
+            .write(true)
+            .open(rt, path.as_str())
+            .map_err(|error| DirectoryFault::of_files(rt.alloc(), path.as_str(), error))?;
+        let Ok(()) = opened.push(file) else {
+            return Err(DirectoryFault::Memory);
+        };
+    }
+    Ok(opened)
+}
+
+// Reads files of a directory, and syncs it.
 fn load_files<R: Files<File = File> + Threads + AllocGlobal + Clone + Sync + Drop>(
     rt: &R,
     found: &mut Found,
     directory: &str,
+    paths: &[String],
+    opened: Vec<File>,
 ) -> io::Result<()> {
-    let mut paths = Vec::new(rt.alloc());
-    let mut opened = Vec::new(rt.alloc());
-    for entry in fs::read_dir(rt, directory)? {
-        let entry = entry?;
-        if entry.file_type()?.is_file() {
-            let path = format!(in rt.alloc(); "{directory}/{}", entry.file_name())?;
-            let file = OpenOptions::new()
-                .read(true)
-                .write(true)
-                .open(rt, path.as_str())?;
-            opened.push(file)?;
-            paths.push(path)?;
-        }
-    }
-    found.load_files(rt, paths.as_slice(), opened)?;
+    found.load_files(rt, paths, opened)?;
     File::open(rt, directory)?.sync_all()
 }

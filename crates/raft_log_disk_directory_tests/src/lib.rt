@@ -1,5 +1,10 @@
-//! Tests of a file system over real directories: what was synced stands at the next opening, and who is refused.
+//! Tests of a file system over real directories: what was synced stands at the next opening, who is refused, and what is
+//! held open.
 #![tactic(auto)]
 
+#[cfg(test)]
+mod held;
+#[cfg(test)]
+mod leave;
 #[cfg(test)]
 mod opening;

@@ -131,3 +131,20 @@ fn what_is_left_of_a_space_that_is_set_is_told(rt: HostRuntime) -> Result<(), Fa
     assert!(rt; files.free_space("narrow")? == 7);
     Ok(())
 }
+
+#[test]
+fn each_of_many_files_keeps_its_bytes(rt: HostRuntime) -> Result<(), Fail> {
+    let _ = fs::remove_dir_all(&rt, "many");
+    make_directory(&rt, "many")?;
+    for number in 0..70u8 {
+        let path = format!(in rt.alloc(); "many/{number}")?;
+        fs::write(&rt, path.as_str(), [number].as_slice())?;
+    }
+    let files = open_directories(&rt, "many", None)?;
+    assert!(rt; files.list("many")?.len() == 70);
+    for number in 0..70u8 {
+        let path = format!(in rt.alloc(); "many/{number}")?;
+        assert!(rt; has(&files, path.as_str(), &[number])?);
+    }
+    Ok(())
+}

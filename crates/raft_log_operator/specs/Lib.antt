@@ -1,2 +1,3 @@
+pub mod Opening
 pub mod Tasks
 pub mod Words

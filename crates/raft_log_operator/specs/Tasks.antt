@@ -8,7 +8,7 @@ use Rattle.raft_log_closed.specs.Forks.{FailsToFork, Forks}
 use Rattle.raft_log_record_base.specs.declared.pipe_log.FileId.{FileId}
 use Rattle.raft_log_unpadded.specs.Unpadding.{FailsToUnpad, Unpads}
 use Rattle.raft_log_operator.specs.declared.command.Task.{Task}
-use Rattle.raft_log_operator.specs.declared.command.Task.TheVariants.{Check, Dump, Fork, Stat, Unpad}
+use Rattle.raft_log_operator.specs.declared.command.Task.TheVariants.{Fork, Unpad}
 use Rattle.raft_log_operator.specs.declared.fault.CommandFault.{CommandFault}
 use Rattle.raft_log_operator.specs.declared.fault.CommandFault.TheVariants.{Log, Output}
 use Rattle.raft_log_operator.specs.declared.place.Place.{Place}

@@ -79,7 +79,7 @@ header_short header format (u, front, back, is_magic, (v, number, payload, is_ve
     omega (arith, one, two, size, is_version.spelled.size, payload_short v payload format is_payload)
 
 -- where bytes begin with a header, their first 69 do
-header_found : (content : List ℕ) (format : LogFileFormat) (start : ℕ) (fault : Fault) → SaysFormat content format start → header_at (take 69 content) ≡ Err fault → ⊥
+pub header_found : (content : List ℕ) (format : LogFileFormat) (start : ℕ) (fault : Fault) → SaysFormat content format start → header_at (take 69 content) ≡ Err fault → ⊥
 header_found content format start fault h e =
     let short = header_short h.header format h.says in
     let size : 69 ≡ length h.header + (69 - length h.header) = omega (arith, short) in

@@ -2,3 +2,6 @@ mod Making
 mod Joining
 mod Steps
 mod Places
+mod Moving
+mod Rereading
+mod Reading

@@ -4,3 +4,4 @@ pub mod Reading
 pub mod Replacing
 pub mod Placing
 pub mod Unpadding
+pub mod Laws

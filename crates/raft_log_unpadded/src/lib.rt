@@ -3,6 +3,7 @@
 #![tactic(auto)]
 
 pub mod content;
+pub mod laws;
 mod passing;
 pub mod placed_file;
 mod placing;

@@ -1,8 +1,11 @@
-//! Tests of `unpad`: a log with an alignment, as another program may write it, is opened once its padding is taken out.
+//! Tests of `unpad` and `open_unpadded`: a log with an alignment, as another program may write it, is opened once its
+//! padding is taken out.
 #![tactic(auto)]
 
 #[cfg(test)]
 mod logs;
+#[cfg(test)]
+mod opened;
 #[cfg(test)]
 mod refusals;
 #[cfg(test)]

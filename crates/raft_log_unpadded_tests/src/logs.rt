@@ -81,6 +81,13 @@ pub fn holds(files: &MemoryFileSystem, path: &str, pieces: &[&[u8]]) -> Result<b
     Ok(files.file_size(handle)? == offset)
 }
 
+/// Whether each file is as it was, or wholly new.
+pub fn are_whole(files: &MemoryFileSystem) -> Result<bool> {
+    let first = holds(files, FIRST, &FIRST_PADDED)? || holds(files, FIRST, &FIRST_WITHOUT)?;
+    let second = holds(files, SECOND, &SECOND_PADDED)? || holds(files, SECOND, &SECOND_WITHOUT)?;
+    Ok(first && second)
+}
+
 /// Whether a file has the path.
 pub fn is_there(files: &MemoryFileSystem, path: &str) -> bool {
     files.open(path, Permission::ReadOnly).is_ok()

@@ -1,7 +1,7 @@
 //! Calls of the file system that are refused, and want of memory: each file is as it was, or wholly new.
 use crate::logs::{
-    FIRST, FIRST_PADDED, FIRST_WITHOUT, SECOND, SECOND_PADDED, SECOND_WITHOUT, holding, holds,
-    settings,
+    FIRST, FIRST_PADDED, FIRST_WITHOUT, SECOND, SECOND_PADDED, SECOND_WITHOUT, are_whole, holding,
+    holds, settings,
 };
 use raft_log_disk::{Fault, FileSystem};
 use raft_log_disk_memory::MemoryFileSystem;
@@ -9,13 +9,6 @@ use raft_log_record_base::{Error, Result};
 use raft_log_unpadded::unpad;
 use std::alloc::Global;
 use std::test::Fail;
-
-/// Whether each file is as it was, or wholly new.
-fn are_whole(files: &MemoryFileSystem) -> Result<bool> {
-    let first = holds(files, FIRST, &FIRST_PADDED)? || holds(files, FIRST, &FIRST_WITHOUT)?;
-    let second = holds(files, SECOND, &SECOND_PADDED)? || holds(files, SECOND, &SECOND_WITHOUT)?;
-    Ok(first && second)
-}
 
 /// Whether a fault at a changing call is told as an `Io`, and the next call ends what that one began.
 fn is_resumed(alloc: Global, fault: &Fault) -> Result<bool> {

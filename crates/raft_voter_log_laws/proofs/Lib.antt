@@ -1,4 +1,5 @@
 pub mod Losses
+mod UsedFiles
 pub mod Listed
 pub mod Alike
 pub mod Lengths

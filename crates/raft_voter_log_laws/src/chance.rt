@@ -6,7 +6,8 @@ use raft_log_disk::FileSystem;
 
 /// The premise on chance is met: a crash under an engine that runs, which leaves of each last file the front of what was
 /// written there, a record torn at its end, or whole ones and behind them bytes that begin no record of that file,
-/// leaves nothing to chance. That what a file held that is used again is such bytes isn't shown.
+/// leaves nothing to chance. What a file held that is used again is such bytes where one of its old records begins
+/// (`raft_log_reuse_laws`); that a part of one is isn't shown.
 pub fn losses_leave_no_chance()
     ensures { LossesLeaveNoChance }
 {}

@@ -3,7 +3,7 @@ use crate::found::found_by;
 use crate::rounds::serve_round;
 use log::{Log, info};
 use raft_log_engine::{Config, FileSystem, LogQueue, Nobody, Result};
-use raft_voter::{Request, RoundService};
+use raft_voter::{Request, RoundService, Voter};
 use raft_voter_store::VoterStore;
 use raft_voter_world::Event;
 use std::alloc::Global;
@@ -20,45 +20,36 @@ pub struct Node<F> {
 }
 
 impl<F: FileSystem + Sync + Drop> Node<F> {
-    /// Opens the store whose log these settings name. What was found, how long the opening took and which files the log
-    /// has now is logged.
+    /// Opens the store whose log these settings name, and answers it with a line for each voter that is stored, its group
+    /// and its status, sorted by group. A line is logged of what was found, how long the opening took until the voters
+    /// are read, and which files the log has now.
     pub fn open<R: Threads + Log + Sync + Clock>(
         rt: &R,
         alloc: Global,
         config: Config,
         files: F,
-    ) -> anyhow::Result<Node<F>> {
+    ) -> anyhow::Result<(Node<F>, String)> {
         let start = Instant::now(rt);
         let found = found_by(&files, alloc, &config);
-        let store = match VoterStore::open(rt, alloc, config, files, Nobody) {
+        let mut store = match VoterStore::open(rt, alloc, config, files, Nobody) {
             Ok(store) => store,
             Err(refused) => return Err(refused.cause.into()),
         };
         let append = store.file_span(LogQueue::Append)?;
         let rewrite = store.file_span(LogQueue::Rewrite)?;
         let millis = millis_since(rt, start);
+        let voters = store.voters()?;
         info!(
             rt;
-            "found {} files of {} bytes, opened in {millis} ms: append files {} to {}, rewrite files {} to {}",
-            found.files, found.bytes, append.0, append.1, rewrite.0, rewrite.1
+            "found {} files of {} bytes and {} groups, opened in {millis} ms: append files {} to {}, rewrite files {} to {}",
+            found.files, found.bytes, voters.len(), append.0, append.1, rewrite.0, rewrite.1
         );
-        Ok(Node {
+        let node = Node {
             alloc,
             store,
             rounds: 0,
-        })
-    }
-
-    /// A line for each voter that is stored, its group and its status, sorted by group. How many there are is logged.
-    pub fn voter_lines<R: Log>(&mut self, rt: &R) -> anyhow::Result<String> {
-        let mut lines = String::new(self.alloc);
-        let mut voters = self.store.voters()?;
-        info!(rt; "{} groups stand", voters.len());
-        for (group, voter) in voters.iter_mut() {
-            let status = voter.step(&Request::Status)?;
-            write!(lines, "voter {group} {status}\n")?;
-        }
-        Ok(lines)
+        };
+        Ok((node, voter_lines(alloc, voters)?))
     }
 
     /// Does what an event of a session asks, and answers the lines that tell it.
@@ -102,6 +93,17 @@ impl<F: FileSystem + Sync + Drop> Node<F> {
     pub fn close<R: Log>(self, rt: &R) -> F {
         self.store.close(rt)
     }
+}
+
+/// A line for each voter: its group and its status.
+fn voter_lines(alloc: Global, voters: Vec<(u64, Voter)>) -> anyhow::Result<String> {
+    let mut lines = String::new(alloc);
+    let mut voters = voters;
+    for (group, voter) in voters.iter_mut() {
+        let status = voter.step(&Request::Status)?;
+        write!(lines, "voter {group} {status}\n")?;
+    }
+    Ok(lines)
 }
 
 /// How many milliseconds passed since a time that was asked for; 0 where the clock tells none.

@@ -20,8 +20,7 @@ pub fn run<R: Threads + Log + Sync + Clock, F: FileSystem + Sync + Drop, I: BufR
     input: &mut I,
     output: &mut W,
 ) -> anyhow::Result<F> {
-    let mut node = Node::open(rt, alloc, config, files)?;
-    let standing = node.voter_lines(rt)?;
+    let (mut node, standing) = Node::open(rt, alloc, config, files)?;
     tell(output, standing.as_str())?;
     tell(output, "ready\n")?;
     for _ in 0..u64::MAX {

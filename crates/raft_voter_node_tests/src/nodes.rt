@@ -1,8 +1,10 @@
 //! What a node is asked, and what it tells.
-use log::Log;
-use raft_log_engine::{Config, Fault, FileSystem, MemoryFileSystem};
+use log::sink::Locked;
+use log::{Level, Log, Logged};
+use raft_log_engine::{Config, Fault, FileSystem, MemoryFileSystem, Permission};
 use raft_voter_node::run;
 use std::alloc::Global;
+use std::sync::Wait;
 use std::test::Fail;
 use std::thread::Threads;
 use std::time::Clock;
@@ -82,5 +84,82 @@ fn a_node_whose_log_fails_ends(rt: HostRuntime) -> Result<(), Fail> {
     let (output, files) = told(&rt, alloc, files, "round\nvote 1 6 2 0 0\nend\n")?;
     let ended = output.ends_with(b"ready\nround 0 cut\n".as_slice());
     assert!(rt; ended & files.is_none());
+    Ok(())
+}
+
+/// Whether what was logged ends with this, with a number of milliseconds between the two parts.
+fn ends_with(lines: &str, before: &str, behind: &str) -> bool {
+    match lines.split_once(before) {
+        Some((_front, rest)) => match rest.split_once(behind) {
+            Some((millis, end)) => end.is_empty() & millis.parse::<u64>().is_ok(),
+            None => false,
+        },
+        None => false,
+    }
+}
+
+/// What a node over these files logs, which is asked this and closes; and the files then.
+fn logged<R: Threads + Wait + Clock + Sync>(
+    rt: &R,
+    alloc: Global,
+    files: MemoryFileSystem,
+    asked: &str,
+) -> Result<(String, MemoryFileSystem), Fail> {
+    let sink = Locked::new(rt, Vec::new(alloc));
+    let told = told(&Logged::new(rt, Level::Info, &sink), alloc, files, asked)?;
+    match told {
+        (_output, Some(files)) => Ok((String::from_utf8(sink.into_inner())?, files)),
+        _ => Err(Fail::new("the node ended")),
+    }
+}
+
+/// How many bytes the files in the log's directory have.
+fn bytes_of(files: &MemoryFileSystem, alloc: Global) -> Result<usize, Fail> {
+    let mut bytes = 0usize;
+    for name in files.list("raft")? {
+        let path = format!(in alloc; "raft/{name}")?;
+        let handle = files.open(path.as_str(), Permission::ReadOnly)?;
+        bytes = bytes.saturating_add(files.file_size(handle)?);
+    }
+    Ok(bytes)
+}
+
+/// What is logged of the files that the log has behind an opening.
+const FIRST_FILES: &str = " ms: append files 1 to 1, rewrite files 1 to 1\n";
+
+/// A round that stores votes of three groups, and asks a fourth one.
+const GROUPS: &str = "round\nvote 1 5 2 0 0\nvote 7 5 3 0 0\nvote 9 1 1 0 0\nstatus 4\nend\n";
+
+#[test]
+fn an_opening_logs_what_it_found(rt: HostRuntime) -> Result<(), Fail> {
+    let alloc = rt.alloc();
+    let (lines, files) = logged(&rt, alloc, MemoryFileSystem::new(alloc), GROUPS)?;
+    let nothing = "found 0 files of 0 bytes and 0 groups, opened in ";
+    assert!(rt; ends_with(lines.as_str(), nothing, FIRST_FILES));
+    let bytes = bytes_of(&files, alloc)?;
+    let (lines, _files) = logged(&rt, alloc, files, "")?;
+    let found = format!(in alloc; "found 2 files of {bytes} bytes and 3 groups, opened in ")?;
+    assert!(rt; ends_with(lines.as_str(), found.as_str(), FIRST_FILES));
+    assert!(rt; !lines.contains("damaged"));
+    Ok(())
+}
+
+#[test]
+fn an_opening_logs_what_it_cuts(rt: HostRuntime) -> Result<(), Fail> {
+    let alloc = rt.alloc();
+    let (_lines, mut files) = logged(&rt, alloc, MemoryFileSystem::new(alloc), GROUPS)?;
+    let handle = files.open("raft/0000000000000001.raftlog", Permission::ReadWrite)?;
+    let end = files.file_size(handle)?;
+    files.write_at(handle, end, b"torn")?;
+    let (lines, _files) = logged(&rt, alloc, files, "")?;
+    let cut = format!(in alloc; "log file 1 is damaged, and is cut behind {end} bytes\n")?;
+    assert!(rt; lines.contains(cut.as_str()));
+    assert!(rt;
+        ends_with(
+            lines.as_str(),
+            " bytes and 3 groups, opened in ",
+            FIRST_FILES
+        )
+    );
     Ok(())
 }

@@ -1,0 +1,52 @@
+//! What is held open: one descriptor for each file that stands, and one for each directory, as long as they are open.
+use raft_log_disk::{FileSystem, Permission};
+use raft_log_disk_directory::{make_directory, open_directories};
+use std::test::Fail;
+use std::{fs, io};
+
+// How many descriptors this process has, with the one by which they are listed.
+fn descriptors(rt: &HostRuntime) -> io::Result<usize> {
+    Ok(fs::read_dir(rt, "/proc/self/fd")?.count())
+}
+
+#[test]
+fn descriptors_are_as_many_as_files(rt: HostRuntime) -> Result<(), Fail> {
+    let _ = fs::remove_dir_all(&rt, "counted");
+    make_directory(&rt, "counted")?;
+    let before = descriptors(&rt)?;
+    for _ in 0..20u8 {
+        let mut files = open_directories(&rt, "counted", None)?;
+        for path in ["counted/a", "counted/b", "counted/c"] {
+            if files.open(path, Permission::ReadOnly).is_ok() {
+                files.delete(path)?;
+            }
+            let handle = files.create(path)?;
+            files.write_at(handle, 0, b"abc")?;
+            files.sync(handle)?;
+        }
+        assert!(rt; descriptors(&rt)? == before.saturating_add(4));
+        files.rename("counted/a", "counted/c")?;
+        assert!(rt; descriptors(&rt)? == before.saturating_add(3));
+        files.delete("counted/b")?;
+        assert!(rt; descriptors(&rt)? == before.saturating_add(2));
+        drop(files);
+        assert!(rt; descriptors(&rt)? == before);
+    }
+    Ok(())
+}
+
+#[test]
+fn a_refused_opening_holds_nothing(rt: HostRuntime) -> Result<(), Fail> {
+    let _ = fs::remove_dir_all(&rt, "half");
+    make_directory(&rt, "half")?;
+    fs::write(&rt, "half/a", b"x".as_slice())?;
+    let before = descriptors(&rt)?;
+    for _ in 0..20u8 {
+        assert!(rt; open_directories(&rt, "half", Some("absent")).is_err());
+        assert!(rt; open_directories(&rt, "half", Some("half")).is_err());
+        assert!(rt; make_directory(&rt, "half/a/b").is_err());
+        make_directory(&rt, "half")?;
+        assert!(rt; descriptors(&rt)? == before);
+    }
+    Ok(())
+}

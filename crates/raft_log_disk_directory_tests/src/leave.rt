@@ -1,0 +1,162 @@
+//! Directories and files that this process has no leave for: they are refused, and nothing changes. What modes deny,
+//! root may do nevertheless; there each test asks for the other outcome.
+use raft_log_disk::FileSystem;
+use raft_log_disk_directory::{DirectoryFault, make_directory, open_directories};
+use std::fs::{File, Permissions};
+use std::io::ErrorKind;
+use std::os::unix::fs::PermissionsExt;
+use std::test::Fail;
+use std::{fs, io};
+
+// The owner's leave for a directory that is as usual, and for a file.
+const ALL: u32 = 0o700;
+
+// Sets who may use what has a path.
+fn set_mode(rt: &HostRuntime, path: &str, mode: u32) -> io::Result<()> {
+    fs::set_permissions(rt, path, Permissions::from_mode(mode))
+}
+
+// Makes a directory with a file in it, both with all leave, in place of what an earlier run left.
+fn prepare(rt: &HostRuntime, directory: &str, file: &str) -> io::Result<()> {
+    let _ = set_mode(rt, directory, ALL);
+    let _ = fs::remove_dir_all(rt, directory);
+    fs::create_dir(rt, directory)?;
+    fs::write(rt, file, b"abcd".as_slice())
+}
+
+// Whether modes deny this process anything. They deny root nothing.
+fn is_bound_by_modes(rt: &HostRuntime, file: &str) -> io::Result<bool> {
+    let _ = fs::remove_file(rt, file);
+    fs::write(rt, file, b"x".as_slice())?;
+    set_mode(rt, file, 0)?;
+    let is_bound = File::open(rt, file).is_err();
+    fs::remove_file(rt, file)?;
+    Ok(is_bound)
+}
+
+// Whether a directory holds just one name, that of a file with the four bytes that it was made with.
+fn is_as_prepared(rt: &HostRuntime, directory: &str, file: &str) -> io::Result<bool> {
+    Ok(
+        (fs::read(rt, file)?.as_slice() == b"abcd".as_slice())
+            & (fs::read_dir(rt, directory)?.count() == 1),
+    )
+}
+
+// Whether it is told that leave for this path is wanting.
+fn is_denied<T>(opened: &Result<T, DirectoryFault>, wanting: &str) -> bool {
+    match opened {
+        Err(DirectoryFault::Refused { path, error }) => {
+            (path.as_str() == wanting) & (error.kind() == ErrorKind::PermissionDenied)
+        }
+        _ => false,
+    }
+}
+
+#[test]
+fn what_may_not_be_read_and_written_is_not_opened(rt: HostRuntime) -> Result<(), Fail> {
+    let is_bound = is_bound_by_modes(&rt, "bound")?;
+    let unread = [
+        (0, ALL, "shut"),
+        (0o300, ALL, "shut"),
+        (0o400, ALL, "shut"),
+        (0o600, ALL, "shut"),
+        (ALL, 0, "shut/a"),
+        (ALL, 0o200, "shut/a"),
+        (ALL, 0o400, "shut/a"),
+    ];
+    for (directory_mode, file_mode, wanting) in unread {
+        prepare(&rt, "shut", "shut/a")?;
+        set_mode(&rt, "shut/a", file_mode)?;
+        set_mode(&rt, "shut", directory_mode)?;
+        let opened = open_directories(&rt, "shut", None);
+        set_mode(&rt, "shut", ALL)?;
+        set_mode(&rt, "shut/a", ALL)?;
+        assert!(rt; (is_denied(&opened, wanting) == is_bound) & (opened.is_ok() != is_bound));
+        drop(opened);
+        assert!(rt; is_as_prepared(&rt, "shut", "shut/a")?);
+        assert!(rt; open_directories(&rt, "shut", None).is_ok());
+    }
+    Ok(())
+}
+
+#[test]
+fn want_of_leave_is_told_by_its_path(rt: HostRuntime) -> Result<(), Fail> {
+    prepare(&rt, "told", "told/a")?;
+    set_mode(&rt, "told", 0)?;
+    let opened = open_directories(&rt, "told", None);
+    set_mode(&rt, "told", ALL)?;
+    let text = match opened {
+        Ok(_files) => String::new(rt.alloc()),
+        Err(fault) => format!(in rt.alloc(); "{fault}")?,
+    };
+    let is_bound = is_bound_by_modes(&rt, "bound too")?;
+    assert!(rt; !is_bound | text.starts_with("\"told\": ") & text.contains("ermission"));
+    Ok(())
+}
+
+#[test]
+fn a_second_directory_without_leave_lets_the_first_one_go(rt: HostRuntime) -> Result<(), Fail> {
+    let is_bound = is_bound_by_modes(&rt, "bound as well")?;
+    prepare(&rt, "main", "main/a")?;
+    prepare(&rt, "second", "second/a")?;
+    set_mode(&rt, "second", 0)?;
+    let opened = open_directories(&rt, "main", Some("second"));
+    set_mode(&rt, "second", ALL)?;
+    assert!(rt; is_denied(&opened, "second") == is_bound);
+    drop(opened);
+    assert!(rt;
+        is_as_prepared(&rt, "main", "main/a")? & is_as_prepared(&rt, "second", "second/a")?
+    );
+    assert!(rt; open_directories(&rt, "main", Some("second")).is_ok());
+    Ok(())
+}
+
+#[test]
+fn names_of_a_directory_that_is_only_read_stay(rt: HostRuntime) -> Result<(), Fail> {
+    let is_bound = is_bound_by_modes(&rt, "bound here")?;
+    prepare(&rt, "only read", "only read/a")?;
+    set_mode(&rt, "only read", 0o500)?;
+    let mut files = open_directories(&rt, "only read", None)?;
+    let made = files.create("only read/b").is_ok();
+    let renamed = files.rename("only read/a", "only read/c").is_ok();
+    let deleted = files
+        .delete(if renamed {
+            "only read/c"
+        } else {
+            "only read/a"
+        })
+        .is_ok();
+    drop(files);
+    set_mode(&rt, "only read", ALL)?;
+    assert!(rt; (made == !is_bound) & (renamed == !is_bound) & (deleted == !is_bound));
+    assert!(rt; !is_bound || is_as_prepared(&rt, "only read", "only read/a")?);
+    Ok(())
+}
+
+#[test]
+fn a_directory_is_not_made_without_leave(rt: HostRuntime) -> Result<(), Fail> {
+    let is_bound = is_bound_by_modes(&rt, "bound there")?;
+    for mode in [0, 0o400, 0o500] {
+        prepare(&rt, "home", "home/a")?;
+        set_mode(&rt, "home", mode)?;
+        let made = make_directory(&rt, "home/log");
+        set_mode(&rt, "home", ALL)?;
+        assert!(rt; is_denied(&made, "home/log") == is_bound);
+        assert!(rt; is_as_prepared(&rt, "home", "home/a")? == is_bound);
+    }
+    Ok(())
+}
+
+#[test]
+fn a_directory_whose_name_is_not_synced_is_refused(rt: HostRuntime) -> Result<(), Fail> {
+    let is_bound = is_bound_by_modes(&rt, "bound still")?;
+    prepare(&rt, "unread home", "unread home/a")?;
+    for _ in 0..2u8 {
+        set_mode(&rt, "unread home", 0o300)?;
+        let made = make_directory(&rt, "unread home/log");
+        set_mode(&rt, "unread home", ALL)?;
+        assert!(rt; is_denied(&made, "unread home/log") == is_bound);
+    }
+    assert!(rt; make_directory(&rt, "unread home/log").is_ok());
+    Ok(())
+}

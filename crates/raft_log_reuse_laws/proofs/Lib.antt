@@ -1,0 +1,3 @@
+pub mod Signatures
+pub mod LastFiles
+pub mod Rotations

@@ -1,0 +1,2 @@
+pub mod OldRecords
+pub mod LastFiles

@@ -1,0 +1,39 @@
+-- Files that are used again, and files that a crash leaves as they stand: of an engine that runs, and so of a run.
+use Rattle.std.specs.Prelude.{◌≡◌, List, []}
+use Rattle.raft_log_disk.specs.Disk.{Disk}
+use Rattle.raft_log_disk.specs.Image.{IsImage}
+use Rattle.raft_log_file_format.specs.declared.header.LogFileFormat.{LogFileFormat}
+use Rattle.raft_log_file_laws.specs.LogFormat.{Format}
+use Rattle.raft_log_file_pipe.specs.declared.pipe_files.PipeFiles.{PipeFiles}
+use Rattle.raft_log_reuse_laws.specs.LastFiles.{EndsThere, KeepsOwn, NextIsUsed}
+use Rattle.raft_log_directory_laws.specs.Calls.{Which}
+use Rattle.raft_log_engine_laws.specs.raft_log_file_layout.specs.declared.record.LogRecord.{LogRecord}
+use Rattle.raft_log_engine_laws.specs.raft_log_file_pair.specs.PipeCalls.{PipeRotates}
+use Rattle.raft_log_engine_laws.specs.raft_log_file_pair.specs.Pipes.{LogPipes, Said, one_at}
+use Rattle.raft_log_engine_laws.specs.raft_log_file_pair.specs.Queues.{layout_at}
+use Rattle.raft_log_engine_laws.specs.Holding.{Holds}
+use Rattle.raft_log_engine_laws.specs.Shows.{Home, LogMap, Shows, log_in}
+use Rattle.raft_voter_log_laws.specs.Chance.{LosesOwn}
+
+-- A last file behind whose records none begins, and that a crash leaves as it stands, has them whole: such a crash only
+-- loses, whatever map the engine's log is.
+abbrev pub StandingFilesOnlyLose : Type 0
+StandingFilesOnlyLose = (which : Which) (home : Home) (e : Shows) (m : LogMap) (pending : List Said)
+    → Holds home e m pending
+    → EndsThere (layout_at which (log_in home)).format (one_at which e.pipes).files e.pipes.disk
+    → (image : Disk) → KeepsOwn (one_at which e.pipes).files e.pipes.disk image
+    → LosesOwn (layout_at which (log_in home)).format (one_at which e.pipes).files e.pipes.disk image
+
+-- the pipe goes on next in a file that is made, or in one that was used under another number
+pub data NextIsKnown (F : Format LogRecord) (format : LogFileFormat) (files : PipeFiles) (d : Disk) : Type 0 where
+  made : files.recycled.items ≡ [] → NextIsKnown F format files d
+  used : NextIsUsed F format files d → NextIsKnown F format files d
+
+-- Right behind a rotation into such a file every crash only loses, whatever bytes the file held.
+abbrev pub RotatedFilesOnlyLose : Type 0
+RotatedFilesOnlyLose = (which : Which) (home : Home) (e : Shows) (m : LogMap) (pending : List Said)
+    → Holds home e m pending
+    → NextIsKnown (layout_at which (log_in home)).format (one_at which e.pipes).settings.new_files.format
+    (one_at which e.pipes).files e.pipes.disk
+    → (v : LogPipes) → PipeRotates which e.pipes v → (image : Disk) → IsImage v.disk image
+    → LosesOwn (layout_at which (log_in home)).format (one_at which v).files v.disk image

@@ -25,6 +25,7 @@ const BATCHES: u64 = 60_000;
 const GROUPS: u64 = 100;
 const SIZE: usize = 2_118;
 const FETCHED: u64 = 1_000;
+const ROUNDS: u64 = 20;
 const READ_BLOCK: usize = 16 << 10;
 const MAX_COPIED_LEN: u64 = 128 << 10;
 const SHORT: usize = 16;
@@ -437,6 +438,15 @@ fn fetch_all(engine: &mut Engine) -> Result<u64> {
     Ok(len)
 }
 
+/// Fetches the first entries of each group so many times.
+fn fetch_rounds(engine: &mut Engine) -> Result<u64> {
+    let mut len = 0;
+    for _ in 0..ROUNDS {
+        len += fetch_all(engine)?;
+    }
+    Ok(len)
+}
+
 /// Compacts each group to half of its entries.
 fn compact_all(engine: &mut Engine) -> Result<()> {
     let mut batch = Batch::new();
@@ -509,7 +519,7 @@ fn short(entry: &[u8], size: usize, uneven: bool) -> Result<()> {
     let written = write_short(&mut engine, &entries)?;
     report(&format!("write-{size}{kind}"), written, start, written);
     let start = Instant::now();
-    let fetched = fetch_all(&mut engine)?;
+    let fetched = fetch_rounds(&mut engine)?;
     report(&format!("fetch-{size}{kind}"), fetched, start, fetched);
     let mut files = engine.close()?;
     let start = Instant::now();
@@ -536,7 +546,7 @@ fn main() -> Result<()> {
     let written = write_all(&mut engine, &entries)?;
     report("write", written, start, written);
     let start = Instant::now();
-    let fetched = fetch_all(&mut engine)?;
+    let fetched = fetch_rounds(&mut engine)?;
     report("fetch", fetched, start, fetched);
     let mut files = engine.close()?;
     let start = Instant::now();

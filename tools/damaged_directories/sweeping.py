@@ -309,15 +309,15 @@ class DeniedRun(Run):
     def deny(self):
         """A place can't be read: of those of the files that are there the one that is picked."""
         files = sorted(word.split("=") for word in self.ask("dump").split(" ")[1:])
-        places = [(path, at) for path, text in files for at in places_of(path, bytes.fromhex(text))]
+        places = [(path, at) for path, text in files for at in places_of(path, bytes.fromhex(text), self.settings.block)]
         self.places = len(places)
         if self.pick < len(places):
             self.denied = path, at = places[self.pick]
             self.want(self.ask(f"arm deny {path} {at}"))
 
 
-def places_of(path, bytes_):
-    """Places of a file: its first and last byte, and of each record the first one, that behind its head and the last one. A read of room behind the last record may cover none."""
+def places_of(path, bytes_, block):
+    """Places of a file, one at least in each read of it: of each record the first byte, that behind its head (where its entries begin), the last one and that behind it; the file's last byte; and one each so many bytes as are read at once, so that a read of room behind the last record covers one."""
     records = read_file(bytes_, number_in(path), False).records
-    parts = [at for record in records for at in (record.begin, record.begin + 16, record.end - 1)]
-    return sorted({0, len(bytes_) - 1, *parts} - {-1, len(bytes_)}) if bytes_ else []
+    parts = [at for record in records for at in (record.begin, record.begin + 16, record.end - 1, record.end)]
+    return sorted({*range(0, len(bytes_), block), len(bytes_) - 1, *parts} - {-1, len(bytes_)}) if bytes_ else []

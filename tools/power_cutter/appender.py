@@ -38,6 +38,10 @@ class Appender:
         """What is sent."""
         return "".join(line + "\n" for line in lines)
 
+    def answer_lines(self, _line):
+        """How many lines answer a line."""
+        return 1
+
     def opens(self, running):
         """Sends one line, waits until it is kept, and finds what stood before it: the state, and the line."""
         probe = self.probe = f"probe {running.process.pid}"

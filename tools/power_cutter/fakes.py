@@ -4,7 +4,9 @@ import time
 from random import Random
 
 from cutting import Cutter
+from denying import Denier
 from forking import Forker
+from holding import Holder
 from killing import Killer
 from node import Node, settings
 from refusing import Refuser
@@ -14,6 +16,7 @@ from trial import Room
 FAKE = [sys.executable, "-S", f"{HERE}/fake_node"]
 OPERATOR = [sys.executable, "-S", f"{HERE}/fake_operator"]
 COPIED = ["no-sync", "no-names", "no-home", "leaves-out", "cuts", "passes-over"]
+HELD = ["holds-files", "holds-names"]
 CUT = ["no-sync", "no-names", "answers-first", "renames-first", "stale", "no-front", "no-load-sync"]
 
 
@@ -54,11 +57,32 @@ def copies(room, seconds, until_wrong, operator=None):
     return forker, "copies"
 
 
+def lives(room, seconds, until_wrong):
+    """Lives for so long, or until something is wrong."""
+    end, number = time.time() + seconds, 0
+    holder = Holder(room, Random(1), settings, OPERATOR)
+    while time.time() < end and not (until_wrong and holder.wrong):
+        holder.life(f"life {number}", 3, 20)
+        number += 1
+    return holder, "moments"
+
+
+def denials(room, seconds, until_wrong):
+    """Denies for so long, or until something is wrong."""
+    end, number = time.time() + seconds, 0
+    denier = Denier(room, Random(1), settings, 10, None)
+    while time.time() < end and not (until_wrong and denier.wrong):
+        denier.log(f"log {number}")
+        number += 1
+    return denier, "trials"
+
+
 def try_fakes(path, library, seconds):
     """Tries each store; how many were judged wrongly."""
     failed = 0
-    trials = [("right", each, False, {}) for each in (kills, cuts, refusals)]
+    trials = [("right", each, False, {}) for each in (kills, cuts, refusals, lives, denials)]
     trials += [(wrong, cuts, True, {}) for wrong in CUT] + [("passes-over", refusals, True, {})]
+    trials += [(wrong, lives, True, {}) for wrong in HELD] + [("takes-leave", denials, True, {})]
     trials += [("right", cuts, True, {"drops": [kind]}) for kind in ("bytes", "names")]
     trials += [("right", copies, False, {})]
     trials += [("right", copies, True, {"operator": ["--wrong", wrong]}) for wrong in COPIED]

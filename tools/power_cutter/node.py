@@ -75,6 +75,10 @@ class Node:
             lines += ["round"] + [" ".join(words) for words in requests] + ["end"] if kind == "round" else [kind]
         return "".join(line + "\n" for line in lines)
 
+    def answer_lines(self, event):
+        """How many lines answer an event."""
+        return 1 + len(event[1] or [])
+
     def opens(self, running):
         """Waits until a started program serves, and finds the voters that stand: the state, and the events that showed it."""
         if not running.hear_until(lambda told: b"\nready\n" in b"\n" + told):

@@ -8,6 +8,8 @@
                        gone (as refuse, and every later call too), kill (the program is killed before the call),
                        kill-part (the program is killed behind half of a write), kill-made (it is killed behind the call)
 
+   Reads, and calls that ask for names, sizes and locks, aren't noted, but are counted and refused as the others.
+
    What the program writes to its standard output is noted too, so that it is known what was answered by which call. A lock
    is held from a call to its note, so notes have the order of the calls. A call that could change files in a way that isn't
    followed here is noted as `other`, and whoever reads the trace has to refuse it. */
@@ -23,6 +25,7 @@
 #include <stdio.h>
 #include <stdlib.h>
 #include <string.h>
+#include <sys/file.h>
 #include <sys/mman.h>
 #include <sys/stat.h>
 #include <sys/uio.h>
@@ -60,6 +63,8 @@ static ssize_t (*real_read)(int, void *, size_t), (*real_pread)(int, void *, siz
 static int (*real_ftruncate)(int, off_t), (*real_fsync)(int), (*real_fdatasync)(int);
 static int (*real_renameat2)(int, const char *, int, const char *, unsigned);
 static int (*real_unlinkat)(int, const char *, int), (*real_mkdirat)(int, const char *, mode_t);
+static int (*real_statx)(int, const char *, int, unsigned, struct statx *), (*real_flock)(int, int);
+static ssize_t (*real_getdents64)(int, void *, size_t);
 static void *(*real_mmap)(void *, size_t, int, int, int, off_t);
 
 static void find_fault(void) {
@@ -89,6 +94,9 @@ static void begin(void) {
     real_renameat2 = dlsym(RTLD_NEXT, "renameat2");
     real_unlinkat = dlsym(RTLD_NEXT, "unlinkat");
     real_mkdirat = dlsym(RTLD_NEXT, "mkdirat");
+    real_statx = dlsym(RTLD_NEXT, "statx");
+    real_flock = dlsym(RTLD_NEXT, "flock");
+    real_getdents64 = dlsym(RTLD_NEXT, "getdents64");
     real_mmap = dlsym(RTLD_NEXT, "mmap");
     const char *where = getenv("POWER_CUTTER_ROOT"), *to = getenv("POWER_CUTTER_TRACE");
     if (!where || !to) return;
@@ -407,6 +415,38 @@ int mkdirat(int directory, const char *path, mode_t mode) {
     return answer;
 }
 int mkdir(const char *path, mode_t mode) { return mkdirat(AT_FDCWD, path, mode); }
+
+/* Sizes, names and locks are asked for. */
+
+int statx(int directory, const char *path, int flags, unsigned mask, struct statx *found) {
+    char whole[PATH_MAX];
+    enter();
+    if (*path) whole_path(directory, path, whole);
+    int below = *path ? is_below(whole) : follows(directory), fell = below && falls(), answer = -1;
+    if (!is_refused(fell)) answer = real_statx(directory, path, flags, mask, found);
+    answer = after(fell, answer);
+    leave();
+    return answer;
+}
+
+ssize_t getdents64(int file, void *room, size_t size) {
+    enter();
+    int fell = follows(file) && falls();
+    ssize_t answer = -1;
+    if (!is_refused(fell)) answer = real_getdents64(file, room, size);
+    answer = after(fell, answer);
+    leave();
+    return answer;
+}
+
+int flock(int file, int how) {
+    enter();
+    int fell = follows(file) && falls(), answer = -1;
+    if (!is_refused(fell)) answer = real_flock(file, how);
+    answer = after(fell, answer);
+    leave();
+    return answer;
+}
 
 /* Calls that aren't followed. */
 

@@ -7,8 +7,8 @@ use Rattle.raft_log_file_reader.proofs.window.Window.peek.Goals as goal
 pub end-requires : goal.end-requires
 end-requires g c = omega (arith, holds_end _ _ _ c.requires.part)
 
-pub at_once-requires : goal.at_once-requires
-at_once-requires g c = omega (arith, holds_end _ _ _ c.requires.part)
+pub at_once-at_once-requires : goal.at_once-at_once-requires
+at_once-at_once-requires g c = omega (arith, holds_end _ _ _ c.requires.part)
 
 pub move_to-requires : goal.move_to-requires
 move_to-requires g c = omega (arith, holds_end _ _ _ c.requires.part)

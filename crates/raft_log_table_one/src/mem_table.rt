@@ -244,7 +244,7 @@ impl MemTable {
             ≡ entries_from (shown self.now) (index - (shown self.now).first) (take (length bounds.new.items - 1)
             (drop (index - (shown self.now).first) (shown self.now).places)) }
         ensures count { (1 < length bounds.new.items) × (length bounds.new.items ≤ limit + 1) }
-        ensures capacity { vec_capacity bounds.new ≡ vec_capacity bounds.old }
+        ensures capacity { vec_capacity bounds.old ≤ vec_capacity bounds.new }
     {
         let position = (index - self.first) as usize;
         let (queue, limit) = if position < self.rewritten {

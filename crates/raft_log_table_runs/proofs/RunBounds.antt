@@ -1,64 +1,68 @@
 -- Bounds of entries that lie one behind another.
-use Rattle.std.proofs.Common.{◌≡◌, ℕ, zero, suc, ◌+◌, ◌-◌, ◌*◌, ◌<◌, ◌≤◌, List, [], ◌∷◌, ◌++◌, true, false, length, take, drop, slice_index_or, refl, sym, ap, ap₂, ◌∙◌, drop-drop, get_or-take, length-take-le, take-take, take_all, arith, get_or-drop, length-drop, suc-mul}
+use Rattle.std.proofs.Common.{◌≡◌, ℕ, zero, suc, ◌+◌, ◌-◌, ◌*◌, ◌<◌, ◌≤◌, List, [], ◌∷◌, ◌++◌, true, false, length, take, drop, slice_index_or, refl, sym, ap, ap₂, ◌∙◌, drop-drop, get_or-take, length-take-le, take-take, take_all, arith, get_or-drop, length-drop, suc-mul, zero-mul}
 use Rattle.raft_log_table_runs.specs.declared.place.Place.{Place}
 use Rattle.raft_log_table_runs.specs.declared.run.Run.{Run}
 use Rattle.raft_log_table_runs.specs.declared.runs.Runs.{Runs}
-use Rattle.raft_log_table_runs.specs.Blocks.{between, in_block, uneven_places}
+use Rattle.raft_log_table_runs.specs.Blocks.{between, even_places, in_block, rising, uneven_places}
 use Rattle.raft_log_table_runs.specs.RunLists.{places}
 use Rattle.raft_log_table_runs.specs.Runs.{IsFound, block, laid}
 use Rattle.raft_log_table_runs.specs.Spots.{IsSpot}
-use Rattle.raft_log_table_runs.proofs.Replacing.{take_next}
 use Rattle.raft_log_table_runs.proofs.RunCopies.{even_are, starts_fit, uneven_are}
-use Rattle.raft_log_table_runs.proofs.RunPlaces.{drop-uneven, length-uneven}
+use Rattle.raft_log_table_runs.proofs.RunPlaces.{drop-uneven, length-uneven, take-even}
 use Rattle.raft_log_table_runs.proofs.RunReplacing.{sound_length}
-use Rattle.std.proofs.lemmas.List.{drop-take}
+use Rattle.std.proofs.Math.Seq.{take-append-add}
+use Rattle.std.proofs.lemmas.List.{drop-append-le, drop-take, take-append-le}
 use Rattle.raft_log_table_runs.proofs.RunSpots.{spot_is}
 
--- one bound more, behind others the last of which is x
-between_next : (b : Place) (i : ℕ) (xs : List ℕ) (x y : ℕ) → drop i xs ≡ x ∷ [] → between b (xs ++ (y ∷ [])) ≡ between b xs ++ (in_block b x (y - x) ∷ [])
-between_next b zero xs x y h = ap (λ l. between b (l ++ (y ∷ []))) h ∙ sym (ap (λ l. between b l ++ (in_block b x (y - x) ∷ [])) h)
-between_next b (suc i) [] x y h = absurd (let clash : [] ≡ x ∷ [] = h in let never : ⊥ = cc in never)
-between_next b (suc zero) (z ∷ []) x y h = absurd (let clash : [] ≡ x ∷ [] = h in let never : ⊥ = cc in never)
-between_next b (suc (suc i)) (z ∷ []) x y h = absurd (let clash : [] ≡ x ∷ [] = h in let never : ⊥ = cc in never)
-between_next b (suc i) (z ∷ (w ∷ xs)) x y h = ap (λ l. in_block b z (w - z) ∷ l) (between_next b i (w ∷ xs) x y h)
+-- one number more
+pub rising_more : (x s n : ℕ) → rising x s n ++ ((x + n * s) ∷ []) ≡ rising x s (n + 1)
+rising_more x s zero = ap (λ k. k ∷ []) (let none = zero-mul s in let same : x + 0 * s ≡ x = omega (arith, none) in same)
+rising_more x s (suc n) =
+    let one = suc-mul n s in
+    let same : x + suc n * s ≡ x + s + n * s = omega (arith, one) in
+    ap (λ k. x ∷ (rising (x + s) s n ++ (k ∷ []))) same ∙ ap (λ l. x ∷ l) (rising_more (x + s) s n)
+    ∙ ap (rising x s) (let next : suc (n + 1) ≡ suc n + 1 = omega arith in next)
 
--- what was added last
-added_last : (i : ℕ) (xs : List ℕ) (y : ℕ) → length xs ≡ i → drop i (xs ++ (y ∷ [])) ≡ y ∷ []
-added_last zero [] y h = refl
-added_last zero (x ∷ xs) y h = absurd (omega (arith, h))
-added_last (suc i) [] y h = absurd (omega (arith, h))
-added_last (suc i) (x ∷ xs) y h = added_last i xs y (omega (arith, h))
+length_rising : (x s n : ℕ) → length (rising x s n) ≡ n
+length_rising x s zero = refl
+length_rising x s (suc n) = ap suc (length_rising (x + s) s n)
 
--- one entry more: the bounds up to its start, and its end
-pub bounds_next : (b : Place) (from i : ℕ) (ps : List Place) (old new : List ℕ) (x y : ℕ) → from + i < length ps
-    → slice_index_or ps (from + i) (in_block b x (y - x)) ≡ in_block b x (y - x) → length old ≡ i + 1 → drop i old ≡ x ∷ []
-    → between b old ≡ take i (drop from ps) → new ≡ old ++ (y ∷ [])
-    → (between b new ≡ take (i + 1) (drop from ps)) × (drop (i + 1) new ≡ y ∷ [])
-bounds_next b from i ps old new x y h is long last so e =
-    let rest = drop from ps in
-    let p = in_block b x (y - x) in
-    let more = length-drop from ps in
-    let next : take (i + 1) rest ≡ take i rest ++ (p ∷ []) =
-    take_next i rest p (omega (arith, more, h)) ∙ ap (λ q. take i rest ++ (q ∷ [])) (get_or-drop from ps i p ∙ is) in (
-      ap (between b) e ∙ between_next b i old x y last ∙ ap (λ l. l ++ (p ∷ [])) so ∙ sym next,
-      ap (drop (i + 1)) e ∙ added_last (i + 1) old y long,
-    )
+-- all of the numbers, of a list that more might stand behind
+pub rising_alone : (x s n m : ℕ) (more : List ℕ) → n ≡ m → take m (rising x s n ++ more) ≡ rising x s n
+rising_alone x s n m more same =
+    let long = length_rising x s n in
+    take-append-le m (rising x s n) more (omega (arith, long, same)) ∙ take_all m (rising x s n) (omega (arith, long, same))
 
--- the first bound
-pub bounds_begin : (b : Place) (ps : List Place) (old new : List ℕ) (x : ℕ) → length old ≡ 0 → new ≡ old ++ (x ∷ []) → (between b new ≡ take 0 ps) × (drop 0 new ≡ x ∷ [])
-bounds_begin b ps [] new x h e = (ap (between b) e, e)
-bounds_begin b ps (y ∷ old) new x h e = absurd (omega arith)
+-- the places between bounds that rise by one length
+rising_between : (b : Place) (x s n : ℕ) → between b (rising x s (suc n)) ≡ even_places b s x n
+rising_between b x s zero = refl
+rising_between b x s (suc n) = ap₂ (λ k l. in_block b x k ∷ l) (let same : x + s - x ≡ s = omega arith in same) (rising_between b (x + s) s n)
+
+-- so many of the places of one length, behind others
+even_from : (b : Place) (s o n j k : ℕ) → j + k ≤ n → take k (drop j (even_places b s o n)) ≡ even_places b s (o + j * s) k
+even_from b s o n zero k h = take-even b s o n k (omega (arith, h)) ∙ ap (λ x. even_places b s x k) (let none = zero-mul s in let same : o ≡ o + 0 * s = omega (arith, none) in same)
+even_from b s o zero (suc j) k h = absurd (omega (arith, h))
+even_from b s o (suc n) (suc j) k h =
+    even_from b s (o + s) n j k (omega (arith, h))
+    ∙ ap (λ x. even_places b s x k) (let one = suc-mul j s in let same : o + s + j * s ≡ o + suc j * s = omega (arith, one) in same)
+
+-- the bounds of so many entries of one length, behind others
+pub even_between : (b : Place) (s o n j k : ℕ) → j + k ≤ n → between b (rising (o + j * s) s (k + 1)) ≡ take k (drop j (even_places b s o n))
+even_between b s o n j k h =
+    ap (λ m. between b (rising (o + j * s) s m)) (let one : k + 1 ≡ suc k = omega arith in one) ∙ rising_between b (o + j * s) s k ∙ sym (even_from b s o n j k h)
 
 pub no_bounds : (old more : List ℕ) → length old ≡ 0 → old ++ more ≡ more
 no_bounds [] more h = refl
 no_bounds (x ∷ old) more h = absurd (omega arith)
 
--- where the next of entries of one length starts
-pub next_start : (o n i s : ℕ) → o + (n + i) * s + s ≡ o + (n + (i + 1)) * s
-next_start o n i s =
-    let one = suc-mul (n + i) s in
-    let all : o + (n + i) * s + s ≡ o + suc (n + i) * s = omega (arith, one) in
-    all ∙ ap (λ k. o + k * s) (let same : suc (n + i) ≡ n + (i + 1) = omega arith in same)
+-- numbers that lie in two lists, one behind the other
+pub over_seam : (from count : ℕ) (xs front back : List ℕ) → xs ≡ front ++ back → from ≤ length front → length front ≤ from + count
+    → take count (drop from xs) ≡ drop from front ++ take (from + count - length front) back
+over_seam from count xs front back e low high =
+    let more = length-drop from front in
+    let same : count ≡ length (drop from front) + (from + count - length front) = omega (arith, more, low, high) in
+    ap (λ l. take count (drop from l)) e ∙ ap (take count) (drop-append-le from front back low)
+    ∙ ap (λ n. take n (drop from front ++ back)) same ∙ take-append-add (drop from front) back (from + count - length front)
 
 -- starts that others lie behind, and all of them and the end of the last entry
 between_starts : (b : Place) (s : ℕ) (os : List ℕ) (n : ℕ) → n < length os → between b (take (suc n) os) ≡ take n (uneven_places b s os)

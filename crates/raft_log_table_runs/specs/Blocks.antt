@@ -39,6 +39,11 @@ uneven_places b size [] = []
 uneven_places b size (o ∷ []) = in_block b o size ∷ []
 uneven_places b size (o ∷ (p ∷ os)) = in_block b o (p - o) ∷ uneven_places b size (p ∷ os)
 
+-- so many numbers from one on, each by so much above the one before
+abbrev pub rising : ℕ → ℕ → ℕ → List ℕ
+rising x s zero = []
+rising x s (suc n) = x ∷ rising (x + s) s n
+
 -- the places in a block from each of these bounds up to the next
 abbrev pub between : Place → List ℕ → List Place
 between b [] = []

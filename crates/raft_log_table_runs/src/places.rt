@@ -153,7 +153,7 @@ impl Places {
         ensures places { between result bounds.new.items
             ≡ take (length bounds.new.items - 1) (drop position self.now.items) }
         ensures count { (1 < length bounds.new.items) × (length bounds.new.items ≤ limit + 1) }
-        ensures capacity { vec_capacity bounds.new ≡ vec_capacity bounds.old }
+        ensures capacity { vec_capacity bounds.old ≤ vec_capacity bounds.new }
     {
         self.runs.copy_bounds(position, limit, hint, bounds)
     }

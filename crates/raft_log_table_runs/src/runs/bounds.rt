@@ -1,6 +1,6 @@
 //! Where entries start and end that lie one behind another.
 ghost use Rattle.std.specs.Prelude.{◌≡◌, ℕ, ◌+◌, ◌*◌, ◌-◌, ◌≤◌, ◌<◌, ◌^◌, ◌++◌, [], false, true, length, take, drop, vec_len, vec_capacity};
-ghost use Rattle.raft_log_table_runs.specs.Blocks.{between};
+ghost use Rattle.raft_log_table_runs.specs.Blocks.{between, rising};
 ghost use Rattle.raft_log_table_runs.specs.Runs.{block, laid};
 
 use super::{Runs, find};
@@ -26,7 +26,7 @@ impl Runs {
         ensures places { between result bounds.new.items
             ≡ take (length bounds.new.items - 1) (drop position (places self.now)) }
         ensures count { (1 < length bounds.new.items) × (length bounds.new.items ≤ limit + 1) }
-        ensures capacity { vec_capacity bounds.new ≡ vec_capacity bounds.old }
+        ensures capacity { vec_capacity bounds.old ≤ vec_capacity bounds.new }
     {
         let number = self.front + position;
         let at = find(&self.runs, number, *hint);
@@ -56,14 +56,23 @@ fn push_even_bounds(run: &Run, within: usize, count: usize, bounds: &mut Vec<u64
     ensures places { between (block run.now) bounds.new.items
         ≡ take count (drop within (laid true run.now [])) }
     ensures len { vec_len bounds.new ≡ count + 1 }
-    ensures capacity { vec_capacity bounds.new ≡ vec_capacity bounds.old }
+    ensures capacity { vec_capacity bounds.old ≤ vec_capacity bounds.new }
 {
     let size = run.size as u64;
-    let mut end = run.start as u64 + within as u64 * size;
-    bounds.push_reserved(end);
-    for _ in 0..count {
-        end += size;
-        bounds.push_reserved(end);
+    let first = run.start as u64 + within as u64 * size;
+    let Ok(()) = bounds.resize(count + 1, 0) else {
+        return;
+    };
+    put_rising(first, size, bounds.as_mut_slice());
+}
+
+/// Puts numbers from this one on, each by so much above the one before, in the stead of what the room has.
+fn put_rising(first: u64, step: u64, room: &mut [u64])
+    requires { (j : ℕ) → j < length room.old → first + j * step < 2 ^ 64 }
+    ensures { room.new ≡ rising first step (length room.old) }
+{
+    for i in 0..room.len() {
+        room[i] = first + i as u64 * step;
     }
 }
 
@@ -85,7 +94,7 @@ fn push_uneven_bounds(
     ensures places { between (block run.now) bounds.new.items
         ≡ take count (drop within (laid false run.now (drop from starts.now.items))) }
     ensures len { vec_len bounds.new ≡ count + 1 }
-    ensures capacity { vec_capacity bounds.new ≡ vec_capacity bounds.old }
+    ensures capacity { vec_capacity bounds.old ≤ vec_capacity bounds.new }
 {
     let first = from + within;
     if count < run.count - within {
@@ -102,7 +111,7 @@ fn push_starts(starts: &VecDeque<u32>, from: usize, count: usize, bounds: &mut V
     requires room { vec_len bounds.old + count ≤ vec_capacity bounds.old }
     ensures items { bounds.new.items ≡ bounds.old.items ++ take count (drop from starts.now.items) }
     ensures len { vec_len bounds.new ≡ vec_len bounds.old + count }
-    ensures capacity { vec_capacity bounds.new ≡ vec_capacity bounds.old }
+    ensures capacity { vec_capacity bounds.old ≤ vec_capacity bounds.new }
 {
     let (front, back) = starts.as_slices();
     let seam = front.len();
@@ -122,9 +131,21 @@ fn push_each(starts: &[u32], bounds: &mut Vec<u64>)
     requires room { vec_len bounds.old + length starts.now ≤ vec_capacity bounds.old }
     ensures items { bounds.new.items ≡ bounds.old.items ++ starts.now }
     ensures len { vec_len bounds.new ≡ vec_len bounds.old + length starts.now }
-    ensures capacity { vec_capacity bounds.new ≡ vec_capacity bounds.old }
+    ensures capacity { vec_capacity bounds.old ≤ vec_capacity bounds.new }
 {
-    for &start in starts {
-        bounds.push_reserved(start as u64);
+    let len = bounds.len();
+    let Ok(()) = bounds.resize(len + starts.len(), 0) else {
+        return;
+    };
+    put_each(starts, &mut bounds[len..]);
+}
+
+/// Puts each of these starts in the stead of what the room has.
+fn put_each(starts: &[u32], room: &mut [u64])
+    requires { length room.old ≡ length starts.now }
+    ensures { room.new ≡ starts.now }
+{
+    for i in 0..starts.len() {
+        room[i] = starts[i] as u64;
     }
 }

@@ -12,7 +12,7 @@ pub use Rattle.raft_log_file_settings
 pub use Rattle.raft_log_file_pair
 pub use Rattle.raft_log_file_blocks
 pub use Rattle.raft_log_file_listeners
-pub use Rattle.raft_log_open_directory
+pub use Rattle.raft_log_engine_core.specs.raft_log_open_directory
 pub use Rattle.raft_log_engine_core.specs.raft_log_engine_laws
 pub use Rattle.raft_log_engine_core
 pub use Rattle.raft_log_closed

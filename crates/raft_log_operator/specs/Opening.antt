@@ -9,7 +9,7 @@ use Rattle.raft_log_file_settings.specs.declared.config.Config.{Config}
 use Rattle.raft_log_file_pair.specs.Pipes.{LogPipes}
 use Rattle.raft_log_purge.specs.declared.expired_files.PurgeCounts.{PurgeCounts}
 use Rattle.raft_log_open_directory.specs.Opening.{FailsToOpenDirectory, OpensDirectory}
-use Rattle.raft_log_engine_core.specs.Purging.{CountsBrought}
+use Rattle.raft_log_engine.specs.raft_log_engine_core.specs.Purging.{CountsBrought}
 use Rattle.raft_log_unpadded.specs.Unpadding.{FailsToUnpad, Unpads}
 
 -- of the log of these settings these files were written anew, without their padding, and no others

@@ -1,7 +1,7 @@
 //! A log is opened once the padding is out of its files.
 
 ghost use Rattle.std.specs.Prelude.{◌≡◌, None, IfErr, IfOk};
-ghost use Rattle.raft_log_engine_core.specs.Purging.{IsPurgedBy};
+ghost use Rattle.raft_log_engine.specs.raft_log_engine_core.specs.Purging.{IsPurgedBy};
 ghost use Rattle.raft_log_operator.specs.Opening.{FailsToOpenUnpadded, OpensUnpadded};
 
 use log::Log;

@@ -12,11 +12,11 @@ use Rattle.raft_log_disk_memory.specs.declared.memory.MemoryFileSystem.{MemoryFi
 use Rattle.raft_log_file_settings.specs.declared.config.Config.{Config}
 use Rattle.raft_log_file_pair.specs.Lying.{none_open}
 use Rattle.raft_log_file_pair.proofs.OnDiskLaws.{logs_go_on_disks}
-use Rattle.raft_log_engine_laws.specs.raft_log_file_pair.specs.OnDisk.{LogRestsOn}
-use Rattle.raft_log_engine_laws.specs.raft_log_file_pair.specs.Pipes.{Said}
-use Rattle.raft_log_engine_laws.specs.Holding.{Holds, IsLeftAt}
-use Rattle.raft_log_engine_laws.specs.Shows.{Home, LogMap, Shows, has_failed, log_in}
-use Rattle.raft_log_engine_laws.proofs.Lying.{closed_engines_are_left}
+use Rattle.raft_voter_standing_laws.specs.raft_log_engine_laws.specs.raft_log_file_pair.specs.OnDisk.{LogRestsOn}
+use Rattle.raft_voter_standing_laws.specs.raft_log_engine_laws.specs.raft_log_file_pair.specs.Pipes.{Said}
+use Rattle.raft_voter_standing_laws.specs.raft_log_engine_laws.specs.Holding.{Holds, IsLeftAt}
+use Rattle.raft_voter_standing_laws.specs.raft_log_engine_laws.specs.Shows.{Home, LogMap, Shows, has_failed, log_in}
+use Rattle.raft_voter_standing_laws.specs.raft_log_engine_laws.proofs.Lying.{closed_engines_are_left}
 use Rattle.raft_log_open_laws.specs.Bare.{IsBare}
 use Rattle.raft_log_open_laws.specs.ByCalls.{home_of}
 use Rattle.raft_log_open_laws.specs.ForkLeaving.{EndsFork, LeavesSource}
@@ -28,8 +28,8 @@ use Rattle.raft_voter.specs.Rounds.{fresh_world}
 use Rattle.raft_voter.specs.Service.{CutRound, MayFollow, uncut}
 use Rattle.raft_voter_standing_laws.specs.Standing.{IsLeftAmong}
 use Rattle.raft_voter_standing_laws.proofs.Keeping.{left_alone}
-use Rattle.raft_voter_store.specs.Service.{LeavesAt}
-use Rattle.raft_voter_store.specs.Service.LeavesAt.{left as is_left, running}
+use Rattle.raft_voter_opening_laws.specs.raft_voter_store.specs.Service.{LeavesAt}
+use Rattle.raft_voter_opening_laws.specs.raft_voter_store.specs.Service.LeavesAt.{left as is_left, running}
 use Rattle.raft_voter_world.specs.declared.faults.Fault.{Fault}
 use Rattle.raft_voter_world.specs.declared.faults.Fault.TheVariants.{Refuse, Stop}
 use Rattle.raft_voter_log.specs.Faults.{fault_of}

@@ -5,8 +5,8 @@ use Rattle.raft_log_disk.specs.Image.{IsSound}
 use Rattle.raft_log_disk_memory.specs.Memory.{disk_of}
 use Rattle.raft_log_disk_memory.specs.declared.memory.MemoryFileSystem.{MemoryFileSystem}
 use Rattle.raft_log_file_settings.specs.declared.config.Config.{Config}
-use Rattle.raft_log_engine_laws.specs.raft_log_file_pair.specs.OnDisk.{LogRestsOn}
-use Rattle.raft_log_engine_laws.specs.Shows.{Home, Shows, has_failed, log_in, shows as shows_all}
+use Rattle.raft_voter_standing_laws.specs.raft_log_engine_laws.specs.raft_log_file_pair.specs.OnDisk.{LogRestsOn}
+use Rattle.raft_voter_standing_laws.specs.raft_log_engine_laws.specs.Shows.{Home, Shows, has_failed, log_in, shows as shows_all}
 use Rattle.raft_log_open_laws.specs.Bare.{IsBare}
 use Rattle.raft_log_open_laws.specs.ByCalls.{home_of}
 use Rattle.raft_voter_outline.specs.State.{State}
@@ -20,9 +20,9 @@ use Rattle.raft_voter_reading.specs.declared.unread.Unread.{Unread}
 use Rattle.raft_voter_reading.specs.declared.unread.Unread.TheVariants as causes
 use Rattle.raft_voter_opening_laws.specs.Opens.{ServesFound}
 use Rattle.raft_voter_opening_laws.proofs.Finding.{first_opens_are_fresh, left_voters_are_found, resting_voters_are_found}
-use Rattle.raft_voter_store.specs.Opening.{FailsToOpenVoters, OpensVoters}
-use Rattle.raft_voter_store.specs.Service.{service_in}
-use Rattle.raft_voter_store.proofs.Serving.{open_in}
+use Rattle.raft_voter_opening_laws.specs.raft_voter_store.specs.Opening.{FailsToOpenVoters, OpensVoters}
+use Rattle.raft_voter_opening_laws.specs.raft_voter_store.specs.Service.{service_in}
+use Rattle.raft_voter_opening_laws.specs.raft_voter_store.proofs.Serving.{open_in}
 use Rattle.raft_voter_world.specs.Stores.{FindsVoters}
 use Rattle.raft_voter_log.specs.declared.files.LogFiles.{LogFiles}
 use Rattle.raft_voter_log.specs.Causes.{cause_of, unread_cause}

@@ -9,23 +9,23 @@ use Rattle.raft_log_disk_memory.specs.declared.memory.MemoryFileSystem.{MemoryFi
 use Rattle.raft_log_record_base.specs.declared.errors.Error.{Error}
 use Rattle.raft_log_file_settings.specs.Settings.{settings_of}
 use Rattle.raft_log_file_settings.specs.declared.config.Config.{Config}
-use Rattle.raft_log_engine_laws.specs.raft_log_file_pair.specs.ClosingCalls.{ClosesLog}
-use Rattle.raft_log_engine_laws.specs.raft_log_file_pair.specs.Pipes.{LogPipes}
-use Rattle.raft_log_engine_laws.specs.Shows.{Shows, has_failed}
+use Rattle.raft_voter_standing_laws.specs.raft_log_engine_laws.specs.raft_log_file_pair.specs.ClosingCalls.{ClosesLog}
+use Rattle.raft_voter_standing_laws.specs.raft_log_engine_laws.specs.raft_log_file_pair.specs.Pipes.{LogPipes}
+use Rattle.raft_voter_standing_laws.specs.raft_log_engine_laws.specs.Shows.{Shows, has_failed}
 use Rattle.raft_log_purge.specs.Append.{RewritesAppend}
 use Rattle.raft_log_purge.specs.Counted.{PurgesAndCounts}
 use Rattle.raft_log_purge.specs.ExpiredFiles.{SyncsAndRewrites}
-use Rattle.raft_log_engine_core.specs.Purging.{StopsPurgingExpired, StopsRewritingAppend}
-use Rattle.raft_log_engine_core.specs.Whole.{ArmsEngine}
-use Rattle.raft_log_engine_core.specs.declared.engine.LogEngine.{LogEngine}
-use Rattle.raft_log_closed.specs.Forks.{FailsToFork, Forks}
+use Rattle.raft_log_engine.specs.raft_log_engine_core.specs.Purging.{StopsPurgingExpired, StopsRewritingAppend}
+use Rattle.raft_log_engine.specs.raft_log_engine_core.specs.Whole.{ArmsEngine}
+use Rattle.raft_log_engine.specs.raft_log_engine_core.specs.declared.engine.LogEngine.{LogEngine}
+use Rattle.raft_log_engine.specs.raft_log_closed.specs.Forks.{FailsToFork, Forks}
 use Rattle.raft_log_open_laws.specs.ByCalls.{home_of}
 use Rattle.raft_voter_outline.specs.State.{State}
 use Rattle.raft_voter.specs.declared.service.Cause.{Cause}
 use Rattle.raft_voter.specs.declared.service.Cause.TheVariants.{Memory}
 use Rattle.raft_voter_reading.specs.declared.unread.Unread.{Unread}
-use Rattle.raft_voter_store.specs.Opening.{FailsToOpenVoters, OpensVoters}
-use Rattle.raft_voter_store.specs.Service.{LeavesAt}
+use Rattle.raft_voter_opening_laws.specs.raft_voter_store.specs.Opening.{FailsToOpenVoters, OpensVoters}
+use Rattle.raft_voter_opening_laws.specs.raft_voter_store.specs.Service.{LeavesAt}
 use Rattle.raft_voter_world.specs.declared.event.Left.{Left}
 use Rattle.raft_voter_world.specs.declared.faults.Fault.{Fault}
 use Rattle.raft_voter_world.specs.declared.faults.Purge.{Purge}

@@ -3,8 +3,8 @@ use Rattle.std.specs.Prelude.{◌≡◌}
 use Rattle.raft_log_disk.specs.Disk.{Disk}
 use Rattle.raft_log_disk.specs.Image.{IsImage}
 use Rattle.raft_log_file_settings.specs.declared.config.Config.{Config}
-use Rattle.raft_log_engine_laws.specs.raft_log_file_pair.specs.OnDisk.{LogRestsOn}
-use Rattle.raft_log_engine_laws.specs.Shows.{Home, LogMap, Shows, log_in}
+use Rattle.raft_voter_standing_laws.specs.raft_log_engine_laws.specs.raft_log_file_pair.specs.OnDisk.{LogRestsOn}
+use Rattle.raft_voter_standing_laws.specs.raft_log_engine_laws.specs.Shows.{Home, LogMap, Shows, log_in}
 use Rattle.raft_log_open_laws.specs.Bare.{IsBare}
 use Rattle.raft_log_open_laws.specs.ByCalls.{home_of}
 use Rattle.raft_log_open_laws.specs.InPlace.{StandsWithoutChance}
@@ -14,8 +14,8 @@ use Rattle.raft_voter.specs.Rounds.{World, fresh_world}
 use Rattle.raft_voter.specs.Service.{CutRound, MayFollow, uncut}
 use Rattle.raft_voter_meaning_laws.specs.Voters.{Means}
 use Rattle.raft_voter_standing_laws.specs.Standing.{IsLeftAmong}
-use Rattle.raft_voter_store.specs.Service.{LeavesAt}
-use Rattle.raft_voter_store.specs.Service.LeavesAt.{left as is_left, running}
+use Rattle.raft_voter_opening_laws.specs.raft_voter_store.specs.Service.{LeavesAt}
+use Rattle.raft_voter_opening_laws.specs.raft_voter_store.specs.Service.LeavesAt.{left as is_left, running}
 
 -- Behind this round stand the voters that are found in the files of these settings:
 -- no log began there, so all voters are fresh,

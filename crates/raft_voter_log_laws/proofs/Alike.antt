@@ -8,12 +8,12 @@ use Rattle.raft_log_model_laws.specs.Groups.{taken}
 use Rattle.raft_log_machine_laws.specs.Fresh.{nothing_stands}
 use Rattle.raft_log_file_format.specs.Name.{suffix_of}
 use Rattle.raft_log_file_settings.specs.declared.config.Config.{Config}
-use Rattle.raft_log_engine_laws.specs.raft_log_table_all.specs.declared.mem_tables.MemTables.{MemTables}
-use Rattle.raft_log_engine_laws.specs.raft_log_file_pair.specs.Pipes.{LogPipes, Said}
-use Rattle.raft_log_engine_laws.specs.raft_log_file_layout.specs.Paths.{IsPathWith, reserved_suffix_of}
-use Rattle.raft_log_engine_laws.specs.Holding.{Holds}
-use Rattle.raft_log_engine_laws.specs.raft_log_file_pair.specs.OnDisk.{LogRestsOn}
-use Rattle.raft_log_engine_laws.specs.Shows.{Home, LogMap, Shows, log_in}
+use Rattle.raft_voter_standing_laws.specs.raft_log_engine_laws.specs.raft_log_table_all.specs.declared.mem_tables.MemTables.{MemTables}
+use Rattle.raft_voter_standing_laws.specs.raft_log_engine_laws.specs.raft_log_file_pair.specs.Pipes.{LogPipes, Said}
+use Rattle.raft_voter_standing_laws.specs.raft_log_engine_laws.specs.raft_log_file_layout.specs.Paths.{IsPathWith, reserved_suffix_of}
+use Rattle.raft_voter_standing_laws.specs.raft_log_engine_laws.specs.Holding.{Holds}
+use Rattle.raft_voter_standing_laws.specs.raft_log_engine_laws.specs.raft_log_file_pair.specs.OnDisk.{LogRestsOn}
+use Rattle.raft_voter_standing_laws.specs.raft_log_engine_laws.specs.Shows.{Home, LogMap, Shows, log_in}
 use Rattle.raft_log_open_builder.specs.Directories.{paths_of}
 use Rattle.raft_log_open_directory.specs.Opening.{OpensDirectory}
 use Rattle.raft_log_open_laws.specs.Bare.{IsBare}

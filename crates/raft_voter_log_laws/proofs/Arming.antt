@@ -4,7 +4,7 @@ use Rattle.raft_log_disk.specs.Disk.{Disk}
 use Rattle.raft_log_disk.specs.Exits.{denied_by}
 use Rattle.raft_log_disk.specs.declared.handle.Fault.{Fault}
 use Rattle.raft_log_disk.specs.declared.handle.Fault.TheVariants.{DenyRead, Refuse, RefuseInPart, Space, StopAfter, StopAt}
-use Rattle.raft_log_engine_laws.specs.Shows.{Shows}
+use Rattle.raft_voter_standing_laws.specs.raft_log_engine_laws.specs.Shows.{Shows}
 use Rattle.raft_log_engine_core.specs.Whole.{ArmsEngine}
 use Rattle.raft_voter_standing_laws.specs.Standing.{Keeps}
 use Rattle.raft_voter_log_laws.specs.Kept.{ArmsKeepVoters, DeniesNone}

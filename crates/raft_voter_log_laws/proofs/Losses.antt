@@ -10,13 +10,13 @@ use Rattle.raft_log_file_laws.proofs.KeepsSyncedLaws.{record_lies, take_over}
 use Rattle.raft_log_file_pipe.specs.declared.pipe_files.PipeFiles.{PipeFiles}
 use Rattle.raft_log_record_base.specs.declared.pipe_log.LogQueue.{LogQueue}
 use Rattle.raft_log_record_base.specs.declared.pipe_log.LogQueue.TheVariants.{Append, Rewrite}
-use Rattle.raft_log_engine_laws.specs.raft_log_file_layout.specs.declared.record.LogRecord.{LogRecord}
-use Rattle.raft_log_engine_laws.specs.raft_log_file_layout.specs.Layout.{log_format}
-use Rattle.raft_log_engine_laws.specs.raft_log_file_layout.specs.LayoutLaws.{is_layout, zeros_hold_none}
-use Rattle.raft_log_engine_laws.specs.raft_log_file_pair.specs.Pipes.{Said}
-use Rattle.raft_log_engine_laws.specs.raft_log_file_pair.specs.Queues.{QueueLayout}
-use Rattle.raft_log_engine_laws.specs.raft_log_file_pair.specs.State.{RunsQueue, Spanned}
-use Rattle.raft_log_engine_laws.specs.Shows.{LogMap, log_in}
+use Rattle.raft_voter_standing_laws.specs.raft_log_engine_laws.specs.raft_log_file_layout.specs.declared.record.LogRecord.{LogRecord}
+use Rattle.raft_voter_standing_laws.specs.raft_log_engine_laws.specs.raft_log_file_layout.specs.Layout.{log_format}
+use Rattle.raft_voter_standing_laws.specs.raft_log_engine_laws.specs.raft_log_file_layout.specs.LayoutLaws.{is_layout, zeros_hold_none}
+use Rattle.raft_voter_standing_laws.specs.raft_log_engine_laws.specs.raft_log_file_pair.specs.Pipes.{Said}
+use Rattle.raft_voter_standing_laws.specs.raft_log_engine_laws.specs.raft_log_file_pair.specs.Queues.{QueueLayout}
+use Rattle.raft_voter_standing_laws.specs.raft_log_engine_laws.specs.raft_log_file_pair.specs.State.{RunsQueue, Spanned}
+use Rattle.raft_voter_standing_laws.specs.raft_log_engine_laws.specs.Shows.{LogMap, log_in}
 use Rattle.raft_log_open_laws.specs.Running.{LeavesOwnAlone, MeetsOwnAlone, active_header, own_bytes}
 use Rattle.raft_log_open_laws.proofs.Running.{crashed_engines_open}
 use Rattle.raft_voter_meaning_laws.specs.Voters.{Means}

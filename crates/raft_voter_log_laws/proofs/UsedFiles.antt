@@ -17,14 +17,14 @@ use Rattle.raft_log_reuse_laws.specs.LastFiles.{EndsThere, KeepsOwn}
 use Rattle.raft_log_reuse_laws.proofs.LastFiles.{behind_is, blank_ends, content_is}
 use Rattle.raft_log_reuse_laws.proofs.Rotations.{calls_leave_room, used_files_meet_the_premise}
 use Rattle.raft_log_directory_laws.specs.Calls.Which.{InAppend, InRewrite}
-use Rattle.raft_log_engine_laws.specs.raft_log_file_layout.specs.declared.record.LogRecord.{LogRecord}
-use Rattle.raft_log_engine_laws.specs.raft_log_file_layout.specs.Layout.{log_format, log_paths}
-use Rattle.raft_log_engine_laws.specs.raft_log_file_layout.specs.Paths.{IsOwnPath}
+use Rattle.raft_voter_standing_laws.specs.raft_log_engine_laws.specs.raft_log_file_layout.specs.declared.record.LogRecord.{LogRecord}
+use Rattle.raft_voter_standing_laws.specs.raft_log_engine_laws.specs.raft_log_file_layout.specs.Layout.{log_format, log_paths}
+use Rattle.raft_voter_standing_laws.specs.raft_log_engine_laws.specs.raft_log_file_layout.specs.Paths.{IsOwnPath}
 use Rattle.raft_log_file_queue.specs.Layout.{FilePaths}
 use Rattle.raft_log_file_queue.specs.Queue.{whole, with_room}
-use Rattle.raft_log_engine_laws.specs.raft_log_file_pair.specs.State.{RunsQueue}
-use Rattle.raft_log_engine_laws.specs.raft_log_file_pair.proofs.Pairing.{at_log}
-use Rattle.raft_log_engine_laws.specs.Shows.{log_in, sense}
+use Rattle.raft_voter_standing_laws.specs.raft_log_engine_laws.specs.raft_log_file_pair.specs.State.{RunsQueue}
+use Rattle.raft_voter_standing_laws.specs.raft_log_engine_laws.specs.raft_log_file_pair.proofs.Pairing.{at_log}
+use Rattle.raft_voter_standing_laws.specs.raft_log_engine_laws.specs.Shows.{log_in, sense}
 use Rattle.raft_log_open_laws.specs.Running.{active_header, own_bytes}
 use Rattle.raft_voter_log_laws.specs.Chance.{IsOwnFrame, LosesOwn}
 use Rattle.raft_voter_log_laws.specs.Reuse.{NextIsKnown, RotatedFilesOnlyLose, StandingFilesOnlyLose}

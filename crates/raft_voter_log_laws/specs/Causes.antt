@@ -3,7 +3,7 @@ use Rattle.std.specs.Prelude.{◌≡◌, ◌⊎◌, ℕ, true, List}
 use Rattle.raft_log_disk.specs.Causes.{Fails}
 use Rattle.raft_log_record_base.specs.declared.errors.Error.{Error}
 use Rattle.raft_log_record_base.specs.declared.errors.Error.TheVariants as errors
-use Rattle.raft_log_engine_laws.specs.Shows.{Home, LogMap, Shows, has_failed}
+use Rattle.raft_voter_standing_laws.specs.raft_log_engine_laws.specs.Shows.{Home, LogMap, Shows, has_failed}
 use Rattle.raft_log_purge_parts.specs.Lengths.{OwesTooMuch}
 use Rattle.raft_log_purge_parts.specs.Reasons.{HasReason}
 use Rattle.raft_log_engine_core.specs.Purging.{StopsPurgingExpired, StopsRewritingAppend}

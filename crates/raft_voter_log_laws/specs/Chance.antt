@@ -7,12 +7,12 @@ use Rattle.raft_log_file_laws.specs.Chains.{AreFrames, Refuses, Written, spelled
 use Rattle.raft_log_file_laws.specs.KeepsSynced.{IsHandedIn}
 use Rattle.raft_log_file_laws.specs.LogFormat.{Format}
 use Rattle.raft_log_file_pipe.specs.declared.pipe_files.PipeFiles.{PipeFiles}
-use Rattle.raft_log_engine_laws.specs.raft_log_file_layout.specs.declared.record.LogRecord.{LogRecord}
-use Rattle.raft_log_engine_laws.specs.raft_log_file_layout.specs.Layout.{log_format}
+use Rattle.raft_voter_standing_laws.specs.raft_log_engine_laws.specs.raft_log_file_layout.specs.declared.record.LogRecord.{LogRecord}
+use Rattle.raft_voter_standing_laws.specs.raft_log_engine_laws.specs.raft_log_file_layout.specs.Layout.{log_format}
 use Rattle.raft_log_record_base.specs.declared.pipe_log.LogQueue.{LogQueue}
-use Rattle.raft_log_engine_laws.specs.raft_log_file_pair.specs.Pipes.{LogPipes, Said}
-use Rattle.raft_log_engine_laws.specs.Holding.{Holds}
-use Rattle.raft_log_engine_laws.specs.Shows.{Home, LogMap, Shows, log_in}
+use Rattle.raft_voter_standing_laws.specs.raft_log_engine_laws.specs.raft_log_file_pair.specs.Pipes.{LogPipes, Said}
+use Rattle.raft_voter_standing_laws.specs.raft_log_engine_laws.specs.Holding.{Holds}
+use Rattle.raft_voter_standing_laws.specs.raft_log_engine_laws.specs.Shows.{Home, LogMap, Shows, log_in}
 use Rattle.raft_log_open_laws.specs.ByCalls.{ForAllNaming}
 use Rattle.raft_log_open_laws.specs.Running.{LeavesNoChance, active_header, own_bytes}
 use Rattle.raft_voter_messages.specs.declared.reply.Reply.{Reply}

@@ -7,12 +7,12 @@ use Rattle.raft_log_file_laws.specs.LogFormat.{Format}
 use Rattle.raft_log_file_pipe.specs.declared.pipe_files.PipeFiles.{PipeFiles}
 use Rattle.raft_log_reuse_laws.specs.LastFiles.{EndsThere, KeepsOwn, NextIsUsed}
 use Rattle.raft_log_directory_laws.specs.Calls.{Which}
-use Rattle.raft_log_engine_laws.specs.raft_log_file_layout.specs.declared.record.LogRecord.{LogRecord}
-use Rattle.raft_log_engine_laws.specs.raft_log_file_pair.specs.PipeCalls.{PipeRotates}
-use Rattle.raft_log_engine_laws.specs.raft_log_file_pair.specs.Pipes.{LogPipes, Said, one_at}
-use Rattle.raft_log_engine_laws.specs.raft_log_file_pair.specs.Queues.{layout_at}
-use Rattle.raft_log_engine_laws.specs.Holding.{Holds}
-use Rattle.raft_log_engine_laws.specs.Shows.{Home, LogMap, Shows, log_in}
+use Rattle.raft_voter_standing_laws.specs.raft_log_engine_laws.specs.raft_log_file_layout.specs.declared.record.LogRecord.{LogRecord}
+use Rattle.raft_voter_standing_laws.specs.raft_log_engine_laws.specs.raft_log_file_pair.specs.PipeCalls.{PipeRotates}
+use Rattle.raft_voter_standing_laws.specs.raft_log_engine_laws.specs.raft_log_file_pair.specs.Pipes.{LogPipes, Said, one_at}
+use Rattle.raft_voter_standing_laws.specs.raft_log_engine_laws.specs.raft_log_file_pair.specs.Queues.{layout_at}
+use Rattle.raft_voter_standing_laws.specs.raft_log_engine_laws.specs.Holding.{Holds}
+use Rattle.raft_voter_standing_laws.specs.raft_log_engine_laws.specs.Shows.{Home, LogMap, Shows, log_in}
 use Rattle.raft_voter_log_laws.specs.Chance.{LosesOwn}
 
 -- A last file behind whose records none begins, and that a crash leaves as it stands, has them whole: such a crash only

@@ -5,11 +5,11 @@ use Rattle.raft_log_disk_memory.specs.declared.memory.MemoryFileSystem.{MemoryFi
 use Rattle.raft_log_file_settings.specs.declared.config.Config.{Config}
 use Rattle.raft_log_record_base.specs.declared.errors.Error.{Error}
 use Rattle.raft_log_record_base.specs.declared.errors.Error.TheVariants as errors
-use Rattle.raft_log_engine_laws.specs.Settled.{HoldsSettled}
-use Rattle.raft_log_engine_laws.specs.raft_log_file_pair.specs.Pipes.{LogPipes}
-use Rattle.raft_log_engine_laws.specs.Shows.{Home, Shows, has_failed}
-use Rattle.raft_log_engine_laws.proofs.Settling.{settled_held}
-use Rattle.raft_log_engine_core.specs.declared.engine.LogEngine.{LogEngine}
+use Rattle.raft_voter_standing_laws.specs.raft_log_engine_laws.specs.Settled.{HoldsSettled}
+use Rattle.raft_voter_standing_laws.specs.raft_log_engine_laws.specs.raft_log_file_pair.specs.Pipes.{LogPipes}
+use Rattle.raft_voter_standing_laws.specs.raft_log_engine_laws.specs.Shows.{Home, Shows, has_failed}
+use Rattle.raft_voter_standing_laws.specs.raft_log_engine_laws.proofs.Settling.{settled_held}
+use Rattle.raft_log_engine.specs.raft_log_engine_core.specs.declared.engine.LogEngine.{LogEngine}
 use Rattle.raft_log_open_laws.specs.ByCalls.{home_of}
 use Rattle.raft_voter_outline.specs.State.{State}
 use Rattle.raft_voter.specs.Rounds.{World}

@@ -12,9 +12,9 @@ use Rattle.raft_log_disk_memory.specs.raft_log_disk_storage.proofs.RemainsLaws.{
 use Rattle.raft_log_disk_memory.specs.raft_log_disk_storage.specs.Left.{left_disk}
 use Rattle.raft_log_disk_memory.specs.raft_log_disk_storage.specs.declared.remainder.Remainder.{Remainder}
 use Rattle.raft_log_file_settings.specs.declared.config.Config.{Config}
-use Rattle.raft_log_engine_laws.specs.raft_log_file_pair.specs.OnDisk.{LogRestsOn}
-use Rattle.raft_log_engine_laws.specs.raft_log_file_pair.specs.Pipes.{Said}
-use Rattle.raft_log_engine_laws.specs.Shows.{Home, Shows, has_failed, log_in}
+use Rattle.raft_voter_standing_laws.specs.raft_log_engine_laws.specs.raft_log_file_pair.specs.OnDisk.{LogRestsOn}
+use Rattle.raft_voter_standing_laws.specs.raft_log_engine_laws.specs.raft_log_file_pair.specs.Pipes.{Said}
+use Rattle.raft_voter_standing_laws.specs.raft_log_engine_laws.specs.Shows.{Home, Shows, has_failed, log_in}
 use Rattle.raft_log_open_laws.specs.ByCalls.{home_of}
 use Rattle.raft_log_open_laws.specs.Running.{LeavesNoChance}
 use Rattle.raft_log_open_laws.proofs.Running.{crashed_engines_open}

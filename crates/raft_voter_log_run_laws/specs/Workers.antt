@@ -2,7 +2,7 @@
 use Rattle.std.specs.Prelude.{ℕ, List}
 use Rattle.raft_log_disk_memory.specs.Memory.{disk_of}
 use Rattle.raft_log_disk_memory.specs.declared.memory.MemoryFileSystem.{MemoryFileSystem}
-use Rattle.raft_log_engine_laws.specs.Shows.{Shows}
+use Rattle.raft_voter_standing_laws.specs.raft_log_engine_laws.specs.Shows.{Shows}
 use Rattle.raft_log_open_laws.specs.ByCalls.{home_of}
 use Rattle.raft_voter_outline.specs.State.{State}
 use Rattle.raft_voter.specs.Service.{CutRound}

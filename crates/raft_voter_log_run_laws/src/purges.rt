@@ -1,6 +1,6 @@
 //! Purges of a run.
 
-ghost use Rattle.raft_log_engine_core.specs.Reads.{shows_of};
+ghost use Rattle.raft_log_engine.specs.raft_log_engine_core.specs.Reads.{shows_of};
 ghost use Rattle.raft_voter_log_run_laws.specs.Purges.{PurgesKeepOrFail, RefusedPurgesHaveReasons, RunsRefuseForReasons};
 
 use log::Log;

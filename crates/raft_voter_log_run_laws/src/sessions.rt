@@ -1,6 +1,6 @@
 //! Sessions whose crashes fall under stores that run.
 
-ghost use Rattle.raft_log_engine_core.specs.Reads.{shows_of};
+ghost use Rattle.raft_log_engine.specs.raft_log_engine_core.specs.Reads.{shows_of};
 ghost use Rattle.raft_voter_log_run_laws.specs.Sessions.{ForeignRecordsBreakPremise, RunsAskNothing};
 
 use log::Log;

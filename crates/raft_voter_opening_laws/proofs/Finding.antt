@@ -8,12 +8,12 @@ use Rattle.raft_log_record_base.specs.declared.errors.Error.TheVariants as error
 use Rattle.raft_log_model_laws.specs.Groups.{taken}
 use Rattle.raft_log_machine_laws.specs.Fresh.{nothing_stands}
 use Rattle.raft_log_file_settings.specs.declared.config.Config.{Config}
-use Rattle.raft_log_engine_laws.specs.raft_log_table_all.specs.declared.mem_tables.MemTables.{MemTables}
-use Rattle.raft_log_engine_laws.specs.raft_log_file_pair.specs.Pipes.{LogPipes, Said}
-use Rattle.raft_log_engine_laws.specs.Holding.{Holds, IsLeftAt}
-use Rattle.raft_log_engine_laws.specs.Shows.{Home, LogMap, Shows, has_failed}
-use Rattle.raft_log_engine_laws.proofs.Lying.{closed_engines_are_left}
-use Rattle.raft_log_open_directory.specs.Opening.{FailsToOpenDirectory, OpensDirectory}
+use Rattle.raft_voter_standing_laws.specs.raft_log_engine_laws.specs.raft_log_table_all.specs.declared.mem_tables.MemTables.{MemTables}
+use Rattle.raft_voter_standing_laws.specs.raft_log_engine_laws.specs.raft_log_file_pair.specs.Pipes.{LogPipes, Said}
+use Rattle.raft_voter_standing_laws.specs.raft_log_engine_laws.specs.Holding.{Holds, IsLeftAt}
+use Rattle.raft_voter_standing_laws.specs.raft_log_engine_laws.specs.Shows.{Home, LogMap, Shows, has_failed}
+use Rattle.raft_voter_standing_laws.specs.raft_log_engine_laws.proofs.Lying.{closed_engines_are_left}
+use Rattle.raft_log_open_laws.specs.raft_log_open_directory.specs.Opening.{FailsToOpenDirectory, OpensDirectory}
 use Rattle.raft_log_open_laws.specs.Bare.{IsBare, OpensFirst}
 use Rattle.raft_log_open_laws.specs.ByCalls.{ForAllNaming, home_of}
 use Rattle.raft_log_open_laws.specs.Directory.{OpensAs}

@@ -4,8 +4,8 @@ use Rattle.raft_log_disk.specs.Disk.{Disk}
 use Rattle.raft_log_disk.specs.Image.{IsSound}
 use Rattle.raft_log_file_settings.specs.Settings.{directories_of, settings_of}
 use Rattle.raft_log_file_settings.specs.declared.config.Config.{Config}
-use Rattle.raft_log_engine_laws.specs.raft_log_file_pair.specs.OnDisk.{LogRestsOn}
-use Rattle.raft_log_engine_laws.specs.Shows.{Home, LogMap, log_in}
+use Rattle.raft_voter_standing_laws.specs.raft_log_engine_laws.specs.raft_log_file_pair.specs.OnDisk.{LogRestsOn}
+use Rattle.raft_voter_standing_laws.specs.raft_log_engine_laws.specs.Shows.{Home, LogMap, log_in}
 use Rattle.raft_log_closed.specs.Forks.{Forks, LiesInOne}
 use Rattle.raft_log_open_laws.specs.Bare.{IsBare}
 use Rattle.raft_log_open_laws.specs.ByCalls.{ForAllNaming, home_of}

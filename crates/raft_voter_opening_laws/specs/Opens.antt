@@ -2,7 +2,7 @@
 use Rattle.std.specs.Prelude.{◌⊎◌, ℕ, List}
 use Rattle.raft_log_disk.specs.Disk.{Disk}
 use Rattle.raft_log_file_settings.specs.declared.config.Config.{Config}
-use Rattle.raft_log_engine_laws.specs.Shows.{Shows}
+use Rattle.raft_voter_standing_laws.specs.raft_log_engine_laws.specs.Shows.{Shows}
 use Rattle.raft_log_open_laws.specs.Bare.{IsBare}
 use Rattle.raft_log_open_laws.specs.ByCalls.{home_of}
 use Rattle.raft_voter_outline.specs.State.{State}

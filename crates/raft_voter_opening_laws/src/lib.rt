@@ -7,3 +7,5 @@
 
 pub mod forks;
 pub mod opens;
+
+pub use raft_voter_store;

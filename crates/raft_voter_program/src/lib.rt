@@ -13,6 +13,7 @@ mod setup;
 
 pub use arguments::Arguments;
 pub use loading::load;
+pub use raft_voter_log;
 pub use raft_voter_run::{exit_status, has_arguments};
 pub use running::{program, run, start};
 pub use saving::{kept_files, save};

@@ -17,14 +17,14 @@ use Rattle.raft_log_model_laws.specs.Meaning.Content.{Value}
 use Rattle.raft_log_model_laws.proofs.Cases.{eq_false, eq_true, from_eq_false, from_eq_true}
 use Rattle.raft_log_table_lists.specs.Bridge.{bytes_held}
 use Rattle.raft_log_table_lists.specs.Shown.{Shown}
-use Rattle.raft_log_engine_laws.specs.raft_log_table_all.specs.Bare.{HasNothing}
-use Rattle.raft_log_engine_laws.specs.raft_log_table_all.specs.Walking.{ListsGroups}
-use Rattle.raft_log_engine_laws.specs.raft_log_table_one.specs.Reads.{last_of}
-use Rattle.raft_log_engine_laws.specs.Shows.{Home, LogMap, Shows}
-use Rattle.raft_log_engine_laws.specs.Fetching.{StaysButBlock}
-use Rattle.raft_log_engine_laws.specs.Holding.{Holds}
-use Rattle.raft_log_engine_laws.specs.Reading.{IsLastIn}
-use Rattle.raft_log_engine_laws.proofs.Reading.{tables_tell}
+use Rattle.raft_voter_standing_laws.specs.raft_log_engine_laws.specs.raft_log_table_all.specs.Bare.{HasNothing}
+use Rattle.raft_voter_standing_laws.specs.raft_log_engine_laws.specs.raft_log_table_all.specs.Walking.{ListsGroups}
+use Rattle.raft_voter_standing_laws.specs.raft_log_engine_laws.specs.raft_log_table_one.specs.Reads.{last_of}
+use Rattle.raft_voter_standing_laws.specs.raft_log_engine_laws.specs.Shows.{Home, LogMap, Shows}
+use Rattle.raft_voter_standing_laws.specs.raft_log_engine_laws.specs.Fetching.{StaysButBlock}
+use Rattle.raft_voter_standing_laws.specs.raft_log_engine_laws.specs.Holding.{Holds}
+use Rattle.raft_voter_standing_laws.specs.raft_log_engine_laws.specs.Reading.{IsLastIn}
+use Rattle.raft_voter_standing_laws.specs.raft_log_engine_laws.proofs.Reading.{tables_tell}
 use Rattle.raft_voter_outline.specs.State.{State, fresh}
 use Rattle.raft_voter_meaning_laws.specs.Voters.{HoldsVoter, IsVoid, IsVoter}
 use Rattle.raft_voter_reading.specs.Listing.{AddsOutline, AddsVoter, HasOutline}

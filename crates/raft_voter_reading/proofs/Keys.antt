@@ -12,9 +12,9 @@ use Rattle.std.proofs.lemmas.Slice.Eq.{bytes_eq-Decides}
 use Rattle.raft_log_model_laws.specs.Meaning.{Content}
 use Rattle.raft_log_model_laws.specs.Meaning.Slot.{Key}
 use Rattle.raft_log_model_laws.specs.Meaning.Content.{Value}
-use Rattle.raft_log_engine_laws.specs.Shows.{Home, LogMap, Shows}
-use Rattle.raft_log_engine_laws.specs.Holding.{Holds}
-use Rattle.raft_log_engine_laws.specs.Reading.{AreKeysOf, ReadsKeys}
+use Rattle.raft_voter_standing_laws.specs.raft_log_engine_laws.specs.Shows.{Home, LogMap, Shows}
+use Rattle.raft_voter_standing_laws.specs.raft_log_engine_laws.specs.Holding.{Holds}
+use Rattle.raft_voter_standing_laws.specs.raft_log_engine_laws.specs.Reading.{AreKeysOf, ReadsKeys}
 use Rattle.raft_voter_messages.specs.declared.reply.VoterState.{VoterState}
 use Rattle.raft_voter_messages.specs.declared.stored.StoredFault.{StoredFault}
 use Rattle.raft_voter_messages.specs.StoredForms.{IsState, StateFault}

@@ -8,9 +8,9 @@ use Rattle.raft_log_record_items.specs.declared.entry.EntryIndex.{EntryIndex}
 use Rattle.raft_log_table_runs.specs.declared.place.Place.{Place}
 use Rattle.raft_log_table_runs.specs.Counts.{fitting, sized}
 use Rattle.raft_log_table_lists.specs.Shown.{Shown}
-use Rattle.raft_log_engine_laws.specs.raft_log_table_one.specs.Reads.{AreIn, entries_from, fetched, places_between}
-use Rattle.raft_log_engine_laws.specs.Shows.{LogMap, Shows}
-use Rattle.raft_log_engine_laws.specs.Fetching.{AreEntriesOf, AreToRead, FetchesTo}
+use Rattle.raft_voter_standing_laws.specs.raft_log_engine_laws.specs.raft_log_table_one.specs.Reads.{AreIn, entries_from, fetched, places_between}
+use Rattle.raft_voter_standing_laws.specs.raft_log_engine_laws.specs.Shows.{LogMap, Shows}
+use Rattle.raft_voter_standing_laws.specs.raft_log_engine_laws.specs.Fetching.{AreEntriesOf, AreToRead, FetchesTo}
 use Rattle.raft_voter_messages.specs.declared.reply.Entry.{Entry as VoterEntry}
 use Rattle.raft_voter.specs.Laws.{AreReadAs}
 use Rattle.raft_voter_meaning_laws.specs.Voters.{Group}

@@ -6,12 +6,12 @@ use Rattle.raft_log_record_base.specs.declared.errors.Error.TheVariants as error
 use Rattle.raft_log_record_items.specs.Message.{Parses}
 use Rattle.raft_log_record_items.specs.declared.raw_message.RawMessage.{RawMessage}
 use Rattle.raft_log_table_lists.specs.Shown.{Shown}
-use Rattle.raft_log_engine_laws.specs.raft_log_table_one.specs.Reads.{AreIn, FetchRefused}
-use Rattle.raft_log_engine_laws.specs.raft_log_file_blocks.specs.Blocks.{IsFileUnread}
-use Rattle.raft_log_engine_laws.specs.raft_log_file_pair.specs.Pipes.{Said}
-use Rattle.raft_log_engine_laws.specs.Shows.{Home, LogMap, Shows}
-use Rattle.raft_log_engine_laws.specs.Holding.{Holds}
-use Rattle.raft_log_engine_laws.specs.Fetching.{FailsToFetch, HadFailed, IsOneUntold, StaysButBlock}
+use Rattle.raft_voter_standing_laws.specs.raft_log_engine_laws.specs.raft_log_table_one.specs.Reads.{AreIn, FetchRefused}
+use Rattle.raft_voter_standing_laws.specs.raft_log_engine_laws.specs.raft_log_file_blocks.specs.Blocks.{IsFileUnread}
+use Rattle.raft_voter_standing_laws.specs.raft_log_engine_laws.specs.raft_log_file_pair.specs.Pipes.{Said}
+use Rattle.raft_voter_standing_laws.specs.raft_log_engine_laws.specs.Shows.{Home, LogMap, Shows}
+use Rattle.raft_voter_standing_laws.specs.raft_log_engine_laws.specs.Holding.{Holds}
+use Rattle.raft_voter_standing_laws.specs.raft_log_engine_laws.specs.Fetching.{FailsToFetch, HadFailed, IsOneUntold, StaysButBlock}
 use Rattle.raft_log_engine_core.specs.Reads.{IsFailed, IsUncopied}
 use Rattle.raft_voter_standing_laws.specs.Requests.{WereUnread}
 use Rattle.raft_voter_reading.specs.declared.unread.Unread.{Unread}

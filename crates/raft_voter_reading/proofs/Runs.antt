@@ -1,7 +1,7 @@
 -- Runs of entries that were read, one behind another.
 use Rattle.std.proofs.Common.{◌≡◌, ◌∙◌, ℕ, ◌+◌, List, [], ◌∷◌, ◌++◌, length, refl, sym, ap, subst, arith, length-append}
-use Rattle.raft_log_engine_laws.specs.Shows.{Shows}
-use Rattle.raft_log_engine_laws.specs.Fetching.{StaysButBlock}
+use Rattle.raft_voter_standing_laws.specs.raft_log_engine_laws.specs.Shows.{Shows}
+use Rattle.raft_voter_standing_laws.specs.raft_log_engine_laws.specs.Fetching.{StaysButBlock}
 use Rattle.raft_voter_messages.specs.declared.reply.Entry.{Entry as VoterEntry}
 use Rattle.raft_voter.specs.Laws.{AreReadAs}
 use Rattle.raft_voter_meaning_laws.specs.Voters.{Group}

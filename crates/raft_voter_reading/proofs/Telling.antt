@@ -2,10 +2,10 @@
 use Rattle.std.proofs.Common.{◌≡◌, ◌∙◌, ℕ, ◌+◌, ◌<◌, ◌≤◌, [], length, refl, sym, ap, subst, inl, inr, arith}
 use Rattle.raft_log_record_base.specs.declared.errors.Error.{Error}
 use Rattle.raft_log_table_lists.specs.Shown.{Shown}
-use Rattle.raft_log_engine_laws.specs.raft_log_table_one.specs.Reads.{AreIn}
-use Rattle.raft_log_engine_laws.specs.raft_log_file_blocks.specs.declared.block_cache.BlockCache.{BlockCache}
-use Rattle.raft_log_engine_laws.specs.Shows.{LogMap, Shows, has_failed}
-use Rattle.raft_log_engine_laws.specs.Fetching.{StaysButBlock}
+use Rattle.raft_voter_standing_laws.specs.raft_log_engine_laws.specs.raft_log_table_one.specs.Reads.{AreIn}
+use Rattle.raft_voter_standing_laws.specs.raft_log_engine_laws.specs.raft_log_file_blocks.specs.declared.block_cache.BlockCache.{BlockCache}
+use Rattle.raft_voter_standing_laws.specs.raft_log_engine_laws.specs.Shows.{LogMap, Shows, has_failed}
+use Rattle.raft_voter_standing_laws.specs.raft_log_engine_laws.specs.Fetching.{StaysButBlock}
 use Rattle.raft_voter_meaning_laws.specs.Voters.{IsForeign}
 use Rattle.raft_voter_standing_laws.specs.Requests.{WereUnread}
 use Rattle.raft_voter_reading.specs.declared.unread.Unread.{Unread}

@@ -2,9 +2,9 @@
 use Rattle.std.specs.Prelude.{◌≡◌, ◌⊎◌, ◌+◌, ◌^◌, ◌<◌, ◌≤◌, ℕ, List, [], ◌∷◌, length, Option, None, Some}
 use Rattle.raft_log_model_laws.specs.Meaning.Slot.{Index, Key}
 use Rattle.raft_log_model_laws.specs.Meaning.Content.{Value}
-use Rattle.raft_log_engine_laws.specs.Reading.{ReadsFirst, ReadsLast}
-use Rattle.raft_log_engine_laws.specs.Shows.{Shows}
-use Rattle.raft_log_engine_laws.specs.raft_log_table_one.specs.Reads.{AreIn}
+use Rattle.raft_voter_standing_laws.specs.raft_log_engine_laws.specs.Reading.{ReadsFirst, ReadsLast}
+use Rattle.raft_voter_standing_laws.specs.raft_log_engine_laws.specs.Shows.{Shows}
+use Rattle.raft_voter_standing_laws.specs.raft_log_engine_laws.specs.raft_log_table_one.specs.Reads.{AreIn}
 use Rattle.raft_voter_messages.specs.declared.reply.VoterState.{VoterState}
 use Rattle.raft_voter_messages.specs.declared.stored.StoredFault.{StoredFault}
 use Rattle.raft_voter_messages.specs.StoredForms.{IsState, StateFault}

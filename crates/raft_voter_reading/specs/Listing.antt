@@ -1,6 +1,6 @@
 -- Group by group, what is read of voters.
 use Rattle.std.specs.Prelude.{◌≡◌, ◌⊎◌, ◌==◌, ◌++◌, ℕ, false, List, [], ◌∷◌, Option, None, Some}
-use Rattle.raft_log_engine_laws.specs.Shows.{Shows}
+use Rattle.raft_voter_standing_laws.specs.raft_log_engine_laws.specs.Shows.{Shows}
 use Rattle.raft_voter_outline.specs.Outlines.{Outlined, without_bytes}
 use Rattle.raft_voter_outline.specs.State.{State}
 use Rattle.raft_voter_meaning_laws.specs.Voters.{Group, HoldsVoter, IsVoid, IsVoter}

@@ -1,7 +1,7 @@
 //! Entries of a group, in pieces.
 ghost use Rattle.std.specs.Prelude.{◌+◌, ◌<◌, map, IfErr, IfOk};
-ghost use Rattle.raft_log_engine_laws.specs.Fetching.{StaysButBlock};
-ghost use Rattle.raft_log_engine_laws.specs.raft_log_table_one.specs.Reads.{AreIn};
+ghost use Rattle.raft_voter_standing_laws.specs.raft_log_engine_laws.specs.Fetching.{StaysButBlock};
+ghost use Rattle.raft_voter_standing_laws.specs.raft_log_engine_laws.specs.raft_log_table_one.specs.Reads.{AreIn};
 ghost use Rattle.raft_log_engine_core.specs.Reads.{shows_of};
 ghost use Rattle.raft_voter.specs.Laws.{AreReadAs};
 ghost use Rattle.raft_voter_reading.specs.Entries.{AreNoEntries, ReadsPiece};

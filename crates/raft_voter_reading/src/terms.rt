@@ -1,7 +1,7 @@
 //! Terms of a group's entries, in pieces.
 ghost use Rattle.std.specs.Prelude.{◌+◌, ◌-◌, ◌<◌, ◌≤◌, ◌^◌, length, IfErr, IfOk, OnOk};
-ghost use Rattle.raft_log_engine_laws.specs.Fetching.{StaysButBlock};
-ghost use Rattle.raft_log_engine_laws.specs.raft_log_table_one.specs.Reads.{AreIn};
+ghost use Rattle.raft_voter_standing_laws.specs.raft_log_engine_laws.specs.Fetching.{StaysButBlock};
+ghost use Rattle.raft_voter_standing_laws.specs.raft_log_engine_laws.specs.raft_log_table_one.specs.Reads.{AreIn};
 ghost use Rattle.raft_log_engine_core.specs.Reads.{shows_of};
 ghost use Rattle.raft_voter_outline.specs.State.{last_index};
 ghost use Rattle.raft_voter_reading.specs.Reading.{IsUnreadFor};

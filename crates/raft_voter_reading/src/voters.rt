@@ -1,6 +1,6 @@
 //! All voters, whole.
 ghost use Rattle.std.specs.Prelude.{◌+◌, ◌<◌, IfErr, IfOk, OnOk};
-ghost use Rattle.raft_log_engine_laws.specs.Fetching.{StaysButBlock};
+ghost use Rattle.raft_voter_standing_laws.specs.raft_log_engine_laws.specs.Fetching.{StaysButBlock};
 ghost use Rattle.raft_log_engine_core.specs.Reads.{shows_of};
 ghost use Rattle.raft_voter_reading.specs.Entries.{ReadsBelow};
 ghost use Rattle.raft_voter_reading.specs.Groups.{ReadsHead};

@@ -2,7 +2,7 @@
 use Rattle.std.specs.Prelude.{◌≡◌, ℕ, List}
 use Rattle.raft_log_disk.specs.Disk.{Disk}
 use Rattle.raft_log_disk.specs.Image.{IsSound}
-use Rattle.raft_log_engine_laws.specs.Shows.{Home, Shows}
+use Rattle.raft_voter_standing_laws.specs.raft_log_engine_laws.specs.Shows.{Home, Shows}
 use Rattle.raft_log_open_laws.specs.ByCalls.{ForAllNaming, home_of}
 use Rattle.raft_log_open_laws.specs.InPlace.{StandsWithoutChance}
 use Rattle.raft_log_open_laws.specs.Left.{IsCrashOf}

@@ -1,7 +1,7 @@
 -- When a store of voters is opened, and when it isn't.
 use Rattle.std.specs.Prelude.{◌≡◌, ◌⊎◌, ℕ, List}
 use Rattle.raft_log_disk.specs.Disk.{Disk}
-use Rattle.raft_log_engine_laws.specs.Shows.{Shows}
+use Rattle.raft_voter_standing_laws.specs.raft_log_engine_laws.specs.Shows.{Shows}
 use Rattle.raft_log_file_settings.specs.declared.config.Config.{Config}
 use Rattle.raft_log_file_settings.specs.Settings.{settings_of}
 use Rattle.raft_voter_outline.specs.State.{State}

@@ -1,5 +1,5 @@
 //! What becomes of a store that threads shared: laws, each the contract of an empty function.
-ghost use Rattle.raft_log_engine_core.specs.Reads.{shows_of};
+ghost use Rattle.raft_log_engine.specs.raft_log_engine_core.specs.Reads.{shows_of};
 ghost use Rattle.raft_voter_shared_log.specs.Disks.{DisksGoOn};
 ghost use Rattle.raft_voter_shared_log.specs.GoingOn.{ClosedStoresGoOn};
 ghost use Rattle.raft_voter_shared_log.specs.Joining.{JoinedOpeningsAreExplained};

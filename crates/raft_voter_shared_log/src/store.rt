@@ -1,7 +1,7 @@
 //! A store of voters on a log, and the settings that name the log.
 ghost use Rattle.std.specs.Prelude.{◌≡◌, IfErr, IfOk};
 ghost use Rattle.raft_log_file_settings.specs.Settings.{settings_of};
-ghost use Rattle.raft_log_engine_core.specs.Reads.{shows_of};
+ghost use Rattle.raft_log_engine.specs.raft_log_engine_core.specs.Reads.{shows_of};
 ghost use Rattle.raft_voter_outlines.specs.Kept.{outlines_in};
 ghost use Rattle.raft_voter_log.specs.Instance.{ClosesStore};
 ghost use Rattle.raft_voter_shared_log.specs.Opening.{FailsToOpenStore, OpensStore};

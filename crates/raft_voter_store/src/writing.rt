@@ -1,6 +1,6 @@
 //! Changes as they are written.
 ghost use Rattle.std.specs.Prelude.{◌≡◌, false, IfErr, OnErr, OnOk};
-ghost use Rattle.raft_log_engine_core.specs.Reads.{shows_of};
+ghost use Rattle.raft_log_engine.specs.raft_log_engine_core.specs.Reads.{shows_of};
 ghost use Rattle.raft_log_engine.specs.raft_log_engine_laws.specs.Shows.{has_failed};
 ghost use Rattle.raft_voter_outline.specs.Decisions.{OutlineBecomes};
 ghost use Rattle.raft_voter_outline.specs.Outlines.{ChangesEach};

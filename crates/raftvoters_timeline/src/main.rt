@@ -7,7 +7,7 @@
 #![tactic(auto)]
 
 use log::Log;
-use raft_voter_log::{LogFiles, LogVoters};
+use raft_voter_program::raft_voter_log::{LogFiles, LogVoters};
 use raft_voter_program::{LogSetup, has_arguments};
 use raft_voter_run::{NoFiles, StoreSetup, write_whole};
 use raft_voter_session::{Session, SessionFault, read_session};

@@ -5,9 +5,9 @@ ghost use Rattle.raft_log_file_pair.specs.HoldingBack.{PipesHoldBack};
 ghost use Rattle.raft_log_purge.specs.Append.{RewritesAppend};
 ghost use Rattle.raft_log_purge.specs.Counted.{PurgesAndCounts};
 ghost use Rattle.raft_log_purge.specs.ExpiredFiles.{SyncsAndRewrites};
-ghost use Rattle.raft_log_engine_core.specs.Purging.{StopsPurgingExpired, StopsRewritingAppend};
-ghost use Rattle.raft_log_engine_core.specs.Reads.{shows_of, IsFailed, Lives};
-ghost use Rattle.raft_log_engine_core.specs.Whole.{ArmsEngine, TellsSpan};
+ghost use Rattle.raft_log_engine.specs.raft_log_engine_core.specs.Purging.{StopsPurgingExpired, StopsRewritingAppend};
+ghost use Rattle.raft_log_engine.specs.raft_log_engine_core.specs.Reads.{shows_of, IsFailed, Lives};
+ghost use Rattle.raft_log_engine.specs.raft_log_engine_core.specs.Whole.{ArmsEngine, TellsSpan};
 
 use super::LogVoterStore;
 use log::Log;
@@ -18,7 +18,7 @@ impl<P: PipeLog> LogVoterStore<P> {
     ghost use Rattle.raft_log_engine.specs.raft_log_engine_laws.specs.Shows.{has_failed};
     ghost use Rattle.raft_log_engine.specs.raft_log_file_pair.specs.Calls.{ArmsNoPipes};
     ghost use Rattle.raft_log_engine.specs.raft_log_file_pair.specs.ClosingCalls.{ClosesLog};
-    ghost use Rattle.raft_log_engine_laws.specs.Syncing.{NotSynced, SyncsAppend};
+    ghost use Rattle.raft_voter_standing_laws.specs.raft_log_engine_laws.specs.Syncing.{NotSynced, SyncsAppend};
     ghost use Rattle.raft_voter_store.specs.Upkeep.{KeepsOrLeavesVoters, KeepsVoters};
 
     /// Whether the engine has failed: then no round is taken until the log is opened again.

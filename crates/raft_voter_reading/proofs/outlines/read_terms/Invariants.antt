@@ -1,6 +1,6 @@
 use Rattle.std.proofs.Common.{◌≤◌, ◌-◌}
 use Rattle.raft_log_engine_core.specs.Reads.{shows_of}
-use Rattle.raft_log_engine_laws.specs.Fetching.{StaysButBlock}
+use Rattle.raft_voter_standing_laws.specs.raft_log_engine_laws.specs.Fetching.{StaysButBlock}
 use Rattle.raft_voter_reading.specs.Terms.{KnowsTerms}
 use Rattle.raft_voter_reading.proofs.outlines.read_terms.Given as goal
 

@@ -1,6 +1,6 @@
 use Rattle.std.proofs.Common.{◌≤◌, ◌-◌}
 use Rattle.raft_log_engine_core.specs.Reads.{shows_of}
-use Rattle.raft_log_engine_laws.specs.Fetching.{StaysButBlock}
+use Rattle.raft_voter_standing_laws.specs.raft_log_engine_laws.specs.Fetching.{StaysButBlock}
 use Rattle.raft_voter_reading.specs.Entries.{ReadsBelow}
 use Rattle.raft_voter_reading.proofs.voters.read_entries.Given as goal
 

@@ -1,6 +1,6 @@
 use Rattle.std.proofs.Common.{take}
 use Rattle.raft_log_engine_core.specs.Reads.{shows_of}
-use Rattle.raft_log_engine_laws.specs.Fetching.{StaysButBlock}
+use Rattle.raft_voter_standing_laws.specs.raft_log_engine_laws.specs.Fetching.{StaysButBlock}
 use Rattle.raft_voter_reading.proofs.Filling.{VotersOf}
 use Rattle.raft_voter_reading.proofs.voters.read_voters.Given as goal
 

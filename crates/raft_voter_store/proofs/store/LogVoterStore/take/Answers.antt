@@ -1,6 +1,6 @@
 use Rattle.std.proofs.Common.{refl, subst, Option}
 use Rattle.std.specs.Prelude.{MatchOption}
-use Rattle.raft_log_engine_core.specs.Reads.{shows_of}
+use Rattle.raft_log_engine.specs.raft_log_engine_core.specs.Reads.{shows_of}
 use Rattle.raft_voter_outline.specs.declared.outline.decision.Answer.{Answer}
 use Rattle.raft_voter_outline.specs.declared.outline.decision.Change.{Change}
 use Rattle.raft_voter_outline.specs.Outlines.{ChangesEach, IsReplyOfEach, LeavesEach}

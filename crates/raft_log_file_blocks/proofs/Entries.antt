@@ -123,7 +123,7 @@ module _ {M : Type 0} (reading : List ℕ → Option M) (v : LogPipes) where
       → IsEntryUnread reading v e old last error
   memory_again e block old mid last error placed kept is same =
       subst (λ c. IsEntryUnread reading v e old c error) (sym same)
-      (subst (λ x. IsEntryUnread reading v e old mid x) (sym is) (inr (block, placed, inr (kept, inl tt))))
+      (subst (λ x. IsEntryUnread reading v e old mid x) (sym is) (inr (block, placed, inr (kept, inr tt))))
 
   pub unread_first : (es rest : List EntryIndex) (e : EntryIndex) (block : FileBlockHandle) (old mid last : BlockCache) (error : Error) → es ≡ e ∷ rest → e.entries ≡ Some block → KeepsBlock v block old mid
       → AreUnread reading v es mid last error → AreUnread reading v es old last error

@@ -112,7 +112,9 @@ class Judge:
             if answer.startswith("refused hole") and refused == "hole":
                 self.counts["opened by several workers alone, and not again"] += 1
                 return
-            if answer.split(" ")[:2] in (["refused", "corruption"], ["refused", "codec"], ["refused", "hole"]) and self.is_doubled(meaning):
+            is_damage = answer.split(" ")[:2] in (["refused", "corruption"], ["refused", "codec"], ["refused", "hole"])
+            is_padded = answer.startswith("refused invalid-argument") and "has an alignment" in answer
+            if (is_damage or is_padded) and self.is_doubled(meaning):
                 self.counts["a file of a doubled number came back, and refuses the log"] += 1
                 return
             if answer != "ok":

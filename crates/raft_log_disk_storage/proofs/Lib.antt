@@ -17,4 +17,5 @@ pub mod Fronts
 pub mod Listings
 pub mod Growing
 pub mod Zeros
+pub mod ZeroChunks
 pub mod Behind

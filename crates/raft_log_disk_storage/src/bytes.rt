@@ -39,7 +39,15 @@ pub(crate) fn are_zeros(bytes: &[u8]) -> bool
     ensures some { IsTrue result → 0 < length bytes.now }
     ensures zeros { IsTrue result → All (λ byte. byte ≡ 0) bytes.now }
 {
-    !bytes.is_empty() && bytes.iter().all(|byte| *byte == 0)
+    let (chunks, rest) = bytes.as_chunks::<16>();
+    !bytes.is_empty() && are_zero_chunks(chunks) && rest.iter().all(|byte| *byte == 0)
+}
+
+// Whether all bytes of these chunks are zeros: each is looked at as one number.
+fn are_zero_chunks(chunks: &[[u8; 16]]) -> bool
+    ensures { IsTrue result → All (All (λ byte. byte ≡ 0)) chunks.now }
+{
+    chunks.iter().all(|chunk| u128::from_le_bytes(*chunk) == 0)
 }
 
 // Copies the bytes from `offset` on until the room is full or they end, and answers how many.

@@ -1,5 +1,5 @@
 -- The entries of a block from each bound up to the next.
-use Rattle.std.proofs.Common.{◌≡◌, ◌∙◌, ◌+◌, ◌-◌, ◌≤◌, ◌++◌, ℕ, List, [], ◌∷◌, Some, ap, arith, inl, inr, length, refl, sym, subst, take}
+use Rattle.std.proofs.Common.{◌≡◌, ◌∙◌, ◌+◌, ◌-◌, ◌≤◌, ◌++◌, ℕ, List, [], ◌∷◌, Some, ap, arith, length, refl, sym, subst, take}
 use Rattle.std.proofs.lemmas.List.{take_all}
 use Rattle.std.specs.Prelude.{◌<◌, ◌⊎◌, Err, Option, slice_index, slice_index_or, suc, zero}
 use Rattle.raft_log_record_base.specs.declared.errors.Error.{Error}
@@ -46,50 +46,47 @@ module _ {M : Type 0} (reading : List ℕ → Option M) (v : LogPipes) (block : 
       block_unread reading v (entries_between block n bounds) (no_entry block) block old new error (omega (arith, count, some)) (first_placed n some) lost
 
   -- all were read of the block that is kept
-  pub between_read : (n : ℕ) (i : ℕ) (old mid : BlockCache) (got : List M) → 1 < length bounds → i ≡ length bounds → KeepsBlock v block old mid
-      → ReadsEntries reading v (take (i - 1) (entries_between block n bounds)) mid mid got → ReadsEntries reading v (entries_between block n bounds) old mid got
+  pub between_read : (n : ℕ) (i : ℕ) (old mid : BlockCache) (got : List M) → 1 < length bounds → i + 1 ≡ length bounds → KeepsBlock v block old mid
+      → ReadsEntries reading v (take i (entries_between block n bounds)) mid mid got → ReadsEntries reading v (entries_between block n bounds) old mid got
   between_read n i old mid got some all kept read =
       let es = entries_between block n bounds in
       let count = entries_count block n bounds in
-      subst (λ l. ReadsEntries reading v l old mid got) (take_all (i - 1) es (omega (arith, count, all)))
-      (piece_read reading v es (i - 1) (no_entry block) block old mid got (omega (arith, some, all)) (omega (arith, count, some)) (first_placed n some) kept read)
+      subst (λ l. ReadsEntries reading v l old mid got) (take_all i es (omega (arith, count, all)))
+      (piece_read reading v es i (no_entry block) block old mid got (omega (arith, some, all)) (omega (arith, count, some)) (first_placed n some) kept read)
 
-  -- The entries up to one bound were read of the block that is kept.
-  module _ (i : ℕ) (mid : BlockCache) (got : List M) (some : 0 < i) (less : i < length bounds) (there : mid.place ≡ Some block)
-      (read : (n : ℕ) → ReadsEntries reading v (take (i - 1) (entries_between block n bounds)) mid mid got) where
-    this : (n : ℕ) → IsBetween block (slice_index bounds (i - 1)) (slice_index bounds i) (slice_index_or (entries_between block n bounds) (i - 1) (no_entry block))
+  -- So many entries were read of the block that is kept; the next one starts and ends there.
+  module _ (i : ℕ) (mid : BlockCache) (got : List M) (less : i + 1 < length bounds) (there : mid.place ≡ Some block) (start end : ℕ) (from : start ≡ slice_index bounds i)
+      (to : end ≡ slice_index bounds (i + 1)) (read : (n : ℕ) → ReadsEntries reading v (take i (entries_between block n bounds)) mid mid got) where
+    this : (n : ℕ) → IsBetween block start end (slice_index_or (entries_between block n bounds) i (no_entry block))
     this n =
-        let next : suc (i - 1) ≡ i = omega (arith, some) in
-        subst (λ k. IsBetween block (slice_index bounds (i - 1)) (slice_index bounds k) (slice_index_or (entries_between block n bounds) (i - 1) (no_entry block))) next
-        (entry_is block n (i - 1) bounds (no_entry block) (omega (arith, some, less)))
+        let next : suc i ≡ i + 1 = omega arith in
+        let e = slice_index_or (entries_between block n bounds) i (no_entry block) in
+        subst (λ k. IsBetween block k end e) (sym from)
+        (subst (λ k. IsBetween block (slice_index bounds i) k e) (ap (slice_index bounds) next ∙ sym to) (entry_is block n i bounds (no_entry block) (omega (arith, less))))
 
-    pub between_more : (m : M) (bytes : List ℕ) → slice_index bounds (i - 1) + (slice_index bounds i - slice_index bounds (i - 1)) ≤ entries_in mid
-        → bytes ≡ part (slice_index bounds (i - 1)) (slice_index bounds i - slice_index bounds (i - 1)) mid.bytes.items → reading bytes ≡ Some m
-        → (n : ℕ) → ReadsEntries reading v (take i (entries_between block n bounds)) mid mid (got ++ (m ∷ []))
+    pub between_more : (m : M) (bytes : List ℕ) → start + (end - start) ≤ entries_in mid → bytes ≡ part start (end - start) mid.bytes.items → reading bytes ≡ Some m
+        → (n : ℕ) → ReadsEntries reading v (take (i + 1) (entries_between block n bounds)) mid mid (got ++ (m ∷ []))
     between_more m bytes inside are is n =
         let es = entries_between block n bounds in
-        let e = slice_index_or es (i - 1) (no_entry block) in
+        let e = slice_index_or es i (no_entry block) in
         let at = this n in
         let count = entries_count block n bounds in
-        let next : i - 1 + 1 ≡ i = omega (arith, some) in
-        let offset : e.entry_offset ≡ slice_index bounds (i - 1) = at.offset in
-        let long : e.entry_len ≡ slice_index bounds i - slice_index bounds (i - 1) = at.len in
-        subst (λ k. ReadsEntries reading v (take k es) mid mid (got ++ (m ∷ []))) next
-        (piece_more reading v es (i - 1) (no_entry block) block mid got (omega (arith, count, some, less)) at.placed there (read n) m bytes
+        let offset : e.entry_offset ≡ start = at.offset in
+        let long : e.entry_len ≡ end - start = at.len in
+        piece_more reading v es i (no_entry block) block mid got (omega (arith, count, less)) at.placed there (read n) m bytes
         (omega (arith, offset, long, inside))
-        (are ∙ sym (ap (λ k. part e.entry_offset k mid.bytes.items) long ∙ ap (λ k. part k (slice_index bounds i - slice_index bounds (i - 1)) mid.bytes.items) offset))
-        is)
+        (are ∙ sym (ap (λ k. part e.entry_offset k mid.bytes.items) long ∙ ap (λ k. part k (end - start) mid.bytes.items) offset))
+        is
 
     -- the next one isn't read
     pub between_stops : (n : ℕ) (old : BlockCache) (error : Error) → KeepsBlock v block old mid
-        → IsNoEntry (slice_index bounds (i - 1)) (slice_index bounds i - slice_index bounds (i - 1)) mid error
-        ⊎ Parses {M = M} (Err error) (reading (part (slice_index bounds (i - 1)) (slice_index bounds i - slice_index bounds (i - 1)) mid.bytes.items))
+        → IsNoEntry start (end - start) mid error ⊎ Parses {M = M} (Err error) (reading (part start (end - start) mid.bytes.items))
         → AreUnread reading v (entries_between block n bounds) old mid error
     between_stops n old error kept why =
         let es = entries_between block n bounds in
-        let e = slice_index_or es (i - 1) (no_entry block) in
+        let e = slice_index_or es i (no_entry block) in
         let at = this n in
         let count = entries_count block n bounds in
         let Why = λ (offset len : ℕ). IsNoEntry offset len mid error ⊎ Parses {M = M} (Err error) (reading (part offset len mid.bytes.items)) in
-        piece_stops reading v es (i - 1) (no_entry block) block mid got (omega (arith, count, some, less)) at.placed there (read n) old error (first_placed n (omega (arith, some, less))) kept
-        (subst (λ k. Why e.entry_offset k) (sym at.len) (subst (λ k. Why k (slice_index bounds i - slice_index bounds (i - 1))) (sym at.offset) why))
+        piece_stops reading v es i (no_entry block) block mid got (omega (arith, count, less)) at.placed there (read n) old error (first_placed n (omega (arith, less))) kept
+        (subst (λ k. Why e.entry_offset k) (sym at.len) (subst (λ k. Why k (end - start)) (sym at.offset) why))

@@ -6,6 +6,7 @@ use raft_log_file_pair::PipeLog;
 use raft_log_record_base::{Error, FileBlockHandle, Result};
 use raft_log_record_frames::decode_entries_block;
 use raft_log_record_items::{CompressionType, EntryIndex, Message};
+use raft_log_table_runs::Bounds;
 use std::alloc::Global;
 
 /// The entry block that was read last, with its checksum, and its place; or none.
@@ -22,6 +23,7 @@ pub struct BlockCache {
 impl BlockCache {
     ghost use Rattle.raft_log_file_blocks.specs.Stored.{part};
     ghost use Rattle.raft_log_file_blocks.specs.Blocks.{AddsEntries, AreUnread, IsEntryUnread, IsNoEntry, KeepsBlock, LosesBlock, ReadsEntries, ReadsEntry, entries_in};
+    ghost use Rattle.raft_log_table_runs.specs.Bounds.{AreShort, bounds_of};
     ghost use Rattle.raft_log_table_runs.specs.Entries.{entries_between};
 
     /// A cache without a block. It takes no memory.
@@ -141,8 +143,8 @@ impl BlockCache {
         Ok(messages)
     }
 
-    /// Adds the entries of a block, each from one of these bounds up to the next, as messages, for which there
-    /// is room: the block is read once. A refusal keeps what was there, and may leave some of these behind it.
+    /// Adds the entries of a block that start and end there, as messages, for which there is room: the block is
+    /// read once. A refusal keeps what was there, and may leave some of these behind it.
     ///
     /// Refuses what `read_entry` refuses of the first entry that isn't read.
     pub fn read_between<M: Message, P: PipeLog>(
@@ -150,24 +152,28 @@ impl BlockCache {
         alloc: Global,
         pipes: &P,
         block: FileBlockHandle,
-        bounds: &[u64],
+        bounds: &Bounds<'_>,
         messages: &mut Vec<M>,
     ) -> Result<()>
-        requires some { 1 < length bounds.now }
-        requires room { vec_len messages.old + length bounds.now ≤ vec_capacity messages.old + 1 }
+        requires some { 1 < length (bounds_of bounds.now) }
+        requires short { AreShort bounds.now }
+        requires room { vec_len messages.old + length (bounds_of bounds.now) ≤ vec_capacity messages.old + 1 }
         ensures ok { OnOk result ((n : ℕ) → AddsEntries M.reading (P.shown pipes.now)
-            (entries_between block n bounds.now) self.old self.new messages.old.items messages.new.items) }
+            (entries_between block n (bounds_of bounds.now)) self.old self.new messages.old.items messages.new.items) }
         ensures kept { take (length messages.old.items) messages.new.items ≡ messages.old.items }
         ensures capacity { OnOk result (vec_capacity messages.new ≡ vec_capacity messages.old) }
-        ensures len { OnOk result (vec_len messages.new + 1 ≡ vec_len messages.old + length bounds.now) }
+        ensures len { OnOk result (vec_len messages.new + 1 ≡ vec_len messages.old + length (bounds_of bounds.now)) }
         ensures err { IfErr result (λ error. (n : ℕ) → AreUnread M.reading (P.shown pipes.now)
-            (entries_between block n bounds.now) self.old self.new error) }
+            (entries_between block n (bounds_of bounds.now)) self.old self.new error) }
     {
         self.read(alloc, pipes, block)?;
-        for i in 1..bounds.len() {
-            let bytes = self.entry_between(alloc, bounds[i - 1], bounds[i])?;
+        let (mut start, _) = bounds.at(0);
+        for i in 0..bounds.len() {
+            let (_, end) = bounds.at(i);
+            let bytes = self.entry_between(alloc, start, end)?;
             let message = M::parse(alloc, bytes)?;
             messages.push_reserved(message);
+            start = end;
         }
         Ok(())
     }

@@ -6,6 +6,7 @@ ghost use Rattle.raft_log_model_laws.specs.Item.Item.{Clean, Compact, Del, Put};
 ghost use Rattle.raft_log_table_runs.specs.declared.place.Place.{Place};
 ghost use Rattle.raft_log_table_lists.specs.Shown.{IsOrderly, MayFollow, nothing_shown, span, stepped, with_clean, with_compact, with_del, with_put};
 ghost use Rattle.raft_log_table_runs.specs.Blocks.{pieces};
+ghost use Rattle.raft_log_table_runs.specs.Bounds.{AreShort, bounds_of};
 ghost use Rattle.raft_log_table_runs.specs.Counts.{sized};
 ghost use Rattle.raft_log_table_runs.specs.Entries.{entries_between, entry_of, place_of, queue_of, run_of};
 ghost use Rattle.raft_log_table_lists.specs.Bridge.{moved_key, unmarked};
@@ -25,7 +26,7 @@ use crate::ends::Ends;
 use raft_log_record_base::{Error, FileBlockHandle, FileId, FileSeq, LogQueue, Result};
 use raft_log_record_items::{Bytes, EntryIndex};
 use raft_log_table_lists::{GroupFiles, HeldValue, KeyMap};
-use raft_log_table_runs::{Places, entry_of};
+use raft_log_table_runs::{Bounds, Places, entry_of};
 use std::alloc::{AllocError, Global};
 use std::marker::Model;
 
@@ -226,25 +227,23 @@ impl MemTable {
         )
     }
 
-    /// Of the entries from this index on, at most so many, those that lie one behind another in one block:
-    /// the bounds are where each of them starts in its block, and where the last one ends. Answers that block.
-    /// It is looked for at the hint first.
-    pub fn copy_bounds(
+    /// Of the entries from this index on, at most so many, those that lie one behind another in one block: that
+    /// block, and where each of them starts and ends there. Nothing is copied. They are looked for at the hint
+    /// first, and then the hint is where the next ones are.
+    pub fn bounds(
         &self,
         index: u64,
         limit: usize,
         hint: &mut usize,
-        bounds: &mut Vec<u64>,
-    ) -> FileBlockHandle
+    ) -> (FileBlockHandle, Bounds<'_>)
         requires first { (shown self.now).first ≤ index }
         requires within { index + limit ≤ (shown self.now).first + length (shown self.now).places }
         requires some { 0 < limit }
-        requires room { limit < vec_capacity bounds.old }
-        ensures entries { entries_between result index bounds.new.items
-            ≡ entries_from (shown self.now) (index - (shown self.now).first) (take (length bounds.new.items - 1)
+        ensures entries { entries_between result.0 index (bounds_of result.1)
+            ≡ entries_from (shown self.now) (index - (shown self.now).first) (take (length (bounds_of result.1) - 1)
             (drop (index - (shown self.now).first) (shown self.now).places)) }
-        ensures count { (1 < length bounds.new.items) × (length bounds.new.items ≤ limit + 1) }
-        ensures capacity { vec_capacity bounds.old ≤ vec_capacity bounds.new }
+        ensures count { (1 < length (bounds_of result.1)) × (length (bounds_of result.1) ≤ limit + 1) }
+        ensures short { AreShort result.1 }
     {
         let position = (index - self.first) as usize;
         let (queue, limit) = if position < self.rewritten {
@@ -252,12 +251,13 @@ impl MemTable {
         } else {
             (LogQueue::Append, limit)
         };
-        let place = self.places.copy_bounds(position, limit, hint, bounds);
-        FileBlockHandle {
+        let (place, bounds) = self.places.bounds(position, limit, hint);
+        let block = FileBlockHandle {
             id: FileId::new(queue, place.file),
             offset: place.offset,
             len: place.len,
-        }
+        };
+        (block, bounds)
     }
 
     /// Adds so many entries from this position on, for which there is room.

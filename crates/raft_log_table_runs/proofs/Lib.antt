@@ -1,4 +1,5 @@
 pub mod Replacing
+pub mod Rising
 pub mod Sizing
 pub mod RunPlaces
 pub mod RunLists

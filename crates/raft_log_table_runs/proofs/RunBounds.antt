@@ -10,28 +10,9 @@ use Rattle.raft_log_table_runs.specs.Spots.{IsSpot}
 use Rattle.raft_log_table_runs.proofs.RunCopies.{even_are, starts_fit, uneven_are}
 use Rattle.raft_log_table_runs.proofs.RunPlaces.{drop-uneven, length-uneven, take-even}
 use Rattle.raft_log_table_runs.proofs.RunReplacing.{sound_length}
-use Rattle.std.proofs.Math.Seq.{take-append-add}
-use Rattle.std.proofs.lemmas.List.{drop-append-le, drop-take, take-append-le}
+use Rattle.std.proofs.Math.Seq.{take-suc}
+use Rattle.std.proofs.lemmas.List.{drop-take, get_or_default}
 use Rattle.raft_log_table_runs.proofs.RunSpots.{spot_is}
-
--- one number more
-pub rising_more : (x s n : ℕ) → rising x s n ++ ((x + n * s) ∷ []) ≡ rising x s (n + 1)
-rising_more x s zero = ap (λ k. k ∷ []) (let none = zero-mul s in let same : x + 0 * s ≡ x = omega (arith, none) in same)
-rising_more x s (suc n) =
-    let one = suc-mul n s in
-    let same : x + suc n * s ≡ x + s + n * s = omega (arith, one) in
-    ap (λ k. x ∷ (rising (x + s) s n ++ (k ∷ []))) same ∙ ap (λ l. x ∷ l) (rising_more (x + s) s n)
-    ∙ ap (rising x s) (let next : suc (n + 1) ≡ suc n + 1 = omega arith in next)
-
-length_rising : (x s n : ℕ) → length (rising x s n) ≡ n
-length_rising x s zero = refl
-length_rising x s (suc n) = ap suc (length_rising (x + s) s n)
-
--- all of the numbers, of a list that more might stand behind
-pub rising_alone : (x s n m : ℕ) (more : List ℕ) → n ≡ m → take m (rising x s n ++ more) ≡ rising x s n
-rising_alone x s n m more same =
-    let long = length_rising x s n in
-    take-append-le m (rising x s n) more (omega (arith, long, same)) ∙ take_all m (rising x s n) (omega (arith, long, same))
 
 -- the places between bounds that rise by one length
 rising_between : (b : Place) (x s n : ℕ) → between b (rising x s (suc n)) ≡ even_places b s x n
@@ -51,19 +32,6 @@ pub even_between : (b : Place) (s o n j k : ℕ) → j + k ≤ n → between b (
 even_between b s o n j k h =
     ap (λ m. between b (rising (o + j * s) s m)) (let one : k + 1 ≡ suc k = omega arith in one) ∙ rising_between b (o + j * s) s k ∙ sym (even_from b s o n j k h)
 
-pub no_bounds : (old more : List ℕ) → length old ≡ 0 → old ++ more ≡ more
-no_bounds [] more h = refl
-no_bounds (x ∷ old) more h = absurd (omega arith)
-
--- numbers that lie in two lists, one behind the other
-pub over_seam : (from count : ℕ) (xs front back : List ℕ) → xs ≡ front ++ back → from ≤ length front → length front ≤ from + count
-    → take count (drop from xs) ≡ drop from front ++ take (from + count - length front) back
-over_seam from count xs front back e low high =
-    let more = length-drop from front in
-    let same : count ≡ length (drop from front) + (from + count - length front) = omega (arith, more, low, high) in
-    ap (λ l. take count (drop from l)) e ∙ ap (take count) (drop-append-le from front back low)
-    ∙ ap (λ n. take n (drop from front ++ back)) same ∙ take-append-add (drop from front) back (from + count - length front)
-
 -- starts that others lie behind, and all of them and the end of the last entry
 between_starts : (b : Place) (s : ℕ) (os : List ℕ) (n : ℕ) → n < length os → between b (take (suc n) os) ≡ take n (uneven_places b s os)
 between_starts b s [] n h = absurd (omega arith)
@@ -78,6 +46,24 @@ between_all b s (o ∷ []) zero x h e = ap (λ n. in_block b o n ∷ []) (let sa
 between_all b s (o ∷ []) (suc i) x h e = absurd (omega arith)
 between_all b s (o ∷ (p ∷ os)) zero x h e = absurd (omega arith)
 between_all b s (o ∷ (p ∷ os)) (suc i) x h e = ap (λ l. in_block b o (p - o) ∷ l) (between_all b s (p ∷ os) i x (omega arith) e)
+
+-- some first starts, and the one behind them
+pub starts_and_next : (starts part : List ℕ) (first x : ℕ) → part ≡ take (length part) (drop first starts) → first + length part < length starts
+    → x ≡ slice_index_or starts (first + length part) x → part ++ (x ∷ []) ≡ take (length part + 1) (drop first starts)
+starts_and_next starts part first x is less at =
+    let k = length part in
+    let more = length-drop first starts in
+    ap (λ l. l ++ (x ∷ [])) is ∙ ap (λ y. take k (drop first starts) ++ (y ∷ [])) (at ∙ sym (get_or-drop first starts k x))
+    ∙ sym (take-suc (drop first starts) k x (omega (arith, less, more)))
+    ∙ ap (λ n. take n (drop first starts)) (let one : suc k ≡ k + 1 = omega arith in one)
+
+-- the last of some first starts
+pub last_start : (starts part : List ℕ) (first : ℕ) → part ≡ take (length part) (drop first starts) → 0 < length part → first + length part ≤ length starts
+    → (x : ℕ) → x ≡ slice_index_or part (length part - 1) 0 → x ≡ slice_index_or starts (first + (length part - 1)) x
+last_start starts part first is some inside x at =
+    let k = length part in
+    at ∙ ap (λ l. slice_index_or l (k - 1) 0) is ∙ get_or-take k (drop first starts) (k - 1) 0 (omega (arith, some))
+    ∙ get_or-drop first starts (k - 1) 0 ∙ get_or_default starts (first + (k - 1)) 0 x (omega (arith, some, inside))
 
 -- The starts of a run behind so many others.
 module _ (r : Run) (starts : List ℕ) (from within count : ℕ) (there : from + r.count ≤ length starts) where

@@ -1,4 +1,5 @@
 pub mod Blocks
+pub mod Bounds
 pub mod Entries
 pub mod Counts
 pub mod Runs

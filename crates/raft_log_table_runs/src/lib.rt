@@ -2,12 +2,14 @@
 //! lie one behind another.
 #![tactic(auto)]
 
+pub mod bounds;
 pub mod place;
 pub mod places;
 pub mod run;
 pub mod runs;
 pub mod spot;
 
+pub use bounds::Bounds;
 pub use place::Place;
 pub use places::{Places, entry_of, place_of};
 pub use run::Run;

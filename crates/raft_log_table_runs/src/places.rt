@@ -2,9 +2,10 @@
 ghost use Rattle.std.specs.Prelude.{◌≡◌, ◌↔◌, IsTrue, ◌+◌, ◌-◌, ◌≤◌, ◌<◌, ◌++◌, [], length, map, take, drop, slice_get, vec_len, vec_capacity, ◌^◌, Some, OnOk, OnErr};
 ghost use Rattle.raft_log_table_runs.specs.Entries.{place_of, entry_of, entries_of};
 ghost use Rattle.raft_log_table_runs.specs.Blocks.{between, pieces};
+ghost use Rattle.raft_log_table_runs.specs.Bounds.{bounds_of, AreShort};
 ghost use Rattle.raft_log_table_runs.specs.Counts.{passing, sized};
 
-use crate::{Place, Runs};
+use crate::{Bounds, Place, Runs};
 use raft_log_record_base::{FileBlockHandle, FileId, FileSeq, LogQueue};
 use raft_log_record_items::{CompressionType, EntryIndex};
 use std::alloc::{AllocError, Global};
@@ -137,25 +138,18 @@ impl Places {
             .copy_entries(queue, index, position, count, entries);
     }
 
-    /// Of the entries from this position on, at most so many, those that lie one behind another in one run:
-    /// the bounds are where each of them starts in its block, and where the last one ends. Answers that block.
-    /// The run is looked for at the hint first, and then the hint is the next run.
-    pub fn copy_bounds(
-        &self,
-        position: usize,
-        limit: usize,
-        hint: &mut usize,
-        bounds: &mut Vec<u64>,
-    ) -> Place
+    /// Of the entries from this position on, at most so many, those that lie one behind another in one run: the
+    /// block that they lie in, and where each of them starts and ends there. Nothing is copied. The run is looked
+    /// for at the hint first, and then the hint is the next run.
+    pub fn bounds(&self, position: usize, limit: usize, hint: &mut usize) -> (Place, Bounds<'_>)
         requires within { position + limit ≤ length self.now.items }
         requires some { 0 < limit }
-        requires room { limit < vec_capacity bounds.old }
-        ensures places { between result bounds.new.items
-            ≡ take (length bounds.new.items - 1) (drop position self.now.items) }
-        ensures count { (1 < length bounds.new.items) × (length bounds.new.items ≤ limit + 1) }
-        ensures capacity { vec_capacity bounds.old ≤ vec_capacity bounds.new }
+        ensures places { between result.0 (bounds_of result.1)
+            ≡ take (length (bounds_of result.1) - 1) (drop position self.now.items) }
+        ensures count { (1 < length (bounds_of result.1)) × (length (bounds_of result.1) ≤ limit + 1) }
+        ensures short { AreShort result.1 }
     {
-        self.runs.copy_bounds(position, limit, hint, bounds)
+        self.runs.bounds(position, limit, hint)
     }
 
     /// Makes room for so many more. Where memory is refused, nothing changes.

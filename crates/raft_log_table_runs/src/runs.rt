@@ -219,8 +219,8 @@ impl Runs {
     }
 }
 
-/// Makes room for so many more. Where there is none yet, it is made for a quarter more of what is there, and for
-/// four at least, so that many small batches don't move all of it each time.
+/// Makes room for so many more. Where there is none yet, it is made for a quarter of what is there besides, and for
+/// three at least, so that many small batches don't move all of it each time.
 fn make_room<T>(queue: &mut VecDeque<T>, count: usize) -> Result<(), AllocError>
     ensures items { queue.new.items ≡ queue.old.items }
     ensures len { deque_len queue.new ≡ deque_len queue.old }
@@ -232,7 +232,7 @@ fn make_room<T>(queue: &mut VecDeque<T>, count: usize) -> Result<(), AllocError>
             return Ok(());
         }
     }
-    queue.reserve_exact(count.max(queue.len() / 4).max(4))
+    queue.reserve_exact(count.saturating_add((queue.len() / 4).max(3)))
 }
 
 /// Where there is more than twice the room for what is there and so many more, a quarter past that stays.

@@ -147,9 +147,6 @@ impl<P: PipeLog> LogEngine<P> {
     }
 }
 
-/// How many entries are read at a time, at most.
-const PIECE: usize = 1_024;
-
 /// Adds so many entries of a table, from an index on, as messages, for which there is room: a block is read
 /// once for those that lie in it one behind another. A refusal keeps what was there, and may leave some of
 /// these behind it.
@@ -172,15 +169,12 @@ fn push_entries<M: Message, P: PipeLog>(
     ensures err { IfErr result (AreUnread M.reading (P.shown pipes.now)
         (entries_on (shown table.now) index count) cache.old cache.new) }
 {
-    let piece = count.min(PIECE);
-    let mut bounds = Vec::with_capacity(alloc, piece + 1)?;
     let mut hint = 0;
     let mut done = 0;
     while done < count {
-        let limit = piece.min(count - done);
-        let block = table.copy_bounds(index + done as u64, limit, &mut hint, &mut bounds);
-        cache.read_between(alloc, pipes, block, bounds.as_slice(), messages)?;
-        done += bounds.len() - 1;
+        let (block, bounds) = table.bounds(index + done as u64, count - done, &mut hint);
+        cache.read_between(alloc, pipes, block, &bounds, messages)?;
+        done += bounds.len();
     }
     Ok(())
 }

@@ -1,6 +1,7 @@
 use Rattle.std.proofs.Common.{◌≡◌, ◌+◌, ◌-◌, ℕ, List, [], ◌++◌, ap, ap₂, append-nil, append_assoc, arith, length, rules, refl, subst, sym, ◌∙◌}
 use Rattle.std.proofs.lemmas.Result.{err_from_is_err_and}
 use Rattle.raft_log_record_items.specs.declared.entry.EntryIndex.{EntryIndex}
+use Rattle.raft_log_table_runs.specs.Bounds.{bounds_of}
 use Rattle.raft_log_table_runs.specs.Entries.{entries_between}
 use Rattle.raft_log_table_one.specs.Table.{shown}
 use Rattle.raft_log_file_blocks.specs.Blocks.{AreUnread, ReadsEntries}
@@ -8,11 +9,6 @@ use Rattle.raft_log_file_blocks.proofs.Entries.{front_kept, kept_through, none_r
 use Rattle.raft_log_engine_core.specs.Reads.{entries_on}
 use Rattle.raft_log_engine_core.proofs.Pieces.{on_split}
 use Rattle.raft_log_engine_core.proofs.engine.entries.push_entries.Goals as goal
-
-pub returns-in_err-bounds-clause-err : goal.returns-in_err-bounds-clause-err
-returns-in_err-bounds-clause-err g c =
-    let p = err_from_is_err_and c.from_residual.result c.from_residual.ensures.1 in
-    rw p.1 (none_read g.M.Message.reading (g.P.PipeLog.shown c.args.pipes.now) (entries_on (shown c.args.table.now) c.args.index c.args.count) c.args.cache.now p.0 p.2)
 
 pub loop-done-init : goal.loop-done-init
 loop-done-init g c =
@@ -28,7 +24,6 @@ loop-done-init g c =
       unread = λ last error others. subst (λ (l : List EntryIndex). AreUnread g.M.Message.reading v l c.args.cache.now last error) all others;
       within = omega arith;
       room = omega (arith, c.requires.room);
-      bounds = search rules;
     }
 
 pub loop-done-preserved : goal.loop-done-preserved
@@ -39,23 +34,22 @@ loop-done-preserved g c =
     let done = c.loop-done.done in
     let index = c.args.index in
     let count = c.args.count in
-    let n = c.len.result - 1 in
-    let told = c.as_slice.ensures.value in
-    let bounds : c.as_slice.result.now ≡ c.copy_bounds-block.new.bounds.items = cc in
-    let many : c.len.result ≡ length c.copy_bounds-block.new.bounds.items = omega (arith, c.len.ensures) in
-    let some = c.copy_bounds-block.ensures.count.0 in
-    let few = c.copy_bounds-block.ensures.count.1 in
+    let n = c.len.result in
+    let block = c.bounds.result.0 in
+    let bounds = bounds_of c.bounds.result.1 in
+    let many : length bounds ≡ n + 1 = c.len.ensures in
+    let few = c.bounds.ensures.count.1 in
     let (more, adds, read) = c.in_ok-read_between.ensures.ok (index + done) in
     let long = c.in_ok-read_between.ensures.len in
-    let same_long = ap length bounds in
     let within = i.within in
     let room = i.room in
     let going = c.loop-done-test.true in
-    let piece : entries_between c.copy_bounds-block.result (index + done) c.as_slice.result.now ≡ entries_on table (index + done) n =
-    ap (entries_between c.copy_bounds-block.result (index + done)) bounds ∙ c.copy_bounds-block.ensures.entries ∙ ap (λ (k : ℕ). entries_on table (index + done) (k - 1)) (sym many) in
+    let one : length bounds - 1 ≡ n = omega (arith, many) in
+    let piece : entries_between block (index + done) bounds ≡ entries_on table (index + done) n =
+    c.bounds.ensures.entries ∙ ap (λ (k : ℕ). entries_on table (index + done) k) one in
     let on : index + done + n ≡ index + (done + n) = omega arith in
     let left : count - done - n ≡ count - (done + n) = omega arith in
-    let cut : entries_on table (index + done) (count - done) ≡ entries_between c.copy_bounds-block.result (index + done) c.as_slice.result.now ++ entries_on table (index + (done + n)) (count - (done + n)) =
+    let cut : entries_on table (index + done) (count - done) ≡ entries_between block (index + done) bounds ++ entries_on table (index + (done + n)) (count - (done + n)) =
     on_split table (index + done) n (count - done) (omega (arith, c.requires.first)) (omega (arith, many, few, going))
     ∙ ap₂ (λ (m k : ℕ). entries_on table (index + done) n ++ entries_on table m k) on left
     ∙ ap (λ (l : List EntryIndex). l ++ entries_on table (index + (done + n)) (count - (done + n))) (sym piece) in
@@ -66,14 +60,13 @@ loop-done-preserved g c =
           subst (λ (ms : List g.row.M.Denot). ReadsEntries g.M.Message.reading v (entries_on table index count) c.args.cache.now last ms) (sym (append_assoc i.got more others))
           (i.read last (more ++ others)
           (subst (λ (l : List EntryIndex). ReadsEntries g.M.Message.reading v l c.loop-done.cache last (more ++ others)) (sym cut)
-          (read_both g.M.Message.reading v (entries_between c.copy_bounds-block.result (index + done) c.as_slice.result.now) (entries_on table (index + (done + n)) (count - (done + n))) c.loop-done.cache c.read_between.new.self last more others read behind)));
+          (read_both g.M.Message.reading v (entries_between block (index + done) bounds) (entries_on table (index + (done + n)) (count - (done + n))) c.loop-done.cache c.read_between.new.self last more others read behind)));
       unread = λ last error behind.
           i.unread last error
           (subst (λ (l : List EntryIndex). AreUnread g.M.Message.reading v l c.loop-done.cache last error) (sym cut)
-          (unread_behind g.M.Message.reading v (entries_between c.copy_bounds-block.result (index + done) c.as_slice.result.now) (entries_on table (index + (done + n)) (count - (done + n))) c.loop-done.cache c.read_between.new.self last more error read behind));
+          (unread_behind g.M.Message.reading v (entries_between block (index + done) bounds) (entries_on table (index + (done + n)) (count - (done + n))) c.loop-done.cache c.read_between.new.self last more error read behind));
       within = omega (arith, many, few, within, going);
-      room = omega (arith, many, room, long, same_long, c.in_ok-read_between.ensures.capacity);
-      bounds = let bounds_room = i.bounds in omega (arith, bounds_room, c.copy_bounds-block.ensures.capacity);
+      room = omega (arith, many, room, long, c.in_ok-read_between.ensures.capacity);
     }
 
 pub returns-in_err-read_between-clause-err : goal.returns-in_err-read_between-clause-err
@@ -83,13 +76,11 @@ returns-in_err-read_between-clause-err g c =
     let p = err_from_is_err_and c.from_residual-in_err-read_between.result c.from_residual-in_err-read_between.ensures.1 in
     let i = c.loop-done.invariant in
     let done = c.loop-done.done in
-    let n = length c.copy_bounds-block.new.bounds.items - 1 in
-    let told = c.as_slice.ensures.value in
-    let bounds : c.as_slice.result.now ≡ c.copy_bounds-block.new.bounds.items = cc in
-    let few = c.copy_bounds-block.ensures.count.1 in
+    let bounds = bounds_of c.bounds.result.1 in
+    let n = length bounds - 1 in
+    let few = c.bounds.ensures.count.1 in
     let going = c.loop-done-test.true in
-    let piece : entries_between c.copy_bounds-block.result (c.args.index + done) c.as_slice.result.now ≡ entries_on table (c.args.index + done) n =
-    ap (entries_between c.copy_bounds-block.result (c.args.index + done)) bounds ∙ c.copy_bounds-block.ensures.entries in
+    let piece : entries_between c.bounds.result.0 (c.args.index + done) bounds ≡ entries_on table (c.args.index + done) n = c.bounds.ensures.entries in
     let cut = on_split table (c.args.index + done) n (c.args.count - done) (omega (arith, c.requires.first)) (omega (arith, few, going)) in
     rw (p.1, p.2) (i.unread c.read_between.new.self c.in_err-read_between.field-0.0
     (subst (λ (l : List EntryIndex). AreUnread g.M.Message.reading v l c.loop-done.cache c.read_between.new.self c.in_err-read_between.field-0.0) (sym cut)

@@ -1,4 +1,4 @@
-use Rattle.std.proofs.Common.{◌≡◌, ◌+◌, ◌-◌, ◌<◌, ◌≤◌, List, ◌++◌, vec_capacity, vec_len}
+use Rattle.std.proofs.Common.{◌≡◌, ◌+◌, ◌-◌, ◌≤◌, List, ◌++◌, vec_capacity, vec_len}
 use Rattle.raft_log_record_base.specs.declared.errors.Error.{Error}
 use Rattle.raft_log_table_one.specs.Table.{shown}
 use Rattle.raft_log_file_blocks.specs.declared.block_cache.BlockCache.{BlockCache}
@@ -17,7 +17,6 @@ invariant-loop-done g l = record {
       → AreUnread g.M.Message.reading (g.P.PipeLog.shown l.pipes) (entries_on (shown l.table) l.index l.count) l.fn.cache last error;
   within : l.done ≤ l.count;
   room : vec_len l.messages + l.count ≤ vec_capacity l.messages + l.done;
-  bounds : l.piece < vec_capacity l.bounds;
 }
 
 abbrev pub decreases-loop-done : goal.decreases-loop-done

@@ -1,11 +1,11 @@
-use Rattle.std.proofs.Common.{◌≡◌, ◌+◌, ◌-◌, ℕ, List, [], ◌++◌, ap, ap₂, append-nil, append_assoc, arith, length, rules, refl, subst, sym, ◌∙◌}
+use Rattle.std.proofs.Common.{◌≡◌, ◌+◌, ◌-◌, ℕ, List, [], ◌++◌, ap, ap₂, append-nil, append_assoc, arith, length, refl, subst, sym, ◌∙◌}
 use Rattle.std.proofs.lemmas.Result.{err_from_is_err_and}
 use Rattle.raft_log_record_items.specs.declared.entry.EntryIndex.{EntryIndex}
 use Rattle.raft_log_table_runs.specs.Bounds.{bounds_of}
 use Rattle.raft_log_table_runs.specs.Entries.{entries_between}
 use Rattle.raft_log_table_one.specs.Table.{shown}
 use Rattle.raft_log_file_blocks.specs.Blocks.{AreUnread, ReadsEntries}
-use Rattle.raft_log_file_blocks.proofs.Entries.{front_kept, kept_through, none_read, read_both, unread_behind, unread_front}
+use Rattle.raft_log_file_blocks.proofs.Entries.{front_kept, kept_through, read_both, unread_behind, unread_front}
 use Rattle.raft_log_engine_core.specs.Reads.{entries_on}
 use Rattle.raft_log_engine_core.proofs.Pieces.{on_split}
 use Rattle.raft_log_engine_core.proofs.engine.entries.push_entries.Goals as goal
@@ -34,10 +34,10 @@ loop-done-preserved g c =
     let done = c.loop-done.done in
     let index = c.args.index in
     let count = c.args.count in
-    let n = c.len.result in
+    let n = c.len-done.result in
     let block = c.bounds.result.0 in
     let bounds = bounds_of c.bounds.result.1 in
-    let many : length bounds ≡ n + 1 = c.len.ensures in
+    let many : length bounds ≡ n + 1 = c.len-done.ensures in
     let few = c.bounds.ensures.count.1 in
     let (more, adds, read) = c.in_ok-read_between.ensures.ok (index + done) in
     let long = c.in_ok-read_between.ensures.len in
@@ -73,7 +73,7 @@ pub returns-in_err-read_between-clause-err : goal.returns-in_err-read_between-cl
 returns-in_err-read_between-clause-err g c =
     let v = g.P.PipeLog.shown c.args.pipes.now in
     let table = shown c.args.table.now in
-    let p = err_from_is_err_and c.from_residual-in_err-read_between.result c.from_residual-in_err-read_between.ensures.1 in
+    let p = err_from_is_err_and c.from_residual.result c.from_residual.ensures.1 in
     let i = c.loop-done.invariant in
     let done = c.loop-done.done in
     let bounds = bounds_of c.bounds.result.1 in

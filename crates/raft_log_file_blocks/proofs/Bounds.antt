@@ -11,6 +11,7 @@ use Rattle.raft_log_file_pair.specs.Pipes.{LogPipes}
 use Rattle.raft_log_file_blocks.specs.Blocks.{AreUnread, IsNoEntry, KeepsBlock, LosesBlock, ReadsEntries, entries_in}
 use Rattle.raft_log_file_blocks.specs.Stored.{part}
 use Rattle.raft_log_file_blocks.specs.declared.block_cache.BlockCache.{BlockCache}
+use Rattle.raft_log_file_blocks.proofs.Parts.{part_of_front}
 use Rattle.raft_log_file_blocks.proofs.Entries.{block_unread, piece_more, piece_read, piece_stops}
 
 -- an entry of a block from one bound up to another
@@ -18,6 +19,17 @@ record IsBetween (block : FileBlockHandle) (x y : ℕ) (e : EntryIndex) : Type 0
   placed : e.entries ≡ Some block
   offset : e.entry_offset ≡ x
   len : e.entry_len ≡ y - x
+
+-- the block is kept, and these are the bytes of its entries
+pub record HasEntries (block : FileBlockHandle) (entries : List ℕ) (cache : BlockCache) : Type 0 where
+  pub placed : cache.place ≡ Some block
+  pub bytes : entries ≡ take (entries_in cache) cache.bytes.items
+  pub len : length entries ≡ entries_in cache
+
+-- bytes of these entries are those of the block
+pub entries_part : (offset len : ℕ) (block : FileBlockHandle) (bytes entries : List ℕ) (cache : BlockCache) → HasEntries block entries cache → offset + len ≤ length entries → bytes ≡ part offset len entries
+    → bytes ≡ part offset len cache.bytes.items
+entries_part offset len block bytes entries cache has inside are = are ∙ part_of_front offset len (entries_in cache) cache.bytes.items entries has.bytes inside
 
 entry_is : (block : FileBlockHandle) (n k : ℕ) (xs : List ℕ) (d : EntryIndex) → suc k < length xs → IsBetween block (slice_index xs k) (slice_index xs (suc k)) (slice_index_or (entries_between block n xs) k d)
 entry_is block n k [] d less = absurd (omega arith)

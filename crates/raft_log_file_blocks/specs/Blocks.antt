@@ -60,11 +60,15 @@ LosesBlock v block old new error =
 abbrev pub entries_in : BlockCache → ℕ
 entries_in cache = length cache.bytes.items - 4
 
--- why no entry is answered: it doesn't lie in the block, also where memory ran out for saying so
+-- why bytes aren't answered: they don't all lie in so many, also where memory ran out for saying so
+abbrev pub IsOutside : ℕ → ℕ → ℕ → Error → Type 0
+IsOutside offset len room errors.Memory = offset + len ≤ room → ⊥
+IsOutside offset len room (errors.Corruption text) = offset + len ≤ room → ⊥
+IsOutside offset len room _ = ⊥
+
+-- why no entry is answered: it doesn't lie in the block
 abbrev pub IsNoEntry : ℕ → ℕ → BlockCache → Error → Type 0
-IsNoEntry offset len cache errors.Memory = offset + len ≤ entries_in cache → ⊥
-IsNoEntry offset len cache (errors.Corruption text) = offset + len ≤ entries_in cache → ⊥
-IsNoEntry offset len cache _ = ⊥
+IsNoEntry offset len cache = IsOutside offset len (entries_in cache)
 
 -- why an entry isn't read: it is in no file; or its block isn't read, which wasn't kept, and none is now; or it
 -- doesn't lie in that; or its bytes are no message

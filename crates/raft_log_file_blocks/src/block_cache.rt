@@ -1,6 +1,8 @@
 //! The entry block that was read last.
 
 ghost use Rattle.std.specs.Prelude.{◌≡◌, ◌↔◌, IsTrue, ℕ, ◌+◌, ◌-◌, ◌<◌, ◌≤◌, None, Some, IfErr, IfOk, OnErr, OnOk, length, take, vec_capacity, vec_len};
+ghost use Rattle.raft_log_file_blocks.specs.Blocks.{IsOutside};
+ghost use Rattle.raft_log_file_blocks.specs.Stored.{part};
 
 use raft_log_file_pair::PipeLog;
 use raft_log_record_base::{Error, FileBlockHandle, Result};
@@ -21,7 +23,6 @@ pub struct BlockCache {
 }
 
 impl BlockCache {
-    ghost use Rattle.raft_log_file_blocks.specs.Stored.{part};
     ghost use Rattle.raft_log_file_blocks.specs.Blocks.{AddsEntries, AreUnread, IsEntryUnread, IsNoEntry, KeepsBlock, LosesBlock, ReadsEntries, ReadsEntry, entries_in};
     ghost use Rattle.raft_log_table_runs.specs.Bounds.{AreShort, bounds_of};
     ghost use Rattle.raft_log_table_runs.specs.Entries.{entries_between};
@@ -74,33 +75,18 @@ impl BlockCache {
             × (bytes.now ≡ part offset len self.now.bytes.items)) }
         ensures err { IfErr result (IsNoEntry offset len self.now) }
     {
-        self.entry_between(alloc, offset as u64, offset as u64 + len as u64)
+        let start = offset as u64;
+        between(alloc, self.entries(), start, start + len as u64)
     }
 
-    /// The bytes of an entry of the block that is kept, from one bound up to another, or where that is lower no
-    /// bytes from the first bound on: nothing is copied. Refuses what `entry` refuses.
-    fn entry_between(&self, alloc: Global, start: u64, end: u64) -> Result<&[u8]>
-        ensures ok { IfOk result (λ bytes. (start + (end - start) ≤ entries_in self.now)
-            × (bytes.now ≡ part start (end - start) self.now.bytes.items)) }
-        ensures err { IfErr result (IsNoEntry start (end - start) self.now) }
+    /// The bytes of all entries of the block that is kept, one behind the other: nothing is copied.
+    fn entries(&self) -> &[u8]
+        ensures bytes { result.now ≡ take (entries_in self.now) self.now.bytes.items }
+        ensures len { length result.now ≡ entries_in self.now }
     {
-        let end = end.max(start);
-        if end > self.bytes.len().saturating_sub(LOG_BATCH_CHECKSUM_LEN) as u64 {
-            return Err(self.past_the_end(alloc, end));
-        }
-        Ok(&self.bytes[start as usize..end as usize])
-    }
-
-    /// Why no entry is answered that ends there, past the last of the block that is kept; or `Memory`.
-    #[cold]
-    fn past_the_end(&self, alloc: Global, end: u64) -> Error
-        requires { entries_in self.now < end }
-        ensures { (offset : ℕ) → (len : ℕ) → offset + len ≡ end → IsNoEntry offset len self.now result }
-    {
-        match format!(in alloc; "Entry past the end of its block: {end}") {
-            Ok(text) => Error::Corruption(text),
-            Err(_) => Error::Memory,
-        }
+        let len = self.bytes.len().saturating_sub(LOG_BATCH_CHECKSUM_LEN);
+        let (entries, _) = self.bytes.split_at(len);
+        entries
     }
 
     /// The entry that lies at a place, as a message. Its block is kept then.
@@ -167,10 +153,11 @@ impl BlockCache {
             (entries_between block n (bounds_of bounds.now)) self.old self.new error) }
     {
         self.read(alloc, pipes, block)?;
+        let entries = self.entries();
         let (mut start, _) = bounds.at(0);
         for i in 0..bounds.len() {
             let (_, end) = bounds.at(i);
-            let bytes = self.entry_between(alloc, start, end)?;
+            let bytes = between(alloc, entries, start, end)?;
             let message = M::parse(alloc, bytes)?;
             messages.push_reserved(message);
             start = end;
@@ -272,6 +259,34 @@ fn lies_in(entry: &EntryIndex, block: FileBlockHandle) -> bool
     ensures { IsTrue result ↔ (entry.now.entries ≡ Some block) }
 {
     entry.entries == Some(block)
+}
+
+/// The bytes of a block's entries from one bound up to another, or where that is lower no bytes from the first
+/// bound on: nothing is copied.
+///
+/// Refuses as a corruption bytes that aren't all there, in front of the checksum.
+fn between(alloc: Global, entries: &[u8], start: u64, end: u64) -> Result<&[u8]>
+    ensures ok { IfOk result (λ bytes. (start + (end - start) ≤ length entries.now)
+        × (bytes.now ≡ part start (end - start) entries.now)) }
+    ensures err { IfErr result (IsOutside start (end - start) (length entries.now)) }
+{
+    let end = end.max(start);
+    if end > entries.len() as u64 {
+        return Err(past_the_end(alloc, end));
+    }
+    Ok(&entries[start as usize..end as usize])
+}
+
+/// Why no entry is answered that ends there, past the last of its block; or `Memory`.
+#[cold]
+fn past_the_end(alloc: Global, end: u64) -> Error
+    ensures { (offset : ℕ) → (len : ℕ) → (room : ℕ) → offset + len ≡ end → room < end
+        → IsOutside offset len room result }
+{
+    match format!(in alloc; "Entry past the end of its block: {end}") {
+        Ok(text) => Error::Corruption(text),
+        Err(_) => Error::Memory,
+    }
 }
 
 /// How many bytes the checksum behind the entries has.

@@ -1,12 +1,14 @@
 -- Entries of a table that are read a piece after another.
-use Rattle.std.proofs.Common.{◌≡◌, ◌∙◌, ◌+◌, ◌-◌, ◌<◌, ◌≤◌, ◌++◌, ℕ, zero, suc, true, List, [], ◌∷◌, Option, ap, ap₂, arith, drop, drop-drop, inr, length, length-drop, length-take-le, refl, sym, subst, take, take-take}
+use Rattle.std.proofs.Common.{◌≡◌, ◌∙◌, ◌+◌, ◌-◌, ◌<◌, ◌≤◌, ◌++◌, ℕ, zero, suc, true, List, [], ◌∷◌, Option, Some, ap, ap₂, arith, drop, drop-drop, inr, length, length-drop, length-take-le, refl, sym, subst, take, take-take}
+use Rattle.raft_log_record_base.specs.declared.pipe_log.FileBlockHandle.{FileBlockHandle}
+use Rattle.raft_log_table_runs.specs.declared.bounds.Bounds.{Bounds}
 use Rattle.raft_log_table_runs.specs.declared.place.Place.{Place}
 use Rattle.raft_log_table_runs.specs.Counts.{sized}
 use Rattle.raft_log_table_lists.specs.Shown.{Shown}
 use Rattle.raft_log_table_one.specs.Reads.{AreIn, entries_from, fetched, places_between}
 use Rattle.raft_log_purge.specs.raft_log_engine_laws.specs.Fetching.{AreToRead}
 use Rattle.raft_log_purge.specs.raft_log_engine_laws.specs.Shows.{Shows}
-use Rattle.raft_log_engine_core.specs.Reads.{entries_on}
+use Rattle.raft_log_engine_core.specs.Reads.{AreNext, LieNext, entries_on}
 
 none_left : (v : Shown) (n k : ℕ) → entries_from v n (take k []) ≡ []
 none_left v n zero = refl
@@ -66,3 +68,7 @@ pub are_to_read : (s : Shows) (g : ℕ) (v : Shown) (begin end : ℕ) (max : Opt
     → count ≤ end - begin → AreToRead s g begin end max (entries_on v begin count)
 are_to_read s g v begin end max count same some within is few =
     inr (some, subst (λ w. AreIn w begin end) (sym same) within, all_asked v begin end max count is few ∙ ap (λ w. fetched w begin end max) (sym same))
+
+-- where the next entries lie, if there are some
+pub next_lie : (v : Shown) (index left : ℕ) (next : Option (FileBlockHandle × Bounds)) (block : FileBlockHandle) (bounds : Bounds) → next ≡ Some (block, bounds) → AreNext v index left next → LieNext v index left block bounds
+next_lie v index left next block bounds is lie = subst (λ n. AreNext v index left n) is lie

@@ -1,8 +1,12 @@
 -- What an engine tells of its tables, and that a failed one tells nothing.
-use Rattle.std.specs.Prelude.{◌≡◌, ◌⊎◌, ◌-◌, ℕ, Bool, false, true, List, Option, drop, take}
+use Rattle.std.specs.Prelude.{◌≡◌, ◌⊎◌, ◌+◌, ◌-◌, ◌<◌, ◌≤◌, ℕ, Bool, false, true, List, None, Option, Some, drop, length, take}
 use Rattle.raft_log_record_base.specs.declared.errors.Error.{Error}
 use Rattle.raft_log_record_base.specs.declared.errors.Error.TheVariants as errors
+use Rattle.raft_log_record_base.specs.declared.pipe_log.FileBlockHandle.{FileBlockHandle}
 use Rattle.raft_log_record_items.specs.declared.entry.EntryIndex.{EntryIndex}
+use Rattle.raft_log_table_runs.specs.Bounds.{AreShort, bounds_of}
+use Rattle.raft_log_table_runs.specs.Entries.{entries_between}
+use Rattle.raft_log_table_runs.specs.declared.bounds.Bounds.{Bounds}
 use Rattle.raft_log_table_lists.specs.Listing.{Visits, in_direction}
 use Rattle.raft_log_table_lists.specs.Shown.{Shown}
 use Rattle.raft_log_table_one.specs.Reads.{entries_from}
@@ -31,6 +35,20 @@ IsUncopied s error = IsFailed s error ⊎ ((error ≡ errors.Memory) × Lives s)
 abbrev pub entries_on : Shown → ℕ → ℕ → List EntryIndex
 entries_on v index count =
     entries_from v (index - v.first) (take count (drop (index - v.first) v.places))
+
+-- where entries of a table lie from an index on: some, at most so many, in this block, one behind another
+pub record LieNext (v : Shown) (index left : ℕ) (block : FileBlockHandle) (bounds : Bounds) : Type 0 where
+  pub count : ℕ
+  pub len : length (bounds_of bounds) ≡ count + 1
+  pub some : 0 < count
+  pub few : count ≤ left
+  pub are : entries_between block index (bounds_of bounds) ≡ entries_on v index count
+  pub short : AreShort bounds
+
+-- where the next entries lie, of so many that are left; or that none is left
+abbrev pub AreNext : Shown → ℕ → ℕ → Option (FileBlockHandle × Bounds) → Type 0
+AreNext v index left None = left ≡ 0
+AreNext v index left (Some (block, bounds)) = LieNext v index left block bounds
 
 -- no group counts: each took nothing since it was cleaned
 abbrev pub NoneCounts : (ℕ → Bool) → Type 0

@@ -6,15 +6,16 @@ ghost use Rattle.raft_log_table_one.specs.Table.{shown};
 ghost use Rattle.raft_log_table_all.specs.Tables.{shown_of};
 ghost use Rattle.raft_log_file_blocks.specs.Blocks.{AddsEntries, AreUnread};
 ghost use Rattle.raft_log_purge.specs.raft_log_engine_laws.specs.Fetching.{FailsToFetch, FailsToTell, FetchesTo, HadFailed, TellsEntry};
-ghost use Rattle.raft_log_engine_core.specs.Reads.{entries_on, shows_of, Lives};
+ghost use Rattle.raft_log_engine_core.specs.Reads.{AreNext, entries_on, shows_of, Lives};
 ghost use Rattle.raft_log_engine_core.specs.Touching.{StaysPurged};
 
 use super::LogEngine;
 use raft_log_file_blocks::BlockCache;
 use raft_log_file_pair::PipeLog;
-use raft_log_record_base::{Error, Result};
+use raft_log_record_base::{Error, FileBlockHandle, Result};
 use raft_log_record_items::{EntryIndex, Message, MessageExt};
 use raft_log_table_one::MemTable;
+use raft_log_table_runs::Bounds;
 use std::alloc::Global;
 
 impl<P: PipeLog> LogEngine<P> {
@@ -148,7 +149,8 @@ impl<P: PipeLog> LogEngine<P> {
 }
 
 /// Adds so many entries of a table, from an index on, as messages, for which there is room: a block is read
-/// once for those that lie in it one behind another. A refusal keeps what was there, and may leave some of
+/// once for those that lie in it one behind another. Where the next ones lie is looked up before this block is
+/// read, so that the next read needn't wait for the table. A refusal keeps what was there, and may leave some of
 /// these behind it.
 fn push_entries<M: Message, P: PipeLog>(
     alloc: Global,
@@ -171,12 +173,31 @@ fn push_entries<M: Message, P: PipeLog>(
 {
     let mut hint = 0;
     let mut done = 0;
-    while done < count {
-        let (block, bounds) = table.bounds(index + done as u64, count - done, &mut hint);
-        cache.read_between(alloc, pipes, block, &bounds, messages)?;
+    let mut next = next_bounds(table, index, count, &mut hint);
+    while let Some((block, bounds)) = next {
         done += bounds.len();
+        next = next_bounds(table, index + done as u64, count - done, &mut hint);
+        cache.read_between(alloc, pipes, block, &bounds, messages)?;
     }
     Ok(())
+}
+
+/// The block in which a table's entry at an index lies, and where that and those that lie behind it there start
+/// and end, of so many; or none where none are asked for.
+fn next_bounds<'a>(
+    table: &'a MemTable,
+    index: u64,
+    left: usize,
+    hint: &mut usize,
+) -> Option<(FileBlockHandle, Bounds<'a>)>
+    requires first { (shown table.now).first ≤ index }
+    requires within { index + left ≤ (shown table.now).first + length (shown table.now).places }
+    ensures { AreNext (shown table.now) index left result }
+{
+    if left == 0 {
+        return None;
+    }
+    Some(table.bounds(index, left, hint))
 }
 
 /// A size as a number of bytes.

@@ -3,12 +3,12 @@ use Rattle.raft_log_record_base.specs.declared.errors.Error.{Error}
 use Rattle.raft_log_table_one.specs.Table.{shown}
 use Rattle.raft_log_file_blocks.specs.declared.block_cache.BlockCache.{BlockCache}
 use Rattle.raft_log_file_blocks.specs.Blocks.{AreUnread, ReadsEntries}
-use Rattle.raft_log_engine_core.specs.Reads.{entries_on}
+use Rattle.raft_log_engine_core.specs.Reads.{AreNext, entries_on}
 use Rattle.raft_log_engine_core.proofs.engine.entries.push_entries.Given as goal
 
--- what comes of the entries that are left comes of all, behind those that were read
-abbrev pub invariant-loop-done : goal.invariant-loop-done
-invariant-loop-done g l = record {
+-- what comes of the entries that are left comes of all, behind those that were read; and where the next ones lie
+abbrev pub invariant-loop-next : goal.invariant-loop-next
+invariant-loop-next g l = record {
   got : List g.row.M.Denot;
   adds : l.messages.items ≡ l.fn.messages.items ++ got;
   read : (last : BlockCache) (more : List g.row.M.Denot) → ReadsEntries g.M.Message.reading (g.P.PipeLog.shown l.pipes) (entries_on (shown l.table) (l.index + l.done) (l.count - l.done)) l.cache last more
@@ -16,8 +16,9 @@ invariant-loop-done g l = record {
   unread : (last : BlockCache) (error : Error) → AreUnread g.M.Message.reading (g.P.PipeLog.shown l.pipes) (entries_on (shown l.table) (l.index + l.done) (l.count - l.done)) l.cache last error
       → AreUnread g.M.Message.reading (g.P.PipeLog.shown l.pipes) (entries_on (shown l.table) l.index l.count) l.fn.cache last error;
   within : l.done ≤ l.count;
+  ahead : AreNext (shown l.table) (l.index + l.done) (l.count - l.done) l.next;
   room : vec_len l.messages + l.count ≤ vec_capacity l.messages + l.done;
 }
 
-abbrev pub decreases-loop-done : goal.decreases-loop-done
-decreases-loop-done g l = l.count - l.done
+abbrev pub decreases-loop-next : goal.decreases-loop-next
+decreases-loop-next g l = l.count - l.done

@@ -27,7 +27,7 @@ create_fails path error old new (after_stop is same told) = inl (has_stopped (ap
 create_fails path error old new (wrong_argument runs why same) = inr why
 create_fails path error old new (failed runs right left is same) =
     inl (has_failed (omega (arith, ap (λ (d : Disk). d.failures) same, ap (λ (d : Disk). d.failures) is)))
-create_fails path error old new (stops runs left is same) = inl (has_stopped (ap (λ (d : Disk). d.stopped) same))
+create_fails path error old new (stops runs told left is same) = inl (has_stopped (ap (λ (d : Disk). d.stopped) same))
 
 -- a new file is empty, and has the name
 pub created_has : (path : List ℕ) (id : ℕ) (old new : Disk) → Creates path id old new → (new.names path ≡ Some id) × (new.files id ≡ Some (at_rest []))

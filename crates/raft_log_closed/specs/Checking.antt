@@ -1,5 +1,6 @@
 -- What a check of a log answers, and what it leaves.
-use Rattle.std.specs.Prelude.{◌≡◌, ℕ, List, length}
+use Rattle.std.specs.Prelude.{◌≡◌, ℕ, true, List, length}
+use Rattle.std.specs.declared.io.ErrorKind.TheVariants.{Other}
 use Rattle.raft_log_record_base.specs.declared.errors.Error.{Error}
 use Rattle.raft_log_record_base.specs.declared.errors.Error.TheVariants as errors
 use Rattle.raft_log_record_base.specs.declared.pipe_log.LogQueue.{LogQueue}
@@ -66,6 +67,7 @@ pub record ReadsRuns (config : Config) (append rewrite : ConsistencyChecker) (ol
 -- Why a log wasn't checked, and what stands on the disk then: its settings have a fault; or its files weren't
 -- found; or a queue wasn't read, or not cut; or memory ran out for the list.
 pub data FailsToCheck (config : Config) (error : Error) (old new : Disk) : Type 0 where
+  ended : old.stopped ≡ true → error ≡ errors.Io Other → new ≡ old → FailsToCheck config error old new
   unsound : IsRefusedFor (settings_of config) error → new ≡ old → FailsToCheck config error old new
   unfound : (begun : DualPipesBuilder) → IsBegun config begun → FailsToScanLog begun error old new
       → FailsToCheck config error old new

@@ -1,6 +1,6 @@
 //! A log that nobody has open is checked for holes.
 
-ghost use Rattle.std.specs.Prelude.{◌≡◌, IfErr, IfOk};
+ghost use Rattle.std.specs.Prelude.{◌≡◌, false, IfErr, IfOk};
 ghost use Rattle.raft_log_record_base.specs.declared.errors.Error.TheVariants.{Memory};
 ghost use Rattle.raft_log_file_settings.specs.Sanitized.{IsRefusedFor};
 ghost use Rattle.raft_log_file_settings.specs.Settings.{settings_of};
@@ -14,6 +14,7 @@ use raft_log_file_settings::Config;
 use raft_log_open_builder::DualPipesBuilder;
 use raft_log_record_base::{Error, Result};
 use std::alloc::Global;
+use std::io::ErrorKind;
 use std::thread::Threads;
 
 /// What checkers have read of a log.
@@ -31,7 +32,8 @@ struct CheckedQueues {
 /// No engine is opened. As by an open, directories that aren't there are made, and where the settings
 /// tolerate damage, damaged files are cut behind their last good record and synced.
 ///
-/// `Other` where the settings have a fault; then as a scan and a recovery are refused: `Other`, `Corruption`,
+/// `Io(Other)` of a file system that has stopped goes first, so that no stop is told as want of memory. `Other` where
+/// the settings have a fault; then as a scan and a recovery are refused: `Other`, `Corruption`,
 /// `Io` of the directories, `Io` where a file can't be read, `Corruption` or `Codec` for damage that isn't
 /// tolerated, `Io` where a file isn't cut or synced; `Memory`.
 pub fn check_log<R: Threads + Log + Sync, F: FileSystem + Sync>(
@@ -44,7 +46,11 @@ pub fn check_log<R: Threads + Log + Sync, F: FileSystem + Sync>(
         (F.disk file_system.old) (F.disk file_system.new)) }
     ensures err { IfErr result (λ error. FailsToCheck config error
         (F.disk file_system.old) (F.disk file_system.new)) }
+    ensures memory { IfErr result (λ error. error ≡ Memory → (F.disk file_system.old).stopped ≡ false) }
 {
+    if file_system.has_stopped() {
+        return Err(Error::Io(ErrorKind::Other));
+    }
     let CheckedQueues { append, rewrite } = match read_runs(rt, alloc, config, file_system) {
         Ok(queues) => queues,
         Err(error) => return Err(error),

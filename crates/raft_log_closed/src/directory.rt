@@ -1,6 +1,6 @@
 //! The log in a directory is checked for holes.
 
-ghost use Rattle.std.specs.Prelude.{◌≡◌, ◌↔◌, IfErr, IfOk, IsTrue};
+ghost use Rattle.std.specs.Prelude.{◌≡◌, ◌↔◌, false, IfErr, IfOk, IsTrue, OnOk};
 ghost use Rattle.raft_log_record_base.specs.declared.errors.Error.TheVariants.{Memory};
 ghost use Rattle.raft_log_file_settings.specs.Settings.{settings_of};
 ghost use Rattle.raft_log_closed.specs.Directory.{ChecksDirectory, FailsToCheckDirectory, HasPath, TellsAbsence, checked_settings};
@@ -30,6 +30,7 @@ pub fn consistency_check_with_file_system<R: Threads + Log + Sync, F: FileSystem
         (F.disk file_system.old) (F.disk file_system.new)) }
     ensures err { IfErr result (λ error. FailsToCheckDirectory path.now error
         (F.disk file_system.old) (F.disk file_system.new)) }
+    ensures memory { IfErr result (λ error. error ≡ Memory → (F.disk file_system.old).stopped ≡ false) }
 {
     match exists(file_system, path) {
         Ok(true) => {}
@@ -49,6 +50,8 @@ pub fn consistency_check_with_file_system<R: Threads + Log + Sync, F: FileSystem
 /// Whether a directory or a file has the path.
 fn exists<F: FileSystem>(file_system: &F, path: &str) -> Result<bool>
     ensures ok { IfOk result (λ there. IsTrue there ↔ HasPath path.now (F.disk file_system.now)) }
+    ensures runs { OnOk result ((F.disk file_system.now).stopped ≡ false) }
+    ensures memory { IfErr result (λ error. error ≡ Memory → (F.disk file_system.now).stopped ≡ false) }
     ensures err { IfErr result (FailsToLook (F.disk file_system.now)) }
 {
     let kind = match file_system.list(path) {

@@ -1,6 +1,6 @@
 //! A log that no engine has open is copied into a directory.
 
-ghost use Rattle.std.specs.Prelude.{◌≡◌, true, [], map, IfOk, IfErr, OnOk};
+ghost use Rattle.std.specs.Prelude.{◌≡◌, false, true, [], map, IfOk, IfErr, OnOk};
 ghost use Rattle.std.specs.List.{AllZip};
 ghost use Rattle.std.specs.String.{string_bytes};
 ghost use Rattle.raft_log_record_base.specs.declared.errors.Error.TheVariants.{Memory};
@@ -44,7 +44,8 @@ pub struct CopyDetails {
 ///
 /// Refused as `permit` says it; as `Io` where a directory of the log isn't there; as `Corruption` where a
 /// name in it says a number and isn't the one that is built for it: nothing was changed then. Later refusals
-/// are `Io` and `Memory`, and what was copied stays.
+/// are `Io` and `Memory`, and what was copied stays. Of a file system that has stopped `Io(Other)` goes first,
+/// so that no stop is told as want of memory.
 pub fn fork<F: FileSystem, L: Log>(
     rt: &L,
     alloc: Global,
@@ -57,7 +58,11 @@ pub fn fork<F: FileSystem, L: Log>(
     ensures linked { IfOk result (λ details. details.symlinked.items ≡ []) }
     ensures err { IfErr result (λ error. FailsToFork (settings_of source.now) target.now error
         (F.disk file_system.old) (F.disk file_system.new)) }
+    ensures memory { IfErr result (λ error. error ≡ Memory → (F.disk file_system.old).stopped ≡ false) }
 {
+    if file_system.has_stopped() {
+        return Err(Error::Io(ErrorKind::Other));
+    }
     let directories = paths(alloc, source)?;
     permit(
         rt,

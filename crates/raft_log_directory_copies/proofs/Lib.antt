@@ -1,3 +1,4 @@
 mod Making
 mod Reading
 mod Copying
+mod Stopping

@@ -46,11 +46,19 @@ impl CopyFault {
         }
     }
 
-    /// What a file system told of a path.
-    pub(crate) fn of_file_system(alloc: Global, path: &str, kind: ErrorKind) -> CopyFault {
+    /// What a file system told of a path; where there is no memory for the path, without it.
+    pub(crate) fn of_file_system(alloc: Global, path: &str, kind: ErrorKind) -> CopyFault
+        ensures { result ≡ Memory → kind ≡ ErrorKind.OutOfMemory }
+    {
+        if kind == ErrorKind::OutOfMemory {
+            return CopyFault::Memory;
+        }
         match String::from_str(alloc, path) {
-            Ok(path) if kind != ErrorKind::OutOfMemory => CopyFault::FileSystem { path, kind },
-            _ => CopyFault::Memory,
+            Ok(path) => CopyFault::FileSystem { path, kind },
+            Err(_) => CopyFault::FileSystem {
+                path: String::new(alloc),
+                kind,
+            },
         }
     }
 

@@ -1,6 +1,7 @@
 //! The files of a file system's directory are gathered.
-ghost use Rattle.std.specs.Prelude.{◌≡◌, Some, IfOk};
+ghost use Rattle.std.specs.Prelude.{◌≡◌, false, Some, IfErr, IfOk};
 ghost use Rattle.std.specs.String.{string_bytes};
+ghost use Rattle.raft_log_directory_copies.specs.declared.fault.CopyFault.TheVariants.{Memory};
 ghost use Rattle.raft_log_directory_copies.specs.Copies.{AreGathered, HasContent, path_in};
 
 use crate::fault::CopyFault;
@@ -11,13 +12,14 @@ use std::alloc::Global;
 use std::io::ErrorKind;
 
 /// The files of a directory of a file system, each once, as they are read now, in no promised order. `FileSystem`
-/// where the directory isn't there or a file isn't read.
+/// where the directory isn't there or a file isn't read; a file system that has stopped isn't told as want of memory.
 pub fn gather<F: FileSystem>(
     alloc: Global,
     file_system: &F,
     directory: &str,
 ) -> Result<Vec<StoredFile>, CopyFault>
-    ensures { IfOk result (λ files. AreGathered files.items directory.now (F.disk file_system.now)) }
+    ensures ok { IfOk result (λ files. AreGathered files.items directory.now (F.disk file_system.now)) }
+    ensures memory { IfErr result (λ fault. fault ≡ Memory → (F.disk file_system.now).stopped ≡ false) }
 {
     let names = match file_system.list(directory) {
         Ok(names) => names,

@@ -1,6 +1,7 @@
 //! Files are laid out in a directory of a file system.
-ghost use Rattle.std.specs.Prelude.{◌≡◌, IfOk, OnOk, true};
+ghost use Rattle.std.specs.Prelude.{◌≡◌, IfErr, IfOk, OnOk, false, true};
 ghost use Rattle.std.specs.String.{string_bytes};
+ghost use Rattle.raft_log_directory_copies.specs.declared.fault.CopyFault.TheVariants.{Memory};
 ghost use Rattle.raft_log_directory_copies.specs.Copies.{HoldsExactly, IsUnnamed, MakesFile, path_in};
 
 use crate::fault::CopyFault;
@@ -11,14 +12,16 @@ use std::io::ErrorKind;
 
 /// Makes a directory, and in it each of these files, synced. Answered, the directory has exactly these files, all at
 /// rest; refused, it may have some of them. `FileSystem` where the file system refuses a call: `AlreadyExists` where the
-/// directory is there, or two files have one name. `Occupied` where the directory, once it is made, has a file.
+/// directory is there, or two files have one name. `Occupied` where the directory, once it is made, has a file. A stop
+/// isn't told as want of memory.
 pub fn lay_out<F: FileSystem>(
     alloc: Global,
     files: &[StoredFile],
     file_system: &mut F,
     directory: &str,
 ) -> Result<(), CopyFault>
-    ensures { OnOk result (HoldsExactly files.now directory.now (F.disk file_system.new)) }
+    ensures ok { OnOk result (HoldsExactly files.now directory.now (F.disk file_system.new)) }
+    ensures memory { IfErr result (λ fault. fault ≡ Memory → (F.disk file_system.new).stopped ≡ false) }
 {
     make_directory(alloc, file_system, directory)?;
     make_files(alloc, files, file_system, directory)
@@ -32,6 +35,8 @@ fn make_directory<F: FileSystem>(
 ) -> Result<(), CopyFault>
     ensures there { OnOk result ((F.disk file_system.new).directories directory.now ≡ true) }
     ensures unnamed { OnOk result (IsUnnamed directory.now (F.disk file_system.new)) }
+    ensures runs { OnOk result ((F.disk file_system.new).stopped ≡ false) }
+    ensures memory { IfErr result (λ fault. fault ≡ Memory → (F.disk file_system.new).stopped ≡ false) }
 {
     if let Err(kind) = file_system.create_dir(directory) {
         return Err(CopyFault::of_file_system(alloc, directory, kind));
@@ -52,7 +57,9 @@ fn make_files<F: FileSystem>(
 ) -> Result<(), CopyFault>
     requires there { (F.disk file_system.old).directories directory.now ≡ true }
     requires unnamed { IsUnnamed directory.now (F.disk file_system.old) }
-    ensures { OnOk result (HoldsExactly files.now directory.now (F.disk file_system.new)) }
+    requires runs { (F.disk file_system.old).stopped ≡ false }
+    ensures ok { OnOk result (HoldsExactly files.now directory.now (F.disk file_system.new)) }
+    ensures memory { IfErr result (λ fault. fault ≡ Memory → (F.disk file_system.new).stopped ≡ false) }
 {
     for file in files {
         let path = path_in(alloc, directory, file.name.as_str())?;
@@ -66,7 +73,10 @@ fn make_files<F: FileSystem>(
 
 /// Makes a file of these bytes, and syncs it.
 fn make_file<F: FileSystem>(file_system: &mut F, path: &str, bytes: &[u8]) -> Result<(), ErrorKind>
-    ensures { OnOk result (MakesFile path.now bytes.now (F.disk file_system.old) (F.disk file_system.new)) }
+    ensures ok { OnOk result (MakesFile path.now bytes.now (F.disk file_system.old) (F.disk file_system.new)) }
+    ensures runs { OnOk result ((F.disk file_system.new).stopped ≡ false) }
+    ensures memory { IfErr result (λ kind. kind ≡ ErrorKind.OutOfMemory
+        → (F.disk file_system.new).stopped ≡ false) }
 {
     let handle = file_system.create(path)?;
     file_system.write_at(handle, 0, bytes)?;

@@ -1,13 +1,13 @@
 -- Causes, chained along calls.
-use Rattle.std.specs.Prelude.{◌≡◌, ℕ, false, List, ◌∷◌, Result}
+use Rattle.std.specs.Prelude.{◌≡◌, ℕ, Bool, true, false, List, ◌∷◌, Result}
 use Rattle.std.specs.Result.{IfOk, IfErr, OnOk, OnErr}
 use Rattle.std.specs.declared.io.ErrorKind.{ErrorKind}
 use Rattle.std.proofs.Common.{refl, sym, ◌∙◌, ap, arith}
 use Rattle.std.proofs.lemmas.Bool.{false≢true}
 use Rattle.raft_log_disk.specs.Disk.{Change, Disk}
-use Rattle.raft_log_disk.specs.Laws.{UndisturbedHasNoCause, OtherFilesAreNoCause, CountedRefusalTellsItsKind, CountedRefusalHasOneKind}
+use Rattle.raft_log_disk.specs.Laws.{UndisturbedHasNoCause, OtherFilesAreNoCause, CountedRefusalTellsItsKind, CountedRefusalHasOneKind, StopIsNoWantOfMemory}
 use Rattle.raft_log_disk.specs.Exits.{LeavesAll}
-use Rattle.raft_log_disk.specs.Calls.{IsRight, after_change, flushed, Changes, Creates, Deletes, Renames, MakesDirectory, Refused, after_stop, wrong_argument, failed, stops, SomeOf, none, some, RefusedChange, RefusedWhole}
+use Rattle.raft_log_disk.specs.Calls.{IsStopKind, IsRight, after_change, flushed, Changes, Creates, Deletes, Renames, MakesDirectory, Refused, after_stop, wrong_argument, failed, stops, SomeOf, none, some, RefusedChange, RefusedWhole}
 use Rattle.raft_log_disk.specs.Causes.{HasCause, stopped, counted_one, unreadable_place, Fails, has_stopped, has_failed, FailsTwice, has_stopped_since, has_failed_twice, IsLater}
 use Rattle.raft_log_disk.proofs.KeptLaws.{IsCalm, kept_change, kept_sync, kept_create, kept_delete, kept_rename, kept_directory, kept_arm}
 
@@ -35,7 +35,7 @@ tells_its_kind {old = old} keeps right runs (after_stop is same told) = absurd (
 tells_its_kind {error = error} keeps right runs (wrong_argument before why same) = absurd (right error why)
 tells_its_kind {error = error} keeps right runs (failed before fine left is same) =
     ap (λ (d : Disk). d.kinds) same ∙ ap (λ (kinds : List ErrorKind). error ∷ kinds) (keeps left is)
-tells_its_kind keeps right runs (stops before left is same) = absurd (false≢true (sym runs ∙ ap (λ (d : Disk). d.stopped) same))
+tells_its_kind keeps right runs (stops before told left is same) = absurd (false≢true (sym runs ∙ ap (λ (d : Disk). d.stopped) same))
 
 change_keeps : (id : ℕ) (change : Change) (old left : Disk) → SomeOf id change old left → left.kinds ≡ old.kinds
 change_keeps id change old left (none same) = ap (λ (d : Disk). d.kinds) same
@@ -57,6 +57,25 @@ counted_refusal_has_one_kind wrong done = record {
       one_front a b old.kinds new.kinds (tells a old new right runs first) (tells b old new right runs next);
   whole = λ a b old new right runs first next. let tells = (counted_refusal_tells_its_kind wrong done).whole in
       one_front a b old.kinds new.kinds (tells a old new right runs first) (tells b old new right runs next);
+}
+
+-- a refused call that leaves a file system that has stopped tells of no want of memory
+no_want_of_memory : {part done : Disk → Type 0} {wrong : ErrorKind → Type 0} {error : ErrorKind} {old new : Disk} → ((left : Disk) → part left → left.stopped ≡ old.stopped)
+    → new.stopped ≡ true → Refused part done wrong error old new → IsStopKind error
+no_want_of_memory keeps ends (after_stop is same told) = λ memory. cc (told, memory)
+no_want_of_memory keeps ends (wrong_argument runs why same) = absurd (false≢true (sym runs ∙ (sym (ap (λ (d : Disk). d.stopped) same) ∙ ends)))
+no_want_of_memory keeps ends (failed runs right left is same) =
+    absurd (false≢true (sym runs ∙ (sym (keeps left is) ∙ (sym (ap (λ (d : Disk). d.stopped) same) ∙ ends))))
+no_want_of_memory keeps ends (stops runs told left is same) = told
+
+change_stays : (id : ℕ) (change : Change) (old left : Disk) → SomeOf id change old left → left.stopped ≡ old.stopped
+change_stays id change old left (none same) = ap (λ (d : Disk). d.stopped) same
+change_stays id change old left (some file content is part same) = ap (λ (d : Disk). d.stopped) same
+
+pub stop_is_no_want_of_memory : (wrong : ErrorKind → Type 0) (done : Disk → Type 0) → StopIsNoWantOfMemory wrong done
+stop_is_no_want_of_memory wrong done = record {
+  change = λ id change error old new ends refused. no_want_of_memory (change_stays id change old) ends refused;
+  whole = λ error old new ends refused. no_want_of_memory (λ left same. ap (λ (d : Disk). d.stopped) same) ends refused;
 }
 
 pub later_same : (d : Disk) → IsLater d d
@@ -88,7 +107,7 @@ fails {old = old} right keeps (after_stop is same told) = has_stopped (ap (λ (d
 fails {error = error} right keeps (wrong_argument runs why same) = absurd (right error why)
 fails {old = old} right keeps (failed runs fine left is same) =
     has_failed (let count : left.failures ≡ old.failures = keeps left is in omega (arith, ap (λ (d : Disk). d.failures) same, count))
-fails right keeps (stops runs left is same) = has_stopped (ap (λ (d : Disk). d.stopped) same)
+fails right keeps (stops runs told left is same) = has_stopped (ap (λ (d : Disk). d.stopped) same)
 
 pub fails_change : {id : ℕ} {change : Change} {wrong : ErrorKind → Type 0} {error : ErrorKind} {old new : Disk} → IsRight wrong → RefusedChange id change wrong error old new → Fails old new
 fails_change {id = id} {change = change} {old = old} right refused = fails right keeps refused

@@ -19,9 +19,9 @@ pub kept_refused : {part done : Disk → Type 0} {wrong : ErrorKind → Type 0} 
 kept_refused Q calm before in_part whole (after_stop is same told) = subst Q (sym same) before
 kept_refused Q calm before in_part whole (wrong_argument runs why same) = subst Q (sym same) before
 kept_refused Q calm before in_part whole (failed runs right left is same) = subst Q (sym same) (calm.at_count left (in_part left is))
-kept_refused Q calm before in_part whole (stops runs left (inl is) same) = subst Q (sym same) (calm.at_end left (subst Q (sym is) before))
-kept_refused Q calm before in_part whole (stops runs left (inr (right, inl is)) same) = subst Q (sym same) (calm.at_end left (in_part left is))
-kept_refused Q calm before in_part whole (stops runs left (inr (right, inr is)) same) = subst Q (sym same) (calm.at_end left (whole left is))
+kept_refused Q calm before in_part whole (stops runs told left (inl is) same) = subst Q (sym same) (calm.at_end left (subst Q (sym is) before))
+kept_refused Q calm before in_part whole (stops runs told left (inr (right, inl is)) same) = subst Q (sym same) (calm.at_end left (in_part left is))
+kept_refused Q calm before in_part whole (stops runs told left (inr (right, inr is)) same) = subst Q (sym same) (calm.at_end left (whole left is))
 
 -- a write, a cut or a growth
 pub kept_change : {T : Type 0} {old new : Disk} (Q : Disk → Type 0) (wrong : ErrorKind → Type 0) (result : Result T ErrorKind) (id : ℕ) (change : Change) → IsCalm Q → Q old

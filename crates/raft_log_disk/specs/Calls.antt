@@ -4,7 +4,7 @@ use Rattle.std.specs.Map.{update}
 use Rattle.std.specs.Str.{bytes_eq}
 use Rattle.std.proofs.Common.{nat_eq, take}
 use Rattle.std.specs.declared.io.ErrorKind.{ErrorKind}
-use Rattle.std.specs.declared.io.ErrorKind.TheVariants.{Other}
+use Rattle.std.specs.declared.io.ErrorKind.TheVariants.{OutOfMemory, Other}
 use Rattle.raft_log_disk.specs.Disk.{Change, Wrote, ShortenedTo, GrewTo, File, Disk, at_rest, zeros, changed, with_file, HasDirectory}
 
 -- the file with a content, and a change that it isn't synced with
@@ -131,18 +131,30 @@ pub record MakesDirectory (path : List ℕ) (old new : Disk) : Type 0 where
 abbrev pub IsRight : (ErrorKind → Type 0) → Type 0
 IsRight wrong = (error : ErrorKind) → wrong error → ⊥
 
+-- A stop isn't told as want of memory: who is told that takes it that nothing was done, and that the same call
+-- may succeed.
+abbrev pub IsStopKind : ErrorKind → Type 0
+IsStopKind error = error ≡ OutOfMemory → ⊥
+
+-- what is told of a call that would tell a kind, where the file system stops at it: that kind, and `Other` in
+-- place of want of memory
+pub record IsToldAtStop (kind error : ErrorKind) : Type 0 where
+  pub stops : IsStopKind error
+  pub told : (error ≡ kind) ⊎ ((kind ≡ OutOfMemory) × (error ≡ Other))
+
 -- A refused call. After a stop nothing changes, and the error is `Other`. Nor does anything change for an
 -- argument that is wrong as things stand, and no failure is counted for it; the error says which. Where no
 -- argument is wrong, a failure is counted, and the call may have been done in part; the error may be of any
 -- kind, and that kind is kept with the failure. Or the file system stopped at this call: nothing was done, or,
--- of a call with the right arguments, a part or all; the error may be of any kind, and none is kept.
+-- of a call with the right arguments, a part or all; the error may be of any kind but want of memory, and none
+-- is kept.
 pub data Refused (part done : Disk → Type 0) (wrong : ErrorKind
     → Type 0) (error : ErrorKind) (old new : Disk) : Type 0 where
   after_stop : old.stopped ≡ true → new ≡ old → error ≡ Other → Refused part done wrong error old new
   wrong_argument : old.stopped ≡ false → wrong error → new ≡ old → Refused part done wrong error old new
   failed : old.stopped ≡ false → IsRight wrong → (left : Disk) → part left → new ≡ counted error left
       → Refused part done wrong error old new
-  stops : old.stopped ≡ false → (left : Disk) → (left ≡ old) ⊎ (IsRight wrong × (part left ⊎ done left))
+  stops : old.stopped ≡ false → IsStopKind error → (left : Disk) → (left ≡ old) ⊎ (IsRight wrong × (part left ⊎ done left))
       → new ≡ at_stop left
       → Refused part done wrong error old new
 

@@ -1,11 +1,11 @@
 -- The laws of the definitions, as the public functions without a body state them.
-use Rattle.std.specs.Prelude.{◌≡◌, ℕ, ◌<◌, Bool, false, Some, None, List, [], ◌∷◌}
+use Rattle.std.specs.Prelude.{◌≡◌, ℕ, ◌<◌, Bool, true, false, Some, None, List, [], ◌∷◌}
 use Rattle.std.specs.List.{Contains}
 use Rattle.std.specs.declared.io.ErrorKind.{ErrorKind}
 use Rattle.std.proofs.Math.ListN.{set}
 use Rattle.raft_log_disk.specs.Disk.{Change, File, Disk, IsPathIn, HasDirectory, at_rest, with_file, file_limit}
 use Rattle.raft_log_disk.specs.Image.{Touches, end_of, IsLeft, IsImage, IsSound, as_it_stands, IsAllSynced}
-use Rattle.raft_log_disk.specs.Calls.{with_change, flushed, created, deleted, renamed, with_directory, with_marks, counted, at_stop, InPart, IsRight, RefusedChange, RefusedWhole}
+use Rattle.raft_log_disk.specs.Calls.{with_change, flushed, created, deleted, renamed, with_directory, with_marks, counted, at_stop, InPart, IsStopKind, IsRight, RefusedChange, RefusedWhole}
 use Rattle.raft_log_disk.specs.Causes.{HasCause, Fails, IsUndisturbed}
 
 -- the files as they stand are an image
@@ -66,6 +66,13 @@ pub record CountedRefusalHasOneKind (wrong : ErrorKind → Type 0) (done : Disk 
   pub whole : (a b : ErrorKind) (old new : Disk)
       → IsRight wrong → new.stopped ≡ false → RefusedWhole done wrong a old new
       → RefusedWhole done wrong b old new → a ≡ b
+
+-- a refused call that leaves a file system that has stopped, before it or at it, doesn't tell of want of memory
+pub record StopIsNoWantOfMemory (wrong : ErrorKind → Type 0) (done : Disk → Type 0) : Type 0 where
+  pub change : (id : ℕ) (change : Change) (error : ErrorKind) (old new : Disk)
+      → new.stopped ≡ true → RefusedChange id change wrong error old new → IsStopKind error
+  pub whole : (error : ErrorKind) (old new : Disk)
+      → new.stopped ≡ true → RefusedWhole done wrong error old new → IsStopKind error
 
 -- what a call may leave of a sound disk is sound
 pub record CallsKeepSound : Type 0 where

@@ -3,7 +3,7 @@
 ghost use Rattle.std.specs.Prelude.{ℕ};
 ghost use Rattle.std.specs.declared.io.ErrorKind.{ErrorKind};
 ghost use Rattle.raft_log_disk.specs.Disk.{Disk};
-ghost use Rattle.raft_log_disk.specs.Laws.{UndisturbedHasNoCause, OtherFilesAreNoCause, CountedRefusalTellsItsKind, CountedRefusalHasOneKind};
+ghost use Rattle.raft_log_disk.specs.Laws.{UndisturbedHasNoCause, OtherFilesAreNoCause, CountedRefusalTellsItsKind, CountedRefusalHasOneKind, StopIsNoWantOfMemory};
 
 /// Says which files a call asks for.
 pub trait FilesInQuestion {
@@ -37,4 +37,9 @@ pub fn a_counted_refusal_tells_its_kind<C: Refusing>()
 /// Such a call tells one kind: no clause lets another stand in its place.
 pub fn a_counted_refusal_has_one_kind<C: Refusing>()
     ensures { CountedRefusalHasOneKind C.wrong C.done }
+{}
+
+/// A refused call that leaves a file system that has stopped, before it or at it, isn't told as want of memory.
+pub fn a_stop_is_no_want_of_memory<C: Refusing>()
+    ensures { StopIsNoWantOfMemory C.wrong C.done }
 {}

@@ -1,7 +1,8 @@
-//! The kinds that failures were told as, which only clauses read.
+//! The kinds that failures were told as, which only clauses read, and the kind that a stop is told as.
 ghost use Rattle.std.specs.Prelude.{◌≡◌, List, [], ◌∷◌};
 ghost use Rattle.std.specs.Borrow.{ftrue};
 ghost use Rattle.std.specs.declared.io.ErrorKind.{ErrorKind};
+ghost use Rattle.raft_log_disk.specs.Calls.{IsToldAtStop};
 
 use std::io::ErrorKind;
 use std::marker::{Model, PhantomData};
@@ -37,4 +38,15 @@ impl Kinds {
     pub fn note(&mut self, _kind: &ErrorKind)
         ensures { self.new.told ≡ _kind.now ∷ self.old.told }
     {}
+}
+
+/// What is told of a call that would tell this kind, where the file system stops at it: the kind, and `Other` in
+/// place of want of memory.
+pub fn told_at_stop(kind: ErrorKind) -> ErrorKind
+    ensures { IsToldAtStop kind result }
+{
+    match kind {
+        ErrorKind::OutOfMemory => ErrorKind::Other,
+        kind => kind,
+    }
 }

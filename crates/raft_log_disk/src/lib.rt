@@ -13,4 +13,4 @@ pub mod names;
 
 pub use file_system::FileSystem;
 pub use handle::{Fault, Handle, Permission};
-pub use kinds::Kinds;
+pub use kinds::{Kinds, told_at_stop};

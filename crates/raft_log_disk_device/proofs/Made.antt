@@ -6,12 +6,12 @@ use Rattle.std.proofs.Common.{refl, sym, ◌∙◌, ap, subst, inl, inr}
 use Rattle.std.proofs.lemmas.Bool.{false≢true}
 use Rattle.raft_log_disk.specs.Disk.{Change, File, Disk, with_file}
 use Rattle.raft_log_disk.specs.Image.{IsSound}
-use Rattle.raft_log_disk.specs.Calls.{IsRight, after_change, flushed, created, deleted, renamed, Refused, failed, stops}
+use Rattle.raft_log_disk.specs.Calls.{IsStopKind, IsToldAtStop, IsRight, after_change, flushed, counted, created, deleted, renamed, Refused, failed, stops}
 use Rattle.raft_log_disk_storage.specs.declared.storage.Storage.{Storage}
 use Rattle.raft_log_disk_storage.specs.Storage.{contents_of, IsStorageSound}
 use Rattle.raft_log_disk_device.specs.Device.{DeviceCall, Created, Deleted, Renamed, Changed, Synced, Trace, Held, held_by, settled, created_as, without_named, with_moved, with_next, changed_by, with_bytes, after, noted, MayBeMade, Does, MayDo}
 use Rattle.raft_log_disk_device.specs.Following.{Follows, shown}
-use Rattle.raft_log_disk_device.specs.Directory.{with_failures, FailsOnce}
+use Rattle.raft_log_disk_device.specs.Directory.{with_failures, FailsOnce, IsToldOf}
 
 -- the model did a call, and the device was asked for it
 pub record Made (call : DeviceCall) (old new : Storage) (trace later : Trace) (made : Result (Unit {0}) ErrorKind) (stopped : Bool) : Type 0 where
@@ -52,12 +52,12 @@ module _ (call : DeviceCall) (old new : Storage) (trace later : Trace) where
   -- it was refused: the same of why
   pub made_err : (part does : Disk → Disk → Type 0) (wrong : Disk → ErrorKind → Type 0) (made : Result (Unit {0}) ErrorKind) (stopped : Bool) (failures : ℕ) (kinds : List ErrorKind) (d : Disk) → Made call old new trace later made stopped
       → d ≡ with_failures failures kinds (contents_of old) → IsRight (wrong (with_failures failures kinds (contents_of old))) → does (with_failures failures kinds (contents_of old)) (with_failures failures kinds (contents_of new))
-      → OnErr made ((e : ErrorKind) → Refused (part d) (does d) (wrong d) e d (shown later stopped failures kinds))
+      → OnErr made ((e : ErrorKind) → IsStopKind e → Refused (part d) (does d) (wrong d) e d (shown later stopped failures kinds))
   made_err part does wrong (Ok v) stopped failures kinds d m same right is = tt
   made_err part does wrong (Err k) stopped failures kinds d m same right is =
-      subst (λ (k : Disk). (e : ErrorKind) → Refused (part k) (does k) (wrong k) e k (shown later stopped failures kinds)) (sym same) (elim (kept_err m) [
-        | inl stays ↦ λ e. stops refl (with_failures failures kinds (contents_of old)) (inl refl) (ap (λ (k : Disk). over stopped failures kinds k) stays ∙ ap (λ (s : Bool). over s failures kinds (contents_of old)) m.stop)
-        | inr goes ↦ λ e. stops refl (with_failures failures kinds (contents_of new)) (inr (right, inr is)) (ap (λ (k : Disk). over stopped failures kinds k) goes ∙ ap (λ (s : Bool). over s failures kinds (contents_of new)) m.stop)
+      subst (λ (k : Disk). (e : ErrorKind) → IsStopKind e → Refused (part k) (does k) (wrong k) e k (shown later stopped failures kinds)) (sym same) (elim (kept_err m) [
+        | inl stays ↦ λ e told. stops refl told (with_failures failures kinds (contents_of old)) (inl refl) (ap (λ (k : Disk). over stopped failures kinds k) stays ∙ ap (λ (s : Bool). over s failures kinds (contents_of old)) m.stop)
+        | inr goes ↦ λ e told. stops refl told (with_failures failures kinds (contents_of new)) (inr (right, inr is)) (ap (λ (k : Disk). over stopped failures kinds k) goes ∙ ap (λ (s : Bool). over s failures kinds (contents_of new)) m.stop)
       ])
 
   -- what is known of the parts
@@ -67,23 +67,23 @@ module _ (call : DeviceCall) (old new : Storage) (trace later : Trace) where
   made_of (Ok v) was stopped runs follows did ok err goes_on stop = record { follows = follows runs; did = did; ok = ok; err = err; runs = goes_on ∙ runs; stop = stop }
   made_of (Err e) was stopped runs follows did ok err goes_on stop = record { follows = follows runs; did = did; ok = ok; err = err; runs = goes_on; stop = stop }
 
--- what is told is what the device answered
-pub told_ok : {A B : Type 0} (result made : Result A B) (P : Type 0) → result ≡ made → OnOk made P → OnOk result P
-told_ok {A = A} {B = B} result made P same is = subst (λ (r : Result A B). OnOk r P) (sym same) is
+-- what is told is whether the device did it, and a stop isn't told as want of memory
+pub told_ok : (result made : Result (Unit {0}) ErrorKind) (P : Type 0) → IsToldOf made result → OnOk made P → OnOk result P
+told_ok (Ok v) (Ok w) P told is = is
+told_ok (Ok v) (Err k) P told is = absurd (told.1)
+told_ok (Err e) made P told is = tt
 
-pub told_err : {A B : Type 0} (result made : Result A B) (P : B → Type 0) → result ≡ made → OnErr made ((e : B) → P e) → IfErr result P
-told_err {A = A} {B = B} result made P same is = subst (λ (r : Result A B). IfErr r P) (sym same) (each made P is)
-  where
-    each : (made : Result A B) (P : B → Type 0) → OnErr made ((e : B) → P e) → IfErr made P
-    each (Ok v) P is = tt
-    each (Err e) P is = is e
+pub told_err : (result made : Result (Unit {0}) ErrorKind) (P : ErrorKind → Type 0) → IsToldOf made result → OnErr made ((e : ErrorKind) → IsStopKind e → P e) → IfErr result P
+told_err (Ok v) made P told is = tt
+told_err (Err e) (Ok w) P told is = cc
+told_err (Err e) (Err k) P told is = is e told.0.stops
 
 -- a failure was counted, or the file system stopped, and nothing else happened
-pub failed_once : (part does : Disk → Disk → Type 0) (wrong : Disk → ErrorKind → Type 0) (error : ErrorKind) (failures : ℕ) (kinds : List ErrorKind) (contents d new : Disk) → d ≡ with_failures failures kinds contents → contents.stopped ≡ false
-    → IsRight (wrong (with_failures failures kinds contents)) → ((k : Disk) → part k k) → FailsOnce error d new → Refused (part d) (does d) (wrong d) error d new
-failed_once part does wrong error failures kinds contents d new same runs right none (inl is) =
+pub failed_once : {kind : ErrorKind} (part does : Disk → Disk → Type 0) (wrong : Disk → ErrorKind → Type 0) (error : ErrorKind) (failures : ℕ) (kinds : List ErrorKind) (contents d new : Disk) → d ≡ with_failures failures kinds contents → contents.stopped ≡ false
+    → IsRight (wrong (with_failures failures kinds contents)) → ((k : Disk) → part k k) → FailsOnce kind error d new → Refused (part d) (does d) (wrong d) error d new
+failed_once part does wrong error failures kinds contents d new same runs right none (inl (same_kind, is)) =
     failed (ap (λ (k : Disk). k.stopped) same ∙ runs) (subst (λ (k : Disk). IsRight (wrong k)) (sym same) right) d (none d) is
-failed_once part does wrong error failures kinds contents d new same runs right none (inr is) = stops (ap (λ (k : Disk). k.stopped) same ∙ runs) d (inl refl) is
+failed_once part does wrong error failures kinds contents d new same runs right none (inr (told, is)) = stops (ap (λ (k : Disk). k.stopped) same ∙ runs) told.stops d (inl refl) is
 
 -- Each call, as the model does it.
 
@@ -117,5 +117,5 @@ module _ (call : DeviceCall) (trace later : Trace) (bytes : (held : Held) → af
   file_tried (Err e) (inr is) = λ d at. inr (ap (λ (h : Held). h.kept) (then_done is d at))
 
 -- what a refused call leaves, where it is told as refused
-pub told_then : {A B : Type 0} (made result : Result A B) (e : B) (P : Type 0) → result ≡ made → result ≡ Err e → OnErr made P → P
-told_then {A = A} {B = B} made result e P same told is = subst (λ (r : Result A B). OnErr r P) (sym same ∙ told) is
+pub told_then : (made result : Result (Unit {0}) ErrorKind) (e : ErrorKind) (P : ErrorKind → Type 0) → IsToldOf made result → result ≡ Err e → OnErr made ((k : ErrorKind) → IsStopKind k → P k) → P e
+told_then made result e P told is each = subst (λ (r : Result (Unit {0}) ErrorKind). IfErr r P) is (told_err result made P told each)

@@ -1,8 +1,9 @@
 -- What a file system over a device shows, and how its calls fail.
-use Rattle.std.specs.Prelude.{◌≡◌, ◌⊎◌, ℕ, true, false, None, List}
+use Rattle.std.specs.Prelude.{◌≡◌, ◌⊎◌, ℕ, true, false, None, List, Result, Ok}
+use Rattle.std.specs.Result.{IfErr, OnOk, MatchResult}
 use Rattle.std.specs.declared.io.ErrorKind.{ErrorKind}
 use Rattle.raft_log_disk.specs.Disk.{Disk}
-use Rattle.raft_log_disk.specs.Calls.{counted, at_stop}
+use Rattle.raft_log_disk.specs.Calls.{IsToldAtStop, counted, at_stop}
 use Rattle.raft_log_disk.specs.Arguments.{WrongHandle, WrongWriter, WrongListing, IsAfterStop}
 use Rattle.raft_log_disk.specs.declared.handle.Handle.{Handle}
 use Rattle.raft_log_disk.specs.declared.handle.Permission.TheVariants.{ReadWrite}
@@ -15,10 +16,16 @@ use Rattle.raft_log_disk_device.specs.declared.directory.DirectoryFileSystem.{Di
 abbrev pub with_failures : ℕ → List ErrorKind → Disk → Disk
 with_failures failures kinds d = record d { failures = failures; kinds = kinds }
 
--- a failure was counted that was told as this kind, or, where the count is full, the file system stopped;
--- nothing else happened
-abbrev pub FailsOnce : ErrorKind → Disk → Disk → Type 0
-FailsOnce error old new = (new ≡ counted error old) ⊎ (new ≡ at_stop old)
+-- A failure of a kind was counted, and is told as that; or, where the count is full, the file system stopped,
+-- and that isn't told as want of memory. Nothing else happened.
+abbrev pub FailsOnce : ErrorKind → ErrorKind → Disk → Disk → Type 0
+FailsOnce kind error old new =
+    ((error ≡ kind) × (new ≡ counted error old)) ⊎ (IsToldAtStop kind error × (new ≡ at_stop old))
+
+-- what is told of a call that the device did or refused: a refused one is a stop
+abbrev pub IsToldOf : Result (Unit {0}) ErrorKind → Result (Unit {0}) ErrorKind → Type 0
+IsToldOf made result =
+    MatchResult made (λ v. result ≡ Ok v) (λ kind. IfErr result (IsToldAtStop kind) × OnOk result ⊥)
 
 -- the file system has stopped, or it runs and the path isn't a directory's
 abbrev pub LacksDirectory : List ℕ → Disk → ErrorKind → Type 0

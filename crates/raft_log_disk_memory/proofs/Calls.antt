@@ -3,10 +3,11 @@ use Rattle.std.specs.Prelude.{◌≡◌, ℕ, ◌⊎◌, Bool, false, Option, So
 use Rattle.std.specs.Result.{IfErr, OnOk, OnErr, MatchResult}
 use Rattle.std.specs.declared.alloc.AllocError.{AllocError}
 use Rattle.std.specs.declared.io.ErrorKind.{ErrorKind}
+use Rattle.std.specs.declared.io.ErrorKind.TheVariants.{Other}
 use Rattle.std.proofs.Common.{refl, sym, ◌∙◌, ap, subst, inl, inr, take, drop}
 use Rattle.std.proofs.lemmas.Bool.{false≢true}
 use Rattle.raft_log_disk.specs.Disk.{Change, Wrote, File, Disk, overwritten, with_file, HasDirectory}
-use Rattle.raft_log_disk.specs.Calls.{IsRight, with_change, after_change, counted, at_stop, Changes, failed, stops, none, some, SomeOf, RefusedChange, RefusedWhole}
+use Rattle.raft_log_disk.specs.Calls.{IsStopKind, IsRight, with_change, after_change, counted, at_stop, Changes, failed, stops, none, some, SomeOf, RefusedChange, RefusedWhole}
 use Rattle.raft_log_disk.proofs.ImageLaws.{some_file}
 use Rattle.raft_log_disk.specs.declared.handle.Handle.{Handle}
 use Rattle.raft_log_disk.specs.declared.handle.Permission.TheVariants.{ReadWrite}
@@ -17,16 +18,11 @@ use Rattle.std.specs.Option.{option_map}
 use Rattle.raft_log_disk_storage.specs.Held.{Held, file_of}
 use Rattle.raft_log_disk_storage.specs.Storage.{contents_of}
 use Rattle.raft_log_disk_storage.specs.Steps.{IsSame, Makes}
-use Rattle.raft_log_disk_memory.specs.Memory.{disk_of, failed_once}
+use Rattle.raft_log_disk_memory.specs.Memory.{disk_of, failed_once, IsToldOnce}
 use Rattle.raft_log_disk_memory.specs.Answers.{LacksWriter}
 use Rattle.raft_log_disk_memory.specs.Turns.{IsRefusedChange, uncounted, IsChangeEnded, IsCallEnded, at_the_stop, not_made}
 use Rattle.raft_log_disk_storage.proofs.Fronts.{after_whole, front_change, front_torn}
-use Rattle.raft_log_disk_memory.proofs.Turns.{over, IsFrontOnDisk, counted_or_stop}
-
--- what holds of every error holds of this one
-pub any_err : {T E : Type 0} (r : Result T E) (P : E → Type 0) → ((e : E) → P e) → IfErr r P
-any_err (Ok v) P all = tt
-any_err (Err e) P all = all e
+use Rattle.raft_log_disk_memory.proofs.Turns.{over, IsFrontOnDisk, counted_or_stop, other_stops, memory_at_stop, told_once}
 
 -- a change after a stop, or by a wrong handle, doesn't count
 pub no_writer : (handle : Handle) (change : Change) (error : ErrorKind) (system : MemoryFileSystem) → LacksWriter handle (disk_of system) error
@@ -36,14 +32,14 @@ no_writer handle change error system (inr (runs, wrong)) = uncounted (inr wrong)
 
 -- a refused call that did nothing
 pub refused_whole : {done : Disk → Type 0} {wrong : ErrorKind → Type 0} {error : ErrorKind} (old mid new : Disk) → old.stopped ≡ false → IsRight wrong → mid ≡ old
-    → (new ≡ counted error mid) ⊎ (new ≡ at_stop mid) → RefusedWhole done wrong error old new
+    → (new ≡ counted error mid) ⊎ ((new ≡ at_stop mid) × IsStopKind error) → RefusedWhole done wrong error old new
 refused_whole {error = error} old mid new runs right same (inl is) = failed runs right old refl (is ∙ ap (counted error) same)
-refused_whole old mid new runs right same (inr is) = stops runs old (inl refl) (is ∙ ap at_stop same)
+refused_whole old mid new runs right same (inr (is, told)) = stops runs told old (inl refl) (is ∙ ap at_stop same)
 
 pub refused_piece : {id : ℕ} {piece : Change} {wrong : ErrorKind → Type 0} {error : ErrorKind} (old new : Disk) → old.stopped ≡ false → IsRight wrong
-    → (new ≡ counted error old) ⊎ (new ≡ at_stop old) → RefusedChange id piece wrong error old new
+    → (new ≡ counted error old) ⊎ ((new ≡ at_stop old) × IsStopKind error) → RefusedChange id piece wrong error old new
 refused_piece old new runs right (inl is) = failed runs right old (none refl) is
-refused_piece old new runs right (inr is) = stops runs old (inl refl) is
+refused_piece old new runs right (inr (is, told)) = stops runs told old (inl refl) is
 
 -- what stands after the storage made a change, or didn't
 pub changed_or_not : {E : Type 0} (id : ℕ) (next : File → File) (done : Result (Unit {0}) E) (begun : MemoryFileSystem) (after : Storage) (old : Disk) → disk_of begun ≡ old
@@ -91,16 +87,16 @@ front_or_not id at bytes count (Err e) begun after old same ok err there = ap (o
 pub part_err : {wrong : ErrorKind → Type 0} {error : ErrorKind} (id at : ℕ) (bytes : List ℕ) (count : ℕ) (done : Result (Unit {0}) ErrorKind) (old mid new : Disk)
     → old.stopped ≡ false → IsRight wrong
     → MatchResult done (λ v. IsFrontOnDisk id at bytes count old mid) (λ e. mid ≡ old)
-    → new ≡ failed_once error mid → RefusedChange id (Wrote at bytes) wrong error old new
-part_err id at bytes count (Ok v) old mid new runs right made fail =
+    → MatchResult done (λ v. error ≡ Other) (λ kind. IsToldOnce kind error mid) → new ≡ failed_once error mid → RefusedChange id (Wrote at bytes) wrong error old new
+part_err {error = error} id at bytes count (Ok v) old mid new runs right made kind fail =
     let part : SomeOf id (Wrote at bytes) old mid = some made.file _ made.is (front_torn at bytes count made.file.content) made.disk in
-    elim (counted_or_stop mid new fail) [
+    elim (counted_or_stop mid new fail (λ full. other_stops error kind)) [
       | inl one ↦ failed runs right mid part one
-      | inr stop ↦ stops runs mid (inr (right, inl part)) stop
+      | inr (stop, told) ↦ stops runs told mid (inr (right, inl part)) stop
     ]
-part_err id at bytes count (Err e) old mid new runs right made fail = elim (counted_or_stop mid new fail) [
+part_err id at bytes count (Err e) old mid new runs right made kind fail = elim (counted_or_stop mid new fail (told_once _ _ mid kind)) [
   | inl one ↦ failed runs right mid (none made) one
-  | inr stop ↦ stops runs mid (inl made) stop
+  | inr (stop, told) ↦ stops runs told mid (inl made) stop
 ]
 
 pub change_ok : {T : Type 0} (id : ℕ) (next : File → File) (done : Result (Unit {0}) ErrorKind) (ends : Bool) (old mid new : Disk) (result : Result T ErrorKind)
@@ -115,12 +111,12 @@ pub change_err : {T : Type 0} (id : ℕ) (change : Change) (wrong : ErrorKind �
     → MatchResult done (λ v. Changes id (after_change change) old mid) (λ e. mid ≡ old)
     → IfErr result (λ error. IsChangeEnded ends done error mid new) → IfErr result (λ error. RefusedChange id change wrong error old new)
 change_err id change wrong done ends old mid new (Ok w) runs right is ended = tt
-change_err id change wrong (Ok v) ends old mid new (Err e) runs right is (at_the_stop falls kind stop) = stops runs mid (inr (right, inr is)) stop
-change_err id change wrong (Err k) ends old mid new (Err e) runs right is (at_the_stop falls kind stop) = stops runs mid (inl is) stop
+change_err id change wrong (Ok v) ends old mid new (Err e) runs right is (at_the_stop falls kind stop) = stops runs (other_stops e kind) mid (inr (right, inr is)) stop
+change_err id change wrong (Err k) ends old mid new (Err e) runs right is (at_the_stop falls kind stop) = stops runs kind.stops mid (inl is) stop
 change_err id change wrong (Ok v) ends old mid new (Err e) runs right is (not_made past same fail) = absurd same
-change_err id change wrong (Err k) ends old mid new (Err e) runs right is (not_made past same fail) = elim (counted_or_stop mid new fail) [
+change_err id change wrong (Err k) ends old mid new (Err e) runs right is (not_made past same fail) = elim (counted_or_stop mid new fail (told_once _ _ mid same)) [
   | inl one ↦ failed runs right mid (none is) one
-  | inr stop ↦ stops runs mid (inl is) stop
+  | inr (stop, told) ↦ stops runs told mid (inl is) stop
 ]
 
 -- what stands after a call that is done whole or not at all
@@ -136,10 +132,10 @@ pub call_err : {T : Type 0} (does : Disk → Type 0) (wrong : ErrorKind → Type
     → MatchResult done (λ v. does mid) (λ e. mid ≡ old)
     → IfErr result (λ error. IsCallEnded ends done error mid new) → IfErr result (λ error. RefusedWhole does wrong error old new)
 call_err does wrong done ends old mid new (Ok w) runs right is ended = tt
-call_err does wrong (Ok v) ends old mid new (Err e) runs right is (at_the_stop falls kind stop) = stops runs mid (inr (right, inr is)) stop
-call_err does wrong (Err k) ends old mid new (Err e) runs right is (at_the_stop falls kind stop) = stops runs mid (inl is) stop
+call_err does wrong (Ok v) ends old mid new (Err e) runs right is (at_the_stop falls kind stop) = stops runs (other_stops e kind) mid (inr (right, inr is)) stop
+call_err does wrong (Err k) ends old mid new (Err e) runs right is (at_the_stop falls kind stop) = stops runs kind.stops mid (inl is) stop
 call_err does wrong (Ok v) ends old mid new (Err e) runs right is (not_made past same fail) = absurd same
-call_err does wrong (Err k) ends old mid new (Err e) runs right is (not_made past same fail) = refused_whole old mid new runs right is (counted_or_stop mid new fail)
+call_err does wrong (Err k) ends old mid new (Err e) runs right is (not_made past same fail) = refused_whole old mid new runs right is (counted_or_stop mid new fail (told_once _ _ mid same))
 
 -- what stands after the storage did such a call, or didn't
 pub done_or_not : {E : Type 0} (does : Disk → Type 0) (next : Disk → Disk) (done : Result (Unit {0}) E) (begun : MemoryFileSystem) (after : Storage) (old : Disk) → disk_of begun ≡ old

@@ -3,16 +3,17 @@ use Rattle.std.specs.Prelude.{◌≡◌, ℕ, ◌⊎◌, ◌↔◌, ◌++◌, �
 use Rattle.std.specs.Result.{IfErr, OnOk, OnErr, MatchResult}
 use Rattle.std.specs.declared.alloc.AllocError.{AllocError}
 use Rattle.std.specs.declared.io.ErrorKind.{ErrorKind}
-use Rattle.std.specs.declared.io.ErrorKind.TheVariants.{Other}
-use Rattle.std.proofs.Common.{refl, sym, ◌∙◌, ap, subst, inl, inr, nat_lt, take, drop}
+use Rattle.std.specs.declared.io.ErrorKind.TheVariants.{OutOfMemory, Other}
+use Rattle.std.proofs.Common.{refl, sym, ◌∙◌, ap, subst, inl, inr, arith, ◌≤◌, nat_lt, take, drop}
+use Rattle.std.proofs.lemmas.Bool.Decides.{nat_tests}
 use Rattle.std.proofs.lemmas.Bool.{cases_Bool}
 use Rattle.raft_log_disk.specs.Disk.{Change, Wrote, File, Disk, overwritten, with_file}
-use Rattle.raft_log_disk.specs.Calls.{with_change, after_change, counted, at_stop, Changes}
+use Rattle.raft_log_disk.specs.Calls.{IsStopKind, IsToldAtStop, with_change, after_change, counted, at_stop, Changes}
 use Rattle.raft_log_disk_storage.specs.declared.storage.Storage.{Storage}
 use Rattle.raft_log_disk_storage.specs.Storage.{contents_of, unsynced_of}
 use Rattle.raft_log_disk_storage.specs.Steps.{IsSame, Makes}
 use Rattle.raft_log_disk_memory.specs.declared.memory.MemoryFileSystem.{MemoryFileSystem}
-use Rattle.raft_log_disk_memory.specs.Memory.{is_denied, disk_of, unsynced, Kept, kept, failed_once, most_failures}
+use Rattle.raft_log_disk_memory.specs.Memory.{is_denied, disk_of, unsynced, Kept, kept, failed_once, IsToldOnce, most_failures}
 use Rattle.raft_log_disk_memory.specs.Answers.{HasRefused, HasFallen}
 use Rattle.raft_log_disk_memory.specs.Turns.{armed, ArmedRefusalFell, call_later, IsSpared, PartFalls, part_fell, Untouched, IsCounted, IsAnswered, IsRefusedCall, stop_fell, refusal_fell, room_short, after_failure, after_stop, IsRefusedWhole, NoRoomFor, HasSpaceFor, IsRefusedChange, IsChangeEnded, IsCallEnded, LeftAtStop, StopsAfter, at_the_stop, not_made}
 
@@ -37,23 +38,42 @@ kept_ext a b disk order =
     ap (λ (d : Disk). let k : Kept = record { disk = d; unsynced = a.unsynced } in k) disk
     ∙ ap (λ (us : List (ℕ × Change)). let k : Kept = record { disk = b.disk; unsynced = us } in k) order
 
--- a failure is counted, or is a stop
-pub counted_or_stop : {error : ErrorKind} (old new : Disk) → new ≡ failed_once error old → (new ≡ counted error old) ⊎ (new ≡ at_stop old)
-counted_or_stop {error} old new is = elim (cases_Bool (nat_lt (suc old.failures) most_failures)) [
-  | inl less ↦ inl (is ∙ ap (λ (b : Bool). cond b (counted error old) (at_stop old)) less)
-  | inr full ↦ inr (is ∙ ap (λ (b : Bool). cond b (counted error old) (at_stop old)) full)
+-- `Other` is no want of memory
+pub other_stops : (error : ErrorKind) → error ≡ Other → IsStopKind error
+other_stops error is = λ memory. cc (is, memory)
+
+-- want of memory at a stop is told as `Other`
+pub memory_at_stop : (error : ErrorKind) → IsToldAtStop OutOfMemory error → error ≡ Other
+memory_at_stop error told = elim told.told [
+  | inl memory ↦ absurd (told.stops memory)
+  | inr other ↦ other.1
 ]
+
+-- a failure is counted, or is a stop, which isn't told as want of memory
+pub counted_or_stop : {error : ErrorKind} (old new : Disk) → new ≡ failed_once error old → (most_failures ≤ suc old.failures → IsStopKind error)
+    → (new ≡ counted error old) ⊎ ((new ≡ at_stop old) × IsStopKind error)
+counted_or_stop {error} old new is stop = elim (cases_Bool (nat_lt (suc old.failures) most_failures)) [
+  | inl less ↦ inl (is ∙ ap (λ (b : Bool). cond b (counted error old) (at_stop old)) less)
+  | inr full ↦ inr (is ∙ ap (λ (b : Bool). cond b (counted error old) (at_stop old)) full, stop (not_below full))
+]
+  where
+    not_below : nat_lt (suc old.failures) most_failures ≡ false → most_failures ≤ suc old.failures
+    not_below full = grind (arith, nat_tests)
+
+pub told_once : (kind error : ErrorKind) (old : Disk) → IsToldOnce kind error old → most_failures ≤ suc old.failures → IsStopKind error
+told_once kind error old (inl (less, is)) full = absurd (omega (arith, less, full))
+told_once kind error old (inr (most, told)) full = told.stops
 
 -- what fell at a call that is done whole or not at all, as the disk has it
 pub refused : {error : ErrorKind} {old new : MemoryFileSystem} → HasRefused error old new
-    → (disk_of new ≡ counted error (disk_of old)) ⊎ (disk_of new ≡ at_stop (disk_of old))
-refused {error} {old} {new} (inl whole) = counted_or_stop (disk_of old) (disk_of new) whole.left
-refused {error} {old} {new} (inr part) = counted_or_stop (disk_of old) (disk_of new) part.left
+    → (disk_of new ≡ counted error (disk_of old)) ⊎ ((disk_of new ≡ at_stop (disk_of old)) × IsStopKind error)
+refused {error} {old} {new} (inl whole) = counted_or_stop (disk_of old) (disk_of new) whole.left (λ full. other_stops error whole.kind)
+refused {error} {old} {new} (inr part) = counted_or_stop (disk_of old) (disk_of new) part.left (λ full. other_stops error part.kind)
 
 pub fallen : {error : ErrorKind} {old new : MemoryFileSystem} → HasFallen error old new
-    → (disk_of new ≡ counted error (disk_of old)) ⊎ (disk_of new ≡ at_stop (disk_of old))
+    → (disk_of new ≡ counted error (disk_of old)) ⊎ ((disk_of new ≡ at_stop (disk_of old)) × IsStopKind error)
 fallen {error} {old} {new} (inl refusal) = refused refusal
-fallen (inr stopped) = inr stopped.left
+fallen {error} {old} {new} (inr stopped) = inr (stopped.left, other_stops error stopped.kind)
 
 -- a refusal that fell, as the call's cause
 pub refusal : {left_at_stop : ErrorKind → Kept → Type 0} {left_in_part : ℕ → ErrorKind → Kept → Type 0} {wrong no_room : ErrorKind → Type 0} {error : ErrorKind} {old new : MemoryFileSystem} → IsCounted wrong old new
@@ -79,7 +99,7 @@ fell done order {error = error} {old = old} {new = new} counts storage (inr stop
 -- a write that was refused in part
 pub part_cause : {wrong : ErrorKind → Type 0} {error : ErrorKind} (id at : ℕ) (bytes : List ℕ) (count : ℕ) (done : Result (Unit {0}) ErrorKind) (old begun new : MemoryFileSystem) (after : Storage)
     → IsCounted wrong old new → PartFalls count (armed old)
-    → MatchResult done (λ v. error ≡ Other) (λ kind. error ≡ kind)
+    → MatchResult done (λ v. error ≡ Other) (λ kind. IsToldOnce kind error (over begun (contents_of after)))
     → MatchResult done (λ v. IsFrontOnDisk id at bytes count (disk_of old) (over begun (contents_of after))) (λ e. over begun (contents_of after) ≡ disk_of old)
     → begun.storage ≡ old.storage → OnOk done (Makes id (Wrote at (take count bytes)) (drop count bytes) begun.storage after) → OnErr done (IsSame begun.storage after)
     → OnOk done (HasSpaceFor id (Wrote at bytes) old) → IfErr done (NoRoomFor id (Wrote at bytes) old)
@@ -99,7 +119,7 @@ part_cause {error = error} id at bytes count (Ok v) old begun new after counts f
     ))
     (kept_ext (kept new) (after_failure error left) failed refl)
 part_cause {error = error} id at bytes count (Err k) old begun new after counts falls kind made storage makes same space room stored failed =
-    part_fell counts count falls (kept old) (inr (subst (NoRoomFor id (Wrote at bytes) old) (sym kind) room, refl))
+    part_fell counts count falls (kept old) (inr (k, room, subst (IsToldOnce k error) made kind, refl))
     (kept_ext (kept new) (after_failure error (kept old)) (failed ∙ ap (failed_once error) made) (ap unsynced_of stored ∙ (same.order ∙ ap unsynced_of storage)))
 
 -- an answered call that is done whole or not at all
@@ -126,16 +146,16 @@ pub call_cause : {T : Type 0} {wrong : ErrorKind → Type 0} (does : Disk → Ty
 call_cause does order done stops mid old begun new after (Ok v) counts is spared made storage makes same stored ended = tt
 call_cause does order (Ok v) stops mid old begun new after (Err e) counts is spared made storage makes same stored (at_the_stop falls kind done_is) =
     let left : Kept = record { disk = mid; unsynced = unsynced new } in
-    let at : LeftAtStop true does order (kept old) e left = inl (kind, record { disk = made; order = ap unsynced_of stored ∙ makes }) in
+    let at : LeftAtStop true does order (kept old) e left = (kind, inl (record { disk = made; order = ap unsynced_of stored ∙ makes })) in
     stop_fell counts (is falls).falls left (subst (λ (b : Bool). LeftAtStop b does order (kept old) e left) (sym (is falls).done) at)
     (kept_ext (kept new) (after_stop left) done_is refl)
 call_cause does order (Err k) stops mid old begun new after (Err e) counts is spared made storage makes same stored (at_the_stop falls kind done_is) =
-    let at : LeftAtStop true does order (kept old) e (kept old) = inr (kind, refl) in
+    let at : LeftAtStop true does order (kept old) e (kept old) = (memory_at_stop e kind, inr refl) in
     stop_fell counts (is falls).falls (kept old) (subst (λ (b : Bool). LeftAtStop b does order (kept old) e (kept old)) (sym (is falls).done) at)
     (kept_ext (kept new) (after_stop (kept old)) (done_is ∙ ap at_stop made) (ap unsynced_of stored ∙ (same.order ∙ ap unsynced_of storage)))
 call_cause does order (Ok v) stops mid old begun new after (Err e) counts is spared made storage makes same stored (not_made runs done_is failed) = absurd done_is
 call_cause does order (Err k) stops mid old begun new after (Err e) counts is spared made storage makes same stored (not_made runs done_is failed) =
-    room_short counts (spared runs) done_is
+    room_short counts (spared runs) OutOfMemory refl (subst (IsToldOnce OutOfMemory e) made done_is)
     (kept_ext (kept new) (after_failure e (kept old)) (failed ∙ ap (failed_once e) made) (ap unsynced_of stored ∙ (same.order ∙ ap unsynced_of storage)))
 
 -- the order of all changes after one that was answered
@@ -163,10 +183,10 @@ change_cause id change (Ok v) stops mid old begun new after (Err e) counts is sp
     (kept_ext (kept new) (after_stop left) done_is refl)
 change_cause id change (Err k) stops mid old begun new after (Err e) counts is spared made storage makes same stored space room (at_the_stop falls kind done_is) =
     let order : unsynced new ≡ unsynced old = ap unsynced_of stored ∙ (same.order ∙ ap unsynced_of storage) in
-    stop_fell counts (is.0 falls) (kept old) (inr (subst (NoRoomFor id change old) (sym kind) room, refl))
+    stop_fell counts (is.0 falls) (kept old) (inr (k, room, kind, refl))
     (kept_ext (kept new) (after_stop (kept old)) (done_is ∙ ap at_stop made) order)
 change_cause id change (Ok v) stops mid old begun new after (Err e) counts is spared made storage makes same stored space room (not_made runs done_is failed) = absurd done_is
 change_cause id change (Err k) stops mid old begun new after (Err e) counts is spared made storage makes same stored space room (not_made runs done_is failed) =
     let order : unsynced new ≡ unsynced old = ap unsynced_of stored ∙ (same.order ∙ ap unsynced_of storage) in
-    room_short counts (spared runs) (subst (NoRoomFor id change old) (sym done_is) room)
+    room_short counts (spared runs) k room (subst (IsToldOnce k e) made done_is)
     (kept_ext (kept new) (after_failure e (kept old)) (failed ∙ ap (failed_once e) made) order)

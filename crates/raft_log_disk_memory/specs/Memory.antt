@@ -1,9 +1,9 @@
 -- A file system in memory, as a disk, and the order of the changes of all its files.
-use Rattle.std.specs.Prelude.{◌≡◌, ℕ, ◌+◌, ◌<◌, ◌≤◌, Bool, true, false, suc, cond, Option, Some, None, List, [], ◌∷◌}
+use Rattle.std.specs.Prelude.{◌≡◌, ℕ, ◌+◌, ◌<◌, ◌≤◌, ◌⊎◌, Bool, true, false, suc, cond, Option, Some, None, List, [], ◌∷◌}
 use Rattle.std.proofs.Common.{nat_eq, nat_lt}
 use Rattle.std.specs.declared.io.ErrorKind.{ErrorKind}
 use Rattle.raft_log_disk.specs.Disk.{Change, Disk}
-use Rattle.raft_log_disk.specs.Calls.{counted, at_stop}
+use Rattle.raft_log_disk.specs.Calls.{IsToldAtStop, counted, at_stop}
 use Rattle.raft_log_disk_memory.specs.declared.memory.MemoryFileSystem.{MemoryFileSystem}
 use Rattle.raft_log_disk_storage.specs.Order.{without_file}
 use Rattle.raft_log_disk_storage.specs.Steps.{without_replaced}
@@ -58,6 +58,11 @@ most_failures = 18446744073709551615
 -- stop in its place
 abbrev pub failed_once : ErrorKind → Disk → Disk
 failed_once error d = cond (nat_lt (suc d.failures) most_failures) (counted error d) (at_stop d)
+
+-- what such a failure is told as: its kind; and where a stop comes in its place, what a stop is told as
+abbrev pub IsToldOnce : ErrorKind → ErrorKind → Disk → Type 0
+IsToldOnce kind error d = ((suc d.failures < most_failures) × (error ≡ kind))
+    ⊎ ((most_failures ≤ suc d.failures) × IsToldAtStop kind error)
 
 -- the changes that are left where the file with a name is deleted
 abbrev pub without_named : Option ℕ → List (ℕ × Change) → List (ℕ × Change)

@@ -11,12 +11,12 @@ use Rattle.std.specs.declared.alloc.AllocError.{AllocError}
 use Rattle.std.specs.declared.io.ErrorKind.{ErrorKind}
 use Rattle.std.specs.declared.io.ErrorKind.TheVariants.{Other, OutOfMemory}
 use Rattle.raft_log_disk.specs.Disk.{Change, Wrote, ShortenedTo, GrewTo, File, Disk, overwritten, with_file}
-use Rattle.raft_log_disk.specs.Calls.{with_change, after_change, at_stop, Changes}
+use Rattle.raft_log_disk.specs.Calls.{IsToldAtStop, with_change, after_change, at_stop, Changes}
 use Rattle.raft_log_disk.specs.Arguments.{IsAfterStop}
 use Rattle.raft_log_disk.specs.declared.handle.Fault.{Fault}
 use Rattle.raft_log_disk.specs.declared.handle.Fault.TheVariants.{Refuse, RefuseInPart, DenyRead, StopAt, StopAfter, Space}
 use Rattle.raft_log_disk_memory.specs.declared.memory.MemoryFileSystem.{MemoryFileSystem}
-use Rattle.raft_log_disk_memory.specs.Memory.{disk_of, Kept, kept, failed_once}
+use Rattle.raft_log_disk_memory.specs.Memory.{disk_of, Kept, kept, failed_once, IsToldOnce}
 use Rattle.raft_log_disk_memory.specs.Space.{HasSpace, HasNoRoom}
 
 -- How many changing calls there are up to each one that is refused, up to each one that is refused in part,
@@ -141,7 +141,8 @@ after_stop k = record k { disk = at_stop k.disk }
 -- Why a changing call was refused, and what it left. It doesn't count, as the file system has stopped, which
 -- is told as `Other`, or the argument is wrong, and nothing changed; or the armed stop fell; or an armed
 -- refusal fell; or one in part; or nothing fell, and there was no room for what was asked. A failure is
--- counted as the error that is told, and a stop comes in its place only where the count would reach 2^64 - 1.
+-- counted as the error that is told, and a stop comes in its place only where the count would reach 2^64 - 1;
+-- it isn't told as want of memory.
 pub data IsRefusedCall (left_at_stop : ErrorKind → Kept → Type 0)
     (left_in_part : ℕ → ErrorKind → Kept → Type 0) (wrong no_room : ErrorKind → Type 0) (error : ErrorKind) (old new : MemoryFileSystem) : Type 0 where
   uncounted : IsAfterStop (disk_of old) error ⊎ wrong error → armed new ≡ armed old → kept new ≡ kept old
@@ -155,7 +156,8 @@ pub data IsRefusedCall (left_at_stop : ErrorKind → Kept → Type 0)
   part_fell : IsCounted wrong old new → (count : ℕ) → PartFalls count (armed old) → (left : Kept)
       → left_in_part count error left → kept new ≡ after_failure error left
       → IsRefusedCall left_at_stop left_in_part wrong no_room error old new
-  room_short : IsCounted wrong old new → IsSpared (armed old) → no_room error
+  room_short : IsCounted wrong old new → IsSpared (armed old) → (kind : ErrorKind) → no_room kind
+      → IsToldOnce kind error (disk_of old)
       → kept new ≡ after_failure error (kept old)
       → IsRefusedCall left_at_stop left_in_part wrong no_room error old new
 
@@ -169,11 +171,11 @@ pub record IsCallDone (done : Disk → Type 0) (changes : List (ℕ × Change)) 
   pub order : left.unsynced ≡ changes
 
 -- What a stop leaves of a call that is done whole or not at all. At a stop before it nothing was done. At one
--- after it the call was done; it wasn't only where memory was short, and then the error says so.
+-- after it the call was done; it wasn't only where memory was short.
 abbrev pub LeftAtStop : Bool → (Disk → Type 0) → List (ℕ × Change) → Kept → ErrorKind → Kept → Type 0
 LeftAtStop false done order old error left = Untouched old error left
 LeftAtStop true done order old error left =
-    ((error ≡ Other) × IsCallDone done order left) ⊎ ((error ≡ OutOfMemory) × (left ≡ old))
+    (error ≡ Other) × (IsCallDone done order left ⊎ (left ≡ old))
 
 -- a change was made, and is the last one of all
 pub record IsChangeMade (id : ℕ) (change : Change) (old left : Kept) : Type 0 where
@@ -182,10 +184,11 @@ pub record IsChangeMade (id : ℕ) (change : Change) (old left : Kept) : Type 0 
 
 -- What a stop, before or after it, leaves of the write, shortening or growth that it falls at: the change is
 -- made, and isn't synced; it isn't made only where there is no room for it, as where there is no space, and
--- then the error says so.
+-- then the error says so, but of want of memory `Other`.
 abbrev pub MadeUnlessShort : Type 0 → (ErrorKind → Type 0) → ℕ → Change → Kept → ErrorKind → Kept → Type 0
 MadeUnlessShort space no_room id change old error left =
-    ((error ≡ Other) × space × IsChangeMade id change old left) ⊎ (no_room error × (left ≡ old))
+    ((error ≡ Other) × space × IsChangeMade id change old left)
+    ⊎ ((kind : ErrorKind) × no_room kind × IsToldAtStop kind error × (left ≡ old))
 
 -- the first bytes of a write were written, and are the last change of all; the file isn't synced with the
 -- whole write
@@ -201,7 +204,8 @@ pub record IsFrontMade (id at : ℕ) (bytes : List ℕ) (count : ℕ) (old left 
 -- then the error says so. Of another change nothing was done.
 abbrev pub LeftInPart : Type 0 → (ErrorKind → Type 0) → ℕ → Change → Kept → ℕ → ErrorKind → Kept → Type 0
 LeftInPart space no_room id (Wrote at bytes) old count error left =
-    ((error ≡ Other) × space × IsFrontMade id at bytes count old left) ⊎ (no_room error × (left ≡ old))
+    ((error ≡ Other) × space × IsFrontMade id at bytes count old left)
+    ⊎ ((kind : ErrorKind) × no_room kind × IsToldOnce kind error old.disk × (left ≡ old))
 LeftInPart space no_room id (ShortenedTo size) old count error left = Untouched old error left
 LeftInPart space no_room id (GrewTo size) old count error left = Untouched old error left
 
@@ -229,13 +233,14 @@ IsRefusedChange id change wrong error old new =
     (NoRoomFor id change old) error old new
 
 -- How a call ended, of which it is told whether the file system stops at it and whether it was done: at a
--- stop the error says why it wasn't done, where it wasn't; else it wasn't done, and that is a failure.
+-- stop the error says why it wasn't done, where it wasn't, but of want of memory `Other`; else it wasn't done,
+-- and that is a failure.
 pub data IsEnded {E : Type 0} (kind_of : E → ErrorKind) (stops : Bool) (done : Result (Unit {0}) E)
     (error : ErrorKind) (old new : Disk) : Type 0 where
-  at_the_stop : stops ≡ true → MatchResult done (λ v. error ≡ Other) (λ e. error ≡ kind_of e)
+  at_the_stop : stops ≡ true → MatchResult done (λ v. error ≡ Other) (λ e. IsToldAtStop (kind_of e) error)
       → new ≡ at_stop old → IsEnded kind_of stops done error old new
-  not_made : stops ≡ false → MatchResult done (λ v. ⊥) (λ e. error ≡ kind_of e) → new ≡ failed_once error old
-      → IsEnded kind_of stops done error old new
+  not_made : stops ≡ false → MatchResult done (λ v. ⊥) (λ e. IsToldOnce (kind_of e) error old)
+      → new ≡ failed_once error old → IsEnded kind_of stops done error old new
 
 -- how a change ended
 abbrev pub IsChangeEnded : Bool → Result (Unit {0}) ErrorKind → ErrorKind → Disk → Disk → Type 0

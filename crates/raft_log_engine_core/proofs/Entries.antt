@@ -8,6 +8,7 @@ use Rattle.raft_log_model_laws.specs.Meaning.Slot.{Index}
 use Rattle.raft_log_model_laws.specs.Meaning.Content.{Entry}
 use Rattle.raft_log_model_laws.specs.Renamed.{renamed_content}
 use Rattle.raft_log_record_base.specs.declared.errors.Error.{Error}
+use Rattle.raft_log_record_base.specs.declared.errors.Error.TheVariants as errors
 use Rattle.raft_log_record_items.specs.declared.entry.EntryIndex.{EntryIndex}
 use Rattle.raft_log_table_runs.specs.declared.place.Place.{Place}
 use Rattle.raft_log_table_runs.specs.Counts.{sized}
@@ -27,7 +28,8 @@ use Rattle.raft_log_file_blocks.specs.Blocks.{AreUnread, IsEntryUnread, IsOfLog,
 use Rattle.raft_log_purge.specs.raft_log_engine_laws.specs.Shows.{Home, LogMap, Shows, has_failed}
 use Rattle.raft_log_purge.specs.raft_log_engine_laws.specs.Holding.{Holds}
 use Rattle.raft_log_purge.specs.raft_log_engine_laws.specs.Fetching.{AreEntriesOf, AreToRead, FailsToFetch, FailsToTell, FetchesTo, IsOneUntold, StaysButBlock, TellsEntry}
-use Rattle.raft_log_purge.specs.raft_log_engine_laws.proofs.Fetching.{all_told, all_untold, fetched_from, told_of, untold_of}
+use Rattle.raft_log_purge.specs.raft_log_engine_laws.proofs.Fetching.{all_told, all_untold, fetched_from, first_untold, told_of, untold_at_stop, untold_of}
+use Rattle.raft_log_engine_core.specs.Reads.{HasFirst, IsToldAs}
 
 less_of : (a b : ℕ) → nat_lt a b ≡ true → a < b
 less_of a b is = grind (arith, is)
@@ -121,6 +123,14 @@ module _ {M : Type 0} (reading : List ℕ → Option M) (s t : Shows) (g : ℕ) 
     };
     why = λ home m pending h. (untold_of s g home m pending h reading i e s.cache t.cache error is h.cached unread).1;
   }
+
+  -- it is told as what it is told as: want of memory, where the file system has stopped, as the stop
+  pub told_as : (i : ℕ) (e : EntryIndex) (error told : Error) → entry_at (s.tables g) i ≡ Some e → IsToldAs s.pipes.disk.stopped error told → FailsToTell reading g i s t error
+      → FailsToTell reading g i s t told
+  told_as i e error told is (inl (as_it_is, runs)) f = subst (FailsToTell reading g i s t) (sym as_it_is) f
+  told_as i e error told is (inr (memory, ends, other)) f =
+      subst (FailsToTell reading g i s t) (sym other)
+      (record { lived = f.lived; stays = f.stays; why = λ home m pending h. untold_at_stop s g home m pending h reading i e is ends })
 
   -- a fetch
   abbrev v : Shown
@@ -224,6 +234,24 @@ module _ {M : Type 0} (reading : List ℕ → Option M) (s t : Shows) (g : ℕ) 
       };
       why = inr (λ home m pending h. (read_untold home m pending h es error asked unread).1);
     }
+
+-- it is told as what it is told as
+pub fetch_told_as : {M : Type 0} (reading : List ℕ → Option M) (s t : Shows) (g begin end : ℕ) (error told : Error) → IsToldAs s.pipes.disk.stopped error told → (error ≡ errors.Memory → HasFirst (s.tables g) begin end)
+    → FailsToFetch reading g begin end s t error → FailsToFetch reading g begin end s t told
+fetch_told_as reading s t g begin end error told (inl (as_it_is, runs)) there f = subst (FailsToFetch reading g begin end s t) (sym as_it_is) f
+fetch_told_as reading s t g begin end error told (inr (memory, ends, other)) there f =
+    let first = there memory in
+    subst (FailsToFetch reading g begin end s t) (sym other)
+    (record {
+      lived = f.lived;
+      stays = f.stays;
+      why = inr (λ home m pending h. inr (begin, omega arith, first.some, first_untold s g home m pending h reading begin first.low first.high ends));
+    })
+
+-- want of memory is told of a file system that runs
+pub runs_as : (stopped : Bool) (error told : Error) → IsToldAs stopped error told → told ≡ errors.Memory → stopped ≡ false
+runs_as stopped error told (inl (as_it_is, runs)) memory = runs (sym as_it_is ∙ memory)
+runs_as stopped error told (inr (short, ends, other)) memory = absurd (let never : ⊥ = cc in never)
 
 pub fetch_refused : {M : Type 0} (reading : List ℕ → Option M) (s : Shows) (g begin end : ℕ) (error : Error) → has_failed s ≡ false → s.counts g ≡ true → FetchRefused (s.tables g) begin end error
     → FailsToFetch reading g begin end s s error

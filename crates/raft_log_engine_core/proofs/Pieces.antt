@@ -8,7 +8,7 @@ use Rattle.raft_log_table_lists.specs.Shown.{Shown}
 use Rattle.raft_log_table_one.specs.Reads.{AreIn, entries_from, fetched, places_between}
 use Rattle.raft_log_purge.specs.raft_log_engine_laws.specs.Fetching.{AreToRead}
 use Rattle.raft_log_purge.specs.raft_log_engine_laws.specs.Shows.{Shows}
-use Rattle.raft_log_engine_core.specs.Reads.{AreNext, LieNext, entries_on}
+use Rattle.raft_log_engine_core.specs.Reads.{AreNext, HasFirst, LieNext, entries_on}
 
 none_left : (v : Shown) (n k : ℕ) → entries_from v n (take k []) ≡ []
 none_left v n zero = refl
@@ -63,6 +63,13 @@ module _ (v : Shown) (begin end : ℕ) (max : Option ℕ) (count : ℕ) (is : co
   asked_within some within =
       let (low, high) = within (omega (arith, some, few)) in
       (low, omega (arith, some, few, high), omega (arith, some, few))
+
+-- the first of them is there
+pub first_there : (v w : Shown) (begin end count : ℕ) → w ≡ v → 0 < count → count ≤ end - begin → AreIn v begin end → HasFirst w begin end
+first_there v w begin end count same some few within =
+    let less : begin < end = omega (arith, some, few) in
+    let (low, high) = within less in
+    subst (λ u. HasFirst u begin end) (sym same) (record { some = less; low = low; high = omega (arith, less, high) })
 
 pub are_to_read : (s : Shows) (g : ℕ) (v : Shown) (begin end : ℕ) (max : Option ℕ) (count : ℕ) → s.tables g ≡ v → s.counts g ≡ true → AreIn v begin end → count ≡ sized max (places_between v begin end)
     → count ≤ end - begin → AreToRead s g begin end max (entries_on v begin count)

@@ -1,5 +1,6 @@
 -- What an engine tells of its tables, and that a failed one tells nothing.
 use Rattle.std.specs.Prelude.{◌≡◌, ◌⊎◌, ◌+◌, ◌-◌, ◌<◌, ◌≤◌, ℕ, Bool, false, true, List, None, Option, Some, drop, length, take}
+use Rattle.std.specs.declared.io.ErrorKind.TheVariants.{Other}
 use Rattle.raft_log_record_base.specs.declared.errors.Error.{Error}
 use Rattle.raft_log_record_base.specs.declared.errors.Error.TheVariants as errors
 use Rattle.raft_log_record_base.specs.declared.pipe_log.FileBlockHandle.{FileBlockHandle}
@@ -30,6 +31,22 @@ IsFailed s error = (error ≡ errors.Failed) × (has_failed s ≡ true)
 -- why nothing is copied: the engine has failed; or memory ran out of one that hasn't
 abbrev pub IsUncopied : Shows → Error → Type 0
 IsUncopied s error = IsFailed s error ⊎ ((error ≡ errors.Memory) × Lives s)
+
+-- the file system runs
+abbrev pub Runs : Shows → Type 0
+Runs s = s.pipes.disk.stopped ≡ false
+
+-- A refusal of a read is told as it is, but for want of memory where the file system has stopped: that is told as
+-- the stop.
+abbrev pub IsToldAs : Bool → Error → Error → Type 0
+IsToldAs stopped error told = ((told ≡ error) × (error ≡ errors.Memory → stopped ≡ false))
+    ⊎ ((error ≡ errors.Memory) × (stopped ≡ true) × (told ≡ errors.Io Other))
+
+-- a table has an entry at the first of the indexes that are asked for
+pub record HasFirst (v : Shown) (begin end : ℕ) : Type 0 where
+  pub some : begin < end
+  pub low : v.first ≤ begin
+  pub high : begin < v.first + length v.places
 
 -- so many entries of a table, from an index on
 abbrev pub entries_on : Shown → ℕ → ℕ → List EntryIndex

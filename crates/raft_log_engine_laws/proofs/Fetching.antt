@@ -4,6 +4,7 @@ use Rattle.std.specs.Prelude.{Err, IsOk, not}
 use Rattle.std.proofs.lemmas.Bool.{cases_Bool, false≢true}
 use Rattle.std.proofs.lemmas.List.{length-drop, length-take-le}
 use Rattle.std.proofs.lemmas.Option.{slice_get-map}
+use Rattle.std.specs.declared.io.ErrorKind.TheVariants.{Other}
 use Rattle.raft_log_model_laws.specs.Groups.{taken}
 use Rattle.raft_log_model_laws.specs.Meaning.{Content, Slot}
 use Rattle.raft_log_model_laws.specs.Meaning.Slot.{Index}
@@ -28,7 +29,7 @@ use Rattle.raft_log_file_blocks.specs.raft_log_file_pair.specs.State.{Spanned}
 use Rattle.raft_log_file_blocks.specs.raft_log_file_pair.specs.Pipes.{Said, State}
 use Rattle.raft_log_file_blocks.specs.declared.block_cache.BlockCache.{BlockCache}
 use Rattle.raft_log_file_blocks.specs.Blocks.{AreUnread, BlockIsStored, IsEntryUnread, IsFileUnread, IsNoEntry, IsOfLog, IsUnplaced, KeepsBlock, ReadsEntries, ReadsEntry, written_block}
-use Rattle.raft_log_file_blocks.proofs.KeptBlocks.{file_unread, kept_is_written, none_kept}
+use Rattle.raft_log_file_blocks.proofs.KeptBlocks.{file_unread, kept_is_written, none_kept, stopped_block}
 use Rattle.raft_log_engine_laws.specs.Shows.{Home, LogMap, Shows, sense}
 use Rattle.raft_log_engine_laws.specs.Holding.{Holds}
 use Rattle.raft_log_engine_laws.specs.Fetching.{AreEntriesOf, AreToRead, IsEntryOf, IsOneUntold, IsUntold, StaysButBlock}
@@ -106,6 +107,11 @@ stands_at : (log : State) (m : LogMap) (g i : ℕ) (b : Bool) (p : Place) → En
     → Stands log m g i (entry_of (queue_of b) i p)
 stands_at log m g i true p lies is = record { block = _; placed = refl; lies = lies.block; whole = lies.whole; inside = ends_before log.rewrite p lies; maps = is }
 stands_at log m g i false p lies is = record { block = _; placed = refl; lies = lies.block; whole = lies.whole; inside = ends_before log.append p lies; maps = is }
+
+place_in : (ps : List Place) (k : ℕ) → k < length ps → (p : Place) × (slice_get ps k ≡ Some p)
+place_in [] k less = absurd (omega (arith, less))
+place_in (p ∷ ps) zero less = (p, refl)
+place_in (p ∷ ps) (suc k) less = place_in ps k (omega (arith, less))
 
 module _ (s : Shows) (g : ℕ) (home : Home) (m : LogMap) (pending : List Said) (h : Holds home s m pending) where
   abbrev told : LogMap
@@ -200,6 +206,20 @@ module _ (s : Shows) (g : ℕ) (home : Home) (m : LogMap) (pending : List Said) 
           },
         )
 
+    -- where the file system has stopped, it isn't told for that
+    pub untold_at_stop : (i : ℕ) (e : EntryIndex) → entry_at (s.tables g) i ≡ Some e → s.pipes.disk.stopped ≡ true → IsUntold reading g i s told (errors.Io Other)
+    untold_at_stop i e is ends =
+        let there = stands i e is in
+        record {
+          entry = e;
+          block = there.block;
+          bytes = _;
+          stands = is;
+          placed = there.placed;
+          maps = there.maps;
+          why = inl (stopped_block (sense home) s.pipes h.state h.runs there.block there.lies ends);
+        }
+
     -- the same of entries that lie one behind another in the table
     entry_is : (n : ℕ) (p : Place) → slice_get (s.tables g).places n ≡ Some p
         → entry_at (s.tables g) ((s.tables g).first + n) ≡ Some (entry_of (queue_of (nat_lt n (s.tables g).rewritten)) ((s.tables g).first + n) p)
@@ -210,6 +230,14 @@ module _ (s : Shows) (g : ℕ) (home : Home) (m : LogMap) (pending : List Said) 
         (le_true v.first (v.first + n) (let more : v.first ≤ v.first + n = omega arith in more))
         ∙ ap (λ (k : ℕ). option_map (entry_of (queue_of (nat_lt k v.rewritten)) (v.first + n)) (slice_get v.places k)) back
         ∙ ap (option_map (entry_of (queue_of (nat_lt n v.rewritten)) (v.first + n))) got
+
+    -- the entry at an index that the table has
+    pub first_untold : (i : ℕ) → (s.tables g).first ≤ i → i < (s.tables g).first + length (s.tables g).places → s.pipes.disk.stopped ≡ true → IsUntold reading g i s told (errors.Io Other)
+    first_untold i low high ends =
+        let v = s.tables g in
+        let (p, got) = place_in v.places (i - v.first) (omega (arith, low, high)) in
+        let back : v.first + (i - v.first) ≡ i = omega (arith, low) in
+        subst (λ (k : ℕ). IsUntold reading g k s told (errors.Io Other)) back (untold_at_stop (v.first + (i - v.first)) _ (entry_is (i - v.first) p got) ends)
 
     -- places that stand in the table from a position on
     abbrev StandFrom : ℕ → List Place → Type 0

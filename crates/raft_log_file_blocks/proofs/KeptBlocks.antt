@@ -1,8 +1,10 @@
 -- The block that is kept is what was written at its place.
-use Rattle.std.proofs.Common.{◌≡◌, ◌⊎◌, ℕ, ◌-◌, ◌<◌, ◌≤◌, List, length, None, Some, Result, Err, inl, inr, sym, ap, subst, ◌∙◌}
+use Rattle.std.proofs.Common.{◌≡◌, ◌⊎◌, ℕ, ◌-◌, ◌<◌, ◌≤◌, true, List, length, None, refl, Some, Result, Err, inl, inr, sym, ap, subst, ◌∙◌}
 use Rattle.std.specs.Prelude.{IsOk}
 use Rattle.std.proofs.lemmas.Bool.{false≢true}
+use Rattle.std.specs.declared.io.ErrorKind.TheVariants.{Other}
 use Rattle.raft_log_disk.specs.Disk.{Disk}
+use Rattle.raft_log_disk.specs.Reading.{stopped}
 use Rattle.raft_log_record_base.specs.Fault.{Fault}
 use Rattle.raft_log_record_base.specs.declared.errors.Error.{Error}
 use Rattle.raft_log_record_base.specs.declared.errors.Error.TheVariants as errors
@@ -18,7 +20,7 @@ use Rattle.raft_log_file_pair.specs.Queues.{IsQueueLayout, layout_at}
 use Rattle.raft_log_file_pair.specs.State.{RunsQueue, pipe_at, spanned_at}
 use Rattle.raft_log_file_pair.specs.Pipes.{LogPipes, LogSense, RunsOn, State, files_of, queues, which_of}
 use Rattle.raft_log_file_blocks.specs.Stored.{BlockLiesIn, KeepsLog, block_at}
-use Rattle.raft_log_file_blocks.proofs.Reading.{stored_block_is_read, told_in_span}
+use Rattle.raft_log_file_blocks.proofs.Reading.{file_of_number, stored_block_is_read, told_in_span}
 use Rattle.raft_log_file_blocks.proofs.Staying.{block_stays}
 use Rattle.raft_log_file_blocks.specs.declared.block_cache.BlockCache.{BlockCache}
 use Rattle.raft_log_file_blocks.specs.Blocks.{BlockIsStored, IsBlockUnread, IsFileUnread, IsNotKept, IsOfLog, KeepsBlock, KeptBlocksAreWritten, KeptBlocksStay, StandsAt, WholeBlocksAreRead, written_block}
@@ -89,6 +91,13 @@ module _ (log : LogSense) (v : LogPipes) (s : State) (run : RunsOn log v s) (blo
   file_unread _ (inl (inl none)) = absurd none
   file_unread _ (inl (inr (handle, listed, why))) = absurd why
   file_unread _ (inr (bytes, stands, fault)) = absurd fault
+
+-- where the file system has stopped, a block that lies in the log is unread for its file
+pub stopped_block : (log : LogSense) (v : LogPipes) (s : State) → RunsOn log v s → (block : FileBlockHandle) → BlockIsStored s block → v.disk.stopped ≡ true → IsFileUnread v block (errors.Io Other)
+stopped_block log v s run block lies ends =
+    let which = which_of block.id.queue in
+    let (handle, listed) = file_of_number (layout_at which (queues log)) (lawful_at log v s which run) (pipe_at which (files_of v)) (spanned_at which s) s.disk (runs_at log v s which run) block.id.seq lies.first lies.last in
+    (handle, listed, stopped ends refl)
 
 pub whole_blocks_are_read : WholeBlocksAreRead
 whole_blocks_are_read log v s run block lies whole error unread = file_unread log v s run block lies whole error unread

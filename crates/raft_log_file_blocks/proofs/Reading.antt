@@ -5,6 +5,7 @@ use Rattle.std.proofs.lemmas.Bool.{cases_Bool, cases_lt}
 use Rattle.std.proofs.lemmas.Bool.Decides.{Decides-eqb}
 use Rattle.raft_log_disk.proofs.TouchingLaws.{same_file}
 use Rattle.raft_log_disk.specs.Disk.{File, Disk}
+use Rattle.raft_log_disk.specs.declared.handle.Handle.{Handle}
 use Rattle.raft_log_file_laws.specs.LogQueue.{LogFiles}
 use Rattle.raft_log_record_base.specs.declared.pipe_log.FileBlockHandle.{FileBlockHandle}
 use Rattle.raft_log_file_queue.specs.Queue.{past_bytes, whole}
@@ -29,6 +30,12 @@ listed_at paths N first last zero (g ∷ gs) f (number, reserved, named, rest) l
 listed_at paths N first last (suc k) (g ∷ gs) f (number, reserved, named, rest) less is =
     let (seq, other, path) = listed_at paths N (suc first) last k gs f rest (omega (arith, less)) is in
     (omega (arith, seq), other, path)
+
+-- the file in a place of a span
+file_in : (fs : List Listed) (k : ℕ) → k < length fs → (f : Listed) × (f ≡ slice_index_or fs k f)
+file_in [] k less = absurd (omega (arith, less))
+file_in (f ∷ fs) zero less = (f, refl)
+file_in (f ∷ fs) (suc k) less = file_in fs k (omega (arith, less))
 
 bytes_now : {R : Type 0} (q : LogFiles R) (n : ℕ) (b : Bool) → nat_eq n q.last ≡ b → file_bytes q n ≡ cond b (whole q) (past_bytes (q.older n))
 bytes_now q n b is = ap (λ (c : Bool). cond c (whole q) (past_bytes (q.older n))) is
@@ -93,6 +100,19 @@ module _ {R : Type 0} (layout : QueueLayout R) (lawful : IsQueueLayout layout) (
       elim (cases_lt n q.files.last) [
         | inl less ↦ none (omega (arith, from, first)) (omega (arith, less, all, first, from))
         | inr more ↦ other (omega (arith, upto, more, number))
+      ]
+
+  -- which one it is
+  pub file_of_number : (n : ℕ) → q.first ≤ n → n ≤ q.files.last → (handle : Handle) × IsListed n files handle.file
+  file_of_number n from upto =
+      let all = span_end layout.paths d.names files.first_seq q.files.last files.earlier.items pipe.span in
+      let first = runs.first in
+      let number = pipe.number in
+      elim (cases_lt n q.files.last) [
+        | inl less ↦
+            let (f, is) = file_in files.earlier.items (n - files.first_seq) (omega (arith, less, all, first, from)) in
+            (f.handle, inr (f, (λ same. omega (arith, same, less, number)), omega (arith, from, first), omega (arith, less, all, first, from), is, refl))
+        | inr more ↦ (files.active.handle, inl (omega (arith, upto, more, number), refl))
       ]
 
   pub block_is_read : (block : FileBlockHandle) → BlockLiesIn q block.id.seq block.offset block.len → (bytes : List ℕ) → IsReadAt files block bytes d

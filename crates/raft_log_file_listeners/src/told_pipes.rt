@@ -104,6 +104,10 @@ impl<P: PipeLog, E: EventListener> PipeLog for ToldPipes<P, E> {
         self.pipes.file_system()
     }
 
+    fn has_stopped(&self) -> bool {
+        self.pipes.has_stopped()
+    }
+
     fn arm(&mut self, fault: &Fault) -> Result<()> {
         self.pipes.arm(fault)
     }

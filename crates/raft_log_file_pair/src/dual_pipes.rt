@@ -93,6 +93,10 @@ impl<F: FileSystem> PipeLog for DualPipes<F> {
         &self.file_system
     }
 
+    fn has_stopped(&self) -> bool {
+        self.file_system.has_stopped()
+    }
+
     fn arm(&mut self, fault: &Fault) -> Result<()> {
         self.file_system.arm(fault)?;
         Ok(())

@@ -65,6 +65,10 @@ pub trait PipeLog {
     fn file_system(&self) -> &Self::Files
         ensures { result.now ≡ files self.now };
 
+    /// Whether the file system has stopped.
+    fn has_stopped(&self) -> bool
+        ensures { result ≡ (shown self.now).disk.stopped };
+
     /// Arms a fault of the file system: it alters which later calls are refused, and nothing else; a place
     /// that it makes unreadable is marked on the disk.
     ///

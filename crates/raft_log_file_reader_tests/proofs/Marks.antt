@@ -4,7 +4,7 @@ use Rattle.std.specs.Result.{IfErr}
 use Rattle.std.proofs.Common.{◌≡◌, ℕ, Bool, true, false, refl, sym, ap, inl}
 use Rattle.std.proofs.lemmas.Bool.{eq-eqb}
 use Rattle.std.specs.declared.io.ErrorKind.{ErrorKind}
-use Rattle.std.specs.declared.io.ErrorKind.TheVariants.{Other}
+use Rattle.std.specs.declared.io.ErrorKind.TheVariants.{OutOfMemory, Other}
 use Rattle.raft_log_disk.specs.Disk.{Disk}
 use Rattle.raft_log_disk.specs.Calls.{at_stop, Refused, after_stop, stops}
 use Rattle.raft_log_disk.specs.Reading.{IsUnread, stopped, gone, unreadable}
@@ -14,7 +14,7 @@ use Rattle.raft_log_file_reader_tests.specs.Watched.{with_mark}
 -- a call at which a file system stops, if it hasn't stopped before
 stops_at : {part done : Disk → Type 0} {wrong : ErrorKind → Type 0} (old : Disk) (b : Bool) → old.stopped ≡ b → Refused part done wrong Other old (at_stop old)
 stops_at old true is = after_stop is (ap (λ b. record old { stopped = b }) (sym is)) refl
-stops_at old false is = stops is old (inl refl) refl
+stops_at old false is = stops is (λ (memory : Other ≡ OutOfMemory). cc) old (inl refl) refl
 
 -- the same of one with a mark
 pub stops_there : {part done : Disk → Type 0} {wrong : ErrorKind → Type 0} (file place : ℕ) (b : Bool) (d : Disk)

@@ -1,5 +1,6 @@
 -- What opening a log leaves, answered and refused.
-use Rattle.std.specs.Prelude.{◌≡◌, ℕ, List}
+use Rattle.std.specs.Prelude.{◌≡◌, ℕ, true, List}
+use Rattle.std.specs.declared.io.ErrorKind.TheVariants.{Other}
 use Rattle.raft_log_record_base.specs.declared.errors.Error.{Error}
 use Rattle.raft_log_record_base.specs.declared.errors.Error.TheVariants as errors
 use Rattle.raft_log_disk.specs.Disk.{Disk}
@@ -28,11 +29,14 @@ pub record OpensDirectory {F : Type 0} (disk : F → Disk) (tells : F → List �
   pub reads : ReadsLog disk tells config tables builder old ready
   pub opens : OpensRecovered builder (disk ready) v
 
--- Why a log wasn't opened, and what stands on the disk then: its settings have a fault; or its files weren't
+-- Why a log wasn't opened, and what stands on the disk then: the file system had stopped, which goes before all
+-- else; or its settings have a fault; or its files weren't
 -- found; or a queue wasn't read, or not cut; or memory ran out for the tables; or the files that are kept for
 -- use weren't readied; or not all files were synced, or a pipe not opened.
 pub data FailsToOpenDirectory {F : Type 0} (disk : F → Disk) (tells : F → List ℕ → ℕ → Type 0)
     (config : Config) (error : Error) (old new : F) : Type 0 where
+  ended : (disk old).stopped ≡ true → error ≡ errors.Io Other → disk new ≡ disk old
+      → FailsToOpenDirectory disk tells config error old new
   unsound : IsRefusedFor (settings_of config) error → disk new ≡ disk old
       → FailsToOpenDirectory disk tells config error old new
   unfound : (begun : DualPipesBuilder) → IsBegun config begun

@@ -1,6 +1,7 @@
 //! A log is opened.
 
-ghost use Rattle.std.specs.Prelude.{IfErr, IfOk};
+ghost use Rattle.std.specs.Prelude.{◌≡◌, false, IfErr, IfOk};
+ghost use Rattle.raft_log_record_base.specs.declared.errors.Error.TheVariants as errors;
 ghost use Rattle.raft_log_table_all.specs.Tables.{IsAtRest};
 ghost use Rattle.raft_log_open_directory.specs.Opening.{FailsToOpenDirectory, OpensDirectory};
 ghost use Rattle.raft_log_open_directory.specs.Reading.{BringsInRewrite};
@@ -10,9 +11,11 @@ use log::Log;
 use raft_log_disk::FileSystem;
 use raft_log_file_pair::{DualPipes, OpenRefused, PipeLog};
 use raft_log_file_settings::Config;
+use raft_log_record_base::Error;
 use raft_log_table_all::MemTables;
 use raft_log_table_segments::ReplayThreads;
 use std::alloc::Global;
+use std::io::ErrorKind;
 use std::thread::Threads;
 
 /// A log that was opened: its pipes, and the tables of all groups, in which nothing is prepared.
@@ -31,7 +34,8 @@ pub struct OpenedLog<F> {
 /// read by workers in these threads, damaged files cut, the files that are kept for use readied; all files are
 /// synced, and its pipes opened.
 ///
-/// Refused, the file system is handed back, and the log may be opened again. `Other` where the settings have
+/// Refused, the file system is handed back, and the log may be opened again. `Io(Other)` of a file system that has
+/// stopped goes first, so that no stop is told as want of memory. `Other` where the settings have
 /// a fault; then what `DualPipesBuilder` refuses: `Other`, `Corruption`, `Io` of the directories, and of the
 /// files `Io` where one can't be read, `Corruption` or `Codec` for damage that isn't tolerated, `Hole` or
 /// `Corruption` where records can't be. Nothing is cut unless all files of both queues could be read. `Io`
@@ -48,7 +52,13 @@ pub fn open_directory<R: Threads + Log + Sync, F: FileSystem + Sync>(
     ensures brought { IfOk result (λ log. BringsInRewrite config (F.disk file_system) log.written) }
     ensures err { IfErr result (λ refused. FailsToOpenDirectory F.disk F.tells_space config refused.error
         file_system refused.file_system) }
+    ensures memory { IfErr result (λ refused. refused.error ≡ errors.Memory
+        → (F.disk file_system).stopped ≡ false) }
 {
+    if file_system.has_stopped() {
+        let error = Error::Io(ErrorKind::Other);
+        return Err(OpenRefused { error, file_system });
+    }
     let mut file_system = file_system;
     let ReadLog {
         builder,

@@ -9,7 +9,7 @@ use Rattle.raft_log_file_pair.specs.Pipes.{LogPipes}
 use Rattle.raft_log_engine_laws.specs.Shows.{LogMap}
 use Rattle.raft_log_open_builder.specs.declared.builder.DualPipesBuilder.{DualPipesBuilder}
 use Rattle.raft_log_open_directory.specs.Opening.{FailsToOpenDirectory, OpensDirectory}
-use Rattle.raft_log_open_directory.specs.Opening.FailsToOpenDirectory.{unfinished, unfound, unsound, unmerged as tables_unmerged, unread as files_unread, unreadied as spares_unreadied}
+use Rattle.raft_log_open_directory.specs.Opening.FailsToOpenDirectory.{ended, unfinished, unfound, unsound, unmerged as tables_unmerged, unread as files_unread, unreadied as spares_unreadied}
 use Rattle.raft_log_open_directory.specs.Reading.{ReadsLog}
 use Rattle.raft_log_open_laws.specs.Directory.{CrashedDirectoriesOpen, OpensAs, RestingDirectoriesOpen}
 use Rattle.raft_log_open_laws.specs.Outcomes.{OpensByCallsAs}
@@ -44,6 +44,7 @@ module _ {S : Type 0} (disk : S → Disk) (tells : S → List ℕ → ℕ → Ty
   }
 
   pub not_opened : (error : Error) (new : S) → FailsToOpenDirectory disk tells config error old new → FailsToOpenByCalls disk tells config (disk old) (disk new)
+  not_opened error new (ended stops told same) = undone same
   not_opened error new (unsound why same) = undone same
   not_opened error new (unfound begun begins why) = unscanned begun error begins why
   not_opened error new (files_unread found scanned finds why) = unrecovered found scanned error finds why

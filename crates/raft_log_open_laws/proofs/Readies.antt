@@ -42,7 +42,7 @@ module _ (E : ℕ → Bool) where
   unused_refused id change wrong error old new (after_stop stopped same told) = ap (λ (d : Disk). d.unused) same
   unused_refused id change wrong error old new (wrong_argument runs is same) = ap (λ (d : Disk). d.unused) same
   unused_refused id change wrong error old new (failed runs right left part is) = ap (λ (d : Disk). d.unused) is ∙ some_left id change old left part
-  unused_refused id change wrong error old new (stops runs left what is) = ap (λ (d : Disk). d.unused) is ∙ elim what [
+  unused_refused id change wrong error old new (stops runs told left what is) = ap (λ (d : Disk). d.unused) is ∙ elim what [
     | inl same ↦ ap (λ (d : Disk). d.unused) same
     | inr (right, which) ↦ elim which [ inl part ↦ some_left id change old left part | inr all ↦ unused_change id (after_change change) old left all ]
   ]

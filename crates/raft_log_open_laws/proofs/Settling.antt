@@ -123,8 +123,8 @@ module _ (E : ℕ → Bool) where
   settled_refusal error old new parts dones to back (after_stop stopped same told) = after_stop stopped (ap (settled_in E) same) told
   settled_refusal error old new parts dones to back (wrong_argument runs is same) = wrong_argument runs (to error is) (ap (settled_in E) same)
   settled_refusal error old new parts dones to back (failed runs right left some is) = failed runs (λ e w. right e (back e w)) (settled_in E left) (parts left some) (ap (settled_in E) is)
-  settled_refusal error old new parts dones to back (stops runs left what is) =
-      stops runs (settled_in E left)
+  settled_refusal error old new parts dones to back (stops runs told left what is) =
+      stops runs told (settled_in E left)
       (elim what [
         | inl same ↦ inl (ap (settled_in E) same)
         | inr (right, which) ↦ inr (λ e w. right e (back e w), elim which [ inl some ↦ inl (parts left some) | inr all ↦ inr (dones left all) ])

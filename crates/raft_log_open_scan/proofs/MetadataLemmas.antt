@@ -20,9 +20,9 @@ refused_leaves : (error : ErrorKind) (old new : Disk) → FailsWithoutChange err
 refused_leaves error old new (Refused.after_stop stop same told) = subst (ChangesNoFile old) (sym same) (leaves_same old)
 refused_leaves error old new (Refused.wrong_argument runs wrong same) = absurd wrong
 refused_leaves error old new (Refused.failed runs right left part done) = subst (ChangesNoFile old) (sym (done ∙ ap (counted error) part)) (counted_leaves error old)
-refused_leaves error old new (Refused.stops runs left (inl none) done) = subst (ChangesNoFile old) (sym (done ∙ ap at_stop none)) (stopped_leaves old)
-refused_leaves error old new (Refused.stops runs left (inr (right, inl part)) done) = subst (ChangesNoFile old) (sym (done ∙ ap at_stop part)) (stopped_leaves old)
-refused_leaves error old new (Refused.stops runs left (inr (right, inr whole)) done) = subst (ChangesNoFile old) (sym (done ∙ ap at_stop whole.same)) (stopped_leaves old)
+refused_leaves error old new (Refused.stops runs told left (inl none) done) = subst (ChangesNoFile old) (sym (done ∙ ap at_stop none)) (stopped_leaves old)
+refused_leaves error old new (Refused.stops runs told left (inr (right, inl part)) done) = subst (ChangesNoFile old) (sym (done ∙ ap at_stop part)) (stopped_leaves old)
+refused_leaves error old new (Refused.stops runs told left (inr (right, inr whole)) done) = subst (ChangesNoFile old) (sym (done ∙ ap at_stop whole.same)) (stopped_leaves old)
 
 pub deleted_leaves : (result : Result (Unit {0}) ErrorKind) (old new : Disk) → OnOk result (LeavesAll old new) → IfErr result (λ error. FailsWithoutChange error old new) → ChangesNoFile old new
 deleted_leaves (Ok x) old new ok err = subst (ChangesNoFile old) (sym ok.same) (leaves_same old)

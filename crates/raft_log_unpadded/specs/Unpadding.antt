@@ -1,8 +1,8 @@
 -- What a call leaves that takes the padding out of a log.
-use Rattle.std.specs.Prelude.{◌≡◌, ℕ, ◌⊎◌, Option, None, Some, List, [], ◌∷◌, ◌++◌, Contains}
+use Rattle.std.specs.Prelude.{◌≡◌, ℕ, ◌⊎◌, true, Option, None, Some, List, [], ◌∷◌, ◌++◌, Contains}
 use Rattle.std.specs.String.{string_bytes}
 use Rattle.std.specs.declared.io.ErrorKind.{ErrorKind}
-use Rattle.std.specs.declared.io.ErrorKind.TheVariants.{OutOfMemory}
+use Rattle.std.specs.declared.io.ErrorKind.TheVariants.{OutOfMemory, Other}
 use Rattle.raft_log_record_base.specs.declared.errors.Error.{Error}
 use Rattle.raft_log_record_base.specs.declared.errors.Error.TheVariants as errors
 use Rattle.raft_log_record_base.specs.declared.pipe_log.FileId.{FileId}
@@ -134,9 +134,10 @@ pub record Unpads (directories : List (List ℕ)) (written : List FileId) (old n
   pub clears : ClearsAll directories old cleared
   pub unpads : UnpadsAll files written cleared new
 
--- Why not all of a log was done, and what stands then: nothing was begun, since its files weren't found or memory
--- ran out; or what a call before left wasn't deleted; or not all files were done.
+-- Why not all of a log was done, and what stands then: nothing was begun, since the file system had stopped, which
+-- goes before all else, or its files weren't found or memory ran out; or what a call before left wasn't deleted; or not all files were done.
 pub data FailsToUnpad (directories : List (List ℕ)) (error : Error) (old new : Disk) : Type 0 where
+  ended : old.stopped ≡ true → error ≡ errors.Io Other → new ≡ old → FailsToUnpad directories error old new
   unbegun : error ≡ errors.Memory → new ≡ old → FailsToUnpad directories error old new
   unfound : IsSourceRefusal directories old error → new ≡ old → FailsToUnpad directories error old new
   uncleared : (files : List PlacedFile) → AreLogFiles directories old files

@@ -1,7 +1,8 @@
 //! The padding is taken out of a log that nobody has open.
 
-ghost use Rattle.std.specs.Prelude.{◌≡◌, IfOk, IfErr, MatchBool, OnOk, map};
+ghost use Rattle.std.specs.Prelude.{◌≡◌, false, IfOk, IfErr, MatchBool, OnOk, map};
 ghost use Rattle.std.specs.String.{string_bytes};
+ghost use Rattle.raft_log_record_base.specs.declared.errors.Error.TheVariants.{Memory};
 ghost use Rattle.raft_log_file_settings.specs.Settings.{directories_of, settings_of};
 ghost use Rattle.raft_log_unpadded.specs.Unpadding.{ClearsAll, ClearsOne, FailsToClearAll, FailsToClearOne, FailsToLookAt, FailsToUnpad, FailsToUnpadAll, FailsToUnpadOne, FindsAt, LeavesAlone, AreApart, IsApart, Unpads, UnpadsAll, WritesAnew};
 
@@ -30,7 +31,8 @@ use std::io::ErrorKind;
 /// file is as before or wholly new, whenever the call ends; a file `unpadded` that a crash or a refusal left is deleted
 /// by the next call.
 ///
-/// Refused as `Io` where a directory of the log isn't there and as `Corruption` where a name in it says a number and
+/// Refused as `Io(Other)` of a file system that has stopped, so that no stop is told as want of memory; as `Io` where a
+/// directory of the log isn't there and as `Corruption` where a name in it says a number and
 /// has more between it and the end, with nothing changed; later as `Io` where a call of the file system is refused,
 /// and as `Memory`: the files before are written anew then. The bytes of one file are held twice.
 pub fn unpad<F: FileSystem>(
@@ -42,7 +44,11 @@ pub fn unpad<F: FileSystem>(
         (F.disk file_system.old) (F.disk file_system.new)) }
     ensures err { IfErr result (λ error. FailsToUnpad (directories_of (settings_of source.now)) error
         (F.disk file_system.old) (F.disk file_system.new)) }
+    ensures memory { IfErr result (λ error. error ≡ Memory → (F.disk file_system.old).stopped ≡ false) }
 {
+    if file_system.has_stopped() {
+        return Err(Error::Io(ErrorKind::Other));
+    }
     let directories = paths(alloc, source)?;
     let files = find_placed(alloc, file_system, directories.as_slice())?;
     clear_all(alloc, file_system, directories.as_slice())?;

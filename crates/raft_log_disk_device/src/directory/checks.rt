@@ -1,9 +1,10 @@
 //! What is asked before a call, how a failure is counted, and how a call of the device ends.
 ghost use Rattle.std.specs.Prelude.{◌≡◌, true, OnOk, OnErr};
+ghost use Rattle.raft_log_disk_device.specs.Directory.{IsToldOf};
 
 use super::DirectoryFileSystem;
 use crate::device::Device;
-use raft_log_disk::{Handle, Permission};
+use raft_log_disk::{Handle, Permission, told_at_stop};
 use raft_log_disk_storage::Node;
 use std::io::ErrorKind;
 
@@ -13,19 +14,21 @@ impl<D: Device> DirectoryFileSystem<D> {
     ghost use Rattle.raft_log_disk_device.specs.Directory.{disk_of, FailsOnce, Runs, RunsWithDirectory, RunsWithFile, RunsWithWriter, LacksDirectory, LacksFile, LacksWriter};
 
     /// Counts a failure and notes the kind that it is told as; the one that would make 2^64 stops the file
-    /// system, and none is noted.
+    /// system, none is noted, and it isn't told as want of memory.
     pub(super) fn fail(&mut self, kind: ErrorKind) -> ErrorKind
-        ensures failed { FailsOnce result (disk_of D.Device self.old) (disk_of D.Device self.new) }
-        ensures kind { result ≡ kind }
+        ensures { FailsOnce kind result (disk_of D.Device self.old) (disk_of D.Device self.new) }
     {
         match self.failures.checked_add(1) {
             Some(failures) => {
                 self.failures = failures;
                 self.kinds.note(&kind);
+                kind
             }
-            None => self.stopped = true,
+            None => {
+                self.stopped = true;
+                told_at_stop(kind)
+            }
         }
-        kind
     }
 
     /// Whether the file system runs.
@@ -79,14 +82,17 @@ impl<D: Device> DirectoryFileSystem<D> {
     }
 }
 
-/// Ends a call of the device: a refused one is a stop.
+/// Ends a call of the device: a refused one is a stop, which isn't told as want of memory.
 pub(super) fn stopping(stopped: &mut bool, made: Result<(), ErrorKind>) -> Result<(), ErrorKind>
-    ensures same { result ≡ made }
+    ensures told { IsToldOf made result }
     ensures ok { OnOk made (stopped.new ≡ stopped.old) }
     ensures err { OnErr made (stopped.new ≡ true) }
 {
-    if made.is_err() {
-        *stopped = true;
+    match made {
+        Ok(()) => Ok(()),
+        Err(kind) => {
+            *stopped = true;
+            Err(told_at_stop(kind))
+        }
     }
-    made
 }

@@ -4,7 +4,7 @@ ghost use Rattle.std.specs.List.{Contains};
 ghost use Rattle.raft_log_disk_memory.specs.Turns.{nearer, nearer_parts, part_later, front_of};
 
 use super::MemoryFileSystem;
-use raft_log_disk::{Fault, Handle, Permission};
+use raft_log_disk::{Fault, Handle, Permission, told_at_stop};
 use raft_log_disk_storage::Node;
 use std::alloc::AllocError;
 use std::io::ErrorKind;
@@ -12,7 +12,7 @@ use std::io::ErrorKind;
 impl MemoryFileSystem {
     ghost use Rattle.std.specs.Prelude.{◌≡◌, ◌↔◌, true, false, None, OnOk, OnErr, IfErr, IfOk, IfSome, IsTrue, MatchResult};
     ghost use Rattle.raft_log_disk.specs.Arguments.{IsAfterStop};
-    ghost use Rattle.raft_log_disk_memory.specs.Memory.{disk_of, failed_once, unsynced};
+    ghost use Rattle.raft_log_disk_memory.specs.Memory.{disk_of, failed_once, unsynced, IsToldOnce};
     ghost use Rattle.raft_log_disk_memory.specs.Turns.{armed, armed_with, call_later, IsSpared, PartFalls, StopsAfter, ArmedRefusalFell, IsCallEnded, IsChangeEnded};
     ghost use Rattle.raft_log_disk_memory.specs.Answers.{HasRefused, HasFallen, RunsWithDirectory, LacksDirectory, RunsWithFile, LacksFile, RunsWithWriter, LacksWriter};
 
@@ -102,7 +102,8 @@ impl MemoryFileSystem {
         ensures storage { self.new.storage ≡ self.old.storage }
         ensures failed { disk_of self.new ≡ failed_once result (disk_of self.old) }
         ensures same { armed self.new ≡ armed self.old }
-        ensures kind { MatchResult done (λ v. result ≡ ErrorKind.Other) (λ kind. result ≡ kind) }
+        ensures kind { MatchResult done (λ v. result ≡ ErrorKind.Other)
+            (λ kind. IsToldOnce kind result (disk_of self.old)) }
     {
         match done {
             Ok(()) => self.fail(ErrorKind::Other),
@@ -145,8 +146,7 @@ impl MemoryFileSystem {
         Ok(stops)
     }
 
-    // Ends a call that is done whole or not at all, and wasn't done for want of memory alone. After a stop
-    // the error says so, where it wasn't done.
+    // Ends a call that is done whole or not at all, and wasn't done for want of memory alone.
     pub(super) fn end(&mut self, stops: bool, done: Result<(), AllocError>) -> Result<(), ErrorKind>
         ensures storage { self.new.storage ≡ self.old.storage }
         ensures same { armed self.new ≡ armed self.old }
@@ -161,7 +161,7 @@ impl MemoryFileSystem {
     }
 
     // Ends a change, which was made or wasn't. At a stop the error is that of the change, where it wasn't
-    // made.
+    // made, but `Other` for want of memory.
     pub(super) fn end_change(
         &mut self,
         stops: bool,
@@ -177,7 +177,7 @@ impl MemoryFileSystem {
             self.stopped = true;
             return match done {
                 Ok(()) => Err(ErrorKind::Other),
-                Err(kind) => Err(kind),
+                Err(kind) => Err(told_at_stop(kind)),
             };
         }
         match done {
@@ -187,20 +187,22 @@ impl MemoryFileSystem {
     }
 
     // Counts a failure and notes the kind that it is told as; the one that would make 2^64 - 1 stops the file
-    // system, and none is noted.
+    // system, none is noted, and it isn't told as want of memory.
     pub(super) fn fail(&mut self, kind: ErrorKind) -> ErrorKind
         ensures storage { self.new.storage ≡ self.old.storage }
         ensures failed { disk_of self.new ≡ failed_once kind (disk_of self.old) }
         ensures same { armed self.new ≡ armed self.old }
-        ensures kind { result ≡ kind }
+        ensures kind { IsToldOnce kind result (disk_of self.old) }
+        ensures other { kind ≡ ErrorKind.Other → result ≡ ErrorKind.Other }
     {
         if self.failures < u64::MAX - 1 {
             self.failures += 1;
             self.kinds.note(&kind);
+            kind
         } else {
             self.stopped = true;
+            told_at_stop(kind)
         }
-        kind
     }
 
     // Whether the file system runs.

@@ -1,12 +1,13 @@
 //! Entries are read through their blocks, of which the last is kept.
 
 ghost use Rattle.std.specs.Prelude.{◌≡◌, ◌⊎◌, ◌+◌, ◌^◌, ◌<◌, ◌≤◌, length, take, vec_capacity, vec_len, IfErr, IfOk, OnErr, OnOk};
+ghost use Rattle.raft_log_record_base.specs.declared.errors.Error.TheVariants as errors;
 ghost use Rattle.raft_log_table_one.specs.Reads.{entry_at};
 ghost use Rattle.raft_log_table_one.specs.Table.{shown};
 ghost use Rattle.raft_log_table_all.specs.Tables.{shown_of};
 ghost use Rattle.raft_log_file_blocks.specs.Blocks.{AddsEntries, AreUnread};
 ghost use Rattle.raft_log_purge.specs.raft_log_engine_laws.specs.Fetching.{FailsToFetch, FailsToTell, FetchesTo, HadFailed, TellsEntry};
-ghost use Rattle.raft_log_engine_core.specs.Reads.{AreNext, entries_on, shows_of, Lives};
+ghost use Rattle.raft_log_engine_core.specs.Reads.{AreNext, HasFirst, IsToldAs, Runs, entries_on, shows_of, Lives};
 ghost use Rattle.raft_log_engine_core.specs.Touching.{StaysPurged};
 
 use super::LogEngine;
@@ -17,13 +18,15 @@ use raft_log_record_items::{EntryIndex, Message, MessageExt};
 use raft_log_table_one::MemTable;
 use raft_log_table_runs::Bounds;
 use std::alloc::Global;
+use std::io::ErrorKind;
 
 impl<P: PipeLog> LogEngine<P> {
     /// The entry of a group at an index, if there is one.
     ///
     /// `Failed` of an engine that has failed. `Io` where the file system doesn't read its block, `Message` where
     /// its bytes are no message, or `Memory`. `Corruption` comes only where the block was damaged from outside: no
-    /// entry of a log that holds is told so.
+    /// entry of a log that holds is told so. Want of memory is told of a file system that runs alone: of one that
+    /// has stopped it is `Io(Other)`, as the stop is.
     pub fn get_entry<M: MessageExt>(
         &mut self,
         raft_group_id: u64,
@@ -38,6 +41,7 @@ impl<P: PipeLog> LogEngine<P> {
             ⊎ FailsToTell M.Entry.reading raft_group_id log_idx
             (shows_of P.shown self.old)
             (shows_of P.shown self.new) error) }
+        ensures memory { IfErr result (λ error. error ≡ errors.Memory → Runs (shows_of P.shown self.old)) }
         ensures pipes { self.new.pipes ≡ self.old.pipes }
         ensures purges { StaysPurged self.old self.new }
     {
@@ -47,7 +51,7 @@ impl<P: PipeLog> LogEngine<P> {
         match self.entry_at(raft_group_id, log_idx) {
             Some(entry) => match self.cache.read_entry(self.alloc, &self.pipes, &entry) {
                 Ok(message) => Ok(Some(message)),
-                Err(error) => Err(error),
+                Err(error) => Err(self.unread(error)),
             },
             None => Ok(None),
         }
@@ -79,6 +83,7 @@ impl<P: PipeLog> LogEngine<P> {
             ⊎ FailsToFetch M.Entry.reading raft_group_id begin end
             (shows_of P.shown self.old)
             (shows_of P.shown self.new) error) }
+        ensures memory { IfErr result (λ error. error ≡ errors.Memory → Runs (shows_of P.shown self.old)) }
         ensures pipes { self.new.pipes ≡ self.old.pipes }
         ensures purges { StaysPurged self.old self.new }
     {
@@ -90,7 +95,7 @@ impl<P: PipeLog> LogEngine<P> {
             Ok(count) => Ok(count),
             Err(error) => {
                 vec.truncate(len);
-                Err(error)
+                Err(self.unread(error))
             }
         }
     }
@@ -113,6 +118,8 @@ impl<P: PipeLog> LogEngine<P> {
         ensures err { IfErr result (FailsToFetch M.reading raft_group_id begin end
             (shows_of P.shown self.old)
             (shows_of P.shown self.new)) }
+        ensures there { IfErr result (λ error. error ≡ errors.Memory
+            → HasFirst (shown_of self.old.tables raft_group_id) begin end) }
         ensures pipes { self.new.pipes ≡ self.old.pipes }
         ensures purges { StaysPurged self.old self.new }
     {
@@ -135,6 +142,16 @@ impl<P: PipeLog> LogEngine<P> {
             messages,
         )?;
         Ok(count)
+    }
+
+    /// What a refusal of a read is told as: want of memory, where the file system has stopped, as that.
+    fn unread(&self, error: Error) -> Error
+        ensures { IsToldAs (P.shown self.now.pipes).disk.stopped error result }
+    {
+        match error {
+            Error::Memory if self.pipes.has_stopped() => Error::Io(ErrorKind::Other),
+            error => error,
+        }
     }
 
     /// Where the entry of a group at an index lies, if there is one.

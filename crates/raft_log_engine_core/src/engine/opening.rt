@@ -1,6 +1,7 @@
 //! An engine is opened.
 
-ghost use Rattle.std.specs.Prelude.{◌≡◌, None, IfErr, IfOk};
+ghost use Rattle.std.specs.Prelude.{◌≡◌, false, None, IfErr, IfOk};
+ghost use Rattle.raft_log_record_base.specs.declared.errors.Error.TheVariants as errors;
 ghost use Rattle.raft_log_open_directory.specs.Opening.{FailsToOpenDirectory, OpensDirectory};
 ghost use Rattle.raft_log_engine_core.specs.Purging.{CountsBrought, IsPurgedBy};
 
@@ -28,7 +29,8 @@ impl<F: FileSystem + Sync> LogEngine<ToldPipes<ToldPipes<DualPipes<F>, Nobody>, 
     /// written and synced, or stood when the log was closed, is there again. A directory that isn't there is
     /// made, and a log without files begins. Nobody listens but the engine's own hook.
     ///
-    /// Refused, the file system is handed back, and the log may be opened again: `Other` where the settings
+    /// Refused, the file system is handed back, and the log may be opened again: `Io(Other)` of a file system that
+    /// has stopped goes first, so that no stop is told as want of memory; `Other` where the settings
     /// have a fault, or a file has the path of a directory; `Io` where a file can't be read, which is never
     /// taken for damage, or isn't cut, made or synced; `Corruption` or `Codec` for damage that the mode of
     /// recovery doesn't tolerate, or for a wrong name; `Hole` or `Corruption` where records can't be;
@@ -48,6 +50,8 @@ impl<F: FileSystem + Sync> LogEngine<ToldPipes<ToldPipes<DualPipes<F>, Nobody>, 
         ensures brought { IfOk result (λ engine. CountsBrought config (F.disk file_system) engine.counts) }
         ensures err { IfErr result (λ refused. FailsToOpenDirectory F.disk F.tells_space config refused.error
             file_system refused.file_system) }
+        ensures memory { IfErr result (λ refused. refused.error ≡ errors.Memory
+            → (F.disk file_system).stopped ≡ false) }
     {
         Self::open_with(rt, alloc, config, file_system, Nobody)
     }
@@ -78,6 +82,8 @@ impl<F: FileSystem + Sync, E: EventListener> LogEngine<
         ensures brought { IfOk result (λ engine. CountsBrought config (F.disk file_system) engine.counts) }
         ensures err { IfErr result (λ refused. FailsToOpenDirectory F.disk F.tells_space config refused.error
             file_system refused.file_system) }
+        ensures memory { IfErr result (λ refused. refused.error ≡ errors.Memory
+            → (F.disk file_system).stopped ≡ false) }
     {
         Self::open_by(
             rt,
@@ -108,6 +114,8 @@ impl<F: FileSystem + Sync, E: EventListener> LogEngine<
         ensures brought { IfOk result (λ engine. CountsBrought config (F.disk file_system) engine.counts) }
         ensures err { IfErr result (λ refused. FailsToOpenDirectory F.disk F.tells_space config refused.error
             file_system refused.file_system) }
+        ensures memory { IfErr result (λ refused. refused.error ≡ errors.Memory
+            → (F.disk file_system).stopped ≡ false) }
     {
         Self::open_by(
             rt,
@@ -138,6 +146,8 @@ impl<F: FileSystem + Sync, E: EventListener> LogEngine<
         ensures brought { IfOk result (λ engine. CountsBrought config (F.disk file_system) engine.counts) }
         ensures err { IfErr result (λ refused. FailsToOpenDirectory F.disk F.tells_space config refused.error
             file_system refused.file_system) }
+        ensures memory { IfErr result (λ refused. refused.error ≡ errors.Memory
+            → (F.disk file_system).stopped ≡ false) }
     {
         let thresholds = Thresholds::of(&config);
         match open_directory(rt, alloc, threads, config, file_system) {
@@ -183,6 +193,8 @@ impl<F: FileSystem + Sync> LogEngine<DualPipes<F>> {
         ensures brought { IfOk result (λ engine. CountsBrought config (F.disk file_system) engine.counts) }
         ensures err { IfErr result (λ refused. FailsToOpenDirectory F.disk F.tells_space config refused.error
             file_system refused.file_system) }
+        ensures memory { IfErr result (λ refused. refused.error ≡ errors.Memory
+            → (F.disk file_system).stopped ≡ false) }
     {
         let thresholds = Thresholds::of(&config);
         match open_directory(rt, alloc, ReplayThreads::Rayon, config, file_system) {

@@ -3,7 +3,7 @@ use Rattle.raft_log_table_one.specs.Reads.{entry_at}
 use Rattle.raft_log_table_all.specs.Tables.{shown_of}
 use Rattle.raft_log_file_pair.specs.Pipes.{is_failed}
 use Rattle.raft_log_purge.specs.raft_log_engine_laws.specs.Shows.{shows}
-use Rattle.raft_log_engine_core.proofs.Entries.{fails_to_tell, tells_none, tells_one}
+use Rattle.raft_log_engine_core.proofs.Entries.{fails_to_tell, runs_as, tells_none, tells_one, told_as}
 use Rattle.raft_log_engine_core.proofs.engine.LogEngine.get_entry.Goals as goal
 
 pub returns-in-None-clause-ok : goal.returns-in-None-clause-ok
@@ -36,4 +36,8 @@ returns-in-Err-clause-err g c =
     let i = c.in-Some.is in
     let e = c.entry_at.ensures in
     let there : entry_at (shown_of c.args.self.now.tables c.args.raft_group_id) c.args.log_idx ≡ Some c.in-Some.entry = cc in
-    inr (fails_to_tell g.M.Entry.Message.reading s t c.args.raft_group_id lived refl c.args.log_idx c.in-Some.entry c.in-Err.error there c.in-Err.ensures.err)
+    inr (told_as g.M.Entry.Message.reading s t c.args.raft_group_id lived refl c.args.log_idx c.in-Some.entry c.in-Err.error c.unread.result there c.unread.ensures
+    (fails_to_tell g.M.Entry.Message.reading s t c.args.raft_group_id lived refl c.args.log_idx c.in-Some.entry c.in-Err.error there c.in-Err.ensures.err))
+
+pub returns-in-Err-clause-memory : goal.returns-in-Err-clause-memory
+returns-in-Err-clause-memory g c = runs_as (g.P.PipeLog.shown c.args.self.now.pipes).disk.stopped c.in-Err.error c.unread.result c.unread.ensures

@@ -9,7 +9,7 @@ use Rattle.raft_log_purge.specs.raft_log_engine_laws.specs.Fetching.{AreToRead}
 use Rattle.raft_log_purge.specs.raft_log_engine_laws.specs.Shows.{shows}
 use Rattle.raft_log_engine_core.specs.Reads.{entries_on}
 use Rattle.raft_log_engine_core.proofs.Entries.{fails_to_fetch, fetch_refused, fetches_to, none_counted, table_shown}
-use Rattle.raft_log_engine_core.proofs.Pieces.{are_to_read, asked_within, on_length}
+use Rattle.raft_log_engine_core.proofs.Pieces.{are_to_read, asked_within, first_there, on_length}
 use Rattle.raft_log_engine_core.proofs.engine.LogEngine.read_to.Goals as goal
 
 -- the greatest size, in bytes, is the one that was asked for
@@ -39,6 +39,23 @@ returns-then-count-eq0-clause-ok g c =
     let asked = are_to_read s c.args.raft_group_id table c.args.begin c.args.end c.args.max_size c.in_ok-count.count same some c.in_ok-count.ensures.within (counted_bytes table c.args.begin c.args.end c.in_bytes.result c.args.max_size c.in_ok-count.count c.in_bytes.ensures c.in_ok-count.ensures.ok) c.in_ok-count.ensures.few in
     fetches_to g.M.Message.reading s s c.args.raft_group_id c.requires refl c.args.begin c.args.end c.args.max_size [] [] c.args.messages.now.items c.args.messages.now.items 0
     (subst (λ (n : ℕ). AreToRead s c.args.raft_group_id c.args.begin c.args.end c.args.max_size (entries_on table c.args.begin n)) none asked) (refl, refl) (sym (append-nil c.args.messages.now.items)) refl
+
+pub returns-in_err-count-clause-there : goal.returns-in_err-count-clause-there
+returns-in_err-count-clause-there g c =
+    let p = err_from_is_err_and c.from_residual.result c.from_residual.ensures.1 in
+    rw (p.1, p.2) (λ memory. absurd (c.in_err-count.ensures.told memory))
+
+pub returns-in_err-reserve-clause-there : goal.returns-in_err-reserve-clause-there
+returns-in_err-reserve-clause-there g c =
+    let (same, some) = table_shown c.args.self.now.tables c.args.raft_group_id c.in-Some.table.now c.in-Some.ensures in
+    let p = err_from_is_err_and c.from_residual-in_err-reserve.result c.from_residual-in_err-reserve.ensures.1 in
+    rw p.1 (λ memory. first_there (shown c.in-Some.table.now) _ c.args.begin c.args.end c.in_ok-count.count same (omega arith) c.in_ok-count.ensures.few c.in_ok-count.ensures.within)
+
+pub returns-in_err-push_entries-clause-there : goal.returns-in_err-push_entries-clause-there
+returns-in_err-push_entries-clause-there g c =
+    let (same, some) = table_shown c.args.self.now.tables c.args.raft_group_id c.in-Some.table.now c.in-Some.ensures in
+    let p = err_from_is_err_and c.from_residual-in_err-push_entries.result c.from_residual-in_err-push_entries.ensures.1 in
+    rw (p.1, p.2) (λ memory. first_there (shown c.in-Some.table.now) _ c.args.begin c.args.end c.in_ok-count.count same (omega arith) c.in_ok-count.ensures.few c.in_ok-count.ensures.within)
 
 pub returns-in_err-reserve-clause-err : goal.returns-in_err-reserve-clause-err
 returns-in_err-reserve-clause-err g c =

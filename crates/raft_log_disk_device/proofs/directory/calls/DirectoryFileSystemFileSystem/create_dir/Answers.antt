@@ -15,7 +15,7 @@ returns-in_default-clause-err g c =
     let path = c.args.path.now in
     let free : node_at system.storage path ≡ None = search rules in
     failed_once Nothing (MakesDirectory path) (WrongDirectory path) c.fail.result system.failures system.kinds.told old (disk_of g.D.Device system) (disk_of g.D.Device c.fail.new.self) c.in_ok-check_runs.ensures.ok.same refl
-    (right_directory path (with_failures system.failures system.kinds.told old) (ap file_named free) (ap is_directory free)) (λ k. refl) c.fail.ensures.failed
+    (right_directory path (with_failures system.failures system.kinds.told old) (ap file_named free) (ap is_directory free)) (λ k. refl) c.fail.ensures
 
 pub invariant_of-self-2 : goal.invariant_of-self-2
 invariant_of-self-2 g c =
@@ -39,7 +39,7 @@ returns-clause-ok g c =
     let made = c.create_dir-made.result in
     let m = made_of (MadeDirectory path) system.storage c.add_directory.new.self (g.D.Device.trace system.device) (g.D.Device.trace c.create_dir-made.new.device) made system.stopped c.stopping.new.stopped
     runs.running system.follows c.in-Ok.ensures.ok.contents c.create_dir-made.ensures.ok c.create_dir-made.ensures.err c.stopping.ensures.ok c.stopping.ensures.err in
-    told_ok c.stopping.result made _ c.stopping.ensures.same
+    told_ok c.stopping.result made _ c.stopping.ensures.told
     (made_ok _ _ _ _ _ (MakesDirectory path) made _ system.failures system.kinds.told (disk_of g.D.Device system) m runs.same
     (record { runs = refl; free = ap file_named free; apart = ap is_directory free; done = ap (with_failures system.failures system.kinds.told) c.in-Ok.ensures.ok.contents }))
 
@@ -53,7 +53,7 @@ returns-clause-err g c =
     let made = c.create_dir-made.result in
     let m = made_of (MadeDirectory path) system.storage c.add_directory.new.self (g.D.Device.trace system.device) (g.D.Device.trace c.create_dir-made.new.device) made system.stopped c.stopping.new.stopped
     runs.running system.follows c.in-Ok.ensures.ok.contents c.create_dir-made.ensures.ok c.create_dir-made.ensures.err c.stopping.ensures.ok c.stopping.ensures.err in
-    told_err c.stopping.result made _ c.stopping.ensures.same
+    told_err c.stopping.result made _ c.stopping.ensures.told
     (made_err _ _ _ _ _ Nothing (MakesDirectory path) (WrongDirectory path) made _ system.failures system.kinds.told (disk_of g.D.Device system) m runs.same
     (right_directory path (with_failures system.failures system.kinds.told old) (ap file_named free) (ap is_directory free))
     (record { runs = refl; free = ap file_named free; apart = ap is_directory free; done = ap (with_failures system.failures system.kinds.told) c.in-Ok.ensures.ok.contents }))

@@ -33,6 +33,6 @@ returns-clause-err g c =
     let made = c.delete-made.result in
     let m = made_of (Deleted path) system.storage c.remove_file.new.self (g.D.Device.trace system.device) (g.D.Device.trace c.delete-made.new.device) made system.stopped c.stopping.new.stopped
     runs.running system.follows (did_delete path id old (contents_of c.remove_file.new.self) is c.remove_file.ensures.ok.contents) c.delete-made.ensures.ok c.delete-made.ensures.err c.stopping.ensures.ok c.stopping.ensures.err in
-    told_err c.stopping.result made _ c.stopping.ensures.same
+    told_err c.stopping.result made _ c.stopping.ensures.told
     (made_err _ _ _ _ _ Nothing (Deletes path) (WrongName path) made _ system.failures system.kinds.told (disk_of g.D.Device system) m runs.same (right_name path (with_failures system.failures system.kinds.told old) id is)
     (record { runs = refl; id = id; is = is; done = ap (with_failures system.failures system.kinds.told) c.remove_file.ensures.ok.contents }))

@@ -20,7 +20,7 @@ returns-in_default-rename_file-clause-err g c =
     let apart : is_directory (node_at system.storage to) ≡ false = search rules in
     let home : HasDirectory to old = search rules in
     failed_once Nothing (Renames from to) (WrongRename from to) c.fail.result system.failures system.kinds.told old (disk_of g.D.Device system) (disk_of g.D.Device c.fail.new.self) c.in_ok-check_runs.ensures.ok.same refl
-    (right_rename from to (with_failures system.failures system.kinds.told old) id is apart (record { directory = home.directory; inside = home.inside; there = home.there })) (λ k. refl) c.fail.ensures.failed
+    (right_rename from to (with_failures system.failures system.kinds.told old) id is apart (record { directory = home.directory; inside = home.inside; there = home.there })) (λ k. refl) c.fail.ensures
 
 pub invariant_of-self-2 : goal.invariant_of-self-2
 invariant_of-self-2 g c =
@@ -53,7 +53,7 @@ returns-clause-ok g c =
     let made = c.rename-made.result in
     let m = made_of (Renamed from to) system.storage c.rename_file.new.self (g.D.Device.trace system.device) (g.D.Device.trace c.rename-made.new.device) made system.stopped c.stopping.new.stopped
     runs.running system.follows (did_rename from to id old (contents_of c.rename_file.new.self) is c.in-Ok.ensures.ok.contents) c.rename-made.ensures.ok c.rename-made.ensures.err c.stopping.ensures.ok c.stopping.ensures.err in
-    told_ok c.stopping.result made _ c.stopping.ensures.same
+    told_ok c.stopping.result made _ c.stopping.ensures.told
     (made_ok _ _ _ _ _ (Renames from to) made _ system.failures system.kinds.told (disk_of g.D.Device system) m runs.same
     (record { runs = refl; id = id; is = is; apart = apart; home = record { directory = home.directory; inside = home.inside; there = home.there }; done = ap (with_failures system.failures system.kinds.told) c.in-Ok.ensures.ok.contents }))
 
@@ -72,7 +72,7 @@ returns-clause-err g c =
     let made = c.rename-made.result in
     let m = made_of (Renamed from to) system.storage c.rename_file.new.self (g.D.Device.trace system.device) (g.D.Device.trace c.rename-made.new.device) made system.stopped c.stopping.new.stopped
     runs.running system.follows (did_rename from to id old (contents_of c.rename_file.new.self) is c.in-Ok.ensures.ok.contents) c.rename-made.ensures.ok c.rename-made.ensures.err c.stopping.ensures.ok c.stopping.ensures.err in
-    told_err c.stopping.result made _ c.stopping.ensures.same
+    told_err c.stopping.result made _ c.stopping.ensures.told
     (made_err _ _ _ _ _ Nothing (Renames from to) (WrongRename from to) made _ system.failures system.kinds.told (disk_of g.D.Device system) m runs.same
     (right_rename from to (with_failures system.failures system.kinds.told old) id is apart there)
     (record { runs = refl; id = id; is = is; apart = apart; home = there; done = ap (with_failures system.failures system.kinds.told) c.in-Ok.ensures.ok.contents }))

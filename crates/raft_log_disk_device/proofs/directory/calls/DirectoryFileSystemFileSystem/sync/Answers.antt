@@ -14,7 +14,7 @@ returns-in_default-clause-err g c =
     let old = contents_of system.storage in
     let checked = c.in_ok-check_handle.ensures.ok in
     failed_once Nothing (Changes c.args.handle.file flushed) (WrongHandle c.args.handle) c.fail.result system.failures system.kinds.told old (disk_of g.D.Device system) (disk_of g.D.Device c.fail.new.self) checked.runs.same refl
-    (right_handle c.args.handle (with_failures system.failures system.kinds.told old) checked.there) (λ k. refl) c.fail.ensures.failed
+    (right_handle c.args.handle (with_failures system.failures system.kinds.told old) checked.there) (λ k. refl) c.fail.ensures
 
 pub invariant_of-self-2 : goal.invariant_of-self-2
 invariant_of-self-2 g c =
@@ -38,7 +38,7 @@ returns-clause-ok g c =
     let file = c.args.handle.file in
     let made = c.sync-made.result in
     let m = sync_made file system.storage c.flush.new.self checked.there (g.D.Device.trace system.device) (g.D.Device.trace c.sync-made.new.self) made system.stopped c.stopping.new.stopped checked.runs.running system.follows c.stopping.ensures.ok c.stopping.ensures.err c.in-Ok.ensures.ok c.sync-made.ensures.ok c.sync-made.ensures.err in
-    told_ok c.stopping.result made _ c.stopping.ensures.same
+    told_ok c.stopping.result made _ c.stopping.ensures.told
     (made_ok _ _ _ _ _ (Changes file flushed) made _ system.failures system.kinds.told (disk_of g.D.Device system) m checked.runs.same (makes_sync file system.storage c.flush.new.self checked.there system.failures system.kinds.told c.in-Ok.ensures.ok))
 
 pub returns-clause-err : goal.returns-clause-err
@@ -49,6 +49,6 @@ returns-clause-err g c =
     let file = c.args.handle.file in
     let made = c.sync-made.result in
     let m = sync_made file system.storage c.flush.new.self checked.there (g.D.Device.trace system.device) (g.D.Device.trace c.sync-made.new.self) made system.stopped c.stopping.new.stopped checked.runs.running system.follows c.stopping.ensures.ok c.stopping.ensures.err c.in-Ok.ensures.ok c.sync-made.ensures.ok c.sync-made.ensures.err in
-    told_err c.stopping.result made _ c.stopping.ensures.same
+    told_err c.stopping.result made _ c.stopping.ensures.told
     (made_err _ _ _ _ _ Nothing (Changes file flushed) (WrongHandle c.args.handle) made _ system.failures system.kinds.told (disk_of g.D.Device system) m checked.runs.same
     (right_handle c.args.handle (with_failures system.failures system.kinds.told old) checked.there) (makes_sync file system.storage c.flush.new.self checked.there system.failures system.kinds.told c.in-Ok.ensures.ok))

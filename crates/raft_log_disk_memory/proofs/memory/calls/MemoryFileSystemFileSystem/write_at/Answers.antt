@@ -7,7 +7,7 @@ use Rattle.raft_log_disk.specs.Calls.{after_change}
 use Rattle.raft_log_disk.specs.Arguments.{WrongWriter}
 use Rattle.raft_log_disk_storage.specs.Storage.{contents_of}
 use Rattle.raft_log_disk_memory.specs.Memory.{disk_of}
-use Rattle.raft_log_disk_memory.proofs.Turns.{over, counted_or_stop, refusal, part_cause, change_order, change_cause, call_turn}
+use Rattle.raft_log_disk_memory.proofs.Turns.{over, counted_or_stop, other_stops, refusal, part_cause, change_order, change_cause, call_turn}
 use Rattle.raft_log_disk_memory.proofs.Calls.{refused_piece, front_or_not, part_err, made_or_not, change_ok, change_err, right_writer, no_writer}
 use Rattle.raft_log_disk_memory.proofs.Space.{room_told, space_had, space_found}
 use Rattle.raft_log_disk_memory.proofs.memory.calls.MemoryFileSystemFileSystem.write_at.Goals as goal
@@ -23,7 +23,7 @@ returns-in_err-stops-clause-err c =
     let checked = c.in_ok-check_writer.ensures.ok in
     let same = err_from_is_err_and c.from_residual-in_err-stops.result c.from_residual-in_err-stops.ensures.1 in
     rw (same.1, same.2) (refused_piece old (disk_of c.begin_write.new.self) checked.0 (right_writer c.args.handle old checked.1 checked.2)
-    (counted_or_stop old (disk_of c.begin_write.new.self) c.in_err-stops.ensures.err.left))
+    (counted_or_stop old (disk_of c.begin_write.new.self) c.in_err-stops.ensures.err.left (λ full. other_stops _ c.in_err-stops.ensures.err.kind)))
 
 pub returns-in_err-stops-clause-cause : goal.returns-in_err-stops-clause-cause
 returns-in_err-stops-clause-cause c =
@@ -83,7 +83,7 @@ returns-in-Some-clause-err c =
     part_err c.args.handle.file c.args.offset c.args.bytes.now c.in-Some.count c.write_front-done.result old (over c.begin_write.new.self (contents_of c.write_front-done.new.self)) (disk_of c.fail_in_part.new.self)
     checked.0 (right_writer c.args.handle old checked.1 checked.2)
     (front_or_not c.args.handle.file c.args.offset c.args.bytes.now c.in-Some.count c.write_front-done.result c.begin_write.new.self c.write_front-done.new.self old c.in_ok-stops.ensures.ok c.write_front-done.ensures.ok c.write_front-done.ensures.err checked.1)
-    c.fail_in_part.ensures.failed
+    c.fail_in_part.ensures.kind c.fail_in_part.ensures.failed
 
 pub returns-in-Some-clause-cause : goal.returns-in-Some-clause-cause
 returns-in-Some-clause-cause c =

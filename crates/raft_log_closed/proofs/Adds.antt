@@ -1,5 +1,5 @@
 -- What is only added to leaves all that was there, one step further.
-use Rattle.std.proofs.Common.{◌≡◌, ℕ, Option, Some, None, true, List, [], refl, sym, ◌∙◌, ap, subst, arith}
+use Rattle.std.proofs.Common.{◌≡◌, ℕ, Option, Some, None, List, [], refl, sym, ◌∙◌, ap, subst, arith}
 use Rattle.raft_log_disk.specs.Disk.{File, Disk, with_file, at_rest}
 use Rattle.raft_log_disk.specs.Calls.{created}
 use Rattle.raft_log_disk.proofs.CauseLaws.{later_same, later_then}

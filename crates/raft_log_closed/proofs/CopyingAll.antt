@@ -1,27 +1,25 @@
 -- Several files are copied, one after the other, into a directory that may have been made.
-use Rattle.std.specs.Prelude.{Contains, ◌⊎◌}
+use Rattle.std.specs.Prelude.{Contains}
 use Rattle.std.specs.Str.{bytes_eq}
-use Rattle.std.specs.declared.io.ErrorKind.{ErrorKind}
-use Rattle.std.proofs.Common.{◌≡◌, ℕ, zero, suc, ◌+◌, ◌<◌, Bool, true, false, cond, List, [], ◌∷◌, ◌++◌, length, get_or, take, drop, Some, None, refl, sym, ◌∙◌, ap, subst, inl, inr, arith}
-use Rattle.std.proofs.lemmas.List.{append_assoc, append-nil, take_more, drop_more, take-append-drop, length-append, append_cancel_left}
+use Rattle.std.proofs.Common.{◌≡◌, ℕ, Bool, true, false, cond, List, [], ◌∷◌, ◌++◌, length, drop, refl, sym, ◌∙◌, ap, subst, inl, inr, arith}
+use Rattle.std.proofs.lemmas.List.{length-append, append_cancel_left}
 use Rattle.std.proofs.lemmas.List.Elements.{Contains-append_cases, Contains-append_left, Contains-append_right}
 use Rattle.raft_log_record_base.specs.declared.errors.Error.{Error}
 use Rattle.raft_log_record_base.specs.declared.errors.Error.TheVariants as errors
-use Rattle.raft_log_disk.specs.Disk.{Disk, File}
+use Rattle.raft_log_disk.specs.Disk.{Disk}
 use Rattle.raft_log_disk.specs.Arguments.{IsTaken}
-use Rattle.raft_log_disk.specs.Causes.{Fails, IsLater}
-use Rattle.raft_log_disk.proofs.CauseLaws.{fails_after, later_same}
+use Rattle.raft_log_disk.proofs.CauseLaws.{fails_after}
 use Rattle.raft_log_open_scan.specs.Names.{built_name}
 use Rattle.raft_log_open_scan.specs.Directories.{MakesIfAbsent}
 use Rattle.raft_log_open_scan.proofs.DirectoryLemmas.{has_more, has_none}
-use Rattle.raft_log_closed.specs.Copies.{AddsOnly, HasCopy, HasUnreadable, IsCopyRefusal, IsInTheWay, IsSourceThere, copy_path}
+use Rattle.raft_log_closed.specs.Copies.{AddsOnly, HasCopy, IsCopyRefusal, IsSourceThere, copy_path}
 use Rattle.raft_log_closed.specs.Steps.{CopiesOne, FailsToCopyOne, TellsUncopied}
 use Rattle.raft_log_closed.specs.Forks.{CopiesAll, FailsToCopyAll, HaveCopies, IsCopyPath}
 use Rattle.raft_log_closed.specs.Sources.{AreApart, AllThere}
 use Rattle.raft_log_closed.specs.declared.source_file.SourceFile.{SourceFile}
 use Rattle.raft_log_closed.proofs.Adds.{adds_none, adds_then, adds_wider, copy_before, copy_stays}
 use Rattle.raft_log_closed.proofs.CopyingLemmas.{short_told}
-use Rattle.raft_log_closed.proofs.Lasts.{first, first_or_later, in_none, later}
+use Rattle.raft_log_closed.proofs.Lasts.{first, first_or_later, in_none}
 
 -- One file more.
 

@@ -1,17 +1,15 @@
 -- The files of a log that are copied are found and open.
-use Rattle.std.specs.Prelude.{Contains, All, ◌⊎◌}
+use Rattle.std.specs.Prelude.{Contains, All}
 use Rattle.std.specs.List.{AllZip}
 use Rattle.std.specs.String.{string_bytes}
-use Rattle.std.proofs.Common.{◌≡◌, ℕ, ◌<◌, ◌^◌, List, [], ◌∷◌, ◌++◌, Vec, String, Global, length, map, get_or, refl, sym, ap, subst, inl, inr, arith}
+use Rattle.std.proofs.Common.{◌≡◌, ℕ, ◌<◌, ◌^◌, List, [], ◌∷◌, Vec, String, Global, map, get_or, refl, sym, subst, inl, inr}
 use Rattle.std.proofs.lemmas.List.Elements.{Contains-get_or}
 use Rattle.raft_log_record_base.specs.declared.errors.Error.{Error}
 use Rattle.raft_log_record_base.specs.declared.errors.Error.TheVariants as errors
 use Rattle.raft_log_disk.specs.Disk.{Disk}
-use Rattle.raft_log_disk.specs.Image.{IsSound}
 use Rattle.raft_log_disk.specs.Reading.{IsListing}
 use Rattle.raft_log_disk.specs.declared.handle.Permission.TheVariants.{ReadOnly}
 use Rattle.raft_log_file_queue.specs.declared.format.File.{File}
-use Rattle.raft_log_open_scan.specs.Directories.{FailsToListAll, MakesIfAbsent}
 use Rattle.raft_log_open_scan.specs.Found.{AreAmongAll, AreFilesIn, FileLiesIn}
 use Rattle.raft_log_open_scan.specs.Opened.{AreOpen, IsOpenFile}
 use Rattle.raft_log_open_scan.specs.Scanned.{FailsToFindFiles}
@@ -20,8 +18,8 @@ use Rattle.raft_log_open_scan.specs.declared.scanning.found.FoundFile.{FoundFile
 use Rattle.raft_log_open_scan.proofs.FoundLemmas.{are_files_in, limit_small}
 use Rattle.raft_log_open_scan.proofs.Steps.{zip_map}
 use Rattle.raft_log_file_settings.specs.Settings.{Settings, directories_of}
-use Rattle.raft_log_closed.specs.Forks.{AllowsFork, FailsToFork, FailsToMakeTarget, FailsToCopyAll, IsForkRefusal, cut_short, homeless, refused}
-use Rattle.raft_log_closed.specs.Sources.{AreSources, AreSourcesOf, IsOneEach, IsSource, IsSourceRefusal, source_of}
+use Rattle.raft_log_closed.specs.Forks.{AllowsFork, IsForkRefusal}
+use Rattle.raft_log_closed.specs.Sources.{AreSourcesOf, IsOneEach, IsSource, IsSourceRefusal, source_of}
 use Rattle.raft_log_closed.specs.declared.source_file.SourceFile.{SourceFile}
 use Rattle.raft_log_closed.proofs.Lasts.{first, later}
 

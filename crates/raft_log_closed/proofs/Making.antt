@@ -1,10 +1,9 @@
 -- Why a file isn't made, and what stands in one that is.
 use Rattle.std.specs.Prelude.{◌⊎◌, Result, Err}
 use Rattle.std.specs.Map.{update}
-use Rattle.std.proofs.Common.{◌≡◌, ℕ, zero, suc, Some, None, List, [], ◌∷◌, ◌++◌, length, drop, nat_eq, refl, sym, ◌∙◌, ap, subst, inl, inr, arith}
-use Rattle.std.proofs.lemmas.List.{append-nil}
+use Rattle.std.proofs.Common.{◌≡◌, ℕ, Some, None, List, [], nat_eq, refl, sym, ◌∙◌, ap, subst, inl, inr, arith}
 use Rattle.std.specs.declared.io.ErrorKind.{ErrorKind}
-use Rattle.raft_log_disk.specs.Disk.{File, Disk, Wrote, at_rest, overwritten, zeros}
+use Rattle.raft_log_disk.specs.Disk.{File, Disk, Wrote, at_rest, overwritten}
 use Rattle.raft_log_record_base.specs.declared.errors.Error.TheVariants as errors
 use Rattle.raft_log_disk.specs.Arguments.{WrongCreate, WrongHandle, WrongWriter}
 use Rattle.raft_log_disk.specs.declared.handle.Handle.{Handle}

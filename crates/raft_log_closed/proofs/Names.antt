@@ -1,7 +1,7 @@
 -- The names of files that are copied are apart.
-use Rattle.std.specs.Prelude.{Contains, ◌⊎◌}
+use Rattle.std.specs.Prelude.{Contains}
 use Rattle.std.specs.List.{AllZip}
-use Rattle.std.proofs.Common.{◌≡◌, ℕ, zero, suc, ◌<◌, ◌^◌, List, [], ◌∷◌, ◌++◌, length, Option, Some, None, refl, sym, ◌∙◌, ap, subst, inl, inr, arith}
+use Rattle.std.proofs.Common.{◌≡◌, ℕ, ◌<◌, ◌^◌, List, [], ◌∷◌, ◌++◌, Option, Some, None, refl, sym, ◌∙◌, ap, subst, inl, inr, arith}
 use Rattle.std.proofs.lemmas.List.Elements.{Contains-append_cases}
 use Rattle.raft_log_disk.specs.Disk.{Disk, File}
 use Rattle.raft_log_disk.specs.Image.{IsSound}
@@ -13,7 +13,6 @@ use Rattle.raft_log_open_scan.specs.declared.file_kind.FileKind.{FileKind}
 use Rattle.raft_log_open_scan.specs.declared.file_kind.FileKind.TheVariants.{Append, Rewrite}
 use Rattle.raft_log_open_scan.specs.declared.scanning.found.FoundFile.{FoundFile}
 use Rattle.raft_log_open_scan.proofs.FoundLemmas.{named_built}
-use Rattle.raft_log_closed.specs.Copies.{IsSourceThere}
 use Rattle.raft_log_closed.specs.Sources.{AreApart, AreRising, AreSources, AreSourcesOf, AllThere, IsSource}
 use Rattle.raft_log_closed.specs.declared.source_file.SourceFile.{SourceFile}
 use Rattle.raft_log_closed.proofs.Lasts.{first, first_or_later, in_none, later}

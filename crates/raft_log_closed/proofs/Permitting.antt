@@ -1,9 +1,9 @@
 -- Which names are those of log files, and which paths lie in a directory.
-use Rattle.std.specs.Prelude.{Contains, ◌⊎◌, is_some}
+use Rattle.std.specs.Prelude.{is_some}
 use Rattle.std.specs.String.{string_bytes}
-use Rattle.std.proofs.Common.{◌≡◌, ℕ, ◌+◌, ◌<◌, true, false, List, [], ◌∷◌, ◌++◌, String, Global, length, map, take, drop, get_or, Option, Some, None, inl, inr, refl, sym, ap, subst, ◌∙◌, arith}
+use Rattle.std.proofs.Common.{◌≡◌, ℕ, true, false, List, [], ◌∷◌, ◌++◌, Option, Some, None, inl, inr, refl, sym, ap, subst, ◌∙◌}
 use Rattle.std.proofs.lemmas.Bool.{false≢true}
-use Rattle.std.proofs.lemmas.List.Elements.{Contains-append_cases, Contains-append_left, Contains-append_right}
+use Rattle.std.proofs.lemmas.List.Elements.{Contains-append_cases}
 use Rattle.raft_log_record_base.specs.declared.pipe_log.FileId.{FileId}
 use Rattle.std.specs.declared.io.ErrorKind.{ErrorKind}
 use Rattle.std.specs.declared.io.ErrorKind.TheVariants.{OutOfMemory}
@@ -19,7 +19,7 @@ use Rattle.raft_log_file_settings.specs.Sanitized.{IsFileName, IsRefusedFor}
 use Rattle.raft_log_file_settings.specs.Settings.{Settings}
 use Rattle.raft_log_closed.specs.Forks.{Forbids, HoldsLogFile, IsForkRefusal, IsFree, LiesInOne, LiesWithin}
 use Rattle.raft_log_closed.specs.Telling.{HasFileName, TellsWords}
-use Rattle.raft_log_closed.proofs.Lasts.{first, first_or_later, in_none}
+use Rattle.raft_log_closed.proofs.Lasts.{first_or_later, in_none}
 
 -- what the two readings of a name say
 abbrev pub ReadsFile : List ℕ → Option FileId → Type 0

@@ -1,5 +1,5 @@
 -- Where no damage is tolerated nothing is cut.
-use Rattle.std.proofs.Common.{◌≡◌, ◌⊎◌, ℕ, suc, Bool, true, false, List, [], ◌∷◌, Some, None, Option, is_some, inl, inr, refl, sym, ap, subst, ◌∙◌}
+use Rattle.std.proofs.Common.{◌≡◌, ◌⊎◌, ℕ, suc, Bool, true, false, List, [], ◌∷◌, None, Option, is_some, inl, inr, sym, ap, subst, ◌∙◌}
 use Rattle.raft_log_record_base.specs.declared.errors.Error.{Error}
 use Rattle.raft_log_record_base.specs.declared.pipe_log.LogQueue.{LogQueue}
 use Rattle.raft_log_disk.specs.Disk.{Disk}
@@ -14,7 +14,7 @@ use Rattle.raft_log_open_found.specs.Tolerance.{tolerates}
 use Rattle.raft_log_open_found.specs.Segments.{HoldsFile}
 use Rattle.raft_log_open_found.specs.declared.file_ending.FileEnding.{FileEnding}
 use Rattle.raft_log_open_builder.specs.Cutting.{CutsEach, CutsIf}
-use Rattle.raft_log_open_directory.specs.Finding.{FindsLog}
+use Rattle.raft_log_open_builder.specs.Finding.{FindsLog}
 use Rattle.raft_log_open_builder.specs.declared.builder.DualPipesBuilder.{DualPipesBuilder}
 use Rattle.raft_log_closed.specs.Checking.{ReadsLogFiles}
 

@@ -16,7 +16,7 @@ use Rattle.raft_log_open_found.specs.declared.file_ending.FileEnding.{FileEnding
 use Rattle.raft_log_open_builder.specs.ForReading.{ReadsLog}
 use Rattle.raft_log_open_builder.specs.Recovering.{append_files, rewrite_files}
 use Rattle.raft_log_open_builder.specs.declared.builder.DualPipesBuilder.{DualPipesBuilder}
-use Rattle.raft_log_open_directory.specs.Finding.{FindsLog}
+use Rattle.raft_log_open_builder.specs.Finding.{FindsLog}
 use Rattle.raft_log_closed.specs.Runs.{Run, finding, runs_of}
 use Rattle.raft_log_closed.specs.Kept.{KeepsRuns, kept}
 use Rattle.raft_log_closed.specs.Findings.{Lists, finding_in, finding_of, told_by, told_over}

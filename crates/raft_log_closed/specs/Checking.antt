@@ -21,7 +21,7 @@ use Rattle.raft_log_open_builder.specs.ForReading.{FailsToReadLog}
 use Rattle.raft_log_open_builder.specs.Recovering.{append_files, rewrite_files}
 use Rattle.raft_log_open_builder.specs.Scanning.{FailsToScanLog}
 use Rattle.raft_log_open_builder.specs.declared.builder.DualPipesBuilder.{DualPipesBuilder}
-use Rattle.raft_log_open_directory.specs.Finding.{FindsLog, IsBegun}
+use Rattle.raft_log_open_builder.specs.Finding.{FindsLog, IsBegun}
 use Rattle.raft_log_closed.specs.Findings.{Lists, finding_of}
 use Rattle.raft_log_closed.specs.Kept.{KeepsRuns, IsOutOfMemory}
 use Rattle.raft_log_closed.specs.declared.checker.ConsistencyChecker.{ConsistencyChecker}
@@ -64,8 +64,9 @@ pub record ReadsRuns (config : Config) (append rewrite : ConsistencyChecker) (ol
   pub append_kept : KeepsRuns Append append_batches append
   pub rewrite_kept : KeepsRuns Rewrite rewrite_batches rewrite
 
--- Why a log wasn't checked, and what stands on the disk then: its settings have a fault; or its files weren't
--- found; or a queue wasn't read, or not cut; or memory ran out for the list.
+-- Why a log wasn't checked, and what stands on the disk then: the file system had stopped, which goes before all
+-- else; or its settings have a fault; or its files weren't found; or a queue wasn't read, or not cut; or memory
+-- ran out for the list.
 pub data FailsToCheck (config : Config) (error : Error) (old new : Disk) : Type 0 where
   ended : old.stopped ≡ true → error ≡ errors.Io Other → new ≡ old → FailsToCheck config error old new
   unsound : IsRefusedFor (settings_of config) error → new ≡ old → FailsToCheck config error old new

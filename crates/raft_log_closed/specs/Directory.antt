@@ -1,5 +1,5 @@
 -- What a check of the log in a directory answers, and what it leaves.
-use Rattle.std.specs.Prelude.{◌≡◌, ℕ, true, List, ◌++◌, codes}
+use Rattle.std.specs.Prelude.{◌≡◌, ℕ, List, ◌++◌, codes}
 use Rattle.std.specs.String.{string_bytes}
 use Rattle.raft_log_record_base.specs.declared.errors.Error.{Error}
 use Rattle.raft_log_record_base.specs.declared.errors.Error.TheVariants as errors

@@ -1,13 +1,12 @@
 -- A log that no engine has open is copied into a directory.
-use Rattle.std.specs.Prelude.{◌≡◌, ℕ, ◌⊎◌, All, true, false, None, List, [], ◌∷◌, ◌++◌, codes, map, Contains}
+use Rattle.std.specs.Prelude.{◌≡◌, ℕ, ◌⊎◌, true, false, None, List, [], ◌∷◌, ◌++◌, codes, map, Contains}
 use Rattle.std.specs.String.{string_bytes}
-use Rattle.std.specs.declared.io.ErrorKind.{ErrorKind}
 use Rattle.raft_log_record_base.specs.declared.errors.Error.{Error}
 use Rattle.raft_log_record_base.specs.declared.errors.Error.TheVariants as errors
 use Rattle.raft_log_disk.specs.Disk.{Disk, IsPlain}
 use Rattle.raft_log_disk.specs.Arguments.{IsAfterStop}
 use Rattle.raft_log_disk.specs.Exits.{FailsToMakeDirectory}
-use Rattle.raft_log_open_scan.specs.Directories.{MakesIfAbsent, FailsToListAll}
+use Rattle.raft_log_open_scan.specs.Directories.{FailsToListAll}
 use Rattle.raft_log_open_scan.specs.Scanned.{TellsMisnamedIn}
 use Rattle.raft_log_file_settings.specs.Sanitized.{IsFileName, IsRefusedFor, HasNoFault}
 use Rattle.raft_log_file_settings.specs.Settings.{Settings, directories_of}

@@ -1,9 +1,8 @@
 -- What is told of a target that is looked at, and in which words.
-use Rattle.std.specs.Prelude.{◌≡◌, ℕ, true, List, Contains}
+use Rattle.std.specs.Prelude.{◌≡◌, ℕ, List, Contains}
 use Rattle.std.specs.String.{string_bytes}
 use Rattle.raft_log_record_base.specs.declared.errors.Error.{Error}
 use Rattle.raft_log_record_base.specs.declared.errors.Error.TheVariants as errors
-use Rattle.raft_log_disk.specs.Disk.{Disk}
 use Rattle.raft_log_file_settings.specs.Sanitized.{IsFileName}
 
 -- one of these is the name of a log file, or of one that is kept to be used

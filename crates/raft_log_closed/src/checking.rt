@@ -4,7 +4,7 @@ ghost use Rattle.std.specs.Prelude.{◌≡◌, false, IfErr, IfOk};
 ghost use Rattle.raft_log_record_base.specs.declared.errors.Error.TheVariants.{Memory};
 ghost use Rattle.raft_log_file_settings.specs.Sanitized.{IsRefusedFor};
 ghost use Rattle.raft_log_file_settings.specs.Settings.{settings_of};
-ghost use Rattle.raft_log_open_directory.specs.Finding.{FindsLog, IsBegun};
+ghost use Rattle.raft_log_open_builder.specs.Finding.{FindsLog, IsBegun};
 ghost use Rattle.raft_log_closed.specs.Checking.{ChecksLog, FailsToCheck, ReadsRuns};
 
 use crate::checker::{ConsistencyChecker, ConsistencyCheckerFactory, Finding, join_findings};

@@ -31,6 +31,7 @@ module _ (F : Format LogRecord) (files : PipeFiles) (stale : List ℕ) (before f
   no_chance = record {
     headers = meets.headers;
     records = λ at w here. elim (meets.records at w here) [ inl own ↦ own_record own | inr handed ↦ handed_in handed ];
+    plain = meets.plain;
   }
 
 abbrev bytes_in : Option File → List ℕ

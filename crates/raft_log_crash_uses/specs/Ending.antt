@@ -20,14 +20,15 @@ Ends (Crash what) e d = IsImage e.pipes.disk d
 Ends Close e d = has_failed e ≡ false → ClosesLog e.pipes d
 
 -- No checksum is met by chance in the file that was a pipe's last one, before it was closed, as the close left it:
--- no header but its own, and no record but those that the pipe wrote there, or that a write which isn't synced
--- handed in.
+-- no header but its own; no record but those that the pipe wrote there, or that a write which isn't synced
+-- handed in; and no file with an alignment.
 pub record MeetsWritten (F : Format LogRecord) (files : PipeFiles) (before file : File) : Type 0 where
   pub headers : (other : List ℕ) → HasHeader F other file.content → other ≡ active_header files
   pub records : (at : ℕ) (w : Written LogRecord)
       → Meets (F.IsFrame files.active.seq (active_header files)) (length (active_header files)) at w file.content
       → LiesIn (length (active_header files)) (own_bytes files before) at w.bytes
       ⊎ IsHandedIn file.changes at w.bytes
+  pub plain : F.IsAligned files.active.seq file.content → ⊥
 
 -- so it is of the file that has its number
 abbrev pub LeavesWritten : Format LogRecord → PipeFiles → Disk → Disk → Type 0

@@ -4,7 +4,7 @@ use Rattle.std.specs.Map.{update}
 use Rattle.std.specs.Str.{bytes_eq}
 use Rattle.std.proofs.Common.{nat_eq, take}
 use Rattle.std.specs.declared.io.ErrorKind.{ErrorKind}
-use Rattle.std.specs.declared.io.ErrorKind.TheVariants.{OutOfMemory, Other}
+use Rattle.std.specs.declared.io.ErrorKind.TheVariants.{OutOfMemory, Other, ResourceBusy}
 use Rattle.raft_log_disk.specs.Disk.{Change, Wrote, ShortenedTo, GrewTo, File, Disk, at_rest, zeros, changed, with_file, HasDirectory}
 
 -- the file with a content, and a change that it isn't synced with
@@ -136,11 +136,11 @@ IsRight wrong = (error : ErrorKind) → wrong error → ⊥
 abbrev pub IsStopKind : ErrorKind → Type 0
 IsStopKind error = error ≡ OutOfMemory → ⊥
 
--- what is told of a call that would tell a kind, where the file system stops at it: that kind, and `Other` in
--- place of want of memory
+-- what is told of a call that would tell a kind, where the file system stops at it: that kind, and
+-- `ResourceBusy` in place of want of memory
 pub record IsToldAtStop (kind error : ErrorKind) : Type 0 where
   pub stops : IsStopKind error
-  pub told : (error ≡ kind) ⊎ ((kind ≡ OutOfMemory) × (error ≡ Other))
+  pub told : (error ≡ kind) ⊎ ((kind ≡ OutOfMemory) × (error ≡ ResourceBusy))
 
 -- A refused call. After a stop nothing changes, and the error is `Other`. Nor does anything change for an
 -- argument that is wrong as things stand, and no failure is counted for it; the error says which. Where no

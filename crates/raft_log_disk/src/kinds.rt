@@ -40,13 +40,13 @@ impl Kinds {
     {}
 }
 
-/// What is told of a call that would tell this kind, where the file system stops at it: the kind, and `Other` in
-/// place of want of memory.
+/// What is told of a call that would tell this kind, where the file system stops at it: the kind, and `ResourceBusy`
+/// in place of want of memory.
 pub fn told_at_stop(kind: ErrorKind) -> ErrorKind
     ensures { IsToldAtStop kind result }
 {
     match kind {
-        ErrorKind::OutOfMemory => ErrorKind::Other,
+        ErrorKind::OutOfMemory => ErrorKind::ResourceBusy,
         kind => kind,
     }
 }

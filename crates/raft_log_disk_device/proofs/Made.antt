@@ -6,7 +6,7 @@ use Rattle.std.proofs.Common.{refl, sym, ◌∙◌, ap, subst, inl, inr}
 use Rattle.std.proofs.lemmas.Bool.{false≢true}
 use Rattle.raft_log_disk.specs.Disk.{Change, File, Disk, with_file}
 use Rattle.raft_log_disk.specs.Image.{IsSound}
-use Rattle.raft_log_disk.specs.Calls.{IsStopKind, IsToldAtStop, IsRight, after_change, flushed, counted, created, deleted, renamed, Refused, failed, stops}
+use Rattle.raft_log_disk.specs.Calls.{IsStopKind, IsRight, after_change, flushed, created, deleted, renamed, Refused, failed, stops}
 use Rattle.raft_log_disk_storage.specs.declared.storage.Storage.{Storage}
 use Rattle.raft_log_disk_storage.specs.Storage.{contents_of, IsStorageSound}
 use Rattle.raft_log_disk_device.specs.Device.{DeviceCall, Created, Deleted, Renamed, Changed, Synced, Trace, Held, held_by, settled, created_as, without_named, with_moved, with_next, changed_by, with_bytes, after, noted, MayBeMade, Does, MayDo}

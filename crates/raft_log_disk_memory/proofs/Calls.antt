@@ -22,7 +22,7 @@ use Rattle.raft_log_disk_memory.specs.Memory.{disk_of, failed_once, IsToldOnce}
 use Rattle.raft_log_disk_memory.specs.Answers.{LacksWriter}
 use Rattle.raft_log_disk_memory.specs.Turns.{IsRefusedChange, uncounted, IsChangeEnded, IsCallEnded, at_the_stop, not_made}
 use Rattle.raft_log_disk_storage.proofs.Fronts.{after_whole, front_change, front_torn}
-use Rattle.raft_log_disk_memory.proofs.Turns.{over, IsFrontOnDisk, counted_or_stop, other_stops, memory_at_stop, told_once}
+use Rattle.raft_log_disk_memory.proofs.Turns.{over, IsFrontOnDisk, counted_or_stop, other_stops, told_once}
 
 -- a change after a stop, or by a wrong handle, doesn't count
 pub no_writer : (handle : Handle) (change : Change) (error : ErrorKind) (system : MemoryFileSystem) → LacksWriter handle (disk_of system) error

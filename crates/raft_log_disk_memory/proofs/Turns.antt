@@ -3,7 +3,7 @@ use Rattle.std.specs.Prelude.{◌≡◌, ℕ, ◌⊎◌, ◌↔◌, ◌++◌, �
 use Rattle.std.specs.Result.{IfErr, OnOk, OnErr, MatchResult}
 use Rattle.std.specs.declared.alloc.AllocError.{AllocError}
 use Rattle.std.specs.declared.io.ErrorKind.{ErrorKind}
-use Rattle.std.specs.declared.io.ErrorKind.TheVariants.{OutOfMemory, Other}
+use Rattle.std.specs.declared.io.ErrorKind.TheVariants.{OutOfMemory, Other, ResourceBusy}
 use Rattle.std.proofs.Common.{refl, sym, ◌∙◌, ap, subst, inl, inr, arith, ◌≤◌, nat_lt, take, drop}
 use Rattle.std.proofs.lemmas.Bool.Decides.{nat_tests}
 use Rattle.std.proofs.lemmas.Bool.{cases_Bool}
@@ -42,11 +42,11 @@ kept_ext a b disk order =
 pub other_stops : (error : ErrorKind) → error ≡ Other → IsStopKind error
 other_stops error is = λ memory. cc (is, memory)
 
--- want of memory at a stop is told as `Other`
-pub memory_at_stop : (error : ErrorKind) → IsToldAtStop OutOfMemory error → error ≡ Other
+-- want of memory at a stop is told as `ResourceBusy`
+pub memory_at_stop : (error : ErrorKind) → IsToldAtStop OutOfMemory error → error ≡ ResourceBusy
 memory_at_stop error told = elim told.told [
   | inl memory ↦ absurd (told.stops memory)
-  | inr other ↦ other.1
+  | inr busy ↦ busy.1
 ]
 
 -- a failure is counted, or is a stop, which isn't told as want of memory
@@ -146,11 +146,11 @@ pub call_cause : {T : Type 0} {wrong : ErrorKind → Type 0} (does : Disk → Ty
 call_cause does order done stops mid old begun new after (Ok v) counts is spared made storage makes same stored ended = tt
 call_cause does order (Ok v) stops mid old begun new after (Err e) counts is spared made storage makes same stored (at_the_stop falls kind done_is) =
     let left : Kept = record { disk = mid; unsynced = unsynced new } in
-    let at : LeftAtStop true does order (kept old) e left = (kind, inl (record { disk = made; order = ap unsynced_of stored ∙ makes })) in
+    let at : LeftAtStop true does order (kept old) e left = inl (kind, record { disk = made; order = ap unsynced_of stored ∙ makes }) in
     stop_fell counts (is falls).falls left (subst (λ (b : Bool). LeftAtStop b does order (kept old) e left) (sym (is falls).done) at)
     (kept_ext (kept new) (after_stop left) done_is refl)
 call_cause does order (Err k) stops mid old begun new after (Err e) counts is spared made storage makes same stored (at_the_stop falls kind done_is) =
-    let at : LeftAtStop true does order (kept old) e (kept old) = (memory_at_stop e kind, inr refl) in
+    let at : LeftAtStop true does order (kept old) e (kept old) = inr (memory_at_stop e kind, refl) in
     stop_fell counts (is falls).falls (kept old) (subst (λ (b : Bool). LeftAtStop b does order (kept old) e (kept old)) (sym (is falls).done) at)
     (kept_ext (kept new) (after_stop (kept old)) (done_is ∙ ap at_stop made) (ap unsynced_of stored ∙ (same.order ∙ ap unsynced_of storage)))
 call_cause does order (Ok v) stops mid old begun new after (Err e) counts is spared made storage makes same stored (not_made runs done_is failed) = absurd done_is

@@ -9,7 +9,7 @@ use Rattle.std.specs.List.{Contains, filter}
 use Rattle.std.proofs.Common.{map, take, nat_eq, nat_lt}
 use Rattle.std.specs.declared.alloc.AllocError.{AllocError}
 use Rattle.std.specs.declared.io.ErrorKind.{ErrorKind}
-use Rattle.std.specs.declared.io.ErrorKind.TheVariants.{Other, OutOfMemory}
+use Rattle.std.specs.declared.io.ErrorKind.TheVariants.{Other, OutOfMemory, ResourceBusy}
 use Rattle.raft_log_disk.specs.Disk.{Change, Wrote, ShortenedTo, GrewTo, File, Disk, overwritten, with_file}
 use Rattle.raft_log_disk.specs.Calls.{IsToldAtStop, with_change, after_change, at_stop, Changes}
 use Rattle.raft_log_disk.specs.Arguments.{IsAfterStop}
@@ -171,11 +171,12 @@ pub record IsCallDone (done : Disk → Type 0) (changes : List (ℕ × Change)) 
   pub order : left.unsynced ≡ changes
 
 -- What a stop leaves of a call that is done whole or not at all. At a stop before it nothing was done. At one
--- after it the call was done; it wasn't only where memory was short.
+-- after it the call was done, which is told as `Other`; it wasn't only where memory was short, and that is
+-- `ResourceBusy`.
 abbrev pub LeftAtStop : Bool → (Disk → Type 0) → List (ℕ × Change) → Kept → ErrorKind → Kept → Type 0
 LeftAtStop false done order old error left = Untouched old error left
 LeftAtStop true done order old error left =
-    (error ≡ Other) × (IsCallDone done order left ⊎ (left ≡ old))
+    ((error ≡ Other) × IsCallDone done order left) ⊎ ((error ≡ ResourceBusy) × (left ≡ old))
 
 -- a change was made, and is the last one of all
 pub record IsChangeMade (id : ℕ) (change : Change) (old left : Kept) : Type 0 where
@@ -184,7 +185,7 @@ pub record IsChangeMade (id : ℕ) (change : Change) (old left : Kept) : Type 0 
 
 -- What a stop, before or after it, leaves of the write, shortening or growth that it falls at: the change is
 -- made, and isn't synced; it isn't made only where there is no room for it, as where there is no space, and
--- then the error says so, but of want of memory `Other`.
+-- then the error says so, but of want of memory `ResourceBusy`: `Other` is told of a change that is made.
 abbrev pub MadeUnlessShort : Type 0 → (ErrorKind → Type 0) → ℕ → Change → Kept → ErrorKind → Kept → Type 0
 MadeUnlessShort space no_room id change old error left =
     ((error ≡ Other) × space × IsChangeMade id change old left)
@@ -233,8 +234,8 @@ IsRefusedChange id change wrong error old new =
     (NoRoomFor id change old) error old new
 
 -- How a call ended, of which it is told whether the file system stops at it and whether it was done: at a
--- stop the error says why it wasn't done, where it wasn't, but of want of memory `Other`; else it wasn't done,
--- and that is a failure.
+-- stop the error is `Other` where it was done, and where it wasn't says why, but of want of memory
+-- `ResourceBusy`; else it wasn't done, and that is a failure.
 pub data IsEnded {E : Type 0} (kind_of : E → ErrorKind) (stops : Bool) (done : Result (Unit {0}) E)
     (error : ErrorKind) (old new : Disk) : Type 0 where
   at_the_stop : stops ≡ true → MatchResult done (λ v. error ≡ Other) (λ e. IsToldAtStop (kind_of e) error)

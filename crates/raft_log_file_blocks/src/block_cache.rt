@@ -1,6 +1,6 @@
 //! The entry block that was read last.
 
-ghost use Rattle.std.specs.Prelude.{◌≡◌, ◌↔◌, IsTrue, ℕ, ◌+◌, ◌-◌, ◌<◌, ◌≤◌, None, Some, IfErr, IfOk, OnErr, OnOk, length, take, vec_capacity, vec_len};
+ghost use Rattle.std.specs.Prelude.{◌≡◌, ◌↔◌, IsTrue, ℕ, ◌+◌, ◌-◌, ◌<◌, ◌≤◌, None, Some, IfErr, IfOk, IfSome, OnErr, OnOk, length, take, vec_capacity, vec_len};
 ghost use Rattle.raft_log_file_blocks.specs.Blocks.{IsOutside};
 ghost use Rattle.raft_log_file_blocks.specs.Stored.{part};
 
@@ -76,7 +76,11 @@ impl BlockCache {
         ensures err { IfErr result (IsNoEntry offset len self.now) }
     {
         let start = offset as u64;
-        between(alloc, self.entries(), start, start + len as u64)
+        let end = start + len as u64;
+        match between(self.entries(), start, end) {
+            Some(bytes) => Ok(bytes),
+            None => Err(past_the_end(alloc, start, end)),
+        }
     }
 
     /// The bytes of all entries of the block that is kept, one behind the other: nothing is copied.
@@ -157,7 +161,9 @@ impl BlockCache {
         let (mut start, _) = bounds.at(0);
         for i in 0..bounds.len() {
             let (_, end) = bounds.at(i);
-            let bytes = between(alloc, entries, start, end)?;
+            let Some(bytes) = between(entries, start, end) else {
+                return Err(past_the_end(alloc, start, end));
+            };
             let message = M::parse(alloc, bytes)?;
             messages.push_reserved(message);
             start = end;
@@ -262,27 +268,26 @@ fn lies_in(entry: &EntryIndex, block: FileBlockHandle) -> bool
 }
 
 /// The bytes of a block's entries from one bound up to another, or where that is lower no bytes from the first
-/// bound on: nothing is copied.
-///
-/// Refuses as a corruption bytes that aren't all there, in front of the checksum.
-fn between(alloc: Global, entries: &[u8], start: u64, end: u64) -> Result<&[u8]>
-    ensures ok { IfOk result (λ bytes. (start + (end - start) ≤ length entries.now)
+/// bound on: nothing is copied. None where they aren't all there.
+fn between(entries: &[u8], start: u64, end: u64) -> Option<&[u8]>
+    ensures some { IfSome result (λ bytes. (start + (end - start) ≤ length entries.now)
         × (bytes.now ≡ part start (end - start) entries.now)) }
-    ensures err { IfErr result (IsOutside start (end - start) (length entries.now)) }
+    ensures none { result ≡ None → length entries.now < start + (end - start) }
 {
     let end = end.max(start);
     if end > entries.len() as u64 {
-        return Err(past_the_end(alloc, end));
+        return None;
     }
-    Ok(&entries[start as usize..end as usize])
+    Some(&entries[start as usize..end as usize])
 }
 
-/// Why no entry is answered that ends there, past the last of its block; or `Memory`.
+/// Why no entry is answered that lies between these bounds, past the last of its block, in front of the checksum; or
+/// `Memory`.
 #[cold]
-fn past_the_end(alloc: Global, end: u64) -> Error
-    ensures { (offset : ℕ) → (len : ℕ) → (room : ℕ) → offset + len ≡ end → room < end
-        → IsOutside offset len room result }
+fn past_the_end(alloc: Global, start: u64, end: u64) -> Error
+    ensures { (room : ℕ) → room < start + (end - start) → IsOutside start (end - start) room result }
 {
+    let end = end.max(start);
     match format!(in alloc; "Entry past the end of its block: {end}") {
         Ok(text) => Error::Corruption(text),
         Err(_) => Error::Memory,

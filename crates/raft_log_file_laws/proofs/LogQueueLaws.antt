@@ -270,7 +270,7 @@ module _ {R : Type 0} (F : Format R) (lawful : IsFormat F) where
       let (count, within, kept) = holds_keeps q header old.file old.has bytes left meets ws reads in
       let next = kept_to count q in
       let whole : ws ≡ recent next = kept ∙ sym (append-nil (kept_records q.durable q.pending count)) in
-      let over : IsLeftover F next (at_rest bytes) = record { bytes = bytes; is = refl; reads = subst (λ (vs : List (Written R)). ReadsFile F q.last vs bytes) whole reads } in
+      let over : IsLeftover F next (at_rest bytes) = record { bytes = bytes; is = refl; reads = subst (λ (vs : List (Written R)). ReadsFile F q.last vs bytes) whole reads; plain = meets.plain } in
       let last : HasNumbered F q.last (IsLeftover F next) image =
       record { path = path; at = files.last.at; file = record { id = id; named = named; file = record { file = at_rest bytes; is = rests; has = over } } } in
       let before : (p : List ℕ) (j : ℕ) → image.names p ≡ Some j → d.names p ≡ Some j = λ p j here. ap (λ (f : List ℕ → Option ℕ). f p) (sym is.names) ∙ here in
@@ -295,6 +295,7 @@ module _ {R : Type 0} (F : Format R) (lawful : IsFormat F) where
             (record {
               headers = λ x has. meets.headers x has;
               records = synced_file_has_no_chance (F.IsFrame q.last q.header) (lawful.free q.last q.header) (length q.header) (at_rest bytes) bytes refl (left_at_rest bytes) (spelled (recent next));
+              plain = meets.plain;
             }))),
       )
 

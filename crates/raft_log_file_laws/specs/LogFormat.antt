@@ -7,18 +7,23 @@ use Rattle.raft_log_file_laws.specs.Chains.{Written, IsSelfDelimiting, CanTell, 
 use Rattle.raft_log_file_laws.specs.KeepsSynced.{NoChanceMatch}
 
 -- How the files of a log are written: which bytes spell which record in the file with a number and a
--- header (whose format says whether its records are signed), which are a header, which paths a file with a
--- number may have (one in each directory of the log), and the number that all are below.
+-- header (whose format says whether its records are signed), which are a header, which a reader takes for a
+-- file with a number whose records lie at multiples of an alignment, as no file of the log is written, which
+-- paths a file with a number may have (one in each directory of the log), and the number that all are below.
 pub record Format (R : Type 0) : Type 1 where
   pub IsFrame : ℕ → List ℕ → List ℕ → R → Type 0
   pub IsHeader : List ℕ → Type 0
+  pub IsAligned : ℕ → List ℕ → Type 0
   pub IsPath : ℕ → List ℕ → Type 0
   pub limit : ℕ
 
--- no record's spelling begins another's, no header begins another, no two numbers share a path
+-- no record's spelling begins another's, no header begins another, nothing that begins with one is aligned, nor
+-- is an empty file, and no two numbers share a path
 pub record IsFormat {R : Type 0} (F : Format R) : Type 0 where
   pub free : (n : ℕ) (header : List ℕ) → IsSelfDelimiting (F.IsFrame n header)
   pub headers : (x y a b : List ℕ) → F.IsHeader x → F.IsHeader y → x ++ a ≡ y ++ b → x ≡ y
+  pub plain : (n : ℕ) (header rest : List ℕ) → F.IsHeader header → F.IsAligned n (header ++ rest) → ⊥
+  pub empty : (n : ℕ) → F.IsAligned n [] → ⊥
   pub paths : (m n : ℕ) (path : List ℕ) → m < F.limit → n < F.limit → F.IsPath m path → F.IsPath n path
       → m ≡ n
 
@@ -40,8 +45,10 @@ ReadsFile F n ws bytes = ((ws ≡ []) × ((header : List ℕ) → HasHeader F he
     ⊎ ((header : List ℕ) × HasHeader F header bytes × Reads (F.IsFrame n header) (length header) ws bytes)
 
 -- No checksum is met by chance in a file: no other header than its own (a torn one could be read as one of
--- another version, of another length), and no record that wasn't written there under its number.
+-- another version, of another length), no record that wasn't written there under its number, and no file with
+-- an alignment.
 pub record NoChanceInFile {R : Type 0} (F : Format R) (n : ℕ) (header stale own : List ℕ)
     (file : File) (bytes : List ℕ) : Type 0 where
   pub headers : (other : List ℕ) → HasHeader F other bytes → other ≡ header
   pub records : NoChanceMatch (F.IsFrame n header) (length header) stale own file bytes
+  pub plain : F.IsAligned n bytes → ⊥

@@ -63,11 +63,12 @@ pub record IsPast {R : Type 0} (F : Format R) (n : ℕ) (past : Past R) (file : 
   pub header : F.IsHeader past.header
   pub frames : AreFrames (F.IsFrame n past.header) past.records
 
--- what a stop left of the last file: its records are read of it
+-- what a stop left of the last file: its records are read of it, and it isn't taken for one with an alignment
 pub record IsLeftover {R : Type 0} (F : Format R) (q : LogFiles R) (file : File) : Type 0 where
   pub bytes : List ℕ
   pub is : file ≡ at_rest bytes
   pub reads : ReadsFile F q.last (recent q) bytes
+  pub plain : F.IsAligned q.last bytes → ⊥
 
 -- a file with the number is there, under this path of its, and this holds of it
 pub record HasNumbered {R : Type 0} (F : Format R) (n : ℕ) (P : File → Type 0) (d : Disk) : Type 0 where

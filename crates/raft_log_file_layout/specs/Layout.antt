@@ -1,5 +1,5 @@
 -- How the files of a queue of the log are written, and where they lie.
-use Rattle.std.specs.Prelude.{ℕ, ◌^◌, List}
+use Rattle.std.specs.Prelude.{◌≡◌, ℕ, ◌^◌, List, ◌++◌, drop}
 use Rattle.raft_log_record_base.specs.Files.{signature}
 use Rattle.raft_log_record_base.specs.declared.pipe_log.LogQueue.{LogQueue}
 use Rattle.raft_log_file_laws.specs.LogFormat.{Format}
@@ -23,11 +23,28 @@ pub record IsRecordIn (n : ℕ) (header bytes : List ℕ) (said : LogRecord) : T
 abbrev pub IsAHeader : List ℕ → Type 0
 IsAHeader bytes = (format : LogFileFormat) × IsFileHeader bytes format × IsUnaligned format
 
+-- Bytes that begin with the header of a format with an alignment, and somewhere in which a record stands of the
+-- file with a number: an open takes them for a file of another program, with padding between its records.
+pub record IsAlignedFile (n : ℕ) (bytes : List ℕ) : Type 0 where
+  pub header : List ℕ
+  pub rest : List ℕ
+  pub format : LogFileFormat
+  pub splits : bytes ≡ header ++ rest
+  pub says : IsFileHeader header format
+  pub aligned : IsUnaligned format → ⊥
+  pub at : ℕ
+  pub written : List ℕ
+  pub behind : List ℕ
+  pub stands : drop at bytes ≡ written ++ behind
+  pub said : LogRecord
+  pub is : IsRecord (signature format.version n) written said.items said.entries
+
 -- how the files of a queue are written, and lie in these directories
 abbrev pub log_format : LogQueue → List (List ℕ) → Format LogRecord
 log_format queue directories = record {
   IsFrame = IsRecordIn;
   IsHeader = IsAHeader;
+  IsAligned = IsAlignedFile;
   IsPath = IsPathWith (suffix_of queue) directories;
   limit = 10 ^ 16;
 }

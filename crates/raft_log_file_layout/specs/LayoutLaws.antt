@@ -233,11 +233,26 @@ zeros_hold_none n size header ahead inside behind said splits is =
 
 -- The layout.
 
+-- a header has bytes
+magic_filled : length magic ≡ 53
+unfolding magic
+magic_filled = refl
+
+header_filled : (header : List ℕ) (format : LogFileFormat) → IsFileHeader header format → length header ≡ 0 → ⊥
+header_filled header format (x, front, back, is_magic, more, joined) none =
+    (let long = length-append front back in omega (arith, none, ap length joined, long, ap length is_magic, magic_filled))
+
 -- a queue's headers, records and paths are a format of files
 log_is_format : (queue : LogQueue) (directories : List (List ℕ)) → IsFormat (log_format queue directories)
 log_is_format queue directories = record {
   free = self_delimiting;
   headers = λ x y a b (f, says, none) (g, also, neither) same. (one_header x y a b f g says also same).0;
+  plain = λ n header rest (f, says, none) other.
+      (let one = one_header header other.header rest other.rest f other.format says other.says other.splits in
+      other.aligned (ap (λ (g : LogFileFormat). g.alignment) (sym one.1) ∙ none));
+  empty = λ n other. header_filled other.header other.format other.says
+      (let none = length-append other.header other.rest in
+      omega (arith, ap length other.splits, none));
   paths = λ m n path less bound at there. one_number (suffix_of queue) directories m n path at there;
 }
 

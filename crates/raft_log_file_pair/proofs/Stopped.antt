@@ -91,7 +91,7 @@ module _ {R : Type 0} (layout : QueueLayout R) (told : IsQueueLayout layout) (q 
             file = record {
               file = at_rest bytes;
               is = rests;
-              has = record { bytes = bytes; is = refl; reads = subst (λ (ws : List (Written R)). ReadsFile F q.last ws bytes) (sym all_kept) s.file.has.reads };
+              has = record { bytes = bytes; is = refl; reads = subst (λ (ws : List (Written R)). ReadsFile F q.last ws bytes) (sym all_kept) s.file.has.reads; plain = s.file.has.plain };
             };
             older = λ m j p below at there.
                 (let past = s.older m j p below at there in
@@ -116,6 +116,7 @@ module _ {R : Type 0} (layout : QueueLayout R) (told : IsQueueLayout layout) (q 
             (record {
               headers = λ x has. meets.headers x has;
               records = synced_file_has_no_chance (F.IsFrame q.last q.header) (told.lawful.format.free q.last q.header) (length q.header) (at_rest bytes) bytes refl (left_at_rest bytes) (spelled (recent (kept_to (length q.pending) q)));
+              plain = meets.plain;
             }))),
       )
 

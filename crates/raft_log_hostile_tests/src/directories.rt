@@ -74,7 +74,6 @@ enum Cause {
     Tells(&'static str),
     Codec,
     Hole,
-    InvalidArgument,
     Io,
 }
 
@@ -84,7 +83,6 @@ fn is_for(error: &Error, cause: &Cause) -> bool {
         (Error::Corruption(found), Cause::Tells(text)) => found.as_str() == *text,
         (Error::Codec(_), Cause::Codec) => true,
         (Error::Hole, Cause::Hole) => true,
-        (Error::InvalidArgument(_), Cause::InvalidArgument) => true,
         (Error::Io(_), Cause::Io) => true,
         _ => false,
     }
@@ -260,22 +258,13 @@ const ALIGNED: [Row; 1] = [(
     ],
 )];
 
-/// Whatever is tolerated, the log isn't opened, and the file stays.
+/// Whatever is tolerated, the record is read, and the file has it behind a header without an alignment then.
 #[test]
-fn an_alignment_of_128_is_told(rt: HostRuntime) -> std::result::Result<(), Fail> {
+fn behind_an_alignment_of_128_a_record_is_read(rt: HostRuntime) -> std::result::Result<(), Fail> {
     let alloc = rt.alloc();
+    let ends = ((2, 2), Some(5), Some(6));
     for mode in [STRICT, USUAL, TOLERANT] {
-        let files = holding(alloc, &ALIGNED)?;
-        assert!(rt;
-            refuses(
-                &rt,
-                alloc,
-                files,
-                mode,
-                &Cause::InvalidArgument,
-                (SECOND, 164)
-            )?
-        );
+        assert!(rt; opens(&rt, alloc, &ALIGNED, mode, ends, (SECOND, 105))?);
     }
     Ok(())
 }

@@ -4,6 +4,7 @@ pub mod Recovering
 pub mod ForReading
 pub mod Directories
 pub mod Scanning
+pub mod Finding
 pub mod Syncing
 pub mod Endings
 pub mod Finishing

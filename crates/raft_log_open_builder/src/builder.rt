@@ -62,6 +62,13 @@ impl DualPipesBuilder {
         }
     }
 
+    /// The settings of the log.
+    pub fn config(&self) -> &Config
+        ensures { result.now ≡ self.now.config }
+    {
+        &self.config
+    }
+
     /// Finds and opens the log's files; a directory that isn't there is made, and no file is changed. What the
     /// file system keeps beside files below the first ones is deleted; a refusal of that is logged.
     ///

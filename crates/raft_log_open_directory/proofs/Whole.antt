@@ -20,7 +20,9 @@ use Rattle.raft_log_open_builder.specs.Finishing.{IsAllRead}
 use Rattle.raft_log_open_builder.specs.Recovering.{append_files, rewrite_files, RecoversLog}
 use Rattle.raft_log_open_builder.specs.Reserving.{ReadiesLog}
 use Rattle.raft_log_open_builder.specs.declared.builder.DualPipesBuilder.{DualPipesBuilder}
-use Rattle.raft_log_open_directory.specs.Finding.{FindsLog}
+use Rattle.raft_log_open_builder.specs.Finding.{FindsLog}
+use Rattle.raft_log_open_directory.specs.Finding.{FindsUnpadded}
+use Rattle.raft_log_open_directory.specs.Finding.FindsUnpadded.{as_it_stood, once_unpadded}
 use Rattle.raft_log_open_directory.specs.Reading.{AreMergedOf, BringsInRewrite, HasReadAll, ReadsLog, ReadsQueues}
 
 one_each : {E : Type 0} (holds : ℕ → List Batch → E → Type 0) (k : ℕ) (bss : List (List Batch)) (es : List E) → HoldEach holds k bss es → length bss ≡ length es
@@ -59,14 +61,21 @@ read_whole queue mode files d workers c endings whole read =
     let all = read.all in
     record { segments = read.batches; held = read.held; all = omega (arith, all, whole); read = read.read }
 
-some_threads : (config : Config) (found : DualPipesBuilder) (old scanned : Disk) → FindsLog config found old scanned → 1 ≤ (settings_of found.config).recovery_threads
-some_threads config found old scanned finds =
-    let same : (settings_of found.config).recovery_threads ≡ max (settings_of config).recovery_threads 1 =
-    ap (λ (c : Config). (settings_of c).recovery_threads) finds.scans.same ∙ ap (λ s. s.recovery_threads) finds.begins.whole in
-    omega (arith, same)
+abbrev threads_of : Config → ℕ
+threads_of config = (settings_of config).recovery_threads
+
+threads_found : (config : Config) (found : DualPipesBuilder) (old scanned : Disk) → FindsLog config found old scanned → threads_of found.config ≡ max (threads_of config) 1
+threads_found config found old scanned finds = ap threads_of finds.scans.same ∙ ap (λ s. s.recovery_threads) finds.begins.whole
+
+threads_are : (config : Config) (found : DualPipesBuilder) (old scanned : Disk) → FindsUnpadded config found old scanned → threads_of found.config ≡ max (threads_of config) 1
+threads_are config found old scanned (as_it_stood finds) = threads_found config found old scanned finds
+threads_are config found old scanned (once_unpadded was padded finds anew) = ap threads_of anew.scans.same ∙ threads_found config was old padded finds.finds
+
+some_threads : (config : Config) (found : DualPipesBuilder) (old scanned : Disk) → FindsUnpadded config found old scanned → 1 ≤ (settings_of found.config).recovery_threads
+some_threads config found old scanned finds = (let same = threads_are config found old scanned finds in omega (arith, same))
 
 -- both queues were read, and all files of each
-pub reads_queues : (config : Config) (append rewrite : MemTableRecoverContext) (found b : DualPipesBuilder) (old scanned new : Disk) → FindsLog config found old scanned
+pub reads_queues : (config : Config) (append rewrite : MemTableRecoverContext) (found b : DualPipesBuilder) (old scanned new : Disk) → FindsUnpadded config found old scanned
     → RecoversLog HasReadBatches append rewrite found b scanned new → ReadsQueues config append rewrite b old new
 reads_queues config append rewrite found b old scanned new finds recovers =
     let threads = (settings_of found.config).recovery_threads in

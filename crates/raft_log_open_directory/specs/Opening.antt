@@ -16,12 +16,14 @@ use Rattle.raft_log_open_builder.specs.Recovering.{FailsToRecoverLog}
 use Rattle.raft_log_open_builder.specs.Reserving.{FailsToReadyLog}
 use Rattle.raft_log_open_builder.specs.Scanning.{FailsToScanLog}
 use Rattle.raft_log_open_builder.specs.declared.builder.DualPipesBuilder.{DualPipesBuilder}
-use Rattle.raft_log_open_directory.specs.Finding.{FindsLog, IsBegun}
+use Rattle.raft_log_open_builder.specs.Finding.{FindsLog, IsBegun}
+use Rattle.raft_log_open_directory.specs.Finding.{FailsToReadAnew, FindsPadding, IsNoPadding}
 use Rattle.raft_log_open_directory.specs.Reading.{ReadsLog, ReadsQueues}
 
--- The log of these settings was opened: its queues were read into these tables, and then its pipes opened
--- over its files as they were recovered, all of them synced before. A file system's states are told by what is
--- on its disk, and by what it may tell of a directory's space.
+-- The log of these settings was opened: its queues were read into these tables, once the padding was out of
+-- files that had some, and then its pipes opened over its files as they were recovered, all of them synced
+-- before. A file system's states are told by what is on its disk, and by what it may tell of a directory's
+-- space.
 pub record OpensDirectory {F : Type 0} (disk : F → Disk) (tells : F → List ℕ → ℕ → Type 0) (config : Config)
     (old : F) (v : LogPipes) (tables : MemTables) : Type 0 where
   pub builder : DualPipesBuilder
@@ -30,9 +32,10 @@ pub record OpensDirectory {F : Type 0} (disk : F → Disk) (tells : F → List �
   pub opens : OpensRecovered builder (disk ready) v
 
 -- Why a log wasn't opened, and what stands on the disk then: the file system had stopped, which goes before all
--- else; or its settings have a fault; or its files weren't
--- found; or a queue wasn't read, or not cut; or memory ran out for the tables; or the files that are kept for
--- use weren't readied; or not all files were synced, or a pipe not opened.
+-- else; or its settings have a fault; or its files weren't found; or a queue wasn't read, or not cut, and no
+-- alignment is told then; or one of its files has an alignment, and the log wasn't read without its padding; or
+-- memory ran out for the tables; or the files that are kept for use weren't readied; or not all files were
+-- synced, or a pipe not opened.
 pub data FailsToOpenDirectory {F : Type 0} (disk : F → Disk) (tells : F → List ℕ → ℕ → Type 0)
     (config : Config) (error : Error) (old new : F) : Type 0 where
   ended : (disk old).stopped ≡ true → error ≡ errors.Io Other → disk new ≡ disk old
@@ -42,8 +45,10 @@ pub data FailsToOpenDirectory {F : Type 0} (disk : F → Disk) (tells : F → Li
   unfound : (begun : DualPipesBuilder) → IsBegun config begun
       → FailsToScanLog begun error (disk old) (disk new) → FailsToOpenDirectory disk tells config error old new
   unread : (found : DualPipesBuilder) (scanned : Disk) → FindsLog config found (disk old) scanned
-      → FailsToRecoverLog HasReadBatches Declines found error scanned (disk new)
+      → FailsToRecoverLog HasReadBatches Declines found error scanned (disk new) → IsNoPadding error
       → FailsToOpenDirectory disk tells config error old new
+  unread_anew : (was : DualPipesBuilder) (padded : Disk) → FindsPadding config was (disk old) padded
+      → FailsToReadAnew was error padded (disk new) → FailsToOpenDirectory disk tells config error old new
   unmerged : (append rewrite : MemTableRecoverContext) (b : DualPipesBuilder)
       → ReadsQueues config append rewrite b (disk old) (disk new) → error ≡ errors.Memory
       → FailsToOpenDirectory disk tells config error old new

@@ -22,7 +22,7 @@ use Rattle.raft_log_open_builder.specs.Finishing.{IsAllRead}
 use Rattle.raft_log_open_builder.specs.Recovering.{append_files, rewrite_files, RecoversLog}
 use Rattle.raft_log_open_builder.specs.Reserving.{ReadiesLog}
 use Rattle.raft_log_open_builder.specs.declared.builder.DualPipesBuilder.{DualPipesBuilder}
-use Rattle.raft_log_open_directory.specs.Finding.{FindsLog}
+use Rattle.raft_log_open_directory.specs.Finding.{FindsUnpadded}
 
 -- The context has read all files of a queue as they stood on the disk, in order: the batches of each, of
 -- which this is told.
@@ -33,25 +33,25 @@ pub record HasReadAll (queue : LogQueue) (mode : RecoveryMode) (files : List Fil
   pub all : length segments ≡ length files
   pub read : HasReadBatches queue (all_batches segments) context
 
--- The log's files were found; then a context read all files of Append and one all of Rewrite, and after that
+-- The log's files were found, without padding; then a context read all files of Append and one all of Rewrite, and after that
 -- the damaged files were cut.
 pub record ReadsQueues (config : Config) (append rewrite : MemTableRecoverContext) (b : DualPipesBuilder)
     (old new : Disk) : Type 0 where
   pub found : DualPipesBuilder
   pub scanned : Disk
-  pub finds : FindsLog config found old scanned
+  pub finds : FindsUnpadded config found old scanned
   pub recovers : RecoversLog HasReadBatches append rewrite found b scanned new
   pub append_all : HasReadAll Append found.config.recovery_mode (append_files found) scanned append
       b.append.endings.items
   pub rewrite_all : HasReadAll Rewrite found.config.recovery_mode (rewrite_files found) scanned rewrite
       b.rewrite.endings.items
 
--- So many entries and values the files of Rewrite bring, as they stood on the disk when the log was found, or
--- the greatest number of 64 bits where these are more: all that is read of them, whether it stands still or not.
+-- So many entries and values the files of Rewrite bring, as they stood on the disk when the log was found
+-- without padding, or the greatest number of 64 bits where these are more: all that is read of them, whether it stands still or not.
 pub record BringsInRewrite (config : Config) (d : Disk) (n : ℕ) : Type 0 where
   pub found : DualPipesBuilder
   pub scanned : Disk
-  pub finds : FindsLog config found d scanned
+  pub finds : FindsUnpadded config found d scanned
   pub segments : List (List Batch)
   pub endings : List FileEnding
   pub held : HoldEach (HoldsFile found.config.recovery_mode Rewrite (rewrite_files found) scanned) 0 segments

@@ -34,12 +34,16 @@ pub struct OpenedLog<F> {
 /// read by workers in these threads, damaged files cut, the files that are kept for use readied; all files are
 /// synced, and its pipes opened.
 ///
+/// Where all files could be read and one of them has an alignment, as another program may write it, the padding is
+/// taken out of the log's files first (`unpad`), once and for all, and they are scanned and read again. A last file
+/// without a record has a torn header then, and is none of these.
+///
 /// Refused, the file system is handed back, and the log may be opened again. `Io(Other)` of a file system that has
 /// stopped goes first, so that no stop is told as want of memory. `Other` where the settings have
 /// a fault; then what `DualPipesBuilder` refuses: `Other`, `Corruption`, `Io` of the directories, and of the
 /// files `Io` where one can't be read, `Corruption` or `Codec` for damage that isn't tolerated, `Hole` or
 /// `Corruption` where records can't be. Nothing is cut unless all files of both queues could be read. `Io`
-/// where a file isn't cut, made or synced, `NumberRange` where there is no name for one, `Memory`.
+/// where a file isn't cut, written anew, made or synced, `NumberRange` where there is no name for one, `Memory`.
 pub fn open_directory<R: Threads + Log + Sync, F: FileSystem + Sync>(
     rt: &R,
     alloc: Global,

@@ -1,21 +1,23 @@
 //! A log is read.
 
-ghost use Rattle.std.specs.Prelude.{◌≡◌, IfErr, IfOk};
+ghost use Rattle.std.specs.Prelude.{◌≡◌, IfErr, IfOk, OnOk};
 ghost use Rattle.raft_log_record_base.specs.declared.errors.Error.TheVariants.{Memory};
 ghost use Rattle.raft_log_file_settings.specs.Sanitized.{IsRefusedFor};
 ghost use Rattle.raft_log_file_settings.specs.Settings.{settings_of};
-ghost use Rattle.raft_log_open_directory.specs.Finding.{FindsLog, IsBegun};
+ghost use Rattle.raft_log_open_builder.specs.Finding.{FindsLog, IsBegun};
+ghost use Rattle.raft_log_open_directory.specs.Finding.{FailsToReadAnew, FindsAnew, ReadsAnew};
 ghost use Rattle.raft_log_open_directory.specs.Opening.{FailsToOpenDirectory};
 ghost use Rattle.raft_log_open_directory.specs.Reading.{AreMergedOf, BringsInRewrite, ReadsLog, ReadsQueues};
 
-use log::Log;
+use log::{Log, warn};
 use raft_log_disk::FileSystem;
 use raft_log_file_settings::Config;
 use raft_log_open_builder::DualPipesBuilder;
-use raft_log_record_base::Result;
+use raft_log_record_base::{Error, Result};
 use raft_log_table_all::MemTables;
 use raft_log_table_contexts::{MemTableRecoverContext, MemTableRecoverContextFactory};
 use raft_log_table_segments::ReplayThreads;
+use raft_log_unpadded::unpad;
 use std::alloc::Global;
 use std::thread::Threads;
 
@@ -74,8 +76,8 @@ pub fn read_log<R: Threads + Log + Sync, F: FileSystem + Sync>(
     }
 }
 
-/// Reads both queues of the log of these settings by these threads, each into a context of its own; then cuts
-/// damaged files.
+/// Reads both queues of the log of these settings by these threads, each into a context of its own, once the
+/// padding is out of files that have some; then cuts damaged files.
 fn read_queues<R: Threads + Log + Sync, F: FileSystem + Sync>(
     rt: &R,
     alloc: Global,
@@ -99,8 +101,54 @@ fn read_queues<R: Threads + Log + Sync, F: FileSystem + Sync>(
             append,
             rewrite,
         }),
+        Err(error) => match error {
+            Error::InvalidArgument(_) => read_unpadded(rt, alloc, threads, builder, file_system),
+            error => Err(error),
+        },
+    }
+}
+
+/// Takes the padding out of the files of a log, which a builder has found, and reads both queues by these threads.
+fn read_unpadded<R: Threads + Log + Sync, F: FileSystem + Sync>(
+    rt: &R,
+    alloc: Global,
+    threads: ReplayThreads,
+    builder: DualPipesBuilder,
+    file_system: &mut F,
+) -> Result<ReadQueues>
+    ensures ok { IfOk result (λ read. ReadsAnew builder read.append read.rewrite read.builder
+        (F.disk file_system.old) (F.disk file_system.new)) }
+    ensures err { IfErr result (λ error. FailsToReadAnew builder error
+        (F.disk file_system.old) (F.disk file_system.new)) }
+{
+    let mut builder = builder;
+    find_unpadded(rt, alloc, &mut builder, file_system)?;
+    let factory = MemTableRecoverContextFactory::new(alloc);
+    match builder.recover_by(rt, alloc, threads, file_system, &factory) {
+        Ok((append, rewrite)) => Ok(ReadQueues {
+            builder,
+            append,
+            rewrite,
+        }),
         Err(error) => Err(error),
     }
+}
+
+/// Takes the padding out of the files of a log, which a builder has found, and finds them again.
+fn find_unpadded<R: Log, F: FileSystem>(
+    rt: &R,
+    alloc: Global,
+    builder: &mut DualPipesBuilder,
+    file_system: &mut F,
+) -> Result<()>
+    ensures ok { OnOk result (FindsAnew builder.old builder.new
+        (F.disk file_system.old) (F.disk file_system.new)) }
+    ensures err { IfErr result (λ error. FailsToReadAnew builder.old error
+        (F.disk file_system.old) (F.disk file_system.new)) }
+{
+    let written = unpad(alloc, builder.config(), file_system)?.len();
+    warn!(rt; "{written} log files had an alignment, and were written anew without their padding");
+    builder.scan(alloc, rt, file_system)
 }
 
 /// Finds the files of the log of these settings.

@@ -7,7 +7,6 @@ use Rattle.std.proofs.lemmas.List.{append_cancel_right}
 use Rattle.std.proofs.lemmas.List.Elements.{Contains-get_or}
 use Rattle.std.proofs.lemmas.List.Sorted.{IsPermutation-sym}
 use Rattle.raft_log_record_base.specs.declared.pipe_log.LogQueue.{LogQueue}
-use Rattle.raft_log_record_base.specs.declared.pipe_log.LogQueue.TheVariants as queues
 use Rattle.raft_log_disk.specs.Disk.{Disk}
 use Rattle.raft_log_disk.specs.Image.{IsSound}
 use Rattle.raft_log_file_laws.specs.LogQueue.{LogFiles, IsLeftover}

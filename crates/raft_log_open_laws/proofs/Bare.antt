@@ -41,12 +41,14 @@ use Rattle.raft_log_open_builder.specs.Scanning.{FailsToScanLog}
 use Rattle.raft_log_open_builder.specs.Scanning.FailsToScanLog.{uncleared, unready as scan_unready, unscanned as scan_refused}
 use Rattle.raft_log_open_builder.specs.declared.builder.DualPipesBuilder.{DualPipesBuilder}
 use Rattle.raft_log_open_laws.specs.Opened.{HoldsFresh}
-use Rattle.raft_log_open_directory.specs.Finding.{FindsLog, IsBegun}
+use Rattle.raft_log_open_builder.specs.Finding.{FindsLog, IsBegun}
 use Rattle.raft_log_open_laws.specs.Bare.{BareDirectoriesOpen, IsBare}
 use Rattle.raft_log_open_laws.specs.Outcomes.{OpensByCallsAs}
 use Rattle.raft_log_open_laws.specs.RefusedByCalls.{FailsToOpenByCalls}
 use Rattle.raft_log_open_laws.specs.RefusedByCalls.FailsToOpenByCalls.{given_up, undone, unmerged, unopened, unreadied, unrecovered, unscanned}
 use Rattle.raft_log_open_laws.specs.ByCalls.{home_of, LogIsRecovered, OpensByCalls}
+use Rattle.raft_log_open_laws.proofs.Unpadded.{resting_plain}
+use Rattle.raft_log_open_laws.specs.Padding.{BareDirectoriesHaveNoPadding}
 use Rattle.raft_log_open_laws.proofs.Directory.{call_by_call, not_opened}
 use Rattle.raft_log_open_laws.proofs.Finding.{begun_directories, some_directory}
 use Rattle.raft_log_open_laws.proofs.Outcomes.{resting_logs_open_by_calls}
@@ -241,8 +243,16 @@ module _ {S : Type 0} (disk : S → Disk) (tells : S → List ℕ → ℕ → Ty
   first_refused new (unopened append rewrite ready readied error r fails) =
       inr ((reopens_first config d sound bare r.found r.scanned r.finds disk tells).refused new (unopened append rewrite ready readied error (recovered_again append rewrite ready readied r) fails))
 
+-- nothing there is padded
+pub bare_plain : BareDirectoriesHaveNoPadding
+bare_plain config d sound bare b scanned padding =
+    let f = padding.finds in
+    resting_plain config (mid config d sound bare b scanned f) nothing_stands (sound_mid config d sound bare b scanned f)
+    (rests_first config (mid config d sound bare b scanned f) (bare_mid config d sound bare b scanned f) (made config d sound bare b scanned f).there) b scanned
+    (record { finds = again config d sound bare b scanned f; has = padding.has })
+
 pub bare_directories_open : {S : Type 0} (disk : S → Disk) (tells : S → List ℕ → ℕ → Type 0) → BareDirectoriesOpen disk tells
 bare_directories_open disk tells config old sound bare = record {
-  answered = λ v tables opens. first_answered disk tells config (disk old) sound bare v tables (call_by_call disk tells config old v tables opens);
-  refused = λ error new fails. first_refused disk tells config (disk old) sound bare (disk new) (not_opened disk tells config old error new fails);
+  answered = λ v tables opens. first_answered disk tells config (disk old) sound bare v tables (call_by_call disk tells config old (bare_plain config (disk old) sound bare) v tables opens);
+  refused = λ error new fails. first_refused disk tells config (disk old) sound bare (disk new) (not_opened disk tells config old (bare_plain config (disk old) sound bare) error new fails);
 }

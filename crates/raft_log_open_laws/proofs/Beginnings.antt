@@ -1,5 +1,5 @@
 -- Where the files that a scan kept begin.
-use Rattle.std.specs.Prelude.{Contains, ◌⊎◌, None, Some}
+use Rattle.std.specs.Prelude.{Contains, ◌⊎◌}
 use Rattle.std.specs.List.{sum_by}
 use Rattle.std.specs.List.Sorted.{IsPermutation, IsSorted}
 use Rattle.std.specs.Cmp.{nat_cmp_is}
@@ -13,7 +13,7 @@ use Rattle.std.proofs.lemmas.List.Sorted.{Contains-permutation, IsPermutation-sy
 use Rattle.std.proofs.lemmas.List.Sums.{sum_by-append, sum_by-cons}
 use Rattle.raft_log_disk.specs.Disk.{Disk}
 use Rattle.raft_log_open_scan.specs.Found.{AreDistinct, AreFilesIn, FileLiesIn}
-use Rattle.raft_log_open_scan.specs.Runs.{FollowsNumber, IsBreak, IsRunOf, found_cmp}
+use Rattle.raft_log_open_scan.specs.Runs.{FollowsNumber, IsRunOf, found_cmp}
 use Rattle.raft_log_open_scan.specs.declared.file_kind.FileKind.{FileKind}
 use Rattle.raft_log_open_scan.specs.declared.scanning.found.FoundFile.{FoundFile}
 use Rattle.raft_log_open_laws.specs.Beginning.{IsTwice}

@@ -1,11 +1,11 @@
 -- What holds of each item of the records holds of each one that counts, and of each entry that they say.
-use Rattle.std.proofs.Common.{◌≡◌, ℕ, zero, suc, ◌-◌, ◌==◌, nat_lt, Bool, true, false, if◌then◌else◌, nat_le, List, [], ◌∷◌, ◌++◌, Option, Some, None, option_map, slice_get, unwrap_or, refl, sym, ap, subst, ◌∙◌}
+use Rattle.std.proofs.Common.{◌≡◌, ℕ, zero, suc, ◌-◌, ◌==◌, nat_lt, Bool, true, false, if◌then◌else◌, nat_le, List, [], ◌∷◌, ◌++◌, Option, Some, None, option_map, slice_get, unwrap_or, refl, ap, subst, ◌∙◌}
 use Rattle.std.specs.Option.{option_or}
 use Rattle.raft_log_model_laws.specs.Item.{Item, Record, Tagged, items_of}
 use Rattle.raft_log_model_laws.specs.Item.Item.{Run, Clean, Compact, Put, Del}
 use Rattle.raft_log_model_laws.specs.Item.Record.{Plain, Part}
 use Rattle.raft_log_model_laws.specs.Item.Mark.{Begin, Middle, End}
-use Rattle.raft_log_model_laws.specs.Meaning.{says, write, directory, holds, Content, Slot}
+use Rattle.raft_log_model_laws.specs.Meaning.{says, write, directory, holds, Content}
 use Rattle.raft_log_model_laws.specs.Meaning.Slot.{Index}
 use Rattle.raft_log_model_laws.specs.Meaning.Content.{Entry}
 use Rattle.raft_log_model_laws.specs.Groups.{none_open, of_group, onto, rewritten, set_open, settle, Open}

@@ -1,5 +1,5 @@
 -- The records that were read of a file are those that stand in it, each with its entries where they lie.
-use Rattle.std.proofs.Common.{◌≡◌, ℕ, ◌+◌, ◌-◌, ◌≤◌, Bool, true, false, Result, List, [], ◌∷◌, ◌++◌, length, take, drop, map, Option, Some, None, option_map, unwrap_or, inl, inr, refl, sym, ap, ap₂, subst, ◌∙◌, append_assoc, arith}
+use Rattle.std.proofs.Common.{◌≡◌, ℕ, ◌+◌, ◌-◌, ◌≤◌, Bool, Result, List, [], ◌∷◌, ◌++◌, length, take, drop, map, Option, Some, option_map, unwrap_or, inl, inr, refl, sym, ap, ap₂, subst, ◌∙◌, append_assoc, arith}
 use Rattle.std.specs.Prelude.{IsOk}
 use Rattle.std.proofs.lemmas.List.{drop_at, length-append, take_at}
 use Rattle.std.proofs.lemmas.List.{drop-append-le, length-drop, take-append-le}
@@ -31,7 +31,6 @@ use Rattle.raft_log_table_lists.specs.Bridge.{Located, in_queue}
 use Rattle.raft_log_engine_laws.specs.raft_log_table_one.specs.Replays.{in_append}
 use Rattle.raft_log_file_queue.specs.Bridge.{said as said_all}
 use Rattle.raft_log_file_reader.specs.Batches.{block_at}
-use Rattle.raft_log_table_segments.specs.Machines.{Batch}
 use Rattle.raft_log_table_contexts.specs.Batches.{AreRecordsRead}
 use Rattle.raft_log_table_contexts.specs.Records.{in_file, record_read, records_of, said_in, taken_as, ReadItem, ReadRecord}
 use Rattle.raft_log_table_contexts.specs.Noting.{AreWhereRead, ItemsLieIn}

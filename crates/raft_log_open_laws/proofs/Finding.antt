@@ -34,7 +34,7 @@ use Rattle.raft_log_open_builder.specs.Directories.{paths_of}
 use Rattle.raft_log_open_builder.specs.Recovering.{append_files, rewrite_files}
 use Rattle.raft_log_open_builder.specs.Scanning.{ScansLog}
 use Rattle.raft_log_open_builder.specs.declared.builder.DualPipesBuilder.{DualPipesBuilder}
-use Rattle.raft_log_open_directory.specs.Finding.{FindsLog, IsBegun}
+use Rattle.raft_log_open_builder.specs.Finding.{FindsLog, IsBegun}
 use Rattle.raft_log_open_laws.specs.Keeping.{KeepsNumbered}
 use Rattle.raft_log_open_laws.proofs.Keeping.{keeps_same, rests_kept, stopped_kept, unbegun_kept}
 use Rattle.raft_log_open_laws.specs.Files.{AreQueueFiles}

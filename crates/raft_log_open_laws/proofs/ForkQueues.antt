@@ -32,7 +32,7 @@ module _ (queue : LogQueue) (from to : List (List ℕ)) where
   -- a copy of a file at rest is at rest
   leftover : (q : LogFiles LogRecord) (file : File) → IsLeftover (log_format queue from) q file → IsLeftover (log_format queue to) q (at_rest file.content)
   leftover q file is =
-      record { bytes = is.bytes; is = ap (λ (f : File). at_rest f.content) is.is; reads = same_reading q.last _ is.bytes is.reads }
+      record { bytes = is.bytes; is = ap (λ (f : File). at_rest f.content) is.is; reads = same_reading q.last _ is.bytes is.reads; plain = is.plain }
 
   past : (n : ℕ) (was : Past LogRecord) (file : File) → IsPast (log_format queue from) n was file → IsPast (log_format queue to) n was (at_rest file.content)
   past n was file is = record { is = ap (λ (f : File). at_rest f.content) is.is; header = is.header; frames = is.frames }

@@ -1,14 +1,11 @@
 -- A log is opened in place.
-use Rattle.std.proofs.Common.{◌≡◌, ℕ, ◌<◌, ◌≤◌, Bool, true, false, Some, List, [], ◌∷◌, length, take, refl, sym, ap, subst, ◌∙◌, inl, inr}
+use Rattle.std.proofs.Common.{◌≡◌, ℕ, ◌<◌, Bool, true, false, List, [], ◌∷◌, length, refl, sym, ap, subst, ◌∙◌, inl, inr}
 use Rattle.std.specs.Prelude.{◌||◌, ◌⊎◌}
-use Rattle.std.proofs.lemmas.Bool.{cases_Bool}
-use Rattle.raft_log_record_base.specs.declared.pipe_log.LogQueue.TheVariants.{Append}
 use Rattle.raft_log_disk.specs.Disk.{Disk}
 use Rattle.raft_log_disk.specs.Image.{as_it_stands, IsSound}
 use Rattle.raft_log_disk.proofs.ImageLaws.{named_is_used}
 use Rattle.raft_log_file_settings.specs.declared.config.Config.{Config}
 use Rattle.raft_log_file_queue.specs.declared.format.File.{File}
-use Rattle.raft_log_engine_laws.specs.raft_log_file_layout.specs.Layout.{log_paths}
 use Rattle.raft_log_engine_laws.specs.raft_log_table_all.specs.declared.mem_tables.MemTables.{MemTables}
 use Rattle.raft_log_open_found.specs.declared.file_ending.FileEnding.{FileEnding}
 use Rattle.raft_log_table_contexts.specs.declared.context.MemTableRecoverContext.{MemTableRecoverContext}
@@ -27,7 +24,7 @@ use Rattle.raft_log_open_builder.specs.Recovering.{append_files, rewrite_files}
 use Rattle.raft_log_open_builder.specs.Syncing.{SyncsEach}
 use Rattle.raft_log_open_builder.specs.declared.builder.DualPipesBuilder.{DualPipesBuilder}
 use Rattle.raft_log_open_builder.specs.declared.recovered_queue.RecoveredQueue.{RecoveredQueue}
-use Rattle.raft_log_open_directory.specs.Finding.{FindsLog}
+use Rattle.raft_log_open_builder.specs.Finding.{FindsLog}
 use Rattle.raft_log_open_laws.specs.Opened.{HoldsFresh}
 use Rattle.raft_log_open_laws.specs.Keeping.{RestsStill}
 use Rattle.raft_log_open_laws.proofs.Keeping.{kept_logs_stay}
@@ -39,7 +36,7 @@ use Rattle.raft_log_open_laws.proofs.Finding.{scans_find_all_files, some_directo
 use Rattle.raft_log_open_laws.proofs.Outcomes.{resting_logs_open_by_calls}
 use Rattle.raft_log_open_laws.proofs.ByCalls.{two_queues}
 use Rattle.raft_log_open_laws.specs.InPlace.{StopsSynced}
-use Rattle.raft_log_open_laws.proofs.Settling.{settled_if, settled_in}
+use Rattle.raft_log_open_laws.proofs.Settling.{settled_in}
 use Rattle.raft_log_open_laws.proofs.InPlaceScans.{settled_finds, settled_recovers, settled_syncs}
 use Rattle.raft_log_open_laws.proofs.Readies.{settled_readies, AreOld}
 use Rattle.raft_log_open_laws.proofs.Standing.{is_last_of, it_is_last, settled_sound, stands_keeps, which_is_last, IsLast}

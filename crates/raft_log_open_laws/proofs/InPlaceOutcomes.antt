@@ -10,9 +10,11 @@ use Rattle.raft_log_engine_laws.specs.Shows.{log_in, Home, LogMap}
 use Rattle.raft_log_engine_laws.specs.Holding.{IsLeftAt}
 use Rattle.raft_log_open_laws.specs.ByCalls.{home_of}
 use Rattle.raft_log_open_laws.specs.InPlace.{OpensStandingByCalls, StandingDirectoriesOpen, StandingLogsOpenByCalls, StandsWithoutChance}
+use Rattle.raft_log_open_laws.specs.Padding.{FindsNoPadding, StandingLogsHaveNoPadding}
 use Rattle.raft_log_open_laws.proofs.Directory.{call_by_call, not_opened}
 use Rattle.raft_log_open_laws.proofs.InPlace.{answered_in_place, synced_in_place}
 use Rattle.raft_log_open_laws.proofs.Left.{crashed_logs_rest}
+use Rattle.raft_log_open_laws.proofs.Unpadded.{standing_plain}
 use Rattle.raft_log_open_laws.proofs.Refusing.{refused_in_place}
 
 -- so it is of the map as which it rests once all that stands is kept
@@ -45,8 +47,18 @@ standing_directories_open disk tells home one other old m pending sound left cha
       within,
       rests,
       λ config named.
+          let now : LogMap = taken m (take k pending) in
+          let here : IsLeftAt (home_of config) (disk old) m pending = subst (λ (h : Home). IsLeftAt h (disk old) m pending) (sym named) left in
+          let all : LogRestsOn (log_in (home_of config)) (as_it_stands (disk old)) now = subst (λ (h : Home). LogRestsOn (log_in h) (as_it_stands (disk old)) now) (sym named) rests in
+          let plain : FindsNoPadding config (disk old) = standing_plain config (disk old) m pending sound here now all in
           record {
-            answered = λ v tables o. (outcome config named).answered v tables (call_by_call disk tells config old v tables o);
-            refused = λ error new why. (outcome config named).refused (disk new) (not_opened disk tells config old error new why);
+            answered = λ v tables o. (outcome config named).answered v tables (call_by_call disk tells config old plain v tables o);
+            refused = λ error new why. (outcome config named).refused (disk new) (not_opened disk tells config old plain error new why);
           },
     )
+
+pub standing_logs_have_no_padding : StandingLogsHaveNoPadding
+standing_logs_have_no_padding home one other d m pending sound left chance config named =
+    let (k, within, rests) = crashed_logs_rest home one other d (as_it_stands d) m pending left chance in
+    let now : LogMap = taken m (take k pending) in
+    standing_plain config d m pending sound (subst (λ (h : Home). IsLeftAt h d m pending) (sym named) left) now (subst (λ (h : Home). LogRestsOn (log_in h) (as_it_stands d) now) (sym named) rests)

@@ -27,7 +27,7 @@ use Rattle.raft_log_open_builder.specs.Reading.{HasReadFiles}
 use Rattle.raft_log_open_builder.specs.Recovering.{append_config, append_files, rewrite_config, rewrite_files, RecoversLog}
 use Rattle.raft_log_open_builder.specs.Syncing.{SyncsEach}
 use Rattle.raft_log_open_builder.specs.declared.builder.DualPipesBuilder.{DualPipesBuilder}
-use Rattle.raft_log_open_directory.specs.Finding.{FindsLog}
+use Rattle.raft_log_open_builder.specs.Finding.{FindsLog}
 use Rattle.raft_log_open_scan.specs.declared.recovery_config.RecoveryConfig.{RecoveryConfig}
 use Rattle.raft_log_open_laws.proofs.Settling.{settled_if, settled_in, settled_sync, settled_trim}
 

@@ -38,7 +38,7 @@ use Rattle.raft_log_open_builder.specs.Directories.{paths_of}
 use Rattle.raft_log_open_builder.specs.Scanning.{FailsToScanLog}
 use Rattle.raft_log_open_builder.specs.Scanning.FailsToScanLog.{uncleared, unready, unscanned as scan_refused}
 use Rattle.raft_log_open_builder.specs.declared.builder.DualPipesBuilder.{DualPipesBuilder}
-use Rattle.raft_log_open_directory.specs.Finding.{FindsLog}
+use Rattle.raft_log_open_builder.specs.Finding.{FindsLog}
 use Rattle.raft_log_open_laws.specs.Keeping.{KeepsNumbered}
 use Rattle.raft_log_open_laws.proofs.Calls.{keeps_all, keeps_calm}
 use Rattle.raft_log_open_laws.proofs.Keeping.{keeps_same, keeps_then, kept_logs_stay}

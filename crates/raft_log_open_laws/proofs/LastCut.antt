@@ -76,6 +76,7 @@ module _ {R : Type 0} (F : Format R) (lawful : IsFormat F) (q : LogFiles R) wher
             ends = none_begins (F.IsFrame q.last front) (lawful.free q.last front);
           },
         );
+        plain = lawful.plain q.last front (spelled (recent q)) past.header;
       }
 
   -- and so it begins with its header, and is read up to its end
@@ -100,7 +101,7 @@ module _ {R : Type 0} (F : Format R) (lawful : IsFormat F) (q : LogFiles R) wher
 
   -- so is an empty one, where there are none, and no header is of no bytes
   empty_leftover : recent q ≡ [] → (content : List ℕ) → ((header : List ℕ) → HasHeader F header content → ⊥) → (file : File) → file ≡ at_rest [] → IsLeftover F q file
-  empty_leftover none content headless file is = record { bytes = []; is = is; reads = inl (none, empty_header F content headless) }
+  empty_leftover none content headless file is = record { bytes = []; is = is; reads = inl (none, empty_header F content headless); plain = lawful.empty q.last }
 
 -- The last file of a queue.
 module _ {R : Type 0} (layout : QueueLayout R) (told : IsQueueLayout layout) (handle : Handle) (end : Option ℕ) (q : LogFiles R) (old new : Disk) (sound : IsSound old) (permitted : handle.permission ≡ ReadWrite)

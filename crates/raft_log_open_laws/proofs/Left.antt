@@ -1,9 +1,7 @@
 -- What an engine left on its disk, through a crash, and through an open that is refused.
-use Rattle.std.proofs.Common.{◌≡◌, ℕ, ◌+◌, ◌<◌, ◌≤◌, List, [], ◌++◌, length, take, refl, sym, ap, subst, ◌∙◌, length-append, arith}
+use Rattle.std.proofs.Common.{◌≡◌, ◌+◌, ◌<◌, List, [], ◌++◌, length, take, refl, sym, ap, subst, ◌∙◌, length-append, arith}
 use Rattle.std.proofs.Math.Seq.{take-append-add}
 use Rattle.raft_log_model_laws.specs.Groups.{taken}
-use Rattle.raft_log_disk.specs.Disk.{Disk}
-use Rattle.raft_log_record_base.specs.declared.errors.Error.{Error}
 use Rattle.raft_log_record_base.specs.declared.pipe_log.LogQueue.TheVariants.{Append, Rewrite}
 use Rattle.raft_log_directory_laws.proofs.Follows.{taken_twice}
 use Rattle.raft_log_engine_laws.specs.raft_log_file_layout.specs.LayoutLaws.{files_are_told, is_layout, queues_are_apart}
@@ -11,12 +9,9 @@ use Rattle.raft_log_file_pair.specs.Queues.{AreTwoQueues}
 use Rattle.raft_log_file_pair.specs.Lying.{none_open}
 use Rattle.raft_log_file_pair.specs.OnDisk.{LogRestsOn}
 use Rattle.raft_log_file_pair.proofs.OnDiskLaws.{logs_go_on_disks}
-use Rattle.raft_log_file_pair.specs.Opening.{FailsToOpenLog, RestsAsFound}
 use Rattle.raft_log_file_pair.specs.Pipes.{Said}
-use Rattle.raft_log_file_pair.specs.declared.opening.FoundPipe.{FoundPipe}
-use Rattle.raft_log_engine_laws.specs.Shows.{log_in, sense, Home, LogMap}
-use Rattle.raft_log_engine_laws.specs.Holding.{IsLeftAt}
-use Rattle.raft_log_open_laws.specs.Left.{CrashedLogsRest, IsCrashOf, RefusedOpensLeaveLogs}
+use Rattle.raft_log_engine_laws.specs.Shows.{log_in, sense, Home}
+use Rattle.raft_log_open_laws.specs.Left.{CrashedLogsRest, RefusedOpensLeaveLogs}
 
 two_queues : (home : Home) → 0 < length home.append → 0 < length home.rewrite → AreTwoQueues (log_in home)
 two_queues home one other = record {

@@ -55,6 +55,8 @@ pub mod SpareLists
 pub mod SpareCalls
 pub mod Spares
 pub mod Outcomes
+pub mod Plain
+pub mod Unpadded
 pub mod Directory
 pub mod Bare
 pub mod Keeping

@@ -1,10 +1,10 @@
 -- Items with the places of their entries, as they were read: what they say, where they lie, and what is known of
 -- each entry.
-use Rattle.std.proofs.Common.{◌≡◌, ℕ, ◌+◌, ◌≤◌, Bool, true, false, if◌then◌else◌, Option, None, List, [], ◌∷◌, length, map, refl, sym, ap, ap₂, subst, ◌∙◌, arith}
+use Rattle.std.proofs.Common.{◌≡◌, ℕ, ◌+◌, ◌≤◌, Bool, true, false, if◌then◌else◌, Option, None, List, [], ◌∷◌, map, refl, sym, ap, ap₂, ◌∙◌, arith}
 use Rattle.std.specs.Prelude.{◌==◌, ◌&&◌}
 use Rattle.std.proofs.lemmas.List.Sums.{sum_by-cons}
 use Rattle.raft_log_model_laws.specs.Item.{Item, Tagged}
-use Rattle.raft_log_model_laws.specs.Item.Item.{Run, Clean, Compact, Put, Del}
+use Rattle.raft_log_model_laws.specs.Item.Item.{Run}
 use Rattle.raft_log_record_base.specs.declared.pipe_log.FileBlockHandle.{FileBlockHandle}
 use Rattle.raft_log_record_items.specs.declared.entry.EntryIndex.{EntryIndex}
 use Rattle.raft_log_record_items.specs.declared.op_type.OpType.{OpType}
@@ -15,14 +15,12 @@ use Rattle.raft_log_record_items.specs.declared.item.LogItemContent.{LogItemCont
 use Rattle.raft_log_record_items.specs.declared.item.LogItemContent.TheVariants as contents
 use Rattle.raft_log_record_items.specs.Placed.{content_len, entries_len, laid_content, laid_out, laid_run, placed, run_len, written, written_content, written_entry, written_item}
 use Rattle.raft_log_record_items.specs.Writing.{value_of}
-use Rattle.raft_log_record_marks.specs.declared.marking.Marking.{Marking}
 use Rattle.raft_log_record_marks.specs.declared.status.AtomicGroupStatus.{AtomicGroupStatus}
 use Rattle.raft_log_record_marks.specs.Marking.{content_has_mark_key, has_mark_key, joined_marking, mark_of, mark_of_content, marking_of, marking_of_items, part_or_broken}
 use Rattle.raft_log_record_marks.specs.declared.marking.Marking.TheVariants.{Unmarked}
 use Rattle.raft_log_record_marks.specs.Meaning.{key_meaning, meaning, tagged, tagged_items, unless_mark}
 use Rattle.raft_log_table_runs.specs.declared.place.Place.{Place}
 use Rattle.raft_log_table_runs.specs.Entries.{place_of}
-use Rattle.raft_log_table_lists.specs.Shown.{KeyValue}
 use Rattle.raft_log_table_lists.specs.Bridge.{Located, in_queue}
 use Rattle.raft_log_table_lists.specs.Replayed.{placed as placed_in, told}
 use Rattle.raft_log_table_contexts.specs.Records.{placed_tagged, said_in}

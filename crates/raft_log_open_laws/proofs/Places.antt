@@ -50,7 +50,7 @@ record_long n header bytes said is =
 -- A whole record.
 
 -- the record of a frame that is read, and whose block is
-record_there : (s : Option ℕ) (input : List ℕ) (front : Front) → frame_at s input ≡ Ok front → IsOk (record_at s input) → (entries : List ℕ) × (block_of front.bytes ≡ Ok entries)
+pub record_there : (s : Option ℕ) (input : List ℕ) (front : Front) → frame_at s input ≡ Ok front → IsOk (record_at s input) → (entries : List ℕ) × (block_of front.bytes ≡ Ok entries)
 unfolding record_at
 record_there s input front read ok = by_block (block_of front.bytes) refl
   where

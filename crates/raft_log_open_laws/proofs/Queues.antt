@@ -1,5 +1,5 @@
 -- The records that were read of a queue are held by its numbered files, each in its own.
-use Rattle.std.proofs.Common.{◌≡◌, ℕ, zero, suc, ◌+◌, ◌-◌, ◌<◌, ◌≤◌, Bool, true, false, cond, List, [], ◌∷◌, ◌++◌, length, map, inl, inr, refl, sym, ap, ap₂, subst, ◌∙◌, arith, nat_eq, append_assoc}
+use Rattle.std.proofs.Common.{◌≡◌, ℕ, zero, suc, ◌+◌, ◌-◌, ◌<◌, ◌≤◌, Bool, false, cond, List, [], ◌∷◌, ◌++◌, length, map, inl, inr, refl, sym, ap, ap₂, subst, ◌∙◌, arith, nat_eq, append_assoc}
 use Rattle.std.specs.Prelude.{IsOk}
 use Rattle.std.specs.List.{AllZip}
 use Rattle.std.proofs.lemmas.Bool.{cases_Bool}
@@ -8,7 +8,6 @@ use Rattle.std.proofs.lemmas.List.{append-nil, map-append}
 use Rattle.raft_log_machine_laws.specs.Files.{FileQueue, LogFile, span}
 use Rattle.raft_log_machine_laws.specs.Directory.{IsRising}
 use Rattle.raft_log_record_base.specs.declared.pipe_log.FileBlockHandle.{FileBlockHandle}
-use Rattle.raft_log_record_base.specs.declared.pipe_log.LogFileContext.{LogFileContext}
 use Rattle.raft_log_record_base.specs.declared.pipe_log.LogQueue.{LogQueue}
 use Rattle.raft_log_record_items.specs.Placed.{placed}
 use Rattle.raft_log_record_frames.specs.Record.{block_bytes, block_of}
@@ -32,7 +31,7 @@ use Rattle.raft_log_table_contexts.specs.Records.{records_of, ReadRecord}
 use Rattle.raft_log_table_contexts.specs.Noting.{AllReadTo, AreWhereRead}
 use Rattle.raft_log_table_contexts.specs.Opened.{AllReadIn, FilesHold}
 use Rattle.raft_log_table_contexts.proofs.OpenGroups.{records_append as records_of_both}
-use Rattle.raft_log_engine_laws.specs.raft_log_file_blocks.specs.Stored.{entries_at, file_bytes, part, queue_in, BlockLiesIn, EntryLiesIn, IsStored}
+use Rattle.raft_log_engine_laws.specs.raft_log_file_blocks.specs.Stored.{entries_at, file_bytes, part, queue_in, EntryLiesIn, IsStored}
 use Rattle.raft_log_open_laws.specs.FileReading.{context_in}
 use Rattle.raft_log_file_pair.specs.Pipes.{Said, State}
 use Rattle.raft_log_open_laws.specs.Entries.{EntriesHave, RecordsHave}

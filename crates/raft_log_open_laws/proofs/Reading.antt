@@ -34,7 +34,7 @@ use Rattle.raft_log_open_laws.specs.Files.{AreAll, ReadsAsTold}
 
 -- Places in a list.
 
-index_of : {A : Type 0} (done rest : List A) (x d : A) → slice_index_or (done ++ x ∷ rest) (length done) d ≡ x
+pub index_of : {A : Type 0} (done rest : List A) (x d : A) → slice_index_or (done ++ x ∷ rest) (length done) d ≡ x
 index_of [] rest x d = refl
 index_of (y ∷ done) rest x d = index_of done rest x d
 
@@ -44,10 +44,10 @@ left_behind done rest = (let all = length-append done rest in omega (arith, all)
 not_one : (n : ℕ) → 2 ≤ n → (n == 1) ≡ false
 not_one n many = grind (arith, nat_tests)
 
-not_at_end : (done rest : List File) (f g : File) → is_at_end (done ++ f ∷ (g ∷ rest)) (length done) ≡ false
+pub not_at_end : (done rest : List File) (f g : File) → is_at_end (done ++ f ∷ (g ∷ rest)) (length done) ≡ false
 not_at_end done rest f g = ap (λ (n : ℕ). n == 1) (left_behind done (f ∷ (g ∷ rest))) ∙ not_one (length (f ∷ (g ∷ rest))) (omega arith)
 
-at_end : (done : List File) (f : File) → is_at_end (done ++ f ∷ []) (length done) ≡ true
+pub at_end : (done : List File) (f : File) → is_at_end (done ++ f ∷ []) (length done) ≡ true
 at_end done f = ap (λ (n : ℕ). n == 1) (left_behind done (f ∷ []))
 
 -- What is told of the last file, and that the others aren't damaged.
@@ -63,10 +63,10 @@ module _ (queue : LogQueue) (directories : List (List ℕ)) (some : 0 < length d
   abbrev F : Format LogRecord
   F = log_format queue directories
 
-  path_at : (f : File) → f.reserved ≡ false → f.seq < F.limit → F.IsPath f.seq (path_of (log_paths queue directories) f)
+  pub path_at : (f : File) → f.reserved ≡ false → f.seq < F.limit → F.IsPath f.seq (path_of (log_paths queue directories) f)
   path_at f listed bound = subst (F.IsPath f.seq) (sym (path_numbered (log_paths queue directories) f listed)) ((is_layout queue directories some).numbered f.path_id f.seq bound)
 
-  name_there : (path : List ℕ) (id : ℕ) → d.names path ≡ Some id → left.N path ≡ Some id
+  pub name_there : (path : List ℕ) (id : ℕ) → d.names path ≡ Some id → left.N path ≡ Some id
   name_there path id named = ap (λ (names : List ℕ → Option ℕ). names path) (sym left.stands.names) ∙ named
 
   -- the last file is the one that is listed so

@@ -1,38 +1,33 @@
 -- Where a log that rests is opened, an engine of what was read of it holds its map.
-use Rattle.std.proofs.Common.{◌≡◌, ℕ, zero, suc, ◌+◌, ◌<◌, ◌≤◌, Option, Some, None, List, [], ◌∷◌, ◌++◌, length, take, refl, sym, ap, ap₂, subst, ◌∙◌, append-nil, append_assoc, arith}
+use Rattle.std.proofs.Common.{◌≡◌, ℕ, suc, ◌<◌, Option, Some, None, List, [], ◌∷◌, ◌++◌, length, take, refl, sym, ap, ap₂, subst, ◌∙◌, append-nil}
 use Rattle.raft_log_model_laws.specs.Groups.{taken}
 use Rattle.raft_log_record_base.specs.declared.pipe_log.LogQueue.{LogQueue}
 use Rattle.raft_log_record_base.specs.declared.pipe_log.LogQueue.TheVariants.{Append, Rewrite}
 use Rattle.raft_log_disk.specs.Disk.{Disk}
 use Rattle.raft_log_file_laws.specs.Chains.{Written}
 use Rattle.raft_log_file_laws.specs.LogFormat.{Format}
-use Rattle.raft_log_file_laws.specs.LogQueue.{LogFiles, recent}
-use Rattle.raft_log_file_format.specs.declared.header.LogFileFormat.{LogFileFormat}
+use Rattle.raft_log_file_laws.specs.LogQueue.{recent}
 use Rattle.raft_log_file_settings.specs.declared.recovery_mode.RecoveryMode.{RecoveryMode}
 use Rattle.raft_log_file_queue.specs.Layout.{path_of, FilePaths}
 use Rattle.raft_log_file_queue.specs.declared.format.File.{File}
 use Rattle.raft_log_file_queue.specs.Standing.{Names}
 use Rattle.raft_log_engine_laws.specs.raft_log_file_layout.specs.declared.record.LogRecord.{LogRecord}
 use Rattle.raft_log_file_pipe.specs.Files.{IsSpan}
-use Rattle.raft_log_file_pipe.specs.Opening.{first_number, taken_up, IsListedAs, IsListedFirst, OpensPipe}
+use Rattle.raft_log_file_pipe.specs.Opening.{first_number, taken_up, OpensPipe}
 use Rattle.raft_log_file_pipe.specs.Opening.OpensPipe.{begins, takes_up}
 use Rattle.raft_log_file_pipe.specs.declared.found_files.FoundFiles.{FoundFiles}
 use Rattle.raft_log_file_pipe.specs.declared.new_files.NewFiles.{NewFiles}
 use Rattle.raft_log_file_pipe.specs.declared.pipe_files.PipeFiles.{PipeFiles}
-use Rattle.raft_log_engine_laws.specs.raft_log_table_all.specs.declared.mem_tables.MemTables.{MemTables}
 use Rattle.raft_log_table_segments.specs.Machines.{Batch}
 use Rattle.raft_log_open_found.specs.declared.file_ending.FileEnding.{FileEnding}
 use Rattle.raft_log_file_pair.specs.Own.{log_layout}
 use Rattle.raft_log_file_pair.specs.State.{Spanned}
-use Rattle.raft_log_file_pair.specs.Reopening.{AreFound, GoesOnFound, IsFoundOf}
+use Rattle.raft_log_file_pair.specs.Reopening.{GoesOnFound, IsFoundOf}
 use Rattle.raft_log_file_pair.specs.Reopening.IsFoundOf.{stopped, unbegun}
-use Rattle.raft_log_file_pair.specs.Opening.{OpensLog, RestsAsFound}
-use Rattle.raft_log_file_pair.specs.Pipes.{LogPipes}
-use Rattle.raft_log_file_pair.specs.declared.opening.FoundPipe.{FoundPipe}
-use Rattle.raft_log_engine_laws.specs.Shows.{sense, Home, LogMap}
+use Rattle.raft_log_engine_laws.specs.Shows.{sense}
 use Rattle.raft_log_open_laws.specs.Reading.{AreOfQueue}
-use Rattle.raft_log_open_laws.specs.Found.{AreListed, ReadsQueue}
-use Rattle.raft_log_open_laws.specs.Recovered.{AreFoundAsRead, AreInFormats, CrashedLogsOpen, ReadLogsAreHeld, WereRead}
+use Rattle.raft_log_open_laws.specs.Found.{ReadsQueue}
+use Rattle.raft_log_open_laws.specs.Recovered.{AreFoundAsRead, AreInFormats, CrashedLogsOpen, ReadLogsAreHeld}
 use Rattle.raft_log_open_laws.proofs.Left.{crashed_logs_rest}
 use Rattle.raft_log_open_laws.proofs.Opened.{opened_engines_hold}
 use Rattle.raft_log_open_laws.proofs.QueueReading.{no_files_are_the_queue, read_files_are_the_queue}

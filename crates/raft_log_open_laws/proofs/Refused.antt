@@ -60,7 +60,7 @@ use Rattle.raft_log_open_laws.proofs.Stays.{span_of, stays_first, stays_kept, st
 use Rattle.raft_log_open_laws.proofs.Uncut.{uncut_held, IsHeld}
 
 -- what workers read of a queue is told of all its files, or, where there was no worker, of none
-endings_by : (config : RecoveryConfig) (files : List File) (d : Disk) (context : MemTableRecoverContext) (endings : List FileEnding) → HasReadFiles reads config files d context endings → (length endings ≡ length files) ⊎ (endings ≡ [])
+pub endings_by : (config : RecoveryConfig) (files : List File) (d : Disk) (context : MemTableRecoverContext) (endings : List FileEnding) → HasReadFiles reads config files d context endings → (length endings ≡ length files) ⊎ (endings ≡ [])
 endings_by config files d context endings read = by_workers config.concurrency read.all
   where
     long : length read.batches ≡ length endings

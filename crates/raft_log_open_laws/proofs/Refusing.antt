@@ -29,7 +29,7 @@ use Rattle.raft_log_open_builder.specs.Recovering.{append_config, append_files, 
 use Rattle.raft_log_open_builder.specs.Recovering.FailsToRecoverLog.{aligned, append_uncut, append_unread, rewrite_uncut, rewrite_unread}
 use Rattle.raft_log_open_builder.specs.Reserving.{wanted_files, FailsToReadyLog, ReadiesLog}
 use Rattle.raft_log_open_builder.specs.declared.builder.DualPipesBuilder.{DualPipesBuilder}
-use Rattle.raft_log_open_directory.specs.Finding.{FindsLog}
+use Rattle.raft_log_open_builder.specs.Finding.{FindsLog}
 use Rattle.raft_log_engine_laws.specs.raft_log_file_blocks.specs.Stored.{Each}
 use Rattle.raft_log_open_laws.specs.Keeping.{KeepsNumbered}
 use Rattle.raft_log_open_laws.proofs.Calls.{keeps_all, sound_names, AreSoundNames}

@@ -1,19 +1,17 @@
 -- What a crash leaves of an engine that runs.
-use Rattle.std.proofs.Common.{◌≡◌, ◌⊎◌, ℕ, ◌≤◌, Some, List, [], ◌++◌, length, take, drop, refl, sym, ap, subst, ◌∙◌, inl, inr}
+use Rattle.std.proofs.Common.{◌≡◌, ℕ, Some, List, [], ◌++◌, length, take, drop, refl, sym, ap, subst, ◌∙◌, inl, inr}
 use Rattle.std.proofs.lemmas.List.{drop_at, take_at}
-use Rattle.raft_log_model_laws.specs.Groups.{taken}
 use Rattle.raft_log_disk.specs.Disk.{Disk, File}
 use Rattle.raft_log_disk.specs.Image.{IsImage}
 use Rattle.raft_log_disk.proofs.TouchingLaws.{same_file}
-use Rattle.raft_log_file_laws.specs.Chains.{LiesIn, Meets, Written, spelled}
-use Rattle.raft_log_file_laws.specs.KeepsSynced.{IsHandedIn}
+use Rattle.raft_log_file_laws.specs.Chains.{spelled}
 use Rattle.raft_log_file_laws.specs.KeepsSynced.WasWritten.{handed_in, own_record}
 use Rattle.raft_log_file_laws.specs.LogFormat.{Format, NoChanceInFile}
 use Rattle.raft_log_file_laws.specs.LogQueue.{NoChanceInLast, recent}
 use Rattle.raft_log_file_queue.specs.Queue.{whole}
 use Rattle.raft_log_file_pipe.specs.declared.pipe_files.PipeFiles.{PipeFiles}
 use Rattle.raft_log_file_pair.specs.Lying.{both_open}
-use Rattle.raft_log_file_pair.specs.OnDisk.{LogLiesOn, LogRestsOn}
+use Rattle.raft_log_file_pair.specs.OnDisk.{LogLiesOn}
 use Rattle.raft_log_file_pair.specs.Pipes.{Said, files_of}
 use Rattle.raft_log_file_pair.specs.Queues.{QueueLayout}
 use Rattle.raft_log_file_pair.specs.State.{RunsQueue, Spanned, Ties}
@@ -31,6 +29,7 @@ module _ (F : Format LogRecord) (files : PipeFiles) (stale : List ℕ) (file : F
   no_chance = record {
     headers = meets.headers;
     records = λ at w here. elim (meets.records at w here) [ inl own ↦ own_record own | inr handed ↦ handed_in handed ];
+    plain = meets.plain;
   }
 
 -- in the last file of a pipe that runs

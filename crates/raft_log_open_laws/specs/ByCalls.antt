@@ -21,7 +21,7 @@ use Rattle.raft_log_open_builder.specs.Finishing.{OpensRecovered, SyncsLog}
 use Rattle.raft_log_open_builder.specs.Recovering.{RecoversLog, append_files, rewrite_files}
 use Rattle.raft_log_open_builder.specs.Reserving.{ReadiesLog}
 use Rattle.raft_log_open_builder.specs.declared.builder.DualPipesBuilder.{DualPipesBuilder}
-use Rattle.raft_log_open_directory.specs.Finding.{FindsLog}
+use Rattle.raft_log_open_builder.specs.Finding.{FindsLog}
 use Rattle.raft_log_open_laws.specs.Files.{AreQueueFiles}
 
 -- the home of a log whose directories the settings name

@@ -24,7 +24,7 @@ use Rattle.raft_log_engine_laws.specs.Holding.{IsLeftAt}
 use Rattle.raft_log_open_builder.specs.Finishing.{FailsToSyncLog, IsPipeRecovered, IsAllRead, SyncsLog}
 use Rattle.raft_log_open_builder.specs.Scanning.{FailsToScanLog}
 use Rattle.raft_log_open_builder.specs.declared.builder.DualPipesBuilder.{DualPipesBuilder}
-use Rattle.raft_log_open_directory.specs.Finding.{FindsLog, IsBegun}
+use Rattle.raft_log_open_builder.specs.Finding.{FindsLog, IsBegun}
 use Rattle.raft_log_open_directory.specs.Opening.{FailsToOpenDirectory, OpensDirectory}
 use Rattle.raft_log_open_laws.specs.Left.{IsCrashOf, RestsAfterSome}
 use Rattle.raft_log_open_laws.specs.Opened.{HoldsFresh}

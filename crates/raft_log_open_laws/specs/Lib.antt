@@ -29,3 +29,4 @@ pub use Rattle.raft_log_engine_laws.specs.raft_log_file_pair
 pub use Rattle.raft_log_engine_laws
 pub use Rattle.raft_log_open_builder
 pub use Rattle.raft_log_open_directory
+pub mod Padding

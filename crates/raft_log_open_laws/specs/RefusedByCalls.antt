@@ -12,7 +12,7 @@ use Rattle.raft_log_open_builder.specs.Recovering.{FailsToRecoverLog, RecoversLo
 use Rattle.raft_log_open_builder.specs.Reserving.{FailsToReadyLog}
 use Rattle.raft_log_open_builder.specs.Scanning.{FailsToScanLog}
 use Rattle.raft_log_open_builder.specs.declared.builder.DualPipesBuilder.{DualPipesBuilder}
-use Rattle.raft_log_open_directory.specs.Finding.{FindsLog, IsBegun}
+use Rattle.raft_log_open_builder.specs.Finding.{FindsLog, IsBegun}
 use Rattle.raft_log_open_laws.specs.ByCalls.{reads, LogIsRecovered}
 
 -- why a context doesn't read batches, in the words of a builder

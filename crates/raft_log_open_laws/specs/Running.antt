@@ -24,14 +24,16 @@ active_header files = header_bytes files.active.format
 abbrev pub own_bytes : PipeFiles → File → List ℕ
 own_bytes files file = drop (length (active_header files)) (take files.writer.written file.content)
 
--- No checksum is met by chance in what a crash leaves of a pipe's last file: no other header than its own (what
--- says an alignment is none, so the last eight bytes of a torn header may say anything), and no record but those that the pipe wrote there, or that a write which isn't synced handed in.
+-- No checksum is met by chance in what a crash leaves of a pipe's last file: no other header than its own; no
+-- record but those that the pipe wrote there, or that a write which isn't synced handed in; and no file with an
+-- alignment (the last eight bytes of a torn header may say one, where no record stands in the file).
 pub record MeetsOwnAlone (F : Format LogRecord) (files : PipeFiles) (file : File) (bytes : List ℕ) : Type 0 where
   pub headers : (other : List ℕ) → HasHeader F other bytes → other ≡ active_header files
   pub records : (at : ℕ) (w : Written LogRecord)
       → Meets (F.IsFrame files.active.seq (active_header files)) (length (active_header files)) at w bytes
       → LiesIn (length (active_header files)) (own_bytes files file) at w.bytes
       ⊎ IsHandedIn file.changes at w.bytes
+  pub plain : F.IsAligned files.active.seq bytes → ⊥
 
 -- no checksum is met by chance in the last file of a pipe, of what a crash leaves of a disk
 abbrev pub LeavesOwnAlone : Format LogRecord → PipeFiles → Disk → Disk → Type 0

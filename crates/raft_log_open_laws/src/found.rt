@@ -3,6 +3,7 @@
 ghost use Rattle.raft_log_open_laws.specs.AllFiles.{NoFilesAreScanned, ScannedFilesAreAll};
 ghost use Rattle.raft_log_open_laws.specs.Beginning.{ScannedFilesBegin};
 ghost use Rattle.raft_log_open_laws.specs.FileReading.{FinishedFileIsRead, HeaderIsWritten, LastFileIsRead};
+ghost use Rattle.raft_log_open_laws.specs.Padding.{BareDirectoriesHaveNoPadding, RestingLogsHaveNoPadding, StandingLogsHaveNoPadding};
 ghost use Rattle.raft_log_open_laws.specs.Scanned.{ReadFilesAreScanned, ScannedFilesAreSpanned};
 
 /// What is read of the last file of a queue are its records, up to where its pipe takes it to be read.
@@ -44,4 +45,12 @@ pub fn no_files_are_scanned()
 /// Files that were scanned, the last of which was read, are files over which a pipe may be opened.
 pub fn read_files_are_scanned()
     ensures { ReadFilesAreScanned }
+{}
+
+/// No open takes padding out of a log that rests on a disk, as one does that a crash left, of one that an engine left and
+/// that is opened without a crash, or where nothing of a log is there: it finds no file with an alignment.
+pub fn own_logs_have_no_padding()
+    ensures bare { BareDirectoriesHaveNoPadding }
+    ensures resting { RestingLogsHaveNoPadding }
+    ensures standing { StandingLogsHaveNoPadding }
 {}

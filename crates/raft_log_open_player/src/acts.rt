@@ -47,7 +47,6 @@ pub enum Cause {
     Io,
     Corruption,
     Hole,
-    InvalidArgument,
     Other,
 }
 
@@ -57,7 +56,6 @@ fn is_for(error: &Error, cause: Cause) -> bool {
         Cause::Io => matches!(error, Error::Io(_)),
         Cause::Corruption => matches!(error, Error::Corruption(_)),
         Cause::Hole => matches!(error, Error::Hole),
-        Cause::InvalidArgument => matches!(error, Error::InvalidArgument(_)),
         Cause::Other => matches!(error, Error::Other(_)),
     }
 }

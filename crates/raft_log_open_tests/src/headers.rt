@@ -67,16 +67,15 @@ fn so_it_is_over_bytes_that_are_no_record(rt: HostRuntime) {
     assert!(rt; played(&rt, rt.alloc(), &TORN_OVER_OTHERS));
 }
 
-/// Behind a header with an alignment of 1 stands a record: the log isn't opened, and nothing of it is changed.
-const ALIGNED: [Act; 5] = [
+/// Behind a header with an alignment of 1 stands a record: the log is opened, and opened again.
+const ALIGNED: [Act; 4] = [
     Uses(BY_ONE, &[&[SYNCED]]),
     Writes(FILE, ALIGNMENT, b"\0\0\0\0\0\0\0\x01"),
-    Refuses(USUAL, Cause::InvalidArgument),
-    Writes(FILE, ALIGNMENT, b"\0\0\0\0\0\0\0\0"),
     Uses(USUAL, &[&HELD]),
+    Uses(BY_ONE, &[&HELD]),
 ];
 
 #[test]
-fn a_log_with_an_alignment_and_a_record_is_refused_and_stays(rt: HostRuntime) {
+fn a_log_with_an_alignment_and_a_record_is_opened(rt: HostRuntime) {
     assert!(rt; played(&rt, rt.alloc(), &ALIGNED));
 }

@@ -1,3 +1,2 @@
-pub mod Opening
 pub mod Tasks
 pub mod Words

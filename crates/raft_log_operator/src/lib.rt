@@ -1,8 +1,7 @@
 //! What an operator does with a log that nobody has open: its items are listed, it is checked for holes, copied, told
 //! in numbers, and rid of padding.
 //!
-//! [`Command::parse`] reads what is asked for, and [`run`] does it over a file system that is lent. [`open_unpadded`]
-//! opens a log in one call, rid of padding first.
+//! [`Command::parse`] reads what is asked for, and [`run`] does it over a file system that is lent.
 #![tactic(auto)]
 
 mod checking;
@@ -12,7 +11,6 @@ mod dumping;
 mod fault;
 mod forking;
 mod found_file;
-pub mod opening;
 pub mod place;
 mod running;
 mod settings;
@@ -22,6 +20,5 @@ mod unpadding;
 
 pub use command::{Command, Task, USAGE, Unread};
 pub use fault::{CommandFault, Outcome};
-pub use opening::open_unpadded;
 pub use place::Place;
 pub use running::run;

@@ -57,6 +57,8 @@ module _ (F : Format LogRecord) (own : List ℕ → Type 0) (paths : FilePaths) 
         let IsFrame : List ℕ → LogRecord → Type 0 = F.IsFrame q.last q.header in
         let more = reads_further IsFrame (form.free q.last q.header) (length q.header) (met.before ++ w ∷ []) (recent q) file.content met.begins (reads ends) in
         own_record (subst (λ (n : ℕ). LiesIn (length q.header) (spelled (recent q)) n w.bytes) (sym met.place) (record_lies IsFrame (length q.header) (recent q) met.before more.0 w more.1));
+    plain = λ other. form.plain q.last q.header (spelled (recent q) ++ drop (length (whole q)) q.stale) p.active.stands.headed
+        (subst (F.IsAligned q.last) (content_is ∙ append_assoc q.header (spelled (recent q)) (drop (length (whole q)) q.stale)) other);
   }
 
 -- a sync changes nothing of what stands there

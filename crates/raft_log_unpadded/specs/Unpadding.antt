@@ -135,7 +135,8 @@ pub record Unpads (directories : List (List ℕ)) (written : List FileId) (old n
   pub unpads : UnpadsAll files written cleared new
 
 -- Why not all of a log was done, and what stands then: nothing was begun, since the file system had stopped, which
--- goes before all else, or its files weren't found or memory ran out; or what a call before left wasn't deleted; or not all files were done.
+-- goes before all else, or its files weren't found or memory ran out; or what a call before left wasn't deleted;
+-- or not all files were done.
 pub data FailsToUnpad (directories : List (List ℕ)) (error : Error) (old new : Disk) : Type 0 where
   ended : old.stopped ≡ true → error ≡ errors.Io Other → new ≡ old → FailsToUnpad directories error old new
   unbegun : error ≡ errors.Memory → new ≡ old → FailsToUnpad directories error old new

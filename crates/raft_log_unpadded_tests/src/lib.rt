@@ -1,5 +1,5 @@
-//! Tests of `unpad` and `open_unpadded`: a log with an alignment, as another program may write it, is opened once its
-//! padding is taken out.
+//! Tests of `unpad`, and of opens: a log with an alignment, as another program may write it, is opened once its padding
+//! is taken out.
 #![tactic(auto)]
 
 #[cfg(test)]

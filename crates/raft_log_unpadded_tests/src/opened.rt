@@ -1,13 +1,13 @@
-//! A log with an alignment is refused by an open alone, and opened in one call.
+//! A log with an alignment is opened, its padding taken out first.
 use crate::logs::{
-    FIRST, FIRST_PADDED, FIRST_WITHOUT, SECOND, SECOND_PADDED, are_whole, holding, holds, settings,
+    FIRST, FIRST_PADDED, FIRST_WITHOUT, SECOND, SECOND_PADDED, SECOND_WITHOUT, are_whole, holding,
+    holds, settings,
 };
 use log::Log;
 use raft_log_disk::{Fault, FileSystem};
 use raft_log_disk_memory::MemoryFileSystem;
 use raft_log_engine_core::Engine;
 use raft_log_file_pair::OpenRefused;
-use raft_log_operator::open_unpadded;
 use raft_log_record_base::{Error, Result};
 use raft_log_record_items::RawEntries;
 use std::alloc::Global;
@@ -20,7 +20,7 @@ fn opened<R: Threads + Log + Sync>(
     alloc: Global,
     files: MemoryFileSystem,
 ) -> Result<Engine<MemoryFileSystem>> {
-    match open_unpadded(rt, alloc, settings(alloc)?, files) {
+    match Engine::open_with_file_system(rt, alloc, settings(alloc)?, files) {
         Ok(engine) => Ok(engine),
         Err(OpenRefused { error, .. }) => Err(error),
     }
@@ -42,23 +42,15 @@ fn has_entries(engine: &mut Engine<MemoryFileSystem>) -> Result<bool> {
 }
 
 #[test]
-fn a_log_that_an_open_refuses_is_opened(rt: HostRuntime) -> std::result::Result<(), Fail> {
+fn a_log_with_an_alignment_is_opened(rt: HostRuntime) -> std::result::Result<(), Fail> {
     let alloc = rt.alloc();
     let files = holding(alloc, &FIRST_PADDED, &SECOND_PADDED)?;
-    let Err(refused) = Engine::open_with_file_system(&rt, alloc, settings(alloc)?, files) else {
-        return Err(Fail::new("another answer"));
-    };
-    let Error::InvalidArgument(text) = &refused.error else {
-        return Err(Fail::new("another answer"));
-    };
-    assert!(rt; text.as_str() == "a file of the log has an alignment, which this log doesn't take");
-    assert!(rt; holds(&refused.file_system, FIRST, &FIRST_PADDED)?);
-    assert!(rt; holds(&refused.file_system, SECOND, &SECOND_PADDED)?);
-    let mut engine = opened(&rt, alloc, refused.file_system)?;
+    let mut engine = opened(&rt, alloc, files)?;
     assert!(rt; has_entries(&mut engine)?);
     let files = engine.close(&rt);
     assert!(rt; holds(&files, FIRST, &FIRST_WITHOUT)?);
-    // Of a log without an alignment it is an open.
+    assert!(rt; holds(&files, SECOND, &SECOND_WITHOUT)?);
+    // Of a log without an alignment it is an open as any other.
     assert!(rt; has_entries(&mut opened(&rt, alloc, files)?)?);
     Ok(())
 }
@@ -68,7 +60,7 @@ fn a_log_that_an_open_refuses_is_opened(rt: HostRuntime) -> std::result::Result<
 fn is_resumed<R: Threads + Log + Sync>(rt: &R, alloc: Global, fault: &Fault) -> Result<bool> {
     let mut files = holding(alloc, &FIRST_PADDED, &SECOND_PADDED)?;
     files.arm(fault)?;
-    let Err(refused) = open_unpadded(rt, alloc, settings(alloc)?, files) else {
+    let Err(refused) = Engine::open_with_file_system(rt, alloc, settings(alloc)?, files) else {
         return Ok(false);
     };
     if !matches!(&refused.error, Error::Io(_)) || !are_whole(&refused.file_system)? {

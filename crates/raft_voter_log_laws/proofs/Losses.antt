@@ -44,6 +44,10 @@ module _ (F : Format LogRecord) (form : IsFormat F) (files : PipeFiles) (file : 
   one_header : (bytes more : List ℕ) → bytes ≡ active_header files ++ more → (other : List ℕ) → HasHeader F other bytes → other ≡ active_header files
   one_header bytes more is other has = form.headers other (active_header files) has.rest more has.is headed (sym has.splits ∙ is)
 
+  -- nor are they taken for a file with an alignment
+  not_aligned : (bytes more : List ℕ) → bytes ≡ active_header files ++ more → F.IsAligned files.active.seq bytes → ⊥
+  not_aligned bytes more is other = form.plain files.active.seq (active_header files) more headed (subst (F.IsAligned files.active.seq) is other)
+
   -- what reading meets behind the header lies in what stands there
   met_behind : (bytes more : List ℕ) → bytes ≡ active_header files ++ more → (at : ℕ) (w : Written LogRecord) → Meets (IsOwnFrame F files) (length (active_header files)) at w bytes
       → LiesIn (length (active_header files)) more at w.bytes
@@ -57,6 +61,7 @@ module _ (F : Format LogRecord) (form : IsFormat F) (files : PipeFiles) (file : 
     records = λ at w met.
         let lies = lies_in_more (length (active_header files)) at (take kept (own_bytes files file)) (drop kept (own_bytes files file)) w.bytes (met_behind bytes (take kept (own_bytes files file)) is at w met) in
         inl (subst (λ (b : List ℕ). LiesIn (length (active_header files)) b at w.bytes) (take-append-drop kept (own_bytes files file)) lies);
+    plain = not_aligned bytes (take kept (own_bytes files file)) is;
   }
 
   whole : (bytes : List ℕ) → IsWhole F files file bytes → MeetsOwnAlone F files file bytes
@@ -73,6 +78,7 @@ module _ (F : Format LogRecord) (form : IsFormat F) (files : PipeFiles) (file : 
         let lies = record_lies (IsOwnFrame F files) (length (active_header files)) b.kept met.before more.0 w more.1 in
         let there : LiesIn (length (active_header files)) (spelled b.kept) at w.bytes = subst (λ (n : ℕ). LiesIn (length (active_header files)) (spelled b.kept) n w.bytes) (sym met.place) lies in
         inl (subst (λ (x : List ℕ). LiesIn (length (active_header files)) x at w.bytes) (sym b.wrote) (lies_in_more (length (active_header files)) at (spelled b.kept) b.lost w.bytes there));
+    plain = not_aligned bytes (spelled b.kept ++ b.behind) b.are;
   }
 
   loses : (bytes : List ℕ) → IsTorn files file bytes ⊎ IsWhole F files file bytes → MeetsOwnAlone F files file bytes

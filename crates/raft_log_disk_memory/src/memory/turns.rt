@@ -161,7 +161,7 @@ impl MemoryFileSystem {
     }
 
     // Ends a change, which was made or wasn't. At a stop the error is that of the change, where it wasn't
-    // made, but `Other` for want of memory.
+    // made, but `ResourceBusy` for want of memory.
     pub(super) fn end_change(
         &mut self,
         stops: bool,

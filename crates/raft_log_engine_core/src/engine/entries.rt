@@ -169,6 +169,9 @@ impl<P: PipeLog> LogEngine<P> {
 /// once for those that lie in it one behind another. Where the next ones lie is looked up before this block is
 /// read, so that the next read needn't wait for the table. A refusal keeps what was there, and may leave some of
 /// these behind it.
+///
+/// Not inlined: within a caller its loop has too few registers, which costs a fetch of short entries some 2 %.
+#[inline(never)]
 fn push_entries<M: Message, P: PipeLog>(
     alloc: Global,
     pipes: &P,

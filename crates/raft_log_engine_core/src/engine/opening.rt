@@ -27,7 +27,8 @@ pub type Engine<F, E = Nobody> = LogEngine<EnginePipes<F, E>>;
 impl<F: FileSystem + Sync> LogEngine<ToldPipes<ToldPipes<DualPipes<F>, Nobody>, PurgeHook>> {
     /// Opens the log of these settings over a file system, which is the engine's from then on: what was
     /// written and synced, or stood when the log was closed, is there again. A directory that isn't there is
-    /// made, and a log without files begins. Nobody listens but the engine's own hook.
+    /// made, and a log without files begins. Files with an alignment, as another program may write them, are read:
+    /// they are written anew without their padding first. Nobody listens but the engine's own hook.
     ///
     /// Refused, the file system is handed back, and the log may be opened again: `Io(Other)` of a file system that
     /// has stopped goes first, so that no stop is told as want of memory; `Other` where the settings

@@ -1,9 +1,8 @@
-use Rattle.std.proofs.Common.{◌≡◌, ℕ, List, map, refl, sym, ap, subst, ◌∙◌}
-use Rattle.std.specs.Prelude.{Contains}
+use Rattle.std.proofs.Common.{ℕ, List, map, refl, sym, ap, subst, ◌∙◌}
 use Rattle.std.specs.String.{string_bytes}
 use Rattle.std.proofs.lemmas.Result.{err_from_is_err_and}
-use Rattle.raft_log_file_settings.specs.Settings.{settings_of, directories_of}
-use Rattle.raft_log_closed.specs.Copies.{copy_path, IsSourceThere}
+use Rattle.raft_log_file_settings.specs.Settings.{settings_of}
+use Rattle.raft_log_closed.specs.Copies.{copy_path}
 use Rattle.raft_log_closed.specs.Forks.{CopiesAll, FailsToCopyAll, cut_short, refused}
 use Rattle.raft_log_closed.specs.Sources.{AreApart, AreSources, AllThere, IsSourceRefusal}
 use Rattle.raft_log_closed.specs.declared.source_file.SourceFile.{SourceFile}

@@ -31,8 +31,8 @@ loop-i-preserved g c =
       adds = c.push_reserved.ensures.items ∙ ap (λ (l : List g.row.M.Denot). l ++ (m ∷ [])) i.adds ∙ append_assoc c.args.messages.now.items i.got (m ∷ []);
       read = λ cache has. between_more g.M.Message.reading v c.args.block bounds c.loop-i.i cache i.got less has.placed
           c.loop-i.start c.at-end.result.1 i.from c.at-end.ensures.end (i.read cache has)
-          m c.in_ok-bytes.bytes.now (let len = has.len in omega (arith, c.in_ok-bytes.ensures.ok.0, len))
-          (entries_part c.loop-i.start (c.at-end.result.1 - c.loop-i.start) c.args.block c.in_ok-bytes.bytes.now c.entries-entries.result.now cache has c.in_ok-bytes.ensures.ok.0 c.in_ok-bytes.ensures.ok.1)
+          m c.in-Some.bytes.now (let len = has.len in omega (arith, c.in-Some.ensures.some.0, len))
+          (entries_part c.loop-i.start (c.at-end.result.1 - c.loop-i.start) c.args.block c.in-Some.bytes.now c.entries-entries.result.now cache has c.in-Some.ensures.some.0 c.in-Some.ensures.some.1)
           c.in_ok-message.ensures;
       from = c.at-end.ensures.end;
       len = let len = i.len in omega (arith, len, c.push_reserved.ensures.len);
@@ -45,16 +45,16 @@ returns-in_err-read-clause-err g c =
     rw (p.1, p.2) (λ n. between_lost g.M.Message.reading (g.P.PipeLog.shown c.args.pipes.now) c.args.block (bounds_of c.args.bounds.now) n c.args.self.now c.read.new.self c.in_err-read.field-0.0
     c.requires.some c.in_err-read.ensures.err)
 
-pub returns-in_err-bytes-clause-err : goal.returns-in_err-bytes-clause-err
-returns-in_err-bytes-clause-err g c =
+pub returns-in_default-clause-err : goal.returns-in_default-clause-err
+returns-in_default-clause-err g c =
     let i = c.loop-i.invariant in
     let bounds = bounds_of c.args.bounds.now in
     let less : c.loop-i.i + 1 < length bounds = omega (arith, c.len-i-end.ensures, c.loop-i-test.true) in
     let has : HasEntries c.args.block c.entries-entries.result.now c.read.new.self = record { placed = c.in_ok-read.ensures.ok.0; bytes = c.entries-entries.ensures.bytes; len = c.entries-entries.ensures.len } in
-    let p = err_from_is_err_and c.from_residual-in_err-bytes.result c.from_residual-in_err-bytes.ensures.1 in
-    rw (p.1, p.2) (λ n. between_stops g.M.Message.reading (g.P.PipeLog.shown c.args.pipes.now) c.args.block bounds c.loop-i.i c.read.new.self i.got less
-    c.in_ok-read.ensures.ok.0 c.loop-i.start c.at-end.result.1 i.from c.at-end.ensures.end (i.read c.read.new.self has) n c.args.self.now c.in_err-bytes.field-0.0 c.in_ok-read.ensures.ok
-    (inl (subst (λ (k : ℕ). IsOutside c.loop-i.start (c.at-end.result.1 - c.loop-i.start) k c.in_err-bytes.field-0.0) c.entries-entries.ensures.len c.in_err-bytes.ensures.err)))
+    let outside = c.past_the_end.ensures (length c.entries-entries.result.now) (c.in_default.ensures.none refl) in
+    λ n. between_stops g.M.Message.reading (g.P.PipeLog.shown c.args.pipes.now) c.args.block bounds c.loop-i.i c.read.new.self i.got less
+    c.in_ok-read.ensures.ok.0 c.loop-i.start c.at-end.result.1 i.from c.at-end.ensures.end (i.read c.read.new.self has) n c.args.self.now c.past_the_end.result c.in_ok-read.ensures.ok
+    (inl (subst (λ (k : ℕ). IsOutside c.loop-i.start (c.at-end.result.1 - c.loop-i.start) k c.past_the_end.result) c.entries-entries.ensures.len outside))
 
 pub returns-in_err-message-clause-err : goal.returns-in_err-message-clause-err
 returns-in_err-message-clause-err g c =
@@ -66,7 +66,7 @@ returns-in_err-message-clause-err g c =
     rw (p.1, p.2) (λ n. between_stops g.M.Message.reading (g.P.PipeLog.shown c.args.pipes.now) c.args.block bounds c.loop-i.i c.read.new.self i.got less
     c.in_ok-read.ensures.ok.0 c.loop-i.start c.at-end.result.1 i.from c.at-end.ensures.end (i.read c.read.new.self has) n c.args.self.now c.in_err-message.field-0.0 c.in_ok-read.ensures.ok
     (inr (subst (λ (bytes : List ℕ). Parses {M = g.row.M.Denot} (Err c.in_err-message.field-0.0) (g.M.Message.reading bytes))
-    (entries_part c.loop-i.start (c.at-end.result.1 - c.loop-i.start) c.args.block c.in_ok-bytes.bytes.now c.entries-entries.result.now c.read.new.self has c.in_ok-bytes.ensures.ok.0 c.in_ok-bytes.ensures.ok.1)
+    (entries_part c.loop-i.start (c.at-end.result.1 - c.loop-i.start) c.args.block c.in-Some.bytes.now c.entries-entries.result.now c.read.new.self has c.in-Some.ensures.some.0 c.in-Some.ensures.some.1)
     c.in_err-message.ensures)))
 
 pub returns-clause-ok : goal.returns-clause-ok

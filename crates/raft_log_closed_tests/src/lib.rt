@@ -1,6 +1,5 @@
-//! Tests of the settings that a log is opened with, and of what reads a log that no engine has open, over a file
-//! system in memory: `scan` and how workers are shared, `fork`, `dump_with_file_system` and
-//! `consistency_check_with_file_system`.
+//! Tests of what reads a log that no engine has open, over a file system in memory: `scan` and how workers are shared,
+//! `fork`, `dump_with_file_system` and `consistency_check_with_file_system`.
 #![tactic(auto)]
 
 #[cfg(test)]
@@ -15,7 +14,5 @@ mod forks;
 mod logs;
 #[cfg(test)]
 mod scans;
-#[cfg(test)]
-mod settings;
 #[cfg(test)]
 mod shares;

@@ -12,8 +12,6 @@ mod carried;
 #[cfg(test)]
 mod counts;
 #[cfg(test)]
-mod listeners;
-#[cfg(test)]
 mod opened_pipes;
 #[cfg(test)]
 mod pair;

@@ -17,11 +17,15 @@ IsListed seq files id = ((seq ≡ files.active.seq) × (id ≡ files.active.hand
     × (seq - files.first_seq < length files.earlier.items)
     × (f ≡ slice_index_or files.earlier.items (seq - files.first_seq) f) × (id ≡ f.handle.file))
 
+-- no file of the span has the number
+abbrev pub IsUnlisted : ℕ → PipeFiles → Type 0
+IsUnlisted seq files = (seq ≡ files.active.seq → ⊥)
+    × (files.first_seq ≤ seq → seq - files.first_seq < length files.earlier.items → ⊥)
+
 -- why no file is told: none has the number, or memory was short for saying so
 abbrev pub IsNotTold : ℕ → PipeFiles → Error → Type 0
 IsNotTold seq files errors.Memory = Unit {0}
-IsNotTold seq files (errors.Corruption text) = (seq ≡ files.active.seq → ⊥)
-    × (files.first_seq ≤ seq → seq - files.first_seq < length files.earlier.items → ⊥)
+IsNotTold seq files (errors.Corruption text) = IsUnlisted seq files
 IsNotTold seq files _ = ⊥
 
 -- these are the bytes at a place

@@ -1,13 +1,13 @@
 //! The files of a pipe, as it keeps them in memory.
 
-ghost use Rattle.std.specs.Prelude.{◌≡◌, ◌<◌, IfErr, IfOk, ◌++◌, ◌∷◌, []};
-ghost use Rattle.raft_log_file_pipe.specs.Reading.{IsListed, IsNotTold};
+ghost use Rattle.std.specs.Prelude.{◌≡◌, ◌<◌, IfSome, None, ◌++◌, ◌∷◌, []};
+ghost use Rattle.raft_log_file_pipe.specs.Reading.{IsListed, IsNotTold, IsUnlisted};
 ghost use Rattle.std.specs.VecDeque.{deque_len, deque_capacity};
 
 use raft_log_disk::Handle;
 use raft_log_file_queue::File;
 use raft_log_file_writer::LogFileWriter;
-use raft_log_record_base::{Error, FileSeq, Result};
+use raft_log_record_base::{Error, FileSeq};
 use std::alloc::Global;
 use std::collections::VecDeque;
 
@@ -40,23 +40,28 @@ impl PipeFiles {
         self.active = next;
     }
 
-    /// The handle of a file of the span. `Corruption` for another number.
-    pub fn handle_of(&self, alloc: Global, seq: FileSeq) -> Result<Handle>
-        ensures ok { IfOk result (λ handle. IsListed seq self.now handle.file) }
-        ensures last { IfOk result (λ handle. seq ≡ self.now.active.seq → handle ≡ self.now.active.handle) }
-        ensures err { IfErr result (IsNotTold seq self.now) }
+    /// The handle of a file of the span; none for another number.
+    pub fn handle_of(&self, seq: FileSeq) -> Option<Handle>
+        ensures some { IfSome result (λ handle. IsListed seq self.now handle.file) }
+        ensures last { IfSome result (λ handle. seq ≡ self.now.active.seq → handle ≡ self.now.active.handle) }
+        ensures none { result ≡ None → IsUnlisted seq self.now }
     {
         if seq == self.active.seq {
-            return Ok(self.active.handle);
+            return Some(self.active.handle);
         }
-        if let Some(position) = seq.checked_sub(self.first_seq) {
-            if let Some(file) = self.earlier.get(position as usize) {
-                return Ok(file.handle);
-            }
-        }
-        match format!(in alloc; "file {seq} is none of the log's") {
-            Ok(text) => Err(Error::Corruption(text)),
-            Err(_) => Err(Error::Memory),
-        }
+        let position = seq.checked_sub(self.first_seq)?;
+        let file = self.earlier.get(position as usize)?;
+        Some(file.handle)
+    }
+}
+
+/// Why nothing is read of a number that no file of the span has: `Corruption`; or `Memory`.
+#[cold]
+pub fn unlisted(alloc: Global, seq: FileSeq) -> Error
+    ensures { (files : PipeFiles) → IsUnlisted seq files → IsNotTold seq files result }
+{
+    match format!(in alloc; "file {seq} is none of the log's") {
+        Ok(text) => Error::Corruption(text),
+        Err(_) => Error::Memory,
     }
 }

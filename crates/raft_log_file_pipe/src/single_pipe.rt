@@ -9,7 +9,7 @@ use crate::closing::{finish, reserve_files};
 use crate::found_files::FoundFiles;
 use crate::new_files::NewFiles;
 use crate::opening::open;
-use crate::pipe_files::PipeFiles;
+use crate::pipe_files::{PipeFiles, unlisted};
 use crate::purging::purge;
 use crate::reactive_bytes::ReactiveBytes;
 use crate::rotating::rotate;
@@ -333,7 +333,9 @@ impl<G: PipeFormat> SinglePipe<G> {
             (F.disk file_system.now)) }
         ensures err { IfErr result (IsReadRefused self.now.files block (F.disk file_system.now)) }
     {
-        let handle = self.files.handle_of(alloc, block.id.seq)?;
+        let Some(handle) = self.files.handle_of(block.id.seq) else {
+            return Err(unlisted(alloc, block.id.seq));
+        };
         LogFileReader::open(handle).read(alloc, file_system, block)
     }
 
@@ -350,7 +352,9 @@ impl<G: PipeFormat> SinglePipe<G> {
             (F.disk file_system.now)) }
         ensures err { IfErr result (IsReadRefused self.now.files block (F.disk file_system.now)) }
     {
-        let handle = self.files.handle_of(alloc, block.id.seq)?;
+        let Some(handle) = self.files.handle_of(block.id.seq) else {
+            return Err(unlisted(alloc, block.id.seq));
+        };
         LogFileReader::open(handle).read_over(file_system, block, bytes)
     }
 }

@@ -1,6 +1,6 @@
 //! Which bytes are asked for, in which pieces, and that the answers don't depend on it.
 use crate::files::{append_entry, append_record, header, records};
-use crate::padding::{is_broken_behind_padding, is_read_behind_zeros};
+use crate::padding::{BROKEN, ZEROS, comes_to};
 use crate::steps::{NOWHERE, Said, Step, ends_of, steps_of};
 use raft_log_record_base::Result;
 use std::alloc::Global;
@@ -107,8 +107,8 @@ fn holds(alloc: Global, number: usize) -> Result<bool> {
         0 => is_read_at_0_and_at_69(alloc),
         1 => has_steps(alloc, &[34, 1_400], 512, &OVER_THREE),
         2 => has_steps(alloc, &[34, 34], 0, &PIECES),
-        3 => is_read_behind_zeros(alloc),
-        4 => is_broken_behind_padding(alloc),
+        3 => comes_to(alloc, 0, &ZEROS),
+        4 => comes_to(alloc, 3, &BROKEN),
         5 => is_skipped(alloc),
         _ => ends_so(alloc, number.saturating_sub(6)),
     }

@@ -14,8 +14,8 @@ fn padded(alloc: Global, last: u8) -> Result<Vec<u8>> {
     Ok(bytes)
 }
 
-/// A record from 128 to 193, and zeros.
-const ZEROS: [Step; 6] = [
+/// A record from 128 to 193 behind padding of zeros, and zeros at the end, which are no record.
+pub const ZEROS: [Step; 6] = [
     (Said::Header(128), 69, 1, 0),
     (Said::Batch, 193, 2, 69),
     (Said::Nothing, 193, 2, 69),
@@ -24,14 +24,8 @@ const ZEROS: [Step; 6] = [
     (Said::Nothing, 0, 2, 69),
 ];
 
-/// Whether a record behind zeros is read, and zeros at the end are no record.
-pub fn is_read_behind_zeros(alloc: Global) -> Result<bool> {
-    let bytes = padded(alloc, 0)?;
-    Ok(steps_of(alloc, bytes.as_slice(), NOWHERE, 512)? == ZEROS)
-}
-
-/// A broken record at 69.
-const BROKEN: [Step; 6] = [
+/// A broken record at 69: other padding than zeros.
+pub const BROKEN: [Step; 6] = [
     (Said::Header(128), 69, 1, 0),
     (Said::Damage, 69, 2, 69),
     (Said::Damage, 69, 2, 69),
@@ -40,8 +34,8 @@ const BROKEN: [Step; 6] = [
     (Said::Nothing, 0, 2, 69),
 ];
 
-/// Whether other padding is a broken record.
-pub fn is_broken_behind_padding(alloc: Global) -> Result<bool> {
-    let bytes = padded(alloc, 3)?;
-    Ok(steps_of(alloc, bytes.as_slice(), NOWHERE, 512)? == BROKEN)
+/// Whether a file whose padding ends with this byte comes to these steps.
+pub fn comes_to(alloc: Global, last: u8, want: &[Step; 6]) -> Result<bool> {
+    let bytes = padded(alloc, last)?;
+    Ok(steps_of(alloc, bytes.as_slice(), NOWHERE, 512)? == *want)
 }

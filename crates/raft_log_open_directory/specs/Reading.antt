@@ -33,8 +33,8 @@ pub record HasReadAll (queue : LogQueue) (mode : RecoveryMode) (files : List Fil
   pub all : length segments ≡ length files
   pub read : HasReadBatches queue (all_batches segments) context
 
--- The log's files were found, without padding; then a context read all files of Append and one all of Rewrite, and after that
--- the damaged files were cut.
+-- The log's files were found, without padding; then a context read all files of Append and one all of Rewrite,
+-- and after that the damaged files were cut.
 pub record ReadsQueues (config : Config) (append rewrite : MemTableRecoverContext) (b : DualPipesBuilder)
     (old new : Disk) : Type 0 where
   pub found : DualPipesBuilder
@@ -47,7 +47,8 @@ pub record ReadsQueues (config : Config) (append rewrite : MemTableRecoverContex
       b.rewrite.endings.items
 
 -- So many entries and values the files of Rewrite bring, as they stood on the disk when the log was found
--- without padding, or the greatest number of 64 bits where these are more: all that is read of them, whether it stands still or not.
+-- without padding, or the greatest number of 64 bits where these are more: all that is read of them, whether it
+-- stands still or not.
 pub record BringsInRewrite (config : Config) (d : Disk) (n : ℕ) : Type 0 where
   pub found : DualPipesBuilder
   pub scanned : Disk

@@ -13,8 +13,6 @@ mod engines;
 #[cfg(test)]
 mod expired;
 #[cfg(test)]
-mod headers;
-#[cfg(test)]
 mod opening;
 #[cfg(test)]
 mod purges;

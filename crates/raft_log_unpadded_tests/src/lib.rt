@@ -3,10 +3,14 @@
 #![tactic(auto)]
 
 #[cfg(test)]
+mod headers;
+#[cfg(test)]
 mod logs;
 #[cfg(test)]
 mod opened;
 #[cfg(test)]
 mod refusals;
+#[cfg(test)]
+mod short_memory;
 #[cfg(test)]
 mod unpadded;

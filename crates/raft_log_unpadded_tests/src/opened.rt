@@ -15,7 +15,7 @@ use std::test::Fail;
 use std::thread::Threads;
 
 /// Opens the log in one call.
-fn opened<R: Threads + Log + Sync>(
+pub fn opened<R: Threads + Log + Sync>(
     rt: &R,
     alloc: Global,
     files: MemoryFileSystem,
@@ -27,7 +27,7 @@ fn opened<R: Threads + Log + Sync>(
 }
 
 /// Whether group 7 has just the log's four entries.
-fn has_entries(engine: &mut Engine<MemoryFileSystem>) -> Result<bool> {
+pub fn has_entries(engine: &mut Engine<MemoryFileSystem>) -> Result<bool> {
     if engine.first_index(7)? != Some(5) || engine.last_index(7)? != Some(8) {
         return Ok(false);
     }

@@ -24,6 +24,7 @@ const PART: usize = 2048;
 const WINDOW: usize = 2348;
 
 /// The register after the bytes. Where they are few, `after_short` is faster.
+#[inline(never)]
 pub fn after_long(register: u32, bytes: &[u8]) -> u32
     ensures { result ≡ crc_after register bytes.now }
 {

@@ -1,5 +1,5 @@
 -- A device: the calls that are made of it, and what it holds after them.
-use Rattle.std.specs.Prelude.{◌≡◌, ℕ, ◌⊎◌, not, suc, Option, Some, None, List, [], ◌∷◌, ◌++◌, unwrap_or}
+use Rattle.std.specs.Prelude.{◌≡◌, ℕ, ◌+◌, ◌≤◌, ◌⊎◌, not, suc, Option, Some, None, List, [], ◌∷◌, ◌++◌, length, take, drop, unwrap_or}
 use Rattle.std.specs.List.{filter}
 use Rattle.std.specs.Map.{update}
 use Rattle.std.specs.Path.{path_parent}
@@ -9,7 +9,8 @@ use Rattle.raft_log_disk.specs.Disk.{Change, File, Disk, at_rest, with_file}
 use Rattle.raft_log_disk.specs.Calls.{after_change, flushed, deleted, renamed, with_directory}
 
 -- A call that a device is asked for: a new file is given a number, by which it is named from then on; a
--- change of a file's bytes is a write, a shortening or a growth.
+-- change of a file's bytes is a write, a shortening or a growth. Bytes are written back that the file has at that
+-- place already.
 pub data DeviceCall : Type 0 where
   Created : (path : List ℕ) (file : ℕ) → DeviceCall
   Deleted : (path : List ℕ) → DeviceCall
@@ -17,6 +18,7 @@ pub data DeviceCall : Type 0 where
   MadeDirectory : (path : List ℕ) → DeviceCall
   SyncedDirectory : (path : List ℕ) → DeviceCall
   Changed : (file : ℕ) (change : Change) → DeviceCall
+  WroteBack : (file at : ℕ) (bytes : List ℕ) → DeviceCall
   Synced : (file : ℕ) → DeviceCall
 
 -- what was found on a device when it was opened, and the calls that were made of it since, the last one first
@@ -62,7 +64,8 @@ abbrev pub with_next : Option File → (File → File) → ℕ → Disk → Disk
 with_next None next file d = d
 with_next (Some state) next file d = with_file file (Some (next state)) d
 
--- each call, as it changes a disk; the sync of a directory changes nothing that calls find
+-- each call, as it changes a disk; neither the sync of a directory nor bytes that are written back change what calls
+-- find
 abbrev pub changed_by : DeviceCall → Disk → Disk
 changed_by (Created path file) d = created_as path file d
 changed_by (Deleted path) d = without_named (d.names path) path d
@@ -70,6 +73,7 @@ changed_by (Renamed from to) d = with_moved (d.names from) from to d
 changed_by (MadeDirectory path) d = with_directory path d
 changed_by (SyncedDirectory path) d = d
 changed_by (Changed file change) d = with_next (d.files file) (after_change change) file d
+changed_by (WroteBack file at bytes) d = d
 changed_by (Synced file) d = with_next (d.files file) flushed file d
 
 -- A call that changes names: calls find that at once, and a crash doesn't until these directories are synced.
@@ -99,6 +103,7 @@ after (Renamed from to) held = with_names (Renamed from to) (home to ∷ home fr
 after (MadeDirectory path) held = with_names (MadeDirectory path) (home path ∷ []) held
 after (SyncedDirectory path) held = owing (but_for path held.owed) held
 after (Changed file change) held = with_bytes (Changed file change) held
+after (WroteBack file at bytes) held = held
 after (Synced file) held = with_bytes (Synced file) held
 
 -- what a device holds after calls, the last of which comes first
@@ -113,6 +118,11 @@ held_by trace = replayed trace.found trace.made
 -- the trace with one more call
 abbrev pub noted : DeviceCall → Trace → Trace
 noted call trace = record { found = trace.found; made = call ∷ trace.made }
+
+-- a file has these bytes from a place on
+abbrev pub HasBytes : ℕ → ℕ → List ℕ → Disk → Type 0
+HasBytes file at bytes d = (state : File) → d.files file ≡ Some state
+    → (at + length bytes ≤ length state.content) × (take (length bytes) (drop at state.content) ≡ bytes)
 
 -- a call was refused: it was made, or wasn't
 abbrev pub MayBeMade : DeviceCall → Trace → Trace → Type 0

@@ -2,3 +2,4 @@ pub mod Device
 pub mod Following
 pub mod Directory
 pub mod Space
+pub mod WritingBack

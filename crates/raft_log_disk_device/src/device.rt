@@ -1,7 +1,7 @@
 //! What is asked of a device.
 ghost use Rattle.std.specs.Prelude.{◌≡◌, ◌+◌, OnOk, OnErr};
 ghost use Rattle.raft_log_disk.specs.Disk.{Wrote, ShortenedTo, GrewTo};
-ghost use Rattle.raft_log_disk_device.specs.Device.{Created, Deleted, Renamed, MadeDirectory, SyncedDirectory, Changed, Synced, Trace, noted, MayBeMade};
+ghost use Rattle.raft_log_disk_device.specs.Device.{Created, Deleted, Renamed, MadeDirectory, SyncedDirectory, Changed, Synced, Trace, noted, MayBeMade, WroteBack, HasBytes, held_by};
 
 use std::io::ErrorKind;
 
@@ -58,6 +58,14 @@ pub trait Device {
         ensures ok { OnOk result (trace self.new ≡ noted (Changed file (GrewTo size)) (trace self.old)) }
         ensures err { OnErr result
             (MayBeMade (Changed file (GrewTo size)) (trace self.old) (trace self.new)) };
+
+    /// Writes bytes into a file that it has from the offset on, so that the next sync writes them to the medium, also if
+    /// an earlier sync of them failed. They stay as they are meanwhile.
+    fn write_back(&mut self, file: usize, offset: usize, bytes: &[u8]) -> Result<(), ErrorKind>
+        requires same { HasBytes file offset bytes.now (held_by (trace self.old)).seen }
+        ensures ok { OnOk result (trace self.new ≡ noted (WroteBack file offset bytes.now) (trace self.old)) }
+        ensures err { OnErr result
+            (MayBeMade (WroteBack file offset bytes.now) (trace self.old) (trace self.new)) };
 
     /// Makes a file's bytes durable.
     fn sync(&mut self, file: usize) -> Result<(), ErrorKind>

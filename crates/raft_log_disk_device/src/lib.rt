@@ -5,6 +5,8 @@
 pub mod device;
 pub mod directory;
 mod durable;
+pub mod writing_back;
 
 pub use device::Device;
 pub use directory::DirectoryFileSystem;
+pub use writing_back::write_back;

@@ -8,6 +8,7 @@ use Rattle.raft_log_disk.specs.Arguments.{WrongHandle, WrongWriter, WrongListing
 use Rattle.raft_log_disk.specs.declared.handle.Handle.{Handle}
 use Rattle.raft_log_disk.specs.declared.handle.Permission.TheVariants.{ReadWrite}
 use Rattle.raft_log_disk_storage.specs.Storage.{contents_of}
+use Rattle.raft_log_disk_device.specs.Device.{Trace}
 use Rattle.raft_log_disk_device.specs.Following.{shown}
 use Rattle.raft_log_disk_device.specs.declared.device.Device as device
 use Rattle.raft_log_disk_device.specs.declared.directory.DirectoryFileSystem.{DirectoryFileSystem}
@@ -43,6 +44,10 @@ module _ {D : Type 0} (g : device.Ghosts D) where
   -- the disk of a file system over a device
   abbrev pub disk_of : DirectoryFileSystem D g → Disk
   disk_of system = shown (g.trace system.device) system.stopped system.failures system.kinds.told
+
+  -- what was found on a file system's device, and the calls made of it since
+  abbrev pub calls_of : DirectoryFileSystem D g → Trace
+  calls_of system = g.trace system.device
 
   -- the file system runs, and so its disk has what the model has
   pub record Runs (system : DirectoryFileSystem D g) : Type 0 where

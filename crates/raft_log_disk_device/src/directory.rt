@@ -36,13 +36,14 @@ impl<D: Device> DirectoryFileSystem<D> {
     ghost use Rattle.raft_log_disk_storage.specs.Storage.{contents_of};
     ghost use Rattle.raft_log_disk_device.specs.Space.{spaces_of};
     ghost use Rattle.raft_log_disk_device.specs.Device.{settled};
-    ghost use Rattle.raft_log_disk_device.specs.Directory.{disk_of};
+    ghost use Rattle.raft_log_disk_device.specs.Directory.{calls_of, disk_of};
 
     /// The file system over a device that holds what a model does, with no directory that owes a sync.
     pub fn new(storage: Storage, device: D) -> DirectoryFileSystem<D>
         requires whole { IsStorageSound storage }
         requires follows { held_by (D.Device.trace device) ≡ settled (contents_of storage) }
         ensures same { disk_of D.Device result ≡ contents_of storage }
+        ensures calls { calls_of D.Device result ≡ D.Device.trace device }
         ensures unset { (directory : List ℕ) → spaces_of D.Device result directory ≡ None }
     {
         let spaces = BTreeMap::new(storage.alloc);

@@ -4,7 +4,7 @@ use std::io;
 use std::io::ErrorKind;
 use thiserror::Error;
 
-/// Why directories weren't opened. Nothing in them was changed.
+/// Why directories weren't opened. No byte of a file in them was changed, and no name.
 #[derive(Debug, Drop, Error)]
 pub enum DirectoryFault {
     /// Nothing has the path.
@@ -16,6 +16,9 @@ pub enum DirectoryFault {
     /// Another log has the directory open, in this process or another one.
     #[error("{0:?} is in use by another log")]
     InUse(String),
+    /// An entry with the name of a log file is no regular file, but a link, say, or a directory.
+    #[error("{0:?} has the name of a log file and is no regular file")]
+    Irregular(String),
     /// The directory is named twice.
     #[error("{0:?} is named twice")]
     Twice(String),

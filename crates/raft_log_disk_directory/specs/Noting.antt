@@ -1,7 +1,7 @@
 -- How a call of the operating system is noted: a kind, a file, an offset or a size, and a path or bytes.
 use Rattle.std.specs.Prelude.{ℕ, List, slice_index, ◌==◌, if◌then◌else◌}
 use Rattle.raft_log_disk.specs.Disk.{Wrote, ShortenedTo, GrewTo}
-use Rattle.raft_log_disk_device.specs.Device.{DeviceCall, Created, Deleted, MadeDirectory, SyncedDirectory, Changed, Synced}
+use Rattle.raft_log_disk_device.specs.Device.{DeviceCall, Created, Deleted, MadeDirectory, SyncedDirectory, Changed, Synced, WroteBack}
 
 -- the call of this kind
 abbrev pub call_of_kind : ℕ → ℕ → ℕ → List ℕ → DeviceCall
@@ -13,7 +13,8 @@ call_of_kind kind file number text =
     else (if kind == 4 then Changed file (Wrote number text)
     else (if kind == 5 then Changed file (ShortenedTo number)
     else (if kind == 6 then Changed file (GrewTo number)
-    else Synced file))))))
+    else (if kind == 7 then Synced file
+    else WroteBack file number text)))))))
 
 -- the call that these three numbers and a path or bytes say
 abbrev pub call_of : List ℕ → List ℕ → DeviceCall

@@ -1,5 +1,5 @@
 //! Why directories weren't opened.
-use std::alloc::{AllocError, Global};
+use std::alloc::{AllocError, AllocFailed, Global};
 use std::io;
 use std::io::ErrorKind;
 use thiserror::Error;
@@ -64,6 +64,12 @@ impl DirectoryFault {
 
 impl From<AllocError> for DirectoryFault {
     fn from(_error: AllocError) -> DirectoryFault {
+        DirectoryFault::Memory
+    }
+}
+
+impl<T: Drop> From<AllocFailed<T>> for DirectoryFault {
+    fn from(_error: AllocFailed<T>) -> DirectoryFault {
         DirectoryFault::Memory
     }
 }

@@ -6,12 +6,12 @@ use raft_log_disk_device::Device;
 use raft_log_disk_storage::Storage;
 use std::alloc::Global;
 use std::collections::BTreeMap;
-use std::fs;
 use std::fs::{File, OpenOptions};
 use std::io::ErrorKind;
 use std::os::unix::fs::FileExt;
 use std::rt::Files;
 use std::snapshot::Snapshot;
+use std::{fs, io};
 
 const CREATED: u64 = 0;
 
@@ -28,6 +28,8 @@ const SHORTENED: u64 = 5;
 const GROWN: u64 = 6;
 
 const SYNCED: u64 = 7;
+
+const WRITTEN_BACK: u64 = 8;
 
 /// The most bytes that one call writes, and how many zeros are kept for the growth of a file. What a longer one writes
 /// some systems hold as one long piece in memory, and each short write there, and each sync behind it, goes over all of
@@ -122,12 +124,7 @@ impl<R: Files<File = File> + Drop> Device for FileDevice<R> {
         let Some(opened) = self.files.get(&file) else {
             return Err(ErrorKind::NotFound);
         };
-        for start in (0..bytes.len()).step_by(PIECE) {
-            let end = bytes.len().min(start.saturating_add(PIECE));
-            opened
-                .write_all_at(&bytes[start..end], offset.wrapping_add(start) as u64)
-                .map_err(|error| error.kind())?;
-        }
+        write_pieces(opened, offset, bytes).map_err(|error| error.kind())?;
         self.record
             .note(&[WRITTEN, file as u64, offset as u64], bytes);
         Ok(())
@@ -161,6 +158,16 @@ impl<R: Files<File = File> + Drop> Device for FileDevice<R> {
         Ok(())
     }
 
+    fn write_back(&mut self, file: usize, offset: usize, bytes: &[u8]) -> Result<(), ErrorKind> {
+        let Some(opened) = self.files.get(&file) else {
+            return Err(ErrorKind::NotFound);
+        };
+        write_pieces(opened, offset, bytes).map_err(|error| error.kind())?;
+        self.record
+            .note(&[WRITTEN_BACK, file as u64, offset as u64], bytes);
+        Ok(())
+    }
+
     fn sync(&mut self, file: usize) -> Result<(), ErrorKind> {
         let Some(opened) = self.files.get(&file) else {
             return Err(ErrorKind::NotFound);
@@ -173,4 +180,13 @@ impl<R: Files<File = File> + Drop> Device for FileDevice<R> {
     fn close(&mut self, file: usize) {
         let _closed = self.files.remove(&file);
     }
+}
+
+/// Writes bytes into a file from an offset on, a piece at a time. If this fails, some of them may be written.
+fn write_pieces(opened: &File, offset: usize, bytes: &[u8]) -> io::Result<()> {
+    for start in (0..bytes.len()).step_by(PIECE) {
+        let end = bytes.len().min(start.saturating_add(PIECE));
+        opened.write_all_at(&bytes[start..end], offset.wrapping_add(start) as u64)?;
+    }
+    Ok(())
 }

@@ -5,10 +5,12 @@
 pub mod fault;
 pub mod file_device;
 mod load;
+mod log_names;
+mod making_durable;
 pub mod opening;
 mod record;
 
 pub use fault::DirectoryFault;
 pub use file_device::FileDevice;
-pub use opening::{make_directory, open_directories};
+pub use opening::{make_directory, open_directories, open_directories_for_reading};
 pub use raft_log_disk_device::DirectoryFileSystem;

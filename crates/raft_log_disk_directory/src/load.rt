@@ -2,12 +2,13 @@
 ghost use Rattle.std.specs.Prelude.{◌≡◌, None};
 ghost use Rattle.raft_log_disk_storage.specs.Held.{held_of};
 ghost use Rattle.raft_log_disk_storage.specs.Storage.{IsStorageSound, IsWhole-prop};
-ghost use Rattle.raft_log_disk_directory.specs.Loading.{FillsFile};
+ghost use Rattle.raft_log_disk_directory.specs.Loading.{AllRest, AllRest-prop, FillsFile};
 
+use super::log_names::ListedFile;
 use raft_log_disk_storage::{Content, Storage, Stored};
 use std::alloc::Global;
 use std::collections::BTreeMap;
-use std::fs::File;
+use std::fs::{File, OpenOptions};
 use std::io;
 use std::io::ErrorKind;
 use std::os::unix::fs::FileExt;
@@ -20,6 +21,15 @@ const PIECE: usize = 1 << 18;
 /// How many threads read files at most.
 const READERS: usize = 32;
 
+/// What the files of directories are opened for.
+#[derive(Clone, Copy, Debug, PartialEq, Eq)]
+pub(crate) enum Access {
+    /// To be read and written. Each is synced before it is read.
+    ReadWrite,
+    /// To be read alone. Nothing is changed, and nothing is synced.
+    ReadOnly,
+}
+
 /// What lies in directories: a model of it, its files, open by the model's numbers, and the directories,
 /// locked.
 #[derive(Drop)]
@@ -27,21 +37,24 @@ pub(crate) struct Found {
     pub storage: Storage,
     pub files: BTreeMap<usize, File>,
     pub locks: Vec<File>,
+    access: Access,
     ghost whole: { IsStorageSound storage } by { IsWhole-prop storage },
+    ghost rest: { AllRest storage } by { AllRest-prop storage },
 }
 
 impl Found {
-    /// Nothing.
-    pub fn new(alloc: Global) -> Found {
+    /// Nothing, before directories are opened for this.
+    pub fn new(alloc: Global, access: Access) -> Found {
         Found {
             storage: Storage::new(alloc),
             files: BTreeMap::new(alloc),
             locks: Vec::new(alloc),
+            access,
         }
     }
 
-    /// Locks a directory, and adds it without its files. Refused where it is there already, or another log
-    /// has it open.
+    /// Locks a directory, and adds it without its files. Those who only read share it. This fails if it is there already,
+    /// or another log has it open.
     pub fn add_directory<R: Files<File = File>>(
         &mut self,
         rt: &R,
@@ -54,7 +67,10 @@ impl Found {
         if self.storage.node(directory).is_some() {
             return Err(ErrorKind::AlreadyExists.into());
         }
-        opened.try_lock()?;
+        match self.access {
+            Access::ReadWrite => opened.try_lock()?,
+            Access::ReadOnly => opened.try_lock_shared()?,
+        }
         self.storage.add_directory(directory)?;
         self.locks.push(opened)?;
         Ok(())
@@ -77,31 +93,40 @@ impl Found {
         }
     }
 
-    /// Syncs files, and adds them with their bytes.
+    /// Opens the file with a path for what the directories are opened for.
+    pub fn open<R: Files<File = File>>(&self, rt: &R, path: &str) -> io::Result<File> {
+        OpenOptions::new()
+            .read(true)
+            .write(self.access == Access::ReadWrite)
+            .open(rt, path)
+    }
+
+    /// Adds files with their bytes. If they may be written, each is synced first.
     pub fn load_files<R: Threads + Sync>(
         &mut self,
         rt: &R,
-        paths: &[String],
+        listed: &[ListedFile],
         opened: Vec<File>,
     ) -> io::Result<()> {
-        let contents = contents_of(rt, self.storage.alloc, &opened)?;
-        for ((path, file), content) in paths.iter().zip(opened).zip(contents) {
-            self.add_file(path.as_str(), file, content)?;
+        let contents = contents_of(rt, self.storage.alloc, self.access, &opened)?;
+        for ((listed, file), content) in listed.iter().zip(opened).zip(contents) {
+            self.add_file(listed.path.as_str(), file, content)?;
         }
         Ok(())
     }
 }
 
-/// The bytes of files, each of which is synced first, and read whole. Each of a few files has a thread of its own, so that
+/// The bytes of files, each of which is read whole. Each of a few files has a thread of its own, so that
 /// none waits for another one while a processor is idle; of more than `READERS` a thread reads several.
 fn contents_of<R: Threads + Sync>(
     rt: &R,
     alloc: Global,
+    access: Access,
     opened: &[File],
 ) -> io::Result<Vec<Vec<u8>>> {
     let share = opened.len().div_ceil(READERS).max(1);
     let read = |_: usize, files: &[File]| -> io::Result<Vec<Vec<u8>>> {
-        contents_in_turn(alloc, files)
+        contents_in_turn(alloc, access, files)
     };
     let parts = map_chunks(rt, alloc, opened, share, &read)?;
     let mut contents = Vec::with_capacity(alloc, opened.len())?;
@@ -112,10 +137,10 @@ fn contents_of<R: Threads + Sync>(
 }
 
 /// The bytes of files, read one after another.
-fn contents_in_turn(alloc: Global, files: &[File]) -> io::Result<Vec<Vec<u8>>> {
+fn contents_in_turn(alloc: Global, access: Access, files: &[File]) -> io::Result<Vec<Vec<u8>>> {
     let mut contents = Vec::with_capacity(alloc, files.len())?;
     for file in files {
-        contents.push(content_of(alloc, file)?)?;
+        contents.push(content_of(alloc, access, file)?)?;
     }
     Ok(contents)
 }
@@ -134,9 +159,11 @@ fn fill(storage: &mut Storage, file: usize, content: Vec<u8>)
     });
 }
 
-/// The bytes of a file, which is synced first, read into room for just as many.
-fn content_of(alloc: Global, opened: &File) -> io::Result<Vec<u8>> {
-    opened.sync_all()?;
+/// The bytes of a file, read into room for just as many. A file that may be written is synced first.
+fn content_of(alloc: Global, access: Access, opened: &File) -> io::Result<Vec<u8>> {
+    if access == Access::ReadWrite {
+        opened.sync_all()?;
+    }
     let size = opened.metadata()?.len() as usize;
     let mut content = Vec::with_capacity(alloc, size)?;
     for start in (0..size).step_by(PIECE) {

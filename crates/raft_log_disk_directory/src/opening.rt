@@ -1,24 +1,30 @@
-//! Directories are opened: locked, synced and loaded.
+//! The directories of a log are opened: locked, loaded, and made durable if they may be written.
 ghost use Rattle.std.specs.Prelude.{◌≡◌, List, ℕ, None, IfOk};
+ghost use Rattle.raft_log_disk_device.specs.Directory.{calls_of};
 ghost use Rattle.raft_log_disk_device.specs.Space.{spaces_of};
-ghost use Rattle.raft_log_disk_directory.specs.Loading.{StartsFresh};
+ghost use Rattle.raft_log_disk_directory.specs.Loading.{StandsAsFound, StartsFresh};
 
 use super::fault::DirectoryFault;
 use super::file_device::{FileDevice, PIECE};
-use super::load::Found;
+use super::load::{Access, Found};
+use super::log_names::{ListedFile, list_files};
+use super::making_durable::{sync_directories, write_back_last_files};
 use raft_log_disk::FileSystem;
 use raft_log_disk_device::{Device, DirectoryFileSystem};
-use std::fs::{File, OpenOptions};
+use std::fs::File;
 use std::io::ErrorKind;
 use std::path::Path;
 use std::rt::Files;
 use std::thread::Threads;
 use std::{fs, io};
 
-/// Opens a log's main directory, and its second one where it has one, and answers the file system over them.
-/// Each is locked, until the file system is dropped; each regular file in them is synced and read, several side by
-/// side. Both have to be there. Paths are those of the operating system; the log's settings have to spell them the same. A
-/// refusal has changed nothing.
+/// Opens a log's main directory, and its second one where it has one, and returns the file system over them.
+///
+/// Both directories have to be there. Each is locked until the file system is dropped. Each regular file with the name of
+/// a log file is synced and read, several side by side; entries with other names are left alone. The last file of either
+/// queue is written back, the same bytes, and synced, and then the directories are: so what the file system shows is
+/// durable, also if a sync failed before, in this boot of the machine. Paths are those of the operating system; the log's
+/// settings have to spell them the same. If this fails, no byte of a file and no name has changed.
 pub fn open_directories<R: Files<File = File> + Threads + AllocGlobal + Clone + Sync + Drop>(
     rt: &R,
     directory: &str,
@@ -28,20 +34,50 @@ pub fn open_directories<R: Files<File = File> + Threads + AllocGlobal + Clone + 
         (⟦<DirectoryFileSystem<FileDevice<R>> as FileSystem>⟧.disk system)) }
     ensures unset { IfOk result (λ system. (directory : List ℕ)
         → spaces_of ⟦<FileDevice<R> as Device>⟧ system directory ≡ None) }
+    ensures found { IfOk result (λ system.
+        StandsAsFound (calls_of ⟦<FileDevice<R> as Device>⟧ system)) }
 {
-    let mut found = Found::new(rt.alloc());
-    lock(rt, &mut found, directory)?;
-    if let Some(other) = spill_directory {
-        lock(rt, &mut found, other)?;
-    }
-    load(rt, &mut found, directory)?;
-    if let Some(other) = spill_directory {
-        load(rt, &mut found, other)?;
-    }
+    let mut found = Found::new(rt.alloc(), Access::ReadWrite);
+    let listed = load_all(rt, &mut found, directory, spill_directory)?;
     let Found {
         storage,
         files,
         locks,
+        ..
+    } = found;
+    let zeros = vec![in rt.alloc(); 0u8; PIECE]?;
+    let mut device = FileDevice::new(rt.clone()?, files, locks, zeros, &storage);
+    write_back_last_files(rt.alloc(), &mut device, &storage, listed.as_slice())?;
+    sync_directories(rt.alloc(), &mut device, directory, spill_directory)?;
+    Ok(DirectoryFileSystem::new(storage, device))
+}
+
+/// Opens the directories of a log for reading alone, as a check or a copy does: files are opened for reading, and nothing
+/// is synced or written. So a log in a file system that is mounted read-only is opened too.
+///
+/// Several readers may have a log open at once, but nobody who writes. A call that changes a file that was found stops the
+/// file system; new files may be made in other directories. This fails as `open_directories` does.
+pub fn open_directories_for_reading<
+    R: Files<File = File> + Threads + AllocGlobal + Clone + Sync + Drop,
+>(
+    rt: &R,
+    directory: &str,
+    spill_directory: Option<&str>,
+) -> Result<DirectoryFileSystem<FileDevice<R>>, DirectoryFault>
+    ensures fresh { IfOk result (λ system. StartsFresh
+        (⟦<DirectoryFileSystem<FileDevice<R>> as FileSystem>⟧.disk system)) }
+    ensures unset { IfOk result (λ system. (directory : List ℕ)
+        → spaces_of ⟦<FileDevice<R> as Device>⟧ system directory ≡ None) }
+    ensures found { IfOk result (λ system.
+        StandsAsFound (calls_of ⟦<FileDevice<R> as Device>⟧ system)) }
+{
+    let mut found = Found::new(rt.alloc(), Access::ReadOnly);
+    load_all(rt, &mut found, directory, spill_directory)?;
+    let Found {
+        storage,
+        files,
+        locks,
+        ..
     } = found;
     let zeros = vec![in rt.alloc(); 0u8; PIECE]?;
     let device = FileDevice::new(rt.clone()?, files, locks, zeros, &storage);
@@ -61,7 +97,7 @@ pub fn make_directory<R: Files<File = File> + AllocGlobal>(
     ))
 }
 
-// Makes a directory where nothing has the path, and syncs the one in which it lies.
+/// Makes a directory where nothing has the path, and syncs the one in which it lies.
 fn make_durable<R: Files<File = File>>(rt: &R, directory: &str) -> io::Result<()> {
     if let Err(error) = fs::create_dir(rt, directory) {
         if error.kind() != ErrorKind::AlreadyExists {
@@ -75,7 +111,24 @@ fn make_durable<R: Files<File = File>>(rt: &R, directory: &str) -> io::Result<()
     File::open(rt, home)?.sync_all()
 }
 
-// Locks a directory.
+/// Locks the directories of a log, and then loads the log files in them, which are returned.
+fn load_all<R: Files<File = File> + Threads + AllocGlobal + Clone + Sync + Drop>(
+    rt: &R,
+    found: &mut Found,
+    directory: &str,
+    spill_directory: Option<&str>,
+) -> Result<Vec<ListedFile>, DirectoryFault> {
+    lock(rt, found, directory)?;
+    let Some(other) = spill_directory else {
+        return load(rt, found, directory);
+    };
+    lock(rt, found, other)?;
+    let mut listed = load(rt, found, directory)?;
+    listed.append(&mut load(rt, found, other)?)?;
+    Ok(listed)
+}
+
+/// Locks a directory.
 fn lock<R: Files<File = File> + AllocGlobal>(
     rt: &R,
     found: &mut Found,
@@ -88,65 +141,33 @@ fn lock<R: Files<File = File> + AllocGlobal>(
     ))
 }
 
-// Reads the regular files of a directory, and syncs it. A refusal names the file where one isn't opened.
+/// Loads the log files in a directory, which are returned.
 fn load<R: Files<File = File> + Threads + AllocGlobal + Clone + Sync + Drop>(
     rt: &R,
     found: &mut Found,
     directory: &str,
-) -> Result<(), DirectoryFault> {
-    let paths = file_paths(rt, directory).map_err(|error| DirectoryFault::of_files(
-        rt.alloc(),
-        directory,
-        error,
-    ))?;
-    let opened = open_files(rt, paths.as_slice())?;
-    load_files(rt, found, directory, paths.as_slice(), opened).map_err(
-        |error| DirectoryFault::of_files(rt.alloc(), directory, error),
-    )
-}
-
-// The paths of the regular files of a directory.
-fn file_paths<R: Files<File = File> + AllocGlobal + Clone>(
-    rt: &R,
-    directory: &str,
-) -> io::Result<Vec<String>> {
-    let mut paths = Vec::new(rt.alloc());
-    for entry in fs::read_dir(rt, directory)? {
-        let entry = entry?;
-        if entry.file_type()?.is_file() {
-            paths.push(format!(in rt.alloc(); "{directory}/{}", entry.file_name())?)?;
-        }
+) -> Result<Vec<ListedFile>, DirectoryFault> {
+    let listed = list_files(rt, directory)?;
+    let opened = open_files(rt, found, listed.as_slice())?;
+    match found.load_files(rt, listed.as_slice(), opened) {
+        Ok(()) => Ok(listed),
+        Err(error) => Err(DirectoryFault::of_files(rt.alloc(), directory, error)),
     }
-    Ok(paths)
 }
 
-// Opens files. A refusal names the one that isn't opened.
+/// Opens files. If this fails, it names the one that isn't opened.
 fn open_files<R: Files<File = File> + AllocGlobal>(
     rt: &R,
-    paths: &[String],
+    found: &Found,
+    listed: &[ListedFile],
 ) -> Result<Vec<File>, DirectoryFault> {
-    let mut opened = Vec::with_capacity(rt.alloc(), paths.len())?;
-    for path in paths {
-        let file = OpenOptions::new()
-            .read(true)
-            .write(true)
-            .open(rt, path.as_str())
-            .map_err(|error| DirectoryFault::of_files(rt.alloc(), path.as_str(), error))?;
-        let Ok(()) = opened.push(file) else {
-            return Err(DirectoryFault::Memory);
-        };
+    let mut opened = Vec::with_capacity(rt.alloc(), listed.len())?;
+    for file in listed {
+        let path = file.path.as_str();
+        let file = found
+            .open(rt, path)
+            .map_err(|error| DirectoryFault::of_files(rt.alloc(), path, error))?;
+        opened.push(file)?;
     }
     Ok(opened)
-}
-
-// Reads files of a directory, and syncs it.
-fn load_files<R: Files<File = File> + Threads + AllocGlobal + Clone + Sync + Drop>(
-    rt: &R,
-    found: &mut Found,
-    directory: &str,
-    paths: &[String],
-    opened: Vec<File>,
-) -> io::Result<()> {
-    found.load_files(rt, paths, opened)?;
-    File::open(rt, directory)?.sync_all()
 }

@@ -1,2 +1,3 @@
 pub mod Sharing
 pub mod Filling
+pub mod Resting

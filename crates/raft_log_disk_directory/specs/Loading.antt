@@ -1,5 +1,5 @@
 -- What stands when directories were opened.
-use Rattle.std.specs.Prelude.{◌≡◌, ℕ, false, Option, None, Some, List, []}
+use Rattle.std.specs.Prelude.{◌≡◌, ℕ, false, Some, List, []}
 use Rattle.std.proofs.Props.{props}
 use Rattle.raft_log_disk.proofs.Props.{File-set}
 use Rattle.raft_log_disk.specs.Disk.{File, Disk, at_rest, with_file}

@@ -5,6 +5,10 @@
 #[cfg(test)]
 mod held;
 #[cfg(test)]
+mod landing;
+#[cfg(test)]
 mod leave;
+#[cfg(test)]
+mod logs;
 #[cfg(test)]
 mod opening;

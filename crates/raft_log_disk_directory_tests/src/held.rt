@@ -16,7 +16,11 @@ fn descriptors_are_as_many_as_files(rt: HostRuntime) -> Result<(), Fail> {
     let before = descriptors(&rt)?;
     for _ in 0..20u8 {
         let mut files = open_directories(&rt, "counted", None)?;
-        for path in ["counted/a", "counted/b", "counted/c"] {
+        for path in [
+            "counted/0000000000000001.raftlog",
+            "counted/0000000000000002.raftlog",
+            "counted/0000000000000003.raftlog",
+        ] {
             if files.open(path, Permission::ReadOnly).is_ok() {
                 files.delete(path)?;
             }
@@ -25,9 +29,12 @@ fn descriptors_are_as_many_as_files(rt: HostRuntime) -> Result<(), Fail> {
             files.sync(handle)?;
         }
         assert!(rt; descriptors(&rt)? == before.saturating_add(4));
-        files.rename("counted/a", "counted/c")?;
+        files.rename(
+            "counted/0000000000000001.raftlog",
+            "counted/0000000000000003.raftlog",
+        )?;
         assert!(rt; descriptors(&rt)? == before.saturating_add(3));
-        files.delete("counted/b")?;
+        files.delete("counted/0000000000000002.raftlog")?;
         assert!(rt; descriptors(&rt)? == before.saturating_add(2));
         drop(files);
         assert!(rt; descriptors(&rt)? == before);
@@ -39,12 +46,12 @@ fn descriptors_are_as_many_as_files(rt: HostRuntime) -> Result<(), Fail> {
 fn a_refused_opening_holds_nothing(rt: HostRuntime) -> Result<(), Fail> {
     let _ = fs::remove_dir_all(&rt, "half");
     make_directory(&rt, "half")?;
-    fs::write(&rt, "half/a", b"x".as_slice())?;
+    fs::write(&rt, "half/0000000000000001.raftlog", b"x".as_slice())?;
     let before = descriptors(&rt)?;
     for _ in 0..20u8 {
         assert!(rt; open_directories(&rt, "half", Some("absent")).is_err());
         assert!(rt; open_directories(&rt, "half", Some("half")).is_err());
-        assert!(rt; make_directory(&rt, "half/a/b").is_err());
+        assert!(rt; make_directory(&rt, "half/0000000000000001.raftlog/b").is_err());
         make_directory(&rt, "half")?;
         assert!(rt; descriptors(&rt)? == before);
     }

@@ -1,7 +1,9 @@
 //! Directories and files that this process has no leave for: they are refused, and nothing changes. What modes deny,
 //! root may do nevertheless; there each test asks for the other outcome.
-use raft_log_disk::FileSystem;
-use raft_log_disk_directory::{DirectoryFault, make_directory, open_directories};
+use raft_log_disk::{FileSystem, Permission};
+use raft_log_disk_directory::{
+    DirectoryFault, make_directory, open_directories, open_directories_for_reading,
+};
 use std::fs::{File, Permissions};
 use std::io::ErrorKind;
 use std::os::unix::fs::PermissionsExt;
@@ -60,28 +62,44 @@ fn what_may_not_be_read_and_written_is_not_opened(rt: HostRuntime) -> Result<(),
         (0o300, ALL, "shut"),
         (0o400, ALL, "shut"),
         (0o600, ALL, "shut"),
-        (ALL, 0, "shut/a"),
-        (ALL, 0o200, "shut/a"),
-        (ALL, 0o400, "shut/a"),
+        (ALL, 0, "shut/0000000000000001.raftlog"),
+        (ALL, 0o200, "shut/0000000000000001.raftlog"),
+        (ALL, 0o400, "shut/0000000000000001.raftlog"),
     ];
     for (directory_mode, file_mode, wanting) in unread {
-        prepare(&rt, "shut", "shut/a")?;
-        set_mode(&rt, "shut/a", file_mode)?;
+        prepare(&rt, "shut", "shut/0000000000000001.raftlog")?;
+        set_mode(&rt, "shut/0000000000000001.raftlog", file_mode)?;
         set_mode(&rt, "shut", directory_mode)?;
         let opened = open_directories(&rt, "shut", None);
         set_mode(&rt, "shut", ALL)?;
-        set_mode(&rt, "shut/a", ALL)?;
+        set_mode(&rt, "shut/0000000000000001.raftlog", ALL)?;
         assert!(rt; (is_denied(&opened, wanting) == is_bound) & (opened.is_ok() != is_bound));
         drop(opened);
-        assert!(rt; is_as_prepared(&rt, "shut", "shut/a")?);
+        assert!(rt; is_as_prepared(&rt, "shut", "shut/0000000000000001.raftlog")?);
         assert!(rt; open_directories(&rt, "shut", None).is_ok());
     }
     Ok(())
 }
 
 #[test]
+fn what_may_only_be_read_is_opened_for_reading(rt: HostRuntime) -> Result<(), Fail> {
+    let path = "kept shut/0000000000000001.raftlog";
+    prepare(&rt, "kept shut", path)?;
+    set_mode(&rt, path, 0o400)?;
+    set_mode(&rt, "kept shut", 0o500)?;
+    let files = open_directories_for_reading(&rt, "kept shut", None)?;
+    let handle = files.open(path, Permission::ReadOnly)?;
+    let mut room = [0u8; 5];
+    let count = files.read_at(handle, 0, &mut room)?;
+    drop(files);
+    set_mode(&rt, "kept shut", ALL)?;
+    assert!(rt; (count == 4) & room.starts_with(b"abcd"));
+    Ok(())
+}
+
+#[test]
 fn want_of_leave_is_told_by_its_path(rt: HostRuntime) -> Result<(), Fail> {
-    prepare(&rt, "told", "told/a")?;
+    prepare(&rt, "told", "told/0000000000000001.raftlog")?;
     set_mode(&rt, "told", 0)?;
     let opened = open_directories(&rt, "told", None);
     set_mode(&rt, "told", ALL)?;
@@ -97,15 +115,16 @@ fn want_of_leave_is_told_by_its_path(rt: HostRuntime) -> Result<(), Fail> {
 #[test]
 fn a_second_directory_without_leave_lets_the_first_one_go(rt: HostRuntime) -> Result<(), Fail> {
     let is_bound = is_bound_by_modes(&rt, "bound as well")?;
-    prepare(&rt, "main", "main/a")?;
-    prepare(&rt, "second", "second/a")?;
+    prepare(&rt, "main", "main/0000000000000001.raftlog")?;
+    prepare(&rt, "second", "second/0000000000000001.raftlog")?;
     set_mode(&rt, "second", 0)?;
     let opened = open_directories(&rt, "main", Some("second"));
     set_mode(&rt, "second", ALL)?;
     assert!(rt; is_denied(&opened, "second") == is_bound);
     drop(opened);
     assert!(rt;
-        is_as_prepared(&rt, "main", "main/a")? & is_as_prepared(&rt, "second", "second/a")?
+        is_as_prepared(&rt, "main", "main/0000000000000001.raftlog")?
+            & is_as_prepared(&rt, "second", "second/0000000000000001.raftlog")?
     );
     assert!(rt; open_directories(&rt, "main", Some("second")).is_ok());
     Ok(())
@@ -114,22 +133,29 @@ fn a_second_directory_without_leave_lets_the_first_one_go(rt: HostRuntime) -> Re
 #[test]
 fn names_of_a_directory_that_is_only_read_stay(rt: HostRuntime) -> Result<(), Fail> {
     let is_bound = is_bound_by_modes(&rt, "bound here")?;
-    prepare(&rt, "only read", "only read/a")?;
+    prepare(&rt, "only read", "only read/0000000000000001.raftlog")?;
     set_mode(&rt, "only read", 0o500)?;
     let mut files = open_directories(&rt, "only read", None)?;
-    let made = files.create("only read/b").is_ok();
-    let renamed = files.rename("only read/a", "only read/c").is_ok();
+    let made = files.create("only read/0000000000000002.raftlog").is_ok();
+    let renamed = files
+        .rename(
+            "only read/0000000000000001.raftlog",
+            "only read/0000000000000003.raftlog",
+        )
+        .is_ok();
     let deleted = files
         .delete(if renamed {
-            "only read/c"
+            "only read/0000000000000003.raftlog"
         } else {
-            "only read/a"
+            "only read/0000000000000001.raftlog"
         })
         .is_ok();
     drop(files);
     set_mode(&rt, "only read", ALL)?;
     assert!(rt; (made == !is_bound) & (renamed == !is_bound) & (deleted == !is_bound));
-    assert!(rt; !is_bound || is_as_prepared(&rt, "only read", "only read/a")?);
+    assert!(rt;
+        !is_bound || is_as_prepared(&rt, "only read", "only read/0000000000000001.raftlog")?
+    );
     Ok(())
 }
 
@@ -137,12 +163,12 @@ fn names_of_a_directory_that_is_only_read_stay(rt: HostRuntime) -> Result<(), Fa
 fn a_directory_is_not_made_without_leave(rt: HostRuntime) -> Result<(), Fail> {
     let is_bound = is_bound_by_modes(&rt, "bound there")?;
     for mode in [0, 0o400, 0o500] {
-        prepare(&rt, "home", "home/a")?;
+        prepare(&rt, "home", "home/0000000000000001.raftlog")?;
         set_mode(&rt, "home", mode)?;
         let made = make_directory(&rt, "home/log");
         set_mode(&rt, "home", ALL)?;
         assert!(rt; is_denied(&made, "home/log") == is_bound);
-        assert!(rt; is_as_prepared(&rt, "home", "home/a")? == is_bound);
+        assert!(rt; is_as_prepared(&rt, "home", "home/0000000000000001.raftlog")? == is_bound);
     }
     Ok(())
 }
@@ -150,7 +176,7 @@ fn a_directory_is_not_made_without_leave(rt: HostRuntime) -> Result<(), Fail> {
 #[test]
 fn a_directory_whose_name_is_not_synced_is_refused(rt: HostRuntime) -> Result<(), Fail> {
     let is_bound = is_bound_by_modes(&rt, "bound still")?;
-    prepare(&rt, "unread home", "unread home/a")?;
+    prepare(&rt, "unread home", "unread home/0000000000000001.raftlog")?;
     for _ in 0..2u8 {
         set_mode(&rt, "unread home", 0o300)?;
         let made = make_directory(&rt, "unread home/log");

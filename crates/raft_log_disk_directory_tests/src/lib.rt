@@ -1,10 +1,16 @@
-//! Tests of a file system over real directories: what was synced stands at the next opening, who is refused, and what is
-//! held open.
+//! Tests of a file system over real directories: what was synced stands at the next opening, who is refused, what is
+//! found and what is held open.
 #![tactic(auto)]
 
 #[cfg(test)]
+mod found;
+#[cfg(test)]
 mod held;
 #[cfg(test)]
+mod landing;
+#[cfg(test)]
 mod leave;
+#[cfg(test)]
+mod logs;
 #[cfg(test)]
 mod opening;

@@ -29,15 +29,20 @@ fn what_was_written_stands_at_the_next_opening(rt: HostRuntime) -> Result<(), Fa
     let _ = fs::remove_dir_all(&rt, "kept");
     make_directory(&rt, "kept")?;
     let mut files = open_directories(&rt, "kept", None)?;
-    let handle = save(&mut files, "kept/a", b"abcdef")?;
+    let handle = save(&mut files, "kept/0000000000000001.raftlog", b"abcdef")?;
     files.truncate(handle, 4)?;
-    files.rename("kept/a", "kept/b")?;
-    save(&mut files, "kept/c", b"gone")?;
-    files.delete("kept/c")?;
+    files.rename(
+        "kept/0000000000000001.raftlog",
+        "kept/0000000000000002.raftlog",
+    )?;
+    save(&mut files, "kept/0000000000000003.raftlog", b"gone")?;
+    files.delete("kept/0000000000000003.raftlog")?;
     drop(files);
     let files = open_directories(&rt, "kept", None)?;
-    assert!(rt; has(&files, "kept/b", b"abcd")? & (files.list("kept")?.len() == 1));
-    assert!(rt; fs::metadata(&rt, "kept/b")?.len() == 4);
+    assert!(rt;
+        has(&files, "kept/0000000000000002.raftlog", b"abcd")? & (files.list("kept")?.len() == 1)
+    );
+    assert!(rt; fs::metadata(&rt, "kept/0000000000000002.raftlog")?.len() == 4);
     Ok(())
 }
 
@@ -76,15 +81,15 @@ fn a_file_of_several_pieces_is_grown_and_read_whole(rt: HostRuntime) -> Result<(
     let _ = fs::remove_dir_all(&rt, "pieces");
     make_directory(&rt, "pieces")?;
     let mut files = open_directories(&rt, "pieces", None)?;
-    let handle = save(&mut files, "pieces/a", b"abcd")?;
+    let handle = save(&mut files, "pieces/0000000000000001.raftlog", b"abcd")?;
     files.allocate(handle, 4, 600_000)?;
     files.write_at(handle, 300_000, b"efgh")?;
     files.sync(handle)?;
     drop(files);
-    assert!(rt; fs::metadata(&rt, "pieces/a")?.len() == 600_004);
+    assert!(rt; fs::metadata(&rt, "pieces/0000000000000001.raftlog")?.len() == 600_004);
     let files = open_directories(&rt, "pieces", None)?;
     let mut bytes = vec![in rt.alloc(); 1u8; 600_005]?;
-    let handle = files.open("pieces/a", Permission::ReadOnly)?;
+    let handle = files.open("pieces/0000000000000001.raftlog", Permission::ReadOnly)?;
     let count = files.read_at(handle, 0, &mut bytes)?;
     let mut others = bytes.iter().filter(|byte| **byte != 0);
     assert!(rt; count == 600_004);
@@ -100,14 +105,14 @@ fn a_long_write_lands_whole(rt: HostRuntime) -> Result<(), Fail> {
     let _ = fs::remove_dir_all(&rt, "long");
     make_directory(&rt, "long")?;
     let mut files = open_directories(&rt, "long", None)?;
-    let handle = save(&mut files, "long/a", b"abc")?;
+    let handle = save(&mut files, "long/0000000000000001.raftlog", b"abc")?;
     let mut bytes = Vec::with_capacity(rt.alloc(), 200_000)?;
     for at in 0..200_000usize {
         bytes.push((at % 251) as u8)?;
     }
     files.write_at(handle, 3, bytes.as_slice())?;
     files.sync(handle)?;
-    let found = fs::read(&rt, "long/a")?;
+    let found = fs::read(&rt, "long/0000000000000001.raftlog")?;
     assert!(rt; found.len() == 200_003);
     assert!(rt; (&found[..3] == b"abc".as_slice()) & (&found[3..] == bytes.as_slice()));
     Ok(())
@@ -120,14 +125,14 @@ fn what_is_left_of_a_space_that_is_set_is_told(rt: HostRuntime) -> Result<(), Fa
     make_directory(&rt, "narrow")?;
     make_directory(&rt, "wide")?;
     let mut files = open_directories(&rt, "narrow", Some("wide"))?;
-    save(&mut files, "narrow/a", b"abcd")?;
-    save(&mut files, "wide/a", b"abc")?;
+    save(&mut files, "narrow/0000000000000001.raftlog", b"abcd")?;
+    save(&mut files, "wide/0000000000000001.raftlog", b"abc")?;
     files.set_space("narrow", 10)?;
     assert!(rt; (files.free_space("narrow")? == 6) & (files.free_space("wide")? == u64::MAX));
-    save(&mut files, "narrow/b", b"abcdefgh")?;
+    save(&mut files, "narrow/0000000000000002.raftlog", b"abcdefgh")?;
     assert!(rt; files.free_space("narrow")? == 0);
     files.set_space("narrow", 15)?;
-    files.delete("narrow/a")?;
+    files.delete("narrow/0000000000000001.raftlog")?;
     assert!(rt; files.free_space("narrow")? == 7);
     Ok(())
 }
@@ -137,13 +142,13 @@ fn each_of_many_files_keeps_its_bytes(rt: HostRuntime) -> Result<(), Fail> {
     let _ = fs::remove_dir_all(&rt, "many");
     make_directory(&rt, "many")?;
     for number in 0..70u8 {
-        let path = format!(in rt.alloc(); "many/{number}")?;
+        let path = format!(in rt.alloc(); "many/{number:016}.raftlog")?;
         fs::write(&rt, path.as_str(), [number].as_slice())?;
     }
     let files = open_directories(&rt, "many", None)?;
     assert!(rt; files.list("many")?.len() == 70);
     for number in 0..70u8 {
-        let path = format!(in rt.alloc(); "many/{number}")?;
+        let path = format!(in rt.alloc(); "many/{number:016}.raftlog")?;
         assert!(rt; has(&files, path.as_str(), &[number])?);
     }
     Ok(())

@@ -8,11 +8,33 @@ use std::env;
 use std::env::Env;
 use std::io::ErrorKind;
 
+/// How the program is called.
+pub const USAGE: &str = "usage: raftvoters [--save DIR | --load DIR]
+
+  (none)       runs the session on standard input over a log in memory, and writes its transcript and a
+               verdict to standard output
+  --save DIR   the same; then writes the files of the log into the directory DIR, which has to exist
+  --load DIR   reads no session: opens a copy in memory of the log in the directory DIR, and writes a line
+               for each voter; DIR is only read
+  --help       prints this text and does nothing else
+
+DIR is the argument as it is, also if it begins with -. docs/SESSIONS.md has the lines of sessions and
+transcripts. Standard error gets what the log warns of, and why DIR could not be read or written.
+
+status: 0 the verdict is yes, or the voters were written
+        1 the verdict is no, or the settings were refused
+        2 a line is unreadable, or wrong arguments
+        3 memory, reading or writing was refused
+        4 the log in DIR could not be opened
+";
+
 /// What the arguments ask of the program.
 #[derive(Debug, Drop)]
 pub enum Arguments {
     /// To run a session: there are none.
     Nothing,
+    /// To tell how the program is called.
+    Help,
     /// To tell the voters whose log lies in this directory.
     Load(String),
     /// To run a session, and to keep its log in this directory.
@@ -46,6 +68,10 @@ impl Arguments {
     {
         match words {
             [] => Ok(Arguments::Nothing),
+            [option] => match option.as_str() {
+                "--help" => Ok(Arguments::Help),
+                _ => Ok(Arguments::Others),
+            },
             [option, directory] => match option.as_str() {
                 "--load" => Ok(Arguments::Load(directory.clone()?)),
                 "--save" => Ok(Arguments::Save(directory.clone()?)),

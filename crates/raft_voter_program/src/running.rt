@@ -3,41 +3,63 @@ ghost use Rattle.std.specs.Prelude.{◌≡◌, false, true, IfOk, IfSome, OnErr}
 ghost use Rattle.raft_voter_run.specs.Run.{Ends, EndsEarly, WritesSession};
 ghost use Rattle.raft_voter_program.specs.Setup.{log_setup};
 
-use crate::arguments::Arguments;
+use crate::arguments::{Arguments, USAGE};
 use crate::loading::load;
 use crate::saving::save;
 use crate::setup::LogSetup;
 use log::Log;
 use raft_voter::RoundService;
 use raft_voter_log::{LogFiles, LogVoters};
-use raft_voter_run::exit_status;
+use raft_voter_run::{exit_status, write_whole};
 use raft_voter_world::{VoterDisk, VoterStorage};
 use std::alloc::Global;
 use std::env::Env;
 use std::fs::File;
 use std::io;
-use std::io::{Input, Print, Read, Write};
+use std::io::{Eprint, Input, Print, Read, Write};
 use std::rt::Files;
 use std::thread::Threads;
 
 /// The whole program over its runtime: without arguments the session on standard input is run, and with `--save` and a
-/// directory its log is kept there; with `--load` and a directory the voters of the log there are told; others are
-/// refused. The answer is the status with which it ends.
+/// directory its log is kept there; with `--load` and a directory the voters of the log there are told; `--help` prints
+/// the usage. Others are refused, and standard error gets the usage. Returns the status with which the program ends.
 pub fn start<
-    R: Env + Input + Print + Threads + Log + Sync + Files<File = File> + AllocGlobal + Clone + Drop,
+    R: Env
+        + Input
+        + Print
+        + Eprint
+        + Threads
+        + Log
+        + Sync
+        + Files<File = File>
+        + AllocGlobal
+        + Clone
+        + Drop,
 >(rt: &R) -> u8 {
     let mut reader = rt.reader();
     let mut writer = io::writer(rt);
     let ended = match Arguments::read(rt) {
         Ok(Arguments::Nothing) => program(rt, false, rt.alloc(), &mut reader, &mut writer),
+        Ok(Arguments::Help) => print_usage(&mut writer),
         Ok(Arguments::Load(directory)) => { load(rt, rt.alloc(), directory.as_str(), &mut writer) }
         Ok(Arguments::Save(directory)) => {
             save(rt, rt.alloc(), directory.as_str(), &mut reader, &mut writer)
         }
-        Ok(Arguments::Others) => program(rt, true, rt.alloc(), &mut reader, &mut writer),
+        Ok(Arguments::Others) => {
+            let _told = rt.eprint(USAGE).is_ok();
+            program(rt, true, rt.alloc(), &mut reader, &mut writer)
+        }
         Err(short) => Err(io::Error::from(short)),
     };
     exit_status(ended)
+}
+
+/// Writes how the program is called, with status 0.
+fn print_usage<W: Write>(writer: &mut W) -> io::Result<u8>
+    ensures { IfOk result (λ status. status ≡ 0) }
+{
+    write_whole(writer, USAGE.as_bytes())?;
+    Ok(0)
 }
 
 /// The program of `raft_voter_run` over a store on a log: with arguments it refuses them and reads nothing,

@@ -33,16 +33,18 @@ impl<'a> Env for Words<'a> {
 }
 
 /// Arguments, and what they ask: a word for it, and a directory, if there is one.
-const ASKED: [(&[&[u8]], &str, &str); 14] = [
+const ASKED: [(&[&[u8]], &str, &str); 16] = [
     (&[], "nothing", ""),
     (&[b"raftvoters"], "nothing", ""),
+    (&[b"raftvoters", b"--help"], "help", ""),
     (&[b"raftvoters", b"--load", b"a/b c"], "load", "a/b c"),
     (&[b"raftvoters", b"--load", b"--save"], "load", "--save"),
     (&[b"raftvoters", b"--load", b""], "load", ""),
     (&[b"raftvoters", b"--save", b"-"], "save", "-"),
     (&[b"raftvoters", b"--load"], "others", ""),
     (&[b"raftvoters", b"--save"], "others", ""),
-    (&[b"raftvoters", b"--help"], "others", ""),
+    (&[b"raftvoters", b"--halp"], "others", ""),
+    (&[b"raftvoters", b"--help", b"--help"], "others", ""),
     (&[b"raftvoters", b""], "others", ""),
     (&[b"raftvoters", b"a", b"--load"], "others", ""),
     (&[b"raftvoters", b"--loads", b"a"], "others", ""),
@@ -54,6 +56,7 @@ const ASKED: [(&[&[u8]], &str, &str); 14] = [
 fn ask(alloc: Global, words: &[&[u8]], wanted: &str, path: &str) -> Result<bool, AllocError> {
     Ok(match Arguments::read(&(Words { words }, alloc))? {
         Arguments::Nothing => wanted == "nothing",
+        Arguments::Help => wanted == "help",
         Arguments::Load(directory) => (wanted == "load") & (directory.as_str() == path),
         Arguments::Save(directory) => (wanted == "save") & (directory.as_str() == path),
         Arguments::Others => wanted == "others",

@@ -1,44 +1,67 @@
 //! A node of Raft voters over a directory: rounds of requests are read from standard input, as lines of the session
-//! language, and each is answered on standard output once no crash takes it back.
+//! language, and each is answered on standard output once no crash takes it back. `raftnode --help` tells how it is
+//! called.
 //!
-//! The first argument is the directory of the log, which is made where it isn't there; the second one, if there is one,
-//! is a file of settings. The status is 1 where something was refused, 2 for wrong arguments.
+//! The status is 0 if the input ended and the log is closed, 1 if the log failed or something was refused, which standard
+//! error tells, and 2 for wrong arguments.
 #![tactic(auto)]
 
-use anyhow::bail;
+mod asking;
+mod refusal;
+
+use asking::{Asked, USAGE};
 use log::Log;
 use raft_log_disk_directory::{DirectoryFileSystem, FileDevice, make_directory, open_directories};
 use raft_log_engine::{Config, FileSystem};
 use raft_voter_node::run;
-use std::env::Env;
+use refusal::Refusal;
 use std::fs::File;
 use std::io::{BufReader, Eprint, Input, Print};
 use std::process::ExitCode;
 use std::rt::Files;
 use std::thread::Threads;
 use std::time::Clock;
-use std::{env, fs, io};
+use std::{fs, io};
 
-/// The settings: of the file that the second argument names, or else the usual ones; in the directory that the first
-/// one names.
-fn settings<R: Env + Files<File = File> + AllocGlobal>(rt: &R) -> anyhow::Result<Config> {
-    let mut arguments = env::args(rt)?;
-    let Some(directory) = arguments.nth(1) else {
-        bail!("asked for are the directory of the log, and a file of settings if there is one");
-    };
-    let mut config = match arguments.next() {
-        Some(path) => Config::from_toml(rt.alloc(), fs::read_to_string(rt, path)?.as_str())?,
+/// The status if the log failed or something was refused.
+const REFUSED: u8 = 1;
+
+/// The status for wrong arguments.
+const WRONG_ARGUMENTS: u8 = 2;
+
+/// The settings of this file, or the default ones if there is none; in this directory.
+fn settings<R: Files<File = File> + AllocGlobal>(
+    rt: &R,
+    directory: String,
+    file: Option<String>,
+) -> Result<Config, Refusal> {
+    let mut config = match file {
+        Some(path) => read_settings(rt, path)?,
         None => Config::default(rt.alloc()),
     };
     config.dir = directory;
     Ok(config)
 }
 
-/// The file system over the directories of these settings, which are made where they aren't there.
+/// The settings of this file.
+fn read_settings<R: Files<File = File> + AllocGlobal>(
+    rt: &R,
+    path: String,
+) -> Result<Config, Refusal> {
+    match fs::read_to_string(rt, path.as_str()) {
+        Err(error) => Err(Refusal::Unread { path, error }),
+        Ok(text) => match Config::from_toml(rt.alloc(), text.as_str()) {
+            Err(error) => Err(Refusal::Settings { path, error }),
+            Ok(config) => Ok(config),
+        },
+    }
+}
+
+/// The file system over the directories of these settings, which are created if they do not exist.
 fn files<R: Files<File = File> + Threads + AllocGlobal + Clone + Sync + Drop>(
     rt: &R,
     config: &Config,
-) -> anyhow::Result<DirectoryFileSystem<FileDevice<R>>> {
+) -> Result<DirectoryFileSystem<FileDevice<R>>, Refusal> {
     make_directory(rt, config.dir.as_str())?;
     let Some(spill) = &config.spill_dir else {
         return Ok(open_directories(rt, config.dir.as_str(), None)?);
@@ -64,26 +87,38 @@ fn serve<
     Ok(())
 }
 
-/// The exit of what was done; a refusal is told.
-fn exit<R: Eprint>(rt: &R, done: anyhow::Result<()>) -> ExitCode {
-    match done {
-        Ok(()) => ExitCode::SUCCESS,
-        Err(error) => {
-            let _told = eprintln!(rt; "{error}").is_ok();
-            ExitCode::from(1)
-        }
+/// The exit after a text that may not have been written.
+fn exit_after(text: io::Result<()>, status: u8) -> ExitCode {
+    match text {
+        Ok(()) => ExitCode::from(status),
+        Err(_) => ExitCode::from(REFUSED),
     }
+}
+
+/// The exit after a refusal, which is told.
+fn refused<R: Eprint>(rt: &R, refusal: &Refusal) -> ExitCode {
+    exit_after(eprintln!(rt; "raftnode: {refusal}"), REFUSED)
 }
 
 // An open lends its file system to threads, so that one over real directories is handed on here, where the runtime is
 // no parameter.
 fn main(rt: HostRuntime) -> ExitCode {
-    let config = match settings(&rt) {
-        Ok(config) => config,
-        Err(error) => return exit(&rt, Err(error)),
+    let (directory, file) = match Asked::read(&rt) {
+        Ok(Asked::Node(directory, file)) => (directory, file),
+        Ok(Asked::Help) => return exit_after(rt.print(USAGE), 0),
+        Ok(Asked::Others) => return exit_after(rt.eprint(USAGE), WRONG_ARGUMENTS),
+        Err(short) => return refused(&rt, &short.into()),
     };
-    match files(&rt, &config) {
-        Ok(files) => exit(&rt, serve(&rt, config, files)),
-        Err(error) => exit(&rt, Err(error)),
+    let config = match settings(&rt, directory, file) {
+        Ok(config) => config,
+        Err(refusal) => return refused(&rt, &refusal),
+    };
+    let files = match files(&rt, &config) {
+        Ok(files) => files,
+        Err(refusal) => return refused(&rt, &refusal),
+    };
+    match serve(&rt, config, files) {
+        Ok(()) => ExitCode::SUCCESS,
+        Err(error) => refused(&rt, &error.into()),
     }
 }

@@ -1,14 +1,14 @@
 //! Draws a session: reads it from standard input, runs it as `raftvoters` does, and writes a picture of what came of
-//! it, as SVG, to standard output.
+//! it, as SVG, to standard output. `raftvoters_timeline --help` tells how it is called.
 //!
 //! The status is 0 where there is a picture. Where there is none standard error says why, and the status is 1 for
-//! settings that are refused, 2 for an unreadable line or for arguments, and 3 where memory, reading or writing was
+//! settings that are refused, 2 for an unreadable line or for other arguments, and 3 where memory, reading or writing was
 //! refused.
 #![tactic(auto)]
 
 use log::Log;
 use raft_voter_program::raft_voter_log::{LogFiles, LogVoters};
-use raft_voter_program::{LogSetup, has_arguments};
+use raft_voter_program::{Arguments, LogSetup};
 use raft_voter_run::{NoFiles, StoreSetup, write_whole};
 use raft_voter_session::{Session, SessionFault, read_session};
 use raft_voter_timeline::draw_run;
@@ -18,13 +18,28 @@ use std::io::{ErrorKind, Input, Print, Read};
 use std::process::ExitCode;
 use std::thread::Threads;
 
+/// How the program is called.
+const USAGE: &str = "usage: raftvoters_timeline < SESSION > PICTURE.svg
+
+  --help   prints this text and does nothing else
+
+Reads a session from standard input (docs/SESSIONS.md), runs it over a log in memory as raftvoters does,
+and writes a picture of the run as SVG to standard output. No other file is read or written. Standard error
+gets what the log warns of, and why there is no picture.
+
+status: 0 the picture was written
+        1 the settings were refused
+        2 a line is unreadable, or wrong arguments
+        3 memory, reading or writing was refused
+";
+
 /// The most bytes that are read: one more than a session may have, so that one which is too long is known by them.
 const MOST_READ_BYTES: u64 = 268_435_457;
 
 /// The status where settings are refused.
 const SETTINGS_REFUSED: u8 = 1;
 
-/// The status for an unreadable line, and where arguments are refused.
+/// The status for an unreadable line, and for wrong arguments.
 const UNREADABLE: u8 = 2;
 
 /// The status where memory, reading or writing was refused.
@@ -35,10 +50,23 @@ const FAULT: u8 = 3;
 fn run(
     rt: &(impl Env + Input + Print + Eprint + Threads + Log + Sync + AllocGlobal),
 ) -> io::Result<u8> {
-    if has_arguments(rt) {
-        rt.eprintln("arguments refused")?;
-        return Ok(UNREADABLE);
+    match Arguments::read(rt)? {
+        Arguments::Nothing => draw_input(rt),
+        Arguments::Help => {
+            rt.print(USAGE)?;
+            Ok(0)
+        }
+        _ => {
+            rt.eprint(USAGE)?;
+            Ok(UNREADABLE)
+        }
     }
+}
+
+/// Writes the picture of the session on standard input, and answers the status that goes with it.
+fn draw_input<R: Input + Print + Eprint + Threads + Log + Sync + AllocGlobal>(
+    rt: &R,
+) -> io::Result<u8> {
     let mut session = Vec::new(rt.alloc());
     rt.reader().take(MOST_READ_BYTES).read_to_end(&mut session)?;
     match read_session(rt.alloc(), session.as_slice()) {

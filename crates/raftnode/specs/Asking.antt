@@ -1,0 +1,31 @@
+-- What arguments ask for.
+use Rattle.std.specs.Prelude.{◌≡◌, ◌≢◌, ℕ, Bool, false, List, [], ◌∷◌, Option, None, Some, codes, nat_eq, string_bytes}
+use Rattle.std.specs.List.{starts_with}
+use Rattle.raftnode.specs.declared.asking.Asked.{Asked}
+use Rattle.raftnode.specs.declared.asking.Asked.TheVariants.{Help, Node, Others}
+
+-- whether a word is an option, and no path: it begins with a dash
+abbrev pub is_option : List ℕ → Bool
+is_option word = starts_with nat_eq word (codes "-")
+
+-- the words that ask for the usage
+abbrev pub help_words : List (List ℕ)
+help_words = codes "--help" ∷ []
+
+-- these words are a directory, a path
+abbrev pub AreDirectory : List (List ℕ) → List ℕ → Type 0
+AreDirectory words directory = (words ≡ directory ∷ []) × (is_option directory ≡ false)
+
+-- these words are a directory and a file of settings, both paths
+abbrev pub AreBoth : List (List ℕ) → List ℕ → List ℕ → Type 0
+AreBoth words directory settings =
+    (words ≡ directory ∷ settings ∷ []) × (is_option directory ≡ false) × (is_option settings ≡ false)
+
+-- what words ask for: the usage, or a node over a directory with its settings; others ask for none of it
+abbrev pub Asks : List (List ℕ) → Asked → Type 0
+Asks words Help = words ≡ help_words
+Asks words (Node directory None) = AreDirectory words (string_bytes directory)
+Asks words (Node directory (Some settings)) = AreBoth words (string_bytes directory) (string_bytes settings)
+Asks words Others = (words ≢ help_words)
+    × ((directory : List ℕ) → AreDirectory words directory → ⊥)
+    × ((directory settings : List ℕ) → AreBoth words directory settings → ⊥)

@@ -1,0 +1,54 @@
+//! Why the program ends with status 1.
+use raft_log_disk_directory::DirectoryFault;
+use raft_log_engine::Error as LogError;
+use std::alloc::AllocError;
+use std::io;
+use thiserror::Error;
+
+/// Why the program ends with status 1. One about a file has its path.
+#[derive(Debug, Drop, Error)]
+pub enum Refusal {
+    /// The file of settings could not be read.
+    #[error("settings of {path:?}: {error}")]
+    Unread {
+        /// The file.
+        path: String,
+        /// The operating system's error.
+        error: io::Error,
+    },
+    /// The file has no settings.
+    #[error("settings of {path:?}: {error}")]
+    Settings {
+        /// The file.
+        path: String,
+        /// What is wrong with them.
+        error: LogError,
+    },
+    /// A directory could not be created or opened.
+    #[error("{0}")]
+    Directory(DirectoryFault),
+    /// The log failed, or reading the requests, or writing the replies.
+    #[error("{0}")]
+    Node(anyhow::Error),
+    /// Out of memory.
+    #[error("out of memory")]
+    Memory,
+}
+
+impl From<DirectoryFault> for Refusal {
+    fn from(fault: DirectoryFault) -> Refusal {
+        Refusal::Directory(fault)
+    }
+}
+
+impl From<anyhow::Error> for Refusal {
+    fn from(error: anyhow::Error) -> Refusal {
+        Refusal::Node(error)
+    }
+}
+
+impl From<AllocError> for Refusal {
+    fn from(_error: AllocError) -> Refusal {
+        Refusal::Memory
+    }
+}

@@ -62,7 +62,7 @@ fn serve<R: Threads + Log + Sync + Input + Print + AllocGlobal, F: FileSystem + 
         let index = append(rt, rt.alloc(), &mut engine, line.as_bytes())?;
         println!(rt; "{index} is kept")?;
     }
-    engine.close(rt);
+    engine.close(rt).result?;
     Ok(())
 }
 

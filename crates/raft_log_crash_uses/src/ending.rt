@@ -45,6 +45,6 @@ pub fn end<L: Log, F: FileSystem + Sync + Drop, C: Crash<F>>(
 {
     match ending {
         Ending::Crash(crash) => crash.leave(engine.file_system()),
-        Ending::Close => Ok(engine.close(rt)),
+        Ending::Close => Ok(engine.close(rt).files),
     }
 }

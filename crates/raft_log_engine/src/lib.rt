@@ -13,7 +13,7 @@ pub use raft_log_disk::{Fault, FileSystem, Handle, Permission};
 pub use raft_log_disk_memory::{MemoryFileSystem, Piece, Remainder};
 pub use raft_log_engine_core::{Engine, EnginePipes, LogEngine, ReplayThreads};
 pub use raft_log_file_listeners::{EventListener, Listeners, Nobody, PurgeHook};
-pub use raft_log_file_pair::{OpenRefused, PipeLog};
+pub use raft_log_file_pair::{Closed, OpenRefused, PipeLog};
 pub use raft_log_file_reader::LogItemReader;
 pub use raft_log_file_settings::{Config, RecoveryMode};
 pub use raft_log_open_builder::{DualPipesBuilder, DualPipesBuilder as FilePipeLogBuilder};

@@ -1,6 +1,7 @@
 //! The engine of a log.
 
-ghost use Rattle.std.specs.Prelude.{◌≡◌, ◌≤◌, ℕ, [], None, OnOk, OnErr, IfOk, IfErr};
+ghost use Rattle.std.specs.Prelude.{◌≡◌, ◌↔◌, ◌≤◌, ℕ, [], None, Err, IsTrue, OnOk, OnErr, IfOk, IfErr};
+ghost use Rattle.raft_log_record_base.specs.declared.errors.Error.TheVariants as errors;
 ghost use Rattle.raft_log_purge_rules.specs.Picking.{count_of};
 ghost use Rattle.raft_log_table_all.specs.Tables.{IsAtRest};
 
@@ -16,7 +17,7 @@ mod whole;
 use crate::writing;
 use log::Log;
 use raft_log_file_blocks::BlockCache;
-use raft_log_file_pair::PipeLog;
+use raft_log_file_pair::{Closed, PipeLog};
 use raft_log_purge::PurgeCounts;
 use raft_log_purge_rules::Thresholds;
 use raft_log_record_base::{Error, LogQueue, Result};
@@ -51,7 +52,7 @@ impl<P: PipeLog> LogEngine<P> {
     ghost use Rattle.raft_log_file_pair.specs.Calls.{FailsToSyncQueue, SyncsQueue};
     ghost use Rattle.std.specs.Prelude.{false, true};
     ghost use Rattle.raft_log_disk.specs.Causes.{IsLater};
-    ghost use Rattle.raft_log_file_pair.specs.ClosingCalls.{ClosesInOrder, ClosesLog};
+    ghost use Rattle.raft_log_file_pair.specs.ClosingCalls.{ClosesAs, ClosesInOrder, ClosesLog, ClosesSettled};
     ghost use Rattle.raft_log_file_pair.specs.Pipes.{is_failed};
     ghost use Rattle.raft_log_file_pair.specs.Telling.{Hears, files_begun};
 
@@ -206,16 +207,26 @@ impl<P: PipeLog> LogEngine<P> {
         }
     }
 
-    /// Closes the pipes, and gives the file system back: both last files are finished, and what is kept for
-    /// later use gets its name, each as far as the file system lets it be. Of an engine that has failed nothing
-    /// is touched.
-    pub fn close<L: Log>(self, rt: &L) -> P::Files
+    /// Closes the log, and gives the file system back, whatever happened. It truncates the active file of each
+    /// queue behind its last record, syncs both, and names the files that are kept for later use.
+    ///
+    /// If the result is `Ok`, every batch that `write` accepted is durable, also those written without a sync.
+    /// It fails with `Io` if the file system refused to truncate or to sync an active file, with the kind of
+    /// that refusal: Append's if both queues met one. Batches since the last sync may not be durable then. It
+    /// fails with `Failed` if the engine had failed before; then it touches nothing. A name that is refused is
+    /// only logged.
+    pub fn close<L: Log>(self, rt: &L) -> Closed<P::Files>
         ensures held { is_failed (P.shown self.pipes) ≡ false
-            → ClosesLog (P.shown self.pipes) (P.disk_of result) }
+            → ClosesLog (P.shown self.pipes) (P.disk_of result.files) }
+        ensures settled { OnOk result.result
+            (ClosesSettled (P.shown self.pipes) (P.disk_of result.files)) }
         ensures calls { is_failed (P.shown self.pipes) ≡ false
-            → ClosesInOrder (P.shown self.pipes) (P.disk_of result) }
-        ensures failed { is_failed (P.shown self.pipes) ≡ true → result ≡ P.files self.pipes }
-        ensures later { IsLater (P.shown self.pipes).disk (P.disk_of result) }
+            → ClosesInOrder (P.shown self.pipes) (P.disk_of result.files) }
+        ensures value { is_failed (P.shown self.pipes) ≡ false
+            → ClosesAs (P.shown self.pipes) result.result (P.disk_of result.files) }
+        ensures failed { is_failed (P.shown self.pipes) ≡ true → result.files ≡ P.files self.pipes }
+        ensures fails { IsTrue (is_failed (P.shown self.pipes)) ↔ (result.result ≡ Err errors.Failed) }
+        ensures later { IsLater (P.shown self.pipes).disk (P.disk_of result.files) }
     {
         self.pipes.close(self.alloc, rt)
     }

@@ -1,15 +1,21 @@
 -- The log of an engine lies on its disk, and is left there by a close.
-use Rattle.std.proofs.Common.{false, refl}
+use Rattle.std.proofs.Common.{◌≡◌, false, List, [], ◌++◌, refl, sym, ◌∙◌, ap, subst, append-nil}
+use Rattle.raft_log_model_laws.specs.Groups.{taken}
 use Rattle.raft_log_record_base.specs.declared.pipe_log.LogQueue.TheVariants.{Append, Rewrite}
+use Rattle.raft_log_file_laws.specs.LogQueue.{LogFiles}
+use Rattle.raft_log_directory_laws.specs.Log.{IsLog}
+use Rattle.raft_log_file_layout.specs.declared.record.LogRecord.{LogRecord}
 use Rattle.raft_log_file_layout.specs.LayoutLaws.{files_are_told, is_layout, queues_are_apart}
 use Rattle.raft_log_file_blocks.specs.raft_log_file_pair.specs.Queues.{AreTwoQueues}
 use Rattle.raft_log_file_blocks.specs.raft_log_file_pair.proofs.OnDiskLaws.{logs_go_on_disks}
 use Rattle.raft_log_file_blocks.specs.raft_log_file_pair.specs.Closing.{closed_log}
 use Rattle.raft_log_file_blocks.specs.raft_log_file_pair.specs.Lying.{none_open}
-use Rattle.raft_log_file_blocks.specs.raft_log_file_pair.specs.Pipes.{LogPipes, RunsOn, State, files_of}
+use Rattle.raft_log_file_blocks.specs.raft_log_file_pair.specs.Pipes.{LogPipes, RunsOn, Said, State, files_of}
+use Rattle.raft_log_file_blocks.specs.raft_log_file_pair.specs.State.{Ties}
+use Rattle.raft_log_file_blocks.specs.raft_log_file_pair.proofs.Numbers.{none_pending}
 use Rattle.raft_log_file_blocks.specs.raft_log_table_all.specs.Views.{view_of}
 use Rattle.raft_log_engine_laws.specs.Shows.{Home, log_in, sense}
-use Rattle.raft_log_engine_laws.specs.Laws.{ClosedEnginesAreLeft, EnginesLieOnDisks}
+use Rattle.raft_log_engine_laws.specs.Laws.{ClosedEnginesAreDurable, ClosedEnginesAreLeft, EnginesLieOnDisks}
 
 two_in : (home : Home) (v : LogPipes) (s : State) → RunsOn (sense home) v s → AreTwoQueues (log_in home)
 two_in home v s run = record {
@@ -38,6 +44,31 @@ closed_engines_are_left home e m pending d holds closes =
           disk = refl;
           stands = c.lies;
           holds = record { files = ends.at.files; whereabouts = v.whereabouts; failed = false; sound = ends.at.stands.sound; ends = ends.at.stands.ends; there = ends.at.there };
+        };
+      },
+    )
+
+pub closed_engines_are_durable : ClosedEnginesAreDurable
+closed_engines_are_durable home e m pending d holds closes =
+    let is = closes (sense home) holds.state holds.runs in
+    let c = is.closed in
+    let v = view_of e.tables holds.map in
+    let ends = c.ends v m pending holds.at in
+    let state = closed_log holds.state c.append c.rewrite d in
+    let log : IsLog (Ties (log_in home) state) (taken m ends.done) ends.rest =
+    record { files = ends.at.files; whereabouts = v.whereabouts; failed = false; sound = ends.at.stands.sound; ends = ends.at.stands.ends; there = ends.at.there } in
+    let none : ends.rest ≡ [] = sym ends.at.stands.ends ∙ none_pending (log_in home).says (log_in home).append.format holds.state.append.first c.append ends.at.files.append_from d ends.at.files.append (ap (λ (q : LogFiles LogRecord). q.pending) is.append_is) ends.at.there.append in
+    let all : ends.done ≡ pending = sym (append-nil ends.done) ∙ ap (λ (l : List Said). ends.done ++ l) (sym none) ∙ ends.splits in (
+      none_open,
+      record {
+        done = [];
+        rest = [];
+        splits = refl;
+        lies = record {
+          state = state;
+          disk = refl;
+          stands = c.lies;
+          holds = subst (λ (l : List Said). IsLog (Ties (log_in home) state) (taken m l) []) all (subst (λ (l : List Said). IsLog (Ties (log_in home) state) (taken m ends.done) l) none log);
         };
       },
     )

@@ -12,7 +12,7 @@ use Rattle.raft_log_directory_laws.specs.Calls.Which.{InAppend}
 use Rattle.raft_log_file_blocks.specs.raft_log_table_all.specs.Batch.{MayFollowAll, all_shown}
 use Rattle.raft_log_file_blocks.specs.raft_log_file_pair.specs.Lying.{both_open}
 use Rattle.raft_log_file_blocks.specs.raft_log_file_pair.specs.OnDisk.{LogLiesOn}
-use Rattle.raft_log_file_blocks.specs.raft_log_file_pair.specs.ClosingCalls.{ClosesLog}
+use Rattle.raft_log_file_blocks.specs.raft_log_file_pair.specs.ClosingCalls.{ClosesLog, ClosesSettled}
 use Rattle.raft_log_file_blocks.specs.raft_log_file_pair.specs.Pipes.{LogPipes, Said, files_of}
 use Rattle.raft_log_file_blocks.specs.raft_log_file_pair.specs.Calls.{AppendsTo, FailsToAppendTo, FailsToSyncQueue, SyncsQueue}
 use Rattle.raft_log_engine_laws.specs.Shows.{Home, IsLaidOut, IsWellMarked, KeepsOrForgets, LogMap, Shows, log_in, said_of}
@@ -58,6 +58,11 @@ FailuresLeaveLogs = (home : Home) (v w : LogPipes) (m : LogMap) (pending : List 
 abbrev pub ClosedEnginesAreLeft : Type 0
 ClosedEnginesAreLeft = (home : Home) (e : Shows) (m : LogMap) (pending : List Said) (d : Disk)
     → Holds home e m pending → ClosesLog e.pipes d → IsLeftAt home d m pending
+
+-- A close that doesn't fail leaves the log on the disk with all batches in its map, and none pending.
+abbrev pub ClosedEnginesAreDurable : Type 0
+ClosedEnginesAreDurable = (home : Home) (e : Shows) (m : LogMap) (pending : List Said) (d : Disk)
+    → Holds home e m pending → ClosesSettled e.pipes d → IsLeftAt home d (taken m pending) []
 
 -- the log of an engine lies on its disk, while both pipes run
 abbrev pub EnginesLieOnDisks : Type 0

@@ -3,6 +3,7 @@
 ghost use Rattle.raft_log_engine_laws.specs.Reading.{TablesTell};
 ghost use Rattle.raft_log_engine_laws.specs.Laws.{
   BatchesAreWritten,
+  ClosedEnginesAreDurable,
   ClosedEnginesAreLeft,
   EnginesLieOnDisks,
   FailuresLeaveLogs,
@@ -39,6 +40,12 @@ pub fn tables_tell()
 /// meanwhile.
 pub fn closed_engines_are_left()
     ensures { ClosedEnginesAreLeft }
+{}
+
+/// A close of an engine that doesn't fail leaves its log on the disk with all its batches in the map: whatever a
+/// crash leaves then, none of them is lost.
+pub fn closed_engines_are_durable()
+    ensures { ClosedEnginesAreDurable }
 {}
 
 /// The log of an engine lies on its disk: what a crash leaves of it, any law on such logs says.

@@ -114,16 +114,14 @@ impl Run {
         Ok(())
     }
 
-    /// Closes the log; of an engine that lived, all is there and synced, unless a call of the close fails.
+    /// Closes the log: if it is closed cleanly, all is there and synced.
     fn close<L: Log>(&mut self, rt: &L, alloc: Global) {
-        let lived = self.store.lives();
-        let failures = self.store.files().failures();
         let store = mem::replace(&mut self.store, Store::Closed(MemoryFileSystem::new(alloc)));
-        let files = store.closed(rt);
-        if lived && !files.has_stopped() && files.failures() == failures {
+        let closed = store.closed(rt);
+        if closed.result.is_ok() {
             self.synced = self.last;
         }
-        self.store = Store::Closed(files);
+        self.store = Store::Closed(closed.files);
     }
 
     /// Keeps in mind whether the fault fell.

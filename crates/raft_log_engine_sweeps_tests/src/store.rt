@@ -3,9 +3,9 @@ use log::Log;
 use raft_log_disk::FileSystem;
 use raft_log_disk_memory::MemoryFileSystem;
 use raft_log_engine_core::Engine;
-use raft_log_file_pair::OpenRefused;
+use raft_log_file_pair::{Closed, OpenRefused};
 use raft_log_file_settings::Config;
-use raft_log_record_base::{ReadableSize, Result};
+use raft_log_record_base::{Error, ReadableSize, Result};
 use std::alloc::Global;
 use std::thread::Threads;
 
@@ -42,10 +42,14 @@ impl Store {
         }
     }
 
-    pub(crate) fn closed<L: Log>(self, rt: &L) -> MemoryFileSystem {
+    /// Closes the log. One that wasn't open isn't closed cleanly.
+    pub(crate) fn closed<L: Log>(self, rt: &L) -> Closed<MemoryFileSystem> {
         match self {
             Store::Open(engine) => engine.close(rt),
-            Store::Closed(files) => files,
+            Store::Closed(files) => Closed {
+                files,
+                result: Err(Error::Failed),
+            },
         }
     }
 

@@ -10,6 +10,8 @@ mod blocks;
 #[cfg(test)]
 mod carried;
 #[cfg(test)]
+mod closes;
+#[cfg(test)]
 mod counts;
 #[cfg(test)]
 mod opened_pipes;

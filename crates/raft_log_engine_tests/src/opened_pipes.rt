@@ -48,7 +48,7 @@ fn a_log_begins_is_closed_and_opened_again(rt: HostRuntime) -> Result<(), Fail> 
     let append = found(&rt, LogQueue::Append, VecDeque::new(rt.alloc()), None)?;
     let rewrite = found(&rt, LogQueue::Rewrite, VecDeque::new(rt.alloc()), None)?;
     let pipes = opened(&rt, system(&rt)?, append, rewrite)?;
-    let system = pipes.close(rt.alloc(), &rt);
+    let system = pipes.close(rt.alloc(), &rt).files;
     // a header has 69 bytes
     let files = first_file(&rt, &system, "d/0000000000000001.raftlog")?;
     let append = found(&rt, LogQueue::Append, files, Some(69))?;

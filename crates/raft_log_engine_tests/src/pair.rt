@@ -197,7 +197,7 @@ fn closed<R: Log, P: PipeLog + Drop>(
 ) -> raft_log_record_base::Result<P::Files> {
     let mut pipes = pipes;
     let _written = append(rt, alloc, &mut pipes, LogQueue::Append, (1, 13))?;
-    Ok(pipes.close(alloc, rt))
+    Ok(pipes.close(alloc, rt).files)
 }
 
 #[test]

@@ -92,6 +92,15 @@ impl<P: PipeLog> Store<P> {
         }
     }
 
+    /// Closes the log: why it isn't durable, if it isn't.
+    pub fn close<L: Log>(self, rt: &L) -> Result<()>
+    where
+        P::Files: Drop,
+    {
+        let Store { engine, .. } = self;
+        engine.close(rt).result
+    }
+
     /// Whether nothing is to be written.
     pub fn is_empty(&self) -> bool {
         self.batch.is_empty()

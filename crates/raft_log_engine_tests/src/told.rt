@@ -149,7 +149,7 @@ fn a_refused_record_is_not_told(rt: HostRuntime) -> Result<(), Fail> {
     // the calls are an allocation and a write
     let (mut pipes, events) = told(&rt, 2)?;
     assert!(rt; is_not_heard(&rt, rt.alloc(), &mut pipes, &events));
-    let system = pipes.close(rt.alloc(), &rt);
+    let system = pipes.close(rt.alloc(), &rt).files;
     assert!(rt; !system.has_stopped());
     Ok(())
 }

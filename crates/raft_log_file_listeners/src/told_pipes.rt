@@ -7,7 +7,7 @@ ghost use Rattle.raft_log_file_pair.specs.Telling.{Hears, begun, files_found};
 use crate::{EventListener, lesser};
 use log::Log;
 use raft_log_disk::Fault;
-use raft_log_file_pair::PipeLog;
+use raft_log_file_pair::{Closed, PipeLog};
 use raft_log_file_pipe::ReactiveBytes;
 use raft_log_record_base::{FileBlockHandle, FileId, FileSeq, LogQueue, Result};
 use std::alloc::Global;
@@ -191,7 +191,7 @@ impl<P: PipeLog, E: EventListener> PipeLog for ToldPipes<P, E> {
         )
     }
 
-    fn close<L: Log>(self, alloc: Global, rt: &L) -> P::Files {
+    fn close<L: Log>(self, alloc: Global, rt: &L) -> Closed<P::Files> {
         let ToldPipes { pipes, .. } = self;
         pipes.close(alloc, rt)
     }

@@ -1,5 +1,5 @@
 -- The pipes of a log are closed.
-use Rattle.std.proofs.Common.{◌≡◌, ℕ, Some, None, List, refl, sym, subst, inl, inr, arith}
+use Rattle.std.proofs.Common.{◌≡◌, ℕ, Some, None, List, refl, sym, ◌∙◌, subst, inl, inr, arith}
 use Rattle.raft_log_model_laws.specs.Item.{Record}
 use Rattle.raft_log_model_laws.specs.Groups.{Map, taken}
 use Rattle.raft_log_disk.specs.Disk.{Disk}
@@ -9,7 +9,7 @@ use Rattle.raft_log_file_queue.proofs.Bridging.{takes_numbered_steps}
 use Rattle.raft_log_file_queue.specs.Rotation.{StandsWithRecords}
 use Rattle.raft_log_disk.specs.Touching.{TouchesOnlyNames}
 use Rattle.raft_log_file_pipe.specs.Files.{Listed}
-use Rattle.raft_log_file_pipe.specs.Closing.{AreBelow, IsSettledBy, LeavesClosed}
+use Rattle.raft_log_file_pipe.specs.Closing.{AreBelow, IsSettledBy, LeavesClosed, StaysLeft}
 use Rattle.raft_log_file_pipe.specs.declared.pipe_files.PipeFiles.{PipeFiles}
 use Rattle.raft_log_file_pipe.proofs.SettingAside.{pipe_below, pipe_below_first}
 use Rattle.raft_log_directory_laws.specs.Model.{Files}
@@ -23,7 +23,7 @@ use Rattle.raft_log_file_pair.specs.Turning.{in_span}
 use Rattle.raft_log_file_pair.specs.Quiet.{QuietTo}
 use Rattle.raft_log_file_pair.specs.Steps.{next_log}
 use Rattle.raft_log_file_pair.specs.Lying.{OpenPipes, none_open, both_open, with_open, RunOrLie, LeavesQueue}
-use Rattle.raft_log_file_pair.specs.Closing.{LeftAt, IsOrIsSettled, ClosesBeside, CloseIsAStep, NamesAreReserved, ClosesBoth, LiesClosed, ClosedLogIsALog}
+use Rattle.raft_log_file_pair.specs.Closing.{LeftAt, IsOrIsSettled, ClosesBeside, CloseIsAStep, NamesAreReserved, LiesClosed, LiesSettled, ClosedLogIsALog, SettledLogIsALog}
 use Rattle.raft_log_file_pair.proofs.Aside.{left_stays}
 use Rattle.raft_log_file_pair.proofs.Lifts.{told_at, tie_at}
 use Rattle.raft_log_file_pair.proofs.Numbers.{quiet_same, quiet_settles, none_pending}
@@ -120,33 +120,50 @@ below_still {R} q next fs is below = elim is [
   | inr same ↦ subst (λ (x : LogFiles R). AreBelow x.last fs) (sym same) below
 ]
 
-module _ {R E V : Type 0} (log : TwoQueues R E V) (two : AreTwoQueues log) (p : Pipes) (s : LogOnDisk R) (new : Disk) (run : Run log p s) (calls : ClosesBoth log p s.disk new) where
+-- a queue whose last file was finished is held
+held_settled : {R : Type 0} (l : QueueLayout R) (files : PipeFiles) (old new : Disk) → IsSettledBy l.format l.own l.paths files old new → LeavesClosed l.format l.own l.paths files old new
+held_settled l files old new settles base q is = (let (left, gaps, span) = settles base q is in (inr left, gaps, span))
+
+-- what is said of a queue that is settled is said of one that is left
+left_settled : {R E V : Type 0} (log : TwoQueues R E V) (which : Which) (s t : LogOnDisk R) → Settles (Ties log) which s t → LeavesOut (Ties log) which s t
+left_settled log which s t settles f ties = (let (moved, none, then) = settles f ties in (moved, then))
+
+module _ {R E V : Type 0} (log : TwoQueues R E V) (two : AreTwoQueues log) (p : Pipes) (s : LogOnDisk R) (run : Run log p s) (one mid three new : Disk) (names_append : StaysLeft log.append.format log.append.own p.append.recycled.items mid three) (names_rewrite : StaysLeft log.rewrite.format log.rewrite.own p.rewrite.recycled.items three new) where
   abbrev second_open : OpenPipes
   second_open = record { append = None; rewrite = Some p.rewrite }
+
+  began : RunOrLie log (both_open p) s
+  began = record { append = run.append; rewrite = run.rewrite }
+
+  -- the log once the first queue came to these files, and once both did
+  abbrev s1 : LogFiles R → LogOnDisk R
+  s1 a = next_log InAppend s a one
+
+  abbrev s2 : LogFiles R → LogFiles R → LogOnDisk R
+  s2 a r = next_log InRewrite (s1 a) r mid
 
   -- what is true of the files stays so
   same_view : (s t : LogOnDisk R) (v : View E V) (m : Map E V) (pending : List (Record E V)) → FailsWhole (Ties log) (Ties log) s t → IsAt (Ties log s) v m pending → IsAt (Ties log t) v m pending
   same_view s t v m pending call at = record { files = at.files; stands = at.stands; there = call at.files at.there }
 
-  pub closed_both : LiesClosed log s new
-  closed_both =
-      let began : RunOrLie log (both_open p) s = record { append = run.append; rewrite = run.rewrite } in
+  -- Both last files were finished or not, which left each queue these files; then the files kept for use were
+  -- renamed.
+  closed_from : (a r : LogFiles R) → IsOrIsSettled s.append.files a → LeftAt log InAppend one a → RunOrLie log second_open (s1 a) → LeavesOut (Ties log) InAppend s (s1 a) → LeavesClosed log.rewrite.format log.rewrite.own log.rewrite.paths p.rewrite one mid
+      → IsOrIsSettled s.rewrite.files r → LeftAt log InRewrite mid r → RunOrLie log none_open (s2 a r) → LeavesOut (Ties log) InRewrite (s1 a) (s2 a r) → (lies : LiesClosed log s new) × (lies.append ≡ a) × (lies.rewrite ≡ r)
+  closed_from a r a_is a_left one_stands one_ties finished r_is r_left two_stands two_ties =
       let first = close_is_a_step log two InAppend (both_open p) p.append s began in
-      let (a, (a_is, a_left), one_stands, one_ties) = first.closes calls.one calls.append in
-      let s1 : LogOnDisk R = next_log InAppend s a calls.one in
-      let second = close_is_a_step log two InRewrite second_open p.rewrite s1 one_stands in
-      let (r, (r_is, r_left), two_stands, two_ties) = second.closes calls.two calls.rewrite in
-      let s2 : LogOnDisk R = next_log InRewrite s1 r calls.two in
-      let only_two = closes_touch log two InRewrite second_open p.rewrite s1 one_stands calls.two calls.rewrite in
-      let a_two : LeftAt log InAppend calls.two a = left_stays log.append two.append log.rewrite.own calls.one calls.two two.apart only_two calls.one a a_left in
+      let second = close_is_a_step log two InRewrite second_open p.rewrite (s1 a) one_stands in
+      let only_two = closes_touch log two InRewrite second_open p.rewrite (s1 a) one_stands mid finished in
+      let a_two : LeftAt log InAppend mid a = left_stays log.append two.append log.rewrite.own one mid two.apart only_two one a a_left in
       let a_below = below_still s.append.files a p.append.recycled.items a_is first.below in
-      let (a_three, three_stands, three_ties) = names_are_reserved log two InAppend none_open p.append.recycled.items s2 calls.three two_stands a_two a_below first.below_first calls.append_names in
-      let s3 : LogOnDisk R = next_log InAppend s2 a calls.three in
-      let only_three = (calls.append_names calls.two a a_below a_two).0.stands.others in
-      let r_three : LeftAt log InRewrite calls.three r = left_stays log.rewrite two.rewrite log.append.own calls.two calls.three (back log two) only_three calls.two r r_left in
+      let (a_three, three_stands, three_ties) = names_are_reserved log two InAppend none_open p.append.recycled.items (s2 a r) three two_stands a_two a_below first.below_first names_append in
+      let s3 : LogOnDisk R = next_log InAppend (s2 a r) a three in
+      let only_three = (names_append mid a a_below a_two).0.stands.others in
+      let r_three : LeftAt log InRewrite three r = left_stays log.rewrite two.rewrite log.append.own mid three (back log two) only_three mid r r_left in
       let r_below = below_still s.rewrite.files r p.rewrite.recycled.items r_is second.below in
-      let (r_four, four_stands, four_ties) = names_are_reserved log two InRewrite none_open p.rewrite.recycled.items s3 new three_stands r_three r_below second.below_first calls.rewrite_names in
-      let s4 : LogOnDisk R = next_log InRewrite s3 r new in record {
+      let (r_four, four_stands, four_ties) = names_are_reserved log two InRewrite none_open p.rewrite.recycled.items s3 new three_stands r_three r_below second.below_first names_rewrite in
+      let s4 : LogOnDisk R = next_log InRewrite s3 r new in
+      let lies : LiesClosed log s new = record {
         append = a;
         rewrite = r;
         append_is = a_is;
@@ -159,15 +176,36 @@ module _ {R E V : Type 0} (log : TwoQueues R E V) (two : AreTwoQueues log) (p : 
             let h : Files E V = put InRewrite g n.from n.queue in
             (m, n, four_ties h (three_ties h two_next)));
         ends = λ v m pending at.
-            (let ends = append_left_out (Ties log) (Ties log) s s1 v m pending at one_ties in
-            let then = rewrite_left_out (Ties log) (Ties log) s1 s2 v (taken m ends.done) ends.rest ends.at two_ties in
+            (let ends = append_left_out (Ties log) (Ties log) s (s1 a) v m pending at one_ties in
+            let then = rewrite_left_out (Ties log) (Ties log) (s1 a) (s2 a r) v (taken m ends.done) ends.rest ends.at two_ties in
             record {
               done = ends.done;
               rest = ends.rest;
               splits = ends.splits;
-              at = same_view s3 s4 v (taken m ends.done) ends.rest four_ties (same_view s2 s3 v (taken m ends.done) ends.rest three_ties then);
+              at = same_view s3 s4 v (taken m ends.done) ends.rest four_ties (same_view (s2 a r) s3 v (taken m ends.done) ends.rest three_ties then);
             });
-      }
+      } in
+      (lies, refl, refl)
+
+  pub closed_both : LeavesClosed log.append.format log.append.own log.append.paths p.append s.disk one → LeavesClosed log.rewrite.format log.rewrite.own log.rewrite.paths p.rewrite one mid → LiesClosed log s new
+  closed_both append rewrite =
+      let first = close_is_a_step log two InAppend (both_open p) p.append s began in
+      let (a, (a_is, a_left), one_stands, one_ties) = first.closes one append in
+      let second = close_is_a_step log two InRewrite second_open p.rewrite (s1 a) one_stands in
+      let (r, (r_is, r_left), two_stands, two_ties) = second.closes mid rewrite in
+      (closed_from a r a_is a_left one_stands one_ties rewrite r_is r_left two_stands two_ties).0
+
+  pub settled_both : IsSettledBy log.append.format log.append.own log.append.paths p.append s.disk one → IsSettledBy log.rewrite.format log.rewrite.own log.rewrite.paths p.rewrite one mid → LiesSettled log s new
+  settled_both append rewrite =
+      let first = close_is_a_step log two InAppend (both_open p) p.append s began in
+      let (a, (a_is, a_left), one_stands, one_ties) = first.settles one append in
+      let second = close_is_a_step log two InRewrite second_open p.rewrite (s1 a) one_stands in
+      let (r, (r_is, r_left), two_stands, two_ties) = second.settles mid rewrite in
+      let (lies, append_is, rewrite_is) = closed_from a r (inr a_is) a_left one_stands (left_settled log InAppend s (s1 a) one_ties) (held_settled log.rewrite p.rewrite one mid rewrite) (inr r_is) r_left two_stands (left_settled log InRewrite (s1 a) (s2 a r) two_ties) in
+      record { closed = lies; append_is = append_is ∙ a_is; rewrite_is = rewrite_is ∙ r_is }
 
 pub closed_log_is_a_log : {R E V : Type 0} (log : TwoQueues R E V) → ClosedLogIsALog log
-closed_log_is_a_log log two p s new run calls = closed_both log two p s new run calls
+closed_log_is_a_log log two p s new run calls = closed_both log two p s run calls.one calls.two calls.three new calls.append_names calls.rewrite_names calls.append calls.rewrite
+
+pub settled_log_is_a_log : {R E V : Type 0} (log : TwoQueues R E V) → SettledLogIsALog log
+settled_log_is_a_log log two p s new run calls = settled_both log two p s run calls.one calls.two calls.three new calls.append_names calls.rewrite_names calls.append calls.rewrite

@@ -25,7 +25,6 @@ use Rattle.raft_log_directory_laws.specs.Calls.{Which, Raises, from_at, queue_at
 use Rattle.raft_log_directory_laws.specs.Calls.Which.{InAppend, InRewrite}
 use Rattle.raft_log_file_pair.specs.Queues.{QueueLayout, IsQueueLayout, TwoQueues, AreTwoQueues, layout_at}
 use Rattle.raft_log_file_pair.specs.State.{Spanned, LogOnDisk, spanned_at, with_spanned, Pipes, pipe_at, with_pipe, Run, Ties}
-use Rattle.raft_log_file_pair.specs.Crash.{AllowsIn}
 use Rattle.raft_log_file_pair.specs.Turning.{in_span}
 use Rattle.raft_log_file_pair.specs.Steps.{next_log}
 use Rattle.raft_log_file_pair.specs.Syncing.{SyncIsAStep, RotationIsAStep, NotRotated, RefusedRotationIsAStep, raised_log, PurgeIsAStep, NotPurged, RefusedPurgeIsAStep}

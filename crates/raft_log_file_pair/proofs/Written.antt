@@ -1,5 +1,5 @@
 -- What an engine says of its log once a batch was written to Append.
-use Rattle.std.proofs.Common.{ℕ, List, refl, sym, subst}
+use Rattle.std.proofs.Common.{refl, sym, subst}
 use Rattle.raft_log_disk.specs.Disk.{Disk}
 use Rattle.raft_log_file_pipe.specs.Appending.{AppendsAt}
 use Rattle.raft_log_directory_laws.specs.Calls.Which.{InAppend}

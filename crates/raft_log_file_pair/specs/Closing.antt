@@ -91,7 +91,28 @@ pub record LiesClosed {R E V : Type 0} (log : TwoQueues R E V) (s : LogOnDisk R)
   pub ends : (v : View E V) (m : Map E V) (pending : List (Record E V)) → IsAt (Ties log s) v m pending
       → ViewEndsAt (Ties log (closed_log s append rewrite new)) v m pending
 
+-- a log lies closed, and all of both queues is synced
+pub record LiesSettled {R E V : Type 0} (log : TwoQueues R E V) (s : LogOnDisk R) (new : Disk) : Type 0 where
+  pub closed : LiesClosed log s new
+  pub append_is : closed.append ≡ settled s.append.files
+  pub rewrite_is : closed.rewrite ≡ settled s.rewrite.files
+
 -- a log whose two pipes are closed lies closed, whatever was refused meanwhile
 abbrev pub ClosedLogIsALog : {R E V : Type 0} → TwoQueues R E V → Type 0
 ClosedLogIsALog {R} log = AreTwoQueues log → (p : Pipes) (s : LogOnDisk R) (new : Disk) → Run log p s
     → ClosesBoth log p s.disk new → LiesClosed log s new
+
+-- the disks that a close of both pipes goes through where both last files are finished
+pub record SettlesBoth {R E V : Type 0} (log : TwoQueues R E V) (p : Pipes) (old new : Disk) : Type 0 where
+  pub one : Disk
+  pub two : Disk
+  pub three : Disk
+  pub append : IsSettledBy log.append.format log.append.own log.append.paths p.append old one
+  pub rewrite : IsSettledBy log.rewrite.format log.rewrite.own log.rewrite.paths p.rewrite one two
+  pub append_names : StaysLeft log.append.format log.append.own p.append.recycled.items two three
+  pub rewrite_names : StaysLeft log.rewrite.format log.rewrite.own p.rewrite.recycled.items three new
+
+-- a log whose two last files were finished lies closed, and all of it is synced
+abbrev pub SettledLogIsALog : {R E V : Type 0} → TwoQueues R E V → Type 0
+SettledLogIsALog {R} log = AreTwoQueues log → (p : Pipes) (s : LogOnDisk R) (new : Disk) → Run log p s
+    → SettlesBoth log p s.disk new → LiesSettled log s new

@@ -1,6 +1,6 @@
 //! The pipes of a log are closed.
 
-ghost use Rattle.raft_log_file_pair.specs.Closing.{ClosedLogIsALog, CloseIsAStep, NamesAreReserved};
+ghost use Rattle.raft_log_file_pair.specs.Closing.{ClosedLogIsALog, CloseIsAStep, NamesAreReserved, SettledLogIsALog};
 
 use crate::queues::LogQueues;
 
@@ -18,4 +18,9 @@ pub fn names_are_reserved<G: LogQueues>()
 /// Both pipes are closed, the last files first: what an engine said of its log is true of what lies there.
 pub fn closed_log_is_a_log<G: LogQueues>()
     ensures { (log : G) → ClosedLogIsALog (G.queues log) }
+{}
+
+/// Both pipes are closed and both last files were cut and synced: all that an engine wrote is durable.
+pub fn settled_log_is_a_log<G: LogQueues>()
+    ensures { (log : G) → SettledLogIsALog (G.queues log) }
 {}

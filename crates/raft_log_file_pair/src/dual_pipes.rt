@@ -2,6 +2,7 @@
 
 ghost use Rattle.std.specs.Prelude.{◌≡◌};
 
+use crate::closed::Closed;
 use crate::pipe_log::PipeLog;
 use log::Log;
 use raft_log_disk::{Fault, FileSystem};
@@ -196,20 +197,26 @@ impl<F: FileSystem> PipeLog for DualPipes<F> {
         None
     }
 
-    fn close<L: Log>(self, alloc: Global, rt: &L) -> F {
+    fn close<L: Log>(self, alloc: Global, rt: &L) -> Closed<F> {
         if self.is_failed() {
-            return self.file_system;
+            return Closed {
+                files: self.file_system,
+                result: Err(Error::Failed),
+            };
         }
         let DualPipes {
             mut file_system,
             mut append,
             mut rewrite,
         } = self;
-        append.finish(rt, &mut file_system);
-        rewrite.finish(rt, &mut file_system);
+        let of_append = append.finish(rt, &mut file_system);
+        let of_rewrite = rewrite.finish(rt, &mut file_system);
         append.reserve_names(alloc, rt, &mut file_system);
         rewrite.reserve_names(alloc, rt, &mut file_system);
-        file_system
+        Closed {
+            files: file_system,
+            result: of_append.and(of_rewrite),
+        }
     }
 
     ghost same = { λ pipes. refl };

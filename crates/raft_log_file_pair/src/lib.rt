@@ -7,6 +7,7 @@
 pub mod appending;
 pub mod beginning;
 pub mod beside;
+pub mod closed;
 pub mod closing;
 pub mod dual_pipes;
 pub mod failing;
@@ -24,6 +25,7 @@ pub mod reopening;
 pub mod syncing;
 pub mod writes;
 
+pub use closed::Closed;
 pub use dual_pipes::DualPipes;
 pub use opening::{FoundPipe, OpenRefused};
 pub use pipe_log::PipeLog;

@@ -1,9 +1,10 @@
 //! A log's two queues of files, as an engine uses them.
 
-ghost use Rattle.std.specs.Prelude.{◌≡◌, ◌++◌, ◌-◌, ◌≤◌, ◌<◌, ◌^◌, ℕ, Option, [], ◌∷◌, false, true, IfErr, IfOk, OnErr, OnOk};
+ghost use Rattle.std.specs.Prelude.{◌≡◌, ◌↔◌, ◌++◌, ◌-◌, ◌≤◌, ◌<◌, ◌^◌, ℕ, Option, [], ◌∷◌, false, true, Err, IsTrue, IfErr, IfOk, OnErr, OnOk};
 ghost use Rattle.raft_log_record_base.specs.declared.errors.Error.TheVariants as errors;
 ghost use Rattle.raft_log_disk.specs.Causes.{IsLater};
 
+use crate::closed::Closed;
 use log::Log;
 use raft_log_disk::Fault;
 use raft_log_file_pipe::ReactiveBytes;
@@ -22,7 +23,7 @@ pub trait PipeLog {
     ghost use Rattle.raft_log_disk.specs.Disk.{Disk};
     ghost use Rattle.raft_log_disk.specs.declared.handle.Fault.{Fault};
     ghost use Rattle.raft_log_record_base.specs.declared.pipe_log.LogQueue.{LogQueue};
-    ghost use Rattle.raft_log_file_pair.specs.ClosingCalls.{ClosesInOrder, ClosesLog};
+    ghost use Rattle.raft_log_file_pair.specs.ClosingCalls.{ClosesAs, ClosesInOrder, ClosesLog, ClosesSettled};
     ghost use Rattle.raft_log_file_pair.specs.Numbers.{EndsNumbers, EndsNumbersAt, EndsNumbersBelow};
     ghost use Rattle.raft_log_file_pair.specs.LastFile.{IsNextIfFull, RaisesPipe, TurnsBehind, last_of};
     ghost use Rattle.raft_log_file_pair.specs.Telling.{Hears, Told, files_begun, files_purged};
@@ -244,14 +245,21 @@ pub trait PipeLog {
     fn first_file_not_ready_for_purge(&self, queue: LogQueue) -> Option<FileSeq>
         ensures { holds_back self.now queue result };
 
-    /// Closes both pipes, and gives the file system back: both last files are cut behind their records and
-    /// synced, Append's first, and then the files that are kept for use get reserved names. Refusals are
-    /// logged, and nothing that was written is lost by them. Of pipes that have failed nothing is touched.
-    fn close<L: Log>(self, alloc: Global, rt: &L) -> Self::Files
-        ensures held { is_failed (shown self) ≡ false → ClosesLog (shown self) (disk_of result) }
-        ensures calls { is_failed (shown self) ≡ false → ClosesInOrder (shown self) (disk_of result) }
-        ensures failed { is_failed (shown self) ≡ true → result ≡ files self }
-        ensures later { IsLater (shown self).disk (disk_of result) };
+    /// Closes both pipes, and gives the file system back, whatever happened: both last files are cut behind
+    /// their records and synced, Append's first, and then the files that are kept for use get reserved names.
+    ///
+    /// Once the result is `Ok`, all records of both queues are durable. `Io`: a cut or a sync was refused,
+    /// Append's if both were; what was durable still is, and the other queue was closed all the same.
+    /// `Failed`: the pipes had failed, and nothing was touched. A name that is refused is only logged.
+    fn close<L: Log>(self, alloc: Global, rt: &L) -> Closed<Self::Files>
+        ensures held { is_failed (shown self) ≡ false → ClosesLog (shown self) (disk_of result.files) }
+        ensures settled { OnOk result.result (ClosesSettled (shown self) (disk_of result.files)) }
+        ensures calls { is_failed (shown self) ≡ false → ClosesInOrder (shown self) (disk_of result.files) }
+        ensures value { is_failed (shown self) ≡ false
+            → ClosesAs (shown self) result.result (disk_of result.files) }
+        ensures failed { is_failed (shown self) ≡ true → result.files ≡ files self }
+        ensures fails { IsTrue (is_failed (shown self)) ↔ (result.result ≡ Err errors.Failed) }
+        ensures later { IsLater (shown self).disk (disk_of result.files) };
 
     ghost same: { (pipes : Self) → (shown pipes).disk ≡ disk_of (files pipes) };
 }

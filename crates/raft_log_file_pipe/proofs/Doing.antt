@@ -2,7 +2,7 @@
 use Rattle.std.specs.Prelude.{Result, Ok, Err}
 use Rattle.std.specs.Result.{IfErr, IfOk, OnOk}
 use Rattle.std.specs.declared.io.ErrorKind.{ErrorKind}
-use Rattle.std.proofs.Common.{◌≡◌, inl, inr, ℕ, ◌≤◌, ◌^◌, suc, Option, Some, None, List, [], ◌∷◌, ◌++◌, drop, length, false, refl, sym, ◌∙◌, ap, subst, arith}
+use Rattle.std.proofs.Common.{◌≡◌, inl, inr, ℕ, suc, Option, Some, None, List, [], ◌∷◌, ◌++◌, drop, length, false, refl, sym, ◌∙◌, ap, subst, arith}
 use Rattle.raft_log_disk.specs.Disk.{Disk}
 use Rattle.raft_log_disk.specs.Calls.{Creates, Renames}
 use Rattle.raft_log_disk.specs.Exits.{FailsToCreate, FailsToRename}
@@ -23,7 +23,7 @@ use Rattle.raft_log_file_pipe.specs.declared.pipe_files.PipeFiles.{PipeFiles}
 use Rattle.raft_log_file_pipe.specs.declared.found_files.FoundFiles.{FoundFiles}
 use Rattle.raft_log_file_pipe.specs.Files.{Listed}
 use Rattle.raft_log_file_pipe.specs.Calls.{TurnsBy, TurnsNot, next_path}
-use Rattle.raft_log_file_pipe.specs.Exits.{IsTurned, SameFiles, SameLists, StaysClosed}
+use Rattle.raft_log_file_pipe.specs.Exits.{IsTurned, SameFiles, StaysClosed}
 use Rattle.raft_log_file_pipe.specs.Opening.{IsListedAs, taken_up}
 use Rattle.raft_log_file_pipe.specs.Doing.{FailsToTurnBy, OldestIsFar, OpensPipeBy, TurnsPipeBy}
 use Rattle.raft_log_file_pipe.specs.Doing.OpensPipeBy.{takes_up as takes_up_case}

@@ -4,9 +4,10 @@ use Rattle.std.specs.Result.{OnOk, OnErr, IfErr}
 use Rattle.std.specs.declared.io.ErrorKind.{ErrorKind}
 use Rattle.std.specs.Map.{update}
 use Rattle.std.specs.Str.{bytes_eq}
-use Rattle.std.proofs.Common.{Bor, map, Bool, is_ok, ◌≡◌, ℕ, ◌<◌, ◌≤◌, ◌+◌, ◌^◌, suc, max, min, Some, None, List, [], ◌∷◌, ◌++◌, if◌then◌else◌, false, true, refl, sym, ◌∙◌, ap, subst, inl, inr, arith, reverse}
-use Rattle.std.proofs.lemmas.Bool.{cases_Bool, false≢true}
+use Rattle.std.proofs.Common.{Bor, map, ◌≡◌, ℕ, ◌<◌, ◌≤◌, ◌+◌, ◌^◌, suc, max, min, Some, None, List, [], ◌∷◌, ◌++◌, if◌then◌else◌, false, true, refl, sym, ◌∙◌, ap, subst, inl, inr, arith, reverse}
+use Rattle.std.proofs.lemmas.Bool.{cases_Bool}
 use Rattle.std.proofs.lemmas.List.{reverse-append, map-append}
+use Rattle.raft_log_record_base.specs.declared.errors.Error.{Error}
 use Rattle.raft_log_disk.specs.Disk.{Disk}
 use Rattle.raft_log_disk.specs.Arguments.{WrongRename}
 use Rattle.raft_log_disk.specs.Calls.{Renames}
@@ -17,7 +18,6 @@ use Rattle.raft_log_file_laws.specs.LogQueue.{LogFiles, HoldsLast}
 use Rattle.raft_log_disk.specs.Touching.{TouchesOnly}
 use Rattle.raft_log_disk.proofs.KeptLaws.{IsCalm, kept_rename}
 use Rattle.raft_log_disk.proofs.Updates.{name_apart}
-use Rattle.raft_log_file_writer.specs.Writer.{Closes, FailsToClose}
 use Rattle.raft_log_file_writer.specs.declared.writer.LogFileWriter.{LogFileWriter}
 use Rattle.raft_log_file_queue.specs.Queue.{settled}
 use Rattle.raft_log_file_queue.specs.Standing.{Names}
@@ -32,7 +32,7 @@ use Rattle.raft_log_file_queue.specs.Rotation.{StandsWithRecords}
 use Rattle.raft_log_file_queue.proofs.Rotating.{left_calm}
 use Rattle.raft_log_file_pipe.specs.declared.pipe_files.PipeFiles.{PipeFiles}
 use Rattle.raft_log_file_pipe.specs.Files.{Listed, IsSpan, AllKept, IsPipe}
-use Rattle.raft_log_file_pipe.specs.Closing.{FinishesOrNot, IsSettledBy, LeavesClosed, Reserves, ReservesAll, NumbersStay, StaysLeft, AreBelow, greatest_reserved}
+use Rattle.raft_log_file_pipe.specs.Closing.{IsSettledBy, LeavesClosed, Reserves, ReservesAll, NumbersStay, StaysLeft, AreBelow, greatest_reserved}
 use Rattle.raft_log_file_pipe.specs.Closing.Reserves.{named, refused}
 use Rattle.raft_log_file_pipe.proofs.Lists.{path_numbered, span_end, span_moved}
 
@@ -52,10 +52,6 @@ greatest_more (g ∷ gs) f =
 -- what a call on the last file fills: no gap
 gaps_of : {R : Type 0} (F : Format R) (q : LogFiles R) (id : ℕ) (old new : Disk) → TouchesOnly id old new → GapsStay F q old new
 gaps_of F q id old new only m below none path at = ap (λ (N : Names). N path) only.names ∙ none path at
-
-pub finishes_or_not : (result : Result (Unit {0}) ErrorKind) (before after : LogFileWriter) (old new : Disk) → OnOk result (Closes before after old new) → IfErr result (λ e. FailsToClose before after e old new) → FinishesOrNot before old new
-finishes_or_not (Ok v) before after old new ok err = inl (after, ok)
-finishes_or_not (Err e) before after old new ok err = inr (after, e, err)
 
 module _ {R : Type 0} (F : Format R) (own : List ℕ → Type 0) (paths : FilePaths) (lawful : IsLayout F own paths) where
   -- a last file that is finished holds its records, all of them durable
@@ -82,11 +78,6 @@ module _ {R : Type 0} (F : Format R) (own : List ℕ → Type 0) (paths : FilePa
       let (cause, held) = err base q (path_of paths files.active) old.names is.active in
       let span = subst (λ (N : Names). IsSpan paths N files.first_seq files.earlier.items q.last) (sym only.names) is.span in
       (inl (record { path = path_of paths files.active; id = files.writer.handle.file; N = old.names; stands = held }), gaps_of F q files.writer.handle.file old new only, span)
-
-  pub settled_either : (result : Result (Unit {0}) ErrorKind) (done : Bool) (files : PipeFiles) (after : LogFileWriter) (old new : Disk) → done ≡ is_ok result → OnOk result (Finishes F own files.writer after old new)
-      → TouchesOnly files.writer.handle.file old new → done ≡ true → IsSettledBy F own paths files old new
-  settled_either (Ok v) done files after old new is ok only hit = finished_is_settled files after old new ok only
-  settled_either (Err e) done files after old new is ok only hit = absurd (false≢true (sym is ∙ hit))
 
   -- A file below the last one, kept for use, that gets a reserved name, or doesn't.
   pub stays_left : (result : Result (Unit {0}) ErrorKind) (f : Listed) (number : ℕ) (old new : Disk) → IsSound old → f.reserved ≡ false → OnOk result (Renames (path_of paths f) (paths.reserved 0 number) old new)
@@ -237,3 +228,23 @@ closes_all F own paths lawful files kept old mid new below leaves stays base q i
       | inl left ↦ (let (still, more, stay) = stays base q under left in (inl still, λ m less none. more m less (gaps m less none), there (stay files.first_seq lower)))
       | inr left ↦ (let (still, more, stay) = stays base (settled q) under left in (inr still, λ m less none. more m less (gaps m less none), there (stay files.first_seq lower)))
     ]
+
+-- A pipe whose last file was finished, once its other files were renamed: all of it is durable still.
+pub settles_all : {R : Type 0} (F : Format R) (own : List ℕ → Type 0) (paths : FilePaths) (lawful : IsLayout F own paths) (files : PipeFiles) (kept : List Listed) (old mid new : Disk)
+    → ((base : Disk) (q : LogFiles R) → IsPipe F own paths base files q old → AreBelow files.first_seq kept) → IsSettledBy F own paths files old mid → StaysLeft F own kept mid new → IsSettledBy F own paths files old new
+settles_all F own paths lawful files kept old mid new below settles stays base q is =
+    let (left, gaps, span) = settles base q is in
+    let ends = span_end paths mid.names files.first_seq q.last files.earlier.items span in
+    let bound = is.active.stands.bound in
+    let lower = below base q is in
+    let under : AreBelow q.last kept = below_more files.first_seq q.last kept (omega (arith, ends)) lower in
+    let (still, more, stay) = stays base (settled q) under left in
+    let there : IsSpan paths new.names files.first_seq files.earlier.items q.last = span_moved paths mid.names new.names files.first_seq q.last files.earlier.items (λ directory n from less.
+    stay files.first_seq lower n (paths.numbered directory n) from (omega (arith, less, bound)) (lawful.numbered directory n (omega (arith, less, bound)))) span in
+    (still, λ m less none. more m less (gaps m less none), there)
+
+-- the same of the call that finishes it
+pub settles_then : {R : Type 0} {T : Type 0} (F : Format R) (own : List ℕ → Type 0) (paths : FilePaths) (lawful : IsLayout F own paths) (result : Result T Error) (files : PipeFiles) (kept : List Listed) (old mid new : Disk)
+    → ((base : Disk) (q : LogFiles R) → IsPipe F own paths base files q old → AreBelow files.first_seq kept) → OnOk result (IsSettledBy F own paths files old mid) → StaysLeft F own kept mid new → OnOk result (IsSettledBy F own paths files old new)
+settles_then F own paths lawful (Ok v) files kept old mid new below settles stays = settles_all F own paths lawful files kept old mid new below settles stays
+settles_then F own paths lawful (Err e) files kept old mid new below settles stays = tt

@@ -1,9 +1,11 @@
 -- A pipe is closed: its last file is finished, and the files that it keeps for use get reserved names.
-use Rattle.std.specs.Prelude.{◌≡◌, ℕ, ◌<◌, ◌≤◌, ◌⊎◌, suc, max, true, false, if◌then◌else◌, List, [], ◌∷◌, reverse}
+use Rattle.std.specs.Prelude.{◌≡◌, ℕ, ◌<◌, ◌≤◌, ◌⊎◌, suc, max, true, false, if◌then◌else◌, List, [], ◌∷◌, reverse, Result, Ok, Err}
 use Rattle.std.specs.declared.io.ErrorKind.{ErrorKind}
 use Rattle.raft_log_disk.specs.Disk.{Disk}
 use Rattle.raft_log_disk.specs.Calls.{Renames}
 use Rattle.raft_log_disk.specs.Exits.{FailsToRename}
+use Rattle.raft_log_record_base.specs.declared.errors.Error.{Error}
+use Rattle.raft_log_record_base.specs.declared.errors.Error.TheVariants as errors
 use Rattle.raft_log_file_laws.specs.LogFormat.{Format}
 use Rattle.raft_log_file_laws.specs.LogQueue.{LogFiles}
 use Rattle.raft_log_file_writer.specs.Writer.{Closes, FailsToClose}
@@ -43,6 +45,14 @@ abbrev pub FinishesOrNot : LogFileWriter → Disk → Disk → Type 0
 FinishesOrNot writer old new = ((after : LogFileWriter) × Closes writer after old new)
     ⊎ ((after : LogFileWriter) × (error : ErrorKind) × FailsToClose writer after error old new)
 
+-- What finishing the last file came to: it was finished; or its cut or its sync was refused, and the error has
+-- the kind of that.
+abbrev pub FinishesAs : LogFileWriter → Result (Unit {0}) Error → Disk → Disk → Type 0
+FinishesAs writer (Ok v) old new = (after : LogFileWriter) × Closes writer after old new
+FinishesAs writer (Err (errors.Io kind)) old new =
+    (after : LogFileWriter) × FailsToClose writer after kind old new
+FinishesAs writer (Err _) old new = ⊥
+
 -- what there was is held, or held and all of it durable
 abbrev pub IsHeldOrSettled : {R : Type 0} → Format R → (List ℕ → Type 0) → Disk → LogFiles R → Disk → Type 0
 IsHeldOrSettled F own base q d = StandsWithRecords F own base q d ⊎ StandsWithRecords F own base (settled q) d
@@ -81,4 +91,9 @@ StaysLeft {R} F own fs old new = (base : Disk) (q : LogFiles R) → AreBelow q.l
 -- the last file was finished, or that was refused, and behind that the files kept for use got reserved names
 abbrev pub ClosesFiles : FilePaths → PipeFiles → Disk → Disk → Type 0
 ClosesFiles paths files old new = (between : Disk) × FinishesOrNot files.writer old between
+    × ReservesAll paths (reverse files.recycled.items) (greatest_reserved files.recycled.items) between new
+
+-- what a close came to: that of finishing the last file, behind which the files kept for use got reserved names
+abbrev pub ClosesFilesAs : FilePaths → PipeFiles → Result (Unit {0}) Error → Disk → Disk → Type 0
+ClosesFilesAs paths files result old new = (between : Disk) × FinishesAs files.writer result old between
     × ReservesAll paths (reverse files.recycled.items) (greatest_reserved files.recycled.items) between new

@@ -1,41 +1,42 @@
 //! A pipe is closed: its last file is finished, and files kept for use get reserved names, for the next open.
 
-ghost use Rattle.std.specs.Prelude.{◌≡◌, [], ◌∷◌, if◌then◌else◌, max, reverse, false, true};
+ghost use Rattle.std.specs.Prelude.{◌≡◌, [], ◌∷◌, if◌then◌else◌, max, reverse, false, OnOk};
 ghost use Rattle.raft_log_disk.specs.Causes.{IsLater};
-ghost use Rattle.raft_log_file_pipe.specs.Closing.{FinishesOrNot, IsSettledBy, LeavesClosed, Reserves, ReservesAll, StaysLeft, greatest_reserved};
+ghost use Rattle.raft_log_file_pipe.specs.Closing.{FinishesAs, FinishesOrNot, IsSettledBy, LeavesClosed, Reserves, ReservesAll, StaysLeft, greatest_reserved};
 ghost use Rattle.raft_log_file_pipe.specs.Exits.{SameLists};
 
 use crate::pipe_files::PipeFiles;
 use log::{Log, error};
 use raft_log_disk::FileSystem;
 use raft_log_file_queue::{DEFAULT_PATH_ID, File, PipeFormat, finish_file};
-use raft_log_record_base::FileSeq;
+use raft_log_record_base::{Error, FileSeq, Result};
 use std::alloc::Global;
 use std::collections::VecDeque;
 use std::io::ErrorKind;
 
-/// Finishes the last file: cuts it behind its records, and makes these durable. Answers whether that was
-/// done; a refusal is logged.
+/// Finishes the last file: cuts it behind its records, and makes these durable. Fails with the `Io` of the cut
+/// or the sync that was refused, which is also logged.
 pub fn finish<G: PipeFormat, F: FileSystem, L: Log>(
     layout: &G,
     rt: &L,
     file_system: &mut F,
     files: &mut PipeFiles,
-) -> bool
+) -> Result<()>
     ensures calls { FinishesOrNot files.old.writer (F.disk file_system.old) (F.disk file_system.new) }
+    ensures value { FinishesAs files.old.writer result (F.disk file_system.old) (F.disk file_system.new) }
     ensures held { LeavesClosed (G.format layout.now) (G.own layout.now) (G.file_paths layout.now) files.old
         (F.disk file_system.old) (F.disk file_system.new) }
-    ensures settled { result ≡ true → IsSettledBy (G.format layout.now) (G.own layout.now)
-        (G.file_paths layout.now) files.old (F.disk file_system.old) (F.disk file_system.new) }
+    ensures settled { OnOk result (IsSettledBy (G.format layout.now) (G.own layout.now)
+        (G.file_paths layout.now) files.old (F.disk file_system.old) (F.disk file_system.new)) }
     ensures recycled { files.new.recycled ≡ files.old.recycled }
     ensures lists { SameLists files.old files.new }
     ensures later { IsLater (F.disk file_system.old) (F.disk file_system.new) }
 {
-    let finished = finish_file(layout, file_system, &mut files.writer);
-    if let Err(kind) = finished {
+    if let Err(kind) = finish_file(layout, file_system, &mut files.writer) {
         error!(rt; "log file {} wasn't finished: {kind}", files.active.seq);
+        return Err(Error::Io(kind));
     }
-    finished.is_ok()
+    Ok(())
 }
 
 /// The greater one of a number and that of a file with a reserved name.

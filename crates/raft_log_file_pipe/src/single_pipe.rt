@@ -362,7 +362,7 @@ impl<G: PipeFormat> SinglePipe<G> {
 impl<G: PipeFormat + Drop> SinglePipe<G> {
     ghost use Rattle.std.specs.Prelude.{[], reverse};
     ghost use Rattle.raft_log_file_pipe.specs.Placing.{IsChosen};
-    ghost use Rattle.raft_log_file_pipe.specs.Closing.{ClosesFiles, FinishesOrNot, LeavesClosed, ReservesAll, StaysLeft, greatest_reserved};
+    ghost use Rattle.raft_log_file_pipe.specs.Closing.{ClosesFiles, ClosesFilesAs, FinishesAs, FinishesOrNot, IsSettledBy, LeavesClosed, ReservesAll, StaysLeft, greatest_reserved};
     ghost use Rattle.raft_log_file_pipe.specs.Exits.{SameLists};
     ghost use Rattle.raft_log_file_pipe.specs.Opening.{OpenLeaves, OpensPipe};
     ghost use Rattle.raft_log_file_pipe.specs.Doing.{OpensPipeBy};
@@ -401,43 +401,66 @@ impl<G: PipeFormat + Drop> SinglePipe<G> {
 
     /// Closes the pipe: its last file is cut behind its records and synced, and the files that are kept for
     /// use get reserved names in the main directory, from the newest down until one has such a name, with
-    /// numbers from the greatest reserved one on. Refusals are logged: nothing that was written is lost by
-    /// them. Of a pipe that has failed nothing is touched.
-    pub fn close<F: FileSystem, L: Log>(self, alloc: Global, rt: &L, file_system: &mut F)
+    /// numbers from the greatest reserved one on.
+    ///
+    /// Once it returns `Ok`, all records are durable. `Io`: the cut or the sync was refused; what was durable
+    /// still is, and the names were given all the same. `Failed`: the pipe had failed, and nothing was
+    /// touched. A name that is refused is only logged.
+    pub fn close<F: FileSystem, L: Log>(
+        self,
+        alloc: Global,
+        rt: &L,
+        file_system: &mut F,
+    ) -> Result<()>
         ensures held { self.failed ≡ false → LeavesClosed (G.format self.layout) (G.own self.layout)
             (G.file_paths self.layout) self.files (F.disk file_system.old) (F.disk file_system.new) }
+        ensures settled { OnOk result (IsSettledBy (G.format self.layout) (G.own self.layout)
+            (G.file_paths self.layout) self.files (F.disk file_system.old) (F.disk file_system.new)) }
         ensures calls { self.failed ≡ false → ClosesFiles (G.file_paths self.layout) self.files
             (F.disk file_system.old) (F.disk file_system.new) }
-        ensures failed { self.failed ≡ true → F.disk file_system.new ≡ F.disk file_system.old }
+        ensures value { self.failed ≡ false → ClosesFilesAs (G.file_paths self.layout) self.files result
+            (F.disk file_system.old) (F.disk file_system.new) }
+        ensures failed { self.failed ≡ true → (result ≡ Err errors.Failed)
+            × (F.disk file_system.new ≡ F.disk file_system.old) }
+        ensures fails { IsTrue self.failed ↔ (result ≡ Err errors.Failed) }
         ensures later { IsLater (F.disk file_system.old) (F.disk file_system.new) }
     {
         if self.failed {
-            return;
+            return Err(Error::Failed);
         }
         let SinglePipe { layout, files, .. } = self;
         let mut files = files;
-        finish(&layout, rt, file_system, &mut files);
+        let finished = finish(&layout, rt, file_system, &mut files);
         reserve_files(alloc, &layout, rt, file_system, files.recycled);
+        finished
     }
 
-    /// The first half of a close: the last file is cut behind its records and synced. A refusal is logged. Of
-    /// a pipe that has failed nothing is touched.
-    pub fn finish<F: FileSystem, L: Log>(&mut self, rt: &L, file_system: &mut F)
+    /// The first half of a close: the last file is cut behind its records and synced.
+    ///
+    /// `Io`: the cut or the sync was refused. `Failed`: the pipe had failed, and nothing was touched.
+    pub fn finish<F: FileSystem, L: Log>(&mut self, rt: &L, file_system: &mut F) -> Result<()>
         ensures held { self.old.failed ≡ false → LeavesClosed (G.format self.old.layout)
             (G.own self.old.layout) (G.file_paths self.old.layout) self.old.files
             (F.disk file_system.old) (F.disk file_system.new) }
+        ensures settled { OnOk result (IsSettledBy (G.format self.old.layout) (G.own self.old.layout)
+            (G.file_paths self.old.layout) self.old.files
+            (F.disk file_system.old) (F.disk file_system.new)) }
         ensures calls { self.old.failed ≡ false → FinishesOrNot self.old.files.writer
             (F.disk file_system.old) (F.disk file_system.new) }
-        ensures failed { self.old.failed ≡ true → F.disk file_system.new ≡ F.disk file_system.old }
+        ensures value { self.old.failed ≡ false → FinishesAs self.old.files.writer result
+            (F.disk file_system.old) (F.disk file_system.new) }
+        ensures failed { self.old.failed ≡ true → (result ≡ Err errors.Failed)
+            × (F.disk file_system.new ≡ F.disk file_system.old) }
+        ensures fails { IsTrue self.old.failed ↔ (result ≡ Err errors.Failed) }
         ensures same { (self.new.layout ≡ self.old.layout) × (self.new.settings ≡ self.old.settings)
             × (self.new.failed ≡ self.old.failed) × (self.new.files.recycled ≡ self.old.files.recycled) }
         ensures lists { SameLists self.old.files self.new.files }
         ensures later { IsLater (F.disk file_system.old) (F.disk file_system.new) }
     {
         if self.failed {
-            return;
+            return Err(Error::Failed);
         }
-        finish(&self.layout, rt, file_system, &mut self.files);
+        finish(&self.layout, rt, file_system, &mut self.files)
     }
 
     /// The second half: the files that are kept for use get reserved names, as `close` has it. Refusals are

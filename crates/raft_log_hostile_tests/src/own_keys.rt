@@ -60,7 +60,7 @@ fn purged<R: Threads + Log + Sync>(
     let copied = stands(&engine)?;
     engine.must_rewrite_rewrite_queue(rt)?;
     let restated = stands(&engine)?;
-    Ok((found & copied & restated, engine.close(rt)))
+    Ok((found & copied & restated, engine.close(rt).files))
 }
 
 #[test]

@@ -120,7 +120,7 @@ fn refuses<R: Threads + Log + Sync, F: FileSystem + Sync + Drop>(
     cause: Cause,
 ) -> Result<(bool, F)> {
     match open(rt, alloc, settings, files) {
-        Ok(engine) => Ok((false, engine.close(rt))),
+        Ok(engine) => Ok((false, engine.close(rt).files)),
         Err(OpenRefused { error, file_system }) => Ok((is_for(&error, cause), file_system)),
     }
 }

@@ -101,7 +101,7 @@ impl<P: PipeLog> Store<P> {
 
     /// Closes the log, and hands its files back.
     pub fn close<L: Log>(self, rt: &L) -> P::Files {
-        self.engine.close(rt)
+        self.engine.close(rt).files
     }
 
     /// Writes a batch.

@@ -58,7 +58,7 @@ fn recovers<R: Threads + Log + Sync>(
 fn opens<R: Threads + Log + Sync>(rt: &R, alloc: Global) -> Result<bool> {
     let files = written(rt, alloc)?;
     match LogEngine::open_scoped(rt, alloc, SMALL.config(alloc)?, files, Nobody) {
-        Ok(engine) => Ok(engine.close(rt).was_passed()),
+        Ok(engine) => Ok(engine.close(rt).files.was_passed()),
         Err(OpenRefused { error, .. }) => Err(error),
     }
 }

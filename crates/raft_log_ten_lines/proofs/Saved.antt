@@ -22,7 +22,7 @@ use Rattle.raft_log_engine.specs.raft_log_file_settings.specs.declared.config.Co
 use Rattle.raft_log_engine.specs.raft_log_table_all.specs.declared.mem_tables.MemTables.{MemTables}
 use Rattle.raft_log_engine.specs.raft_log_file_blocks.specs.declared.block_cache.BlockCache.{BlockCache}
 use Rattle.raft_log_engine.specs.raft_log_file_pair.specs.Pipes.{LogPipes, Said, is_failed}
-use Rattle.raft_log_engine.specs.raft_log_file_pair.specs.ClosingCalls.{ClosesLog}
+use Rattle.raft_log_engine.specs.raft_log_file_pair.specs.ClosingCalls.{ClosesSettled}
 use Rattle.raft_log_engine.specs.raft_log_engine_laws.specs.Shows.{Home, LogMap, Shows, said_of, shows}
 use Rattle.raft_log_engine.specs.raft_log_engine_laws.specs.Holding.{Holds}
 use Rattle.raft_log_engine.specs.raft_log_engine_laws.specs.Reading.{ReadsValue}
@@ -83,7 +83,7 @@ some_items b g k v some none = let clash : put_item g k v ∷ [] ≡ [] = sym so
 -- opened, written, read, closed
 module _ {F : Type 0} (disk : F → Disk) (tells : F → List ℕ → ℕ → Type 0) (config : Config) (g : ℕ) (k v : List ℕ) (old new : F) (found : Option (List ℕ)) where
   pub saves_in_log : (pipes : LogPipes) (tables : MemTables) (cache : BlockCache) (b : Batch) (len : ℕ) (t : Shows) → OpensDirectory disk tells config old pipes tables → is_internal k ≡ false → b.items ≡ put_item g k v ∷ []
-      → WritesBytes b true len (shows pipes tables cache) t → ReadsValue t g k found → (is_failed t.pipes ≡ false → ClosesLog t.pipes (disk new)) → SavesInLog disk tells config g k v old new found
+      → WritesBytes b true len (shows pipes tables cache) t → ReadsValue t g k found → ClosesSettled t.pipes (disk new) → SavesInLog disk tells config g k v old new found
   saves_in_log pipes tables cache b len t opens own items wrote reads closes = elim wrote [
     | inl none ↦ absurd (some_items b g k v items none.0)
     | inr some ↦ record {
@@ -96,7 +96,7 @@ module _ {F : Type 0} (disk : F → Disk) (tells : F → List ℕ → ℕ → Ty
       written = t;
       writes = some.1;
       reads = reads;
-      closes = closes some.1.alive;
+      closes = closes;
       same = saved_value b g k v (shows pipes tables cache) t found own items some.1 reads;
     }
   ]

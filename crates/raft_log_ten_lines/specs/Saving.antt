@@ -7,7 +7,7 @@ use Rattle.raft_log_engine.specs.raft_log_file_settings.specs.declared.config.Co
 use Rattle.raft_log_engine.specs.raft_log_table_all.specs.declared.mem_tables.MemTables.{MemTables}
 use Rattle.raft_log_engine.specs.raft_log_file_blocks.specs.declared.block_cache.BlockCache.{BlockCache}
 use Rattle.raft_log_engine.specs.raft_log_file_pair.specs.Pipes.{LogPipes}
-use Rattle.raft_log_engine.specs.raft_log_file_pair.specs.ClosingCalls.{ClosesLog}
+use Rattle.raft_log_engine.specs.raft_log_file_pair.specs.ClosingCalls.{ClosesSettled}
 use Rattle.raft_log_engine.specs.raft_log_engine_laws.specs.Shows.{Home, LogMap, Shows, shows}
 use Rattle.raft_log_engine.specs.raft_log_engine_laws.specs.Holding.{Holds}
 use Rattle.raft_log_engine.specs.raft_log_engine_laws.specs.Reading.{ReadsValue}
@@ -15,7 +15,7 @@ use Rattle.raft_log_engine.specs.raft_log_engine_laws.specs.Writing.{Writes}
 use Rattle.raft_log_engine.specs.raft_log_open_directory.specs.Opening.{OpensDirectory}
 
 -- A log was opened; a batch that says that a group's key has this value was written and synced; the key was
--- read; and the log was closed. Whatever map the log was when it was opened, what was read is the value.
+-- read; and the log was closed, all of it synced. Whatever map the log was when it was opened, what was read is the value.
 pub record SavesInLog {F : Type 0} (disk : F → Disk) (tells : F → List ℕ → ℕ → Type 0) (config : Config)
     (group : ℕ) (key value : List ℕ) (old new : F) (found : Option (List ℕ)) : Type 0 where
   pub pipes : LogPipes
@@ -27,5 +27,5 @@ pub record SavesInLog {F : Type 0} (disk : F → Disk) (tells : F → List ℕ �
   pub written : Shows
   pub writes : Writes batch true (shows pipes tables cache) written
   pub reads : ReadsValue written group key found
-  pub closes : ClosesLog written.pipes (disk new)
+  pub closes : ClosesSettled written.pipes (disk new)
   pub same : (home : Home) (m : LogMap) → Holds home (shows pipes tables cache) m [] → found ≡ Some value

@@ -8,8 +8,8 @@ use raft_log_engine::{Config, Engine, FileSystem, LogBatch, Result};
 use std::alloc::Global;
 use std::thread::Threads;
 
-/// Opens the log of these settings, saves a group's key in it, reads the key back, and closes the log.
-/// Answers the value that was read, and the file system.
+/// Opens the log of these settings, saves a group's key in it, reads the key back, and closes the log,
+/// which is durable then. Answers the value that was read, and the file system.
 pub fn save_in_log<R: Threads + Log + Sync, F: FileSystem + Sync + Drop>(
     rt: &R,
     alloc: Global,
@@ -30,6 +30,7 @@ pub fn save_in_log<R: Threads + Log + Sync, F: FileSystem + Sync + Drop>(
     batch.put(alloc, group, key, value)?;
     engine.write(rt, &mut batch, true)?;
     let found = engine.get(group, key)?;
-    let files = engine.close(rt);
-    Ok((found, files))
+    let closed = engine.close(rt);
+    closed.result?;
+    Ok((found, closed.files))
 }

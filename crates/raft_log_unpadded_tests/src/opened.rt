@@ -47,7 +47,7 @@ fn a_log_with_an_alignment_is_opened(rt: HostRuntime) -> std::result::Result<(),
     let files = holding(alloc, &FIRST_PADDED, &SECOND_PADDED)?;
     let mut engine = opened(&rt, alloc, files)?;
     assert!(rt; has_entries(&mut engine)?);
-    let files = engine.close(&rt);
+    let files = engine.close(&rt).files;
     assert!(rt; holds(&files, FIRST, &FIRST_WITHOUT)?);
     assert!(rt; holds(&files, SECOND, &SECOND_WITHOUT)?);
     // Of a log without an alignment it is an open as any other.

@@ -49,6 +49,6 @@ fn an_open_without_memory_is_asked_again(rt: HostRuntime) -> std::result::Result
         told => told?,
     };
     assert!(rt; is_there);
-    assert!(rt; are_whole(&engine.close(&rt))?);
+    assert!(rt; are_whole(&engine.close(&rt).files)?);
     Ok(())
 }

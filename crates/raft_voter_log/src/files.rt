@@ -95,7 +95,7 @@ impl<R: Log> VoterDisk<R, LogVoters> for LogFiles {
         let LogVoters { config, store } = store;
         LogFiles {
             config,
-            files: store.close(rt),
+            files: store.close(rt).files,
         }
     }
 

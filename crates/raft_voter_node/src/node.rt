@@ -2,7 +2,7 @@
 use crate::found::found_by;
 use crate::rounds::serve_round;
 use log::{Log, info};
-use raft_log_engine::{Config, FileSystem, LogQueue, Nobody, Result};
+use raft_log_engine::{Closed, Config, FileSystem, LogQueue, Nobody, Result};
 use raft_voter::{Request, RoundService, Voter};
 use raft_voter_store::VoterStore;
 use raft_voter_world::Event;
@@ -89,8 +89,8 @@ impl<F: FileSystem + Sync + Drop> Node<F> {
         self.store.is_failed()
     }
 
-    /// Closes the store.
-    pub fn close<R: Log>(self, rt: &R) -> F {
+    /// Closes the store, as `VoterStore::close` does.
+    pub fn close<R: Log>(self, rt: &R) -> Closed<F> {
         self.store.close(rt)
     }
 }

@@ -10,8 +10,8 @@ use std::thread::Threads;
 use std::time::Clock;
 
 /// Runs a node over these files: the voters that stand are told, and then `ready`; what each line or round asks is
-/// done, and told once it is durable. At the end of the input the store is closed, and the files are given back. Where
-/// the log fails, or the output, the node ends with that.
+/// done, and told once it is durable. At the end of the input the store is closed, and the files are given back. If the
+/// log fails, or the output, the node ends with that error; so it does if the log can't be closed cleanly.
 pub fn run<R: Threads + Log + Sync + Clock, F: FileSystem + Sync + Drop, I: BufRead, W: Write>(
     rt: &R,
     alloc: Global,
@@ -36,7 +36,11 @@ pub fn run<R: Threads + Log + Sync + Clock, F: FileSystem + Sync + Drop, I: BufR
             bail!("the log failed");
         }
     }
-    Ok(node.close(rt))
+    let closed = node.close(rt);
+    match closed.result {
+        Ok(()) => Ok(closed.files),
+        Err(error) => bail!("the log was not closed cleanly: {error}"),
+    }
 }
 
 /// Writes lines, and hands them on.

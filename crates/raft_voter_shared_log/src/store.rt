@@ -1,13 +1,14 @@
 //! A store of voters on a log, and the settings that name the log.
-ghost use Rattle.std.specs.Prelude.{◌≡◌, IfErr, IfOk};
+ghost use Rattle.std.specs.Prelude.{◌≡◌, IfErr, IfOk, OnOk};
 ghost use Rattle.raft_log_file_settings.specs.Settings.{settings_of};
 ghost use Rattle.raft_log_engine.specs.raft_log_engine_core.specs.Reads.{shows_of};
+ghost use Rattle.raft_log_engine.specs.raft_log_file_pair.specs.ClosingCalls.{ClosesSettled};
 ghost use Rattle.raft_voter_outlines.specs.Kept.{outlines_in};
 ghost use Rattle.raft_voter_log.specs.Instance.{ClosesStore};
 ghost use Rattle.raft_voter_shared_log.specs.Opening.{FailsToOpenStore, OpensStore};
 
 use log::Log;
-use raft_log_engine::{Config, EnginePipes, FileSystem, Nobody, PipeLog};
+use raft_log_engine::{Closed, Config, EnginePipes, FileSystem, Nobody, PipeLog};
 use raft_voter_reading::Unread;
 use raft_voter_store::{StoreRefused, VoterStore};
 use std::alloc::{AllocError, Global};
@@ -50,10 +51,14 @@ impl<F: FileSystem + Sync> LogStore<F> {
         }
     }
 
-    /// Closes the log, and gives the file system back. Of an engine that has failed nothing is touched.
-    pub fn close<R: Log>(self, rt: &R) -> F
-        ensures { ClosesStore (shows_of ⟦<EnginePipes<F, Nobody> as PipeLog>⟧.shown self.store.engine)
-            (F.disk result) }
+    /// Closes the log, and gives the file system back, whatever happened. If the result is `Ok`, everything
+    /// that the store wrote is durable; else it is why not, as `VoterStore::close` has it.
+    pub fn close<R: Log>(self, rt: &R) -> Closed<F>
+        ensures closes { ClosesStore (shows_of ⟦<EnginePipes<F, Nobody> as PipeLog>⟧.shown self.store.engine)
+            (F.disk result.files) }
+        ensures settled { OnOk result.result
+            (ClosesSettled (⟦<EnginePipes<F, Nobody> as PipeLog>⟧.shown self.store.engine.pipes)
+            (F.disk result.files)) }
     {
         let LogStore {
             config: _config,

@@ -60,5 +60,5 @@ pub fn open<R: Threads + Sync>(
 
 /// The store is closed, and a crash comes, which leaves this of its files.
 pub fn crash<R>(rt: &Quiet<'_, R>, store: Store, left: &Remainder) -> Option<MemoryFileSystem> {
-    store.close(rt).remainder(left).ok()
+    store.close(rt).files.remainder(left).ok()
 }

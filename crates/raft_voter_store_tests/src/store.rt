@@ -114,6 +114,6 @@ impl Store for MemoryStore {
     }
 
     fn close<L: Log>(self, rt: &L) -> MemoryFileSystem {
-        self.store.close(rt)
+        self.store.close(rt).files
     }
 }

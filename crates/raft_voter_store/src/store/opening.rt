@@ -126,7 +126,7 @@ impl<F: FileSystem + Sync, E: EventListener> LogVoterStore<EnginePipes<F, E>> {
                 batch: None,
             }),
             Err(cause) => {
-                let file_system = engine.close(rt);
+                let file_system = engine.close(rt).files;
                 Err(StoreRefused { cause, file_system })
             }
         }

@@ -1,5 +1,6 @@
 //! What keeps a store's files few, and what is told of them.
-ghost use Rattle.std.specs.Prelude.{◌≡◌, false, true, IfErr, IfOk, OnErr, OnOk};
+ghost use Rattle.std.specs.Prelude.{◌≡◌, ◌↔◌, false, true, Err, IsTrue, IfErr, IfOk, OnErr, OnOk};
+ghost use Rattle.raft_log_record_base.specs.declared.errors.Error.TheVariants as errors;
 ghost use Rattle.raft_log_record_base.specs.declared.pipe_log.LogQueue.TheVariants.{Append};
 ghost use Rattle.raft_log_file_pair.specs.HoldingBack.{PipesHoldBack};
 ghost use Rattle.raft_log_purge.specs.Append.{RewritesAppend};
@@ -11,13 +12,13 @@ ghost use Rattle.raft_log_engine.specs.raft_log_engine_core.specs.Whole.{ArmsEng
 
 use super::LogVoterStore;
 use log::Log;
-use raft_log_engine::{Fault, FileSeq, LogQueue, PipeLog, Result};
+use raft_log_engine::{Closed, Fault, FileSeq, LogQueue, PipeLog, Result};
 
 impl<P: PipeLog> LogVoterStore<P> {
     ghost use Rattle.raft_log_engine.specs.raft_log_disk.specs.Causes.{IsLater};
     ghost use Rattle.raft_log_engine.specs.raft_log_engine_laws.specs.Shows.{has_failed};
     ghost use Rattle.raft_log_engine.specs.raft_log_file_pair.specs.Calls.{ArmsNoPipes};
-    ghost use Rattle.raft_log_engine.specs.raft_log_file_pair.specs.ClosingCalls.{ClosesLog};
+    ghost use Rattle.raft_log_engine.specs.raft_log_file_pair.specs.ClosingCalls.{ClosesAs, ClosesLog, ClosesSettled};
     ghost use Rattle.raft_voter_standing_laws.specs.raft_log_engine_laws.specs.Syncing.{NotSynced, SyncsAppend};
     ghost use Rattle.raft_voter_store.specs.Upkeep.{KeepsOrLeavesVoters, KeepsVoters};
 
@@ -130,13 +131,23 @@ impl<P: PipeLog> LogVoterStore<P> {
         self.engine.must_rewrite_rewrite_queue(rt)
     }
 
-    /// Closes the log, and gives the file system back. Of an engine that has failed nothing is touched.
-    pub fn close<R: Log>(self, rt: &R) -> P::Files
+    /// Closes the log, and gives the file system back, whatever happened.
+    ///
+    /// If the result is `Ok`, everything that the store wrote is durable. It fails with `Io` if the file system
+    /// refused to truncate or to sync an active file, and with `Failed` if the engine had failed before; then
+    /// it touches nothing.
+    pub fn close<R: Log>(self, rt: &R) -> Closed<P::Files>
         ensures held { has_failed (shows_of P.shown self.engine) ≡ false
-            → ClosesLog (P.shown self.engine.pipes) (P.disk_of result) }
+            → ClosesLog (P.shown self.engine.pipes) (P.disk_of result.files) }
+        ensures settled { OnOk result.result
+            (ClosesSettled (P.shown self.engine.pipes) (P.disk_of result.files)) }
+        ensures value { has_failed (shows_of P.shown self.engine) ≡ false
+            → ClosesAs (P.shown self.engine.pipes) result.result (P.disk_of result.files) }
         ensures failed { has_failed (shows_of P.shown self.engine) ≡ true
-            → result ≡ P.files self.engine.pipes }
-        ensures later { IsLater (P.shown self.engine.pipes).disk (P.disk_of result) }
+            → result.files ≡ P.files self.engine.pipes }
+        ensures fails { IsTrue (has_failed (shows_of P.shown self.engine))
+            ↔ (result.result ≡ Err errors.Failed) }
+        ensures later { IsLater (P.shown self.engine.pipes).disk (P.disk_of result.files) }
     {
         let LogVoterStore {
             alloc: _alloc,

@@ -100,7 +100,7 @@ pub fn told_by<R: Threads + Log + Sync>(
     match open(rt, alloc, config, files) {
         Ok(mut store) => {
             let told = asked(rt, alloc, &mut store, asks)?;
-            Ok((told, store.close(rt).files))
+            Ok((told, store.close(rt)))
         }
         Err(refused) => {
             let told = format!(in alloc; "{}", refused.cause)?;

@@ -1,5 +1,5 @@
 -- What arguments ask for.
-use Rattle.std.specs.Prelude.{◌≡◌, ◌≢◌, ℕ, Bool, false, List, [], ◌∷◌, Option, None, Some, codes, nat_eq, string_bytes}
+use Rattle.std.specs.Prelude.{◌≡◌, ◌≢◌, ℕ, Bool, false, List, [], ◌∷◌, None, Some, codes, nat_eq, string_bytes}
 use Rattle.std.specs.List.{starts_with}
 use Rattle.raftnode.specs.declared.asking.Asked.{Asked}
 use Rattle.raftnode.specs.declared.asking.Asked.TheVariants.{Help, Node, Others}

@@ -28,7 +28,8 @@ class File:
         if not self.has(place, bytes_):
             apply(self.now, place, bytes_)
             self.note(place, bytes_)
-        self.dirty(place, end)
+        if place < end:
+            self.dirty(place, end)
 
     def has(self, place, bytes_):
         """Whether the cache stays as it is by a change."""

@@ -16,7 +16,6 @@ from trace import read_trace
 
 # So many bytes that the end of the record lies in another page than its front.
 SIZE = 9000
-ERRORS = [errno.EIO, errno.ENOSPC]
 
 
 def vote(candidate):
@@ -27,6 +26,8 @@ def vote(candidate):
 class TwiceVoter:
     """Plays the five steps, with a record before or behind the vote, and for both errors."""
 
+    errors = [errno.EIO, errno.ENOSPC]
+
     def __init__(self, room, random):
         self.room, self.random = room, random
         self.counts = Counter()
@@ -34,14 +35,17 @@ class TwiceVoter:
 
     def play(self):
         """Plays all cases: in each the second candidate asks at each image that is tried."""
-        append = f"append 2 5 0 0 0 5:{self.random.randbytes(SIZE).hex()}"
-        for requests in ([vote(2), append], [append, vote(2)]):
-            for error in ERRORS:
-                name = f"{' '.join(requests[0].split(' ')[:3])} first, error {error}"
+        for name, requests in self.rounds():
+            for error in self.errors:
                 try:
-                    self.case(name, requests, error)
+                    self.case(f"{name}, error {error}", requests, error)
                 except Fault as wrong:
-                    self.wrong.append(f"{name}: {wrong}")
+                    self.wrong.append(f"{name}, error {error}: {wrong}")
+
+    def rounds(self):
+        """The rounds that fail, each with a name: the vote, and a long record before or behind it."""
+        append = f"append 2 5 0 0 0 5:{self.random.randbytes(SIZE).hex()}"
+        return [("the vote first", [vote(2), append]), ("the vote last", [append, vote(2)])]
 
     def case(self, name, requests, error):
         """The five steps once, for several images of one cut."""
@@ -49,25 +53,34 @@ class TwiceVoter:
         disk = Disk(root, lose=lambda file: file.synced)
         syncs = self.syncs_of_an_opening(root)
         root = self.room.root("live", {})
-        told, status, _ = self.life(root, requests, f"refuse-sync {syncs + 1} {error}", disk)
+        self.demand_cut(*self.life(root, requests, f"refuse-sync {syncs + 1} {error}", disk))
+        self.demand_granted(*self.life(root, [vote(2)], "none", disk))
+        for way in ("lost", "kept", None):
+            self.ask_second(f"{name}, {way}", self.room.root("image", image(disk, self.random, way)))
+
+    def demand_cut(self, told, status, _notes):
+        """The round whose sync failed was cut off, and the node ended with status 1."""
         if "round 0 cut" not in told or status != 1:
             raise Fault(f"the round isn't cut off: {told[-200:]!r}, status {status}")
-        told, _, _ = self.life(root, [vote(2)], "none", disk)
+
+    def demand_granted(self, told, _status, _notes):
+        """The first candidate, who asks again in the same boot, is told `Granted`."""
         if not told.endswith("\n0 1 Granted 5\n"):
             raise Fault(f"candidate 2 is answered {told[-200:]!r} in the same boot")
-        for way in ("lost", "kept", None):
-            self.counts["checks"] += 1
-            told, _, _ = self.life(self.room.root("image", image(disk, self.random, way)), [vote(3)])
-            answer = told.rstrip("\n").rsplit("\n", 1)[-1]
-            self.counts[f"times candidate 3 is answered {answer.split(' ', 2)[-1]}"] += 1
-            if answer != "0 1 Denied 5":
-                self.wrong.append(f"{name}, {way}: candidate 2 was told Granted 5, and behind a cut candidate 3 is told {answer!r}")
+
+    def ask_second(self, name, root):
+        """The second candidate asks behind the cut."""
+        self.counts["checks"] += 1
+        answer = self.life(root, [vote(3)])[0].rstrip("\n").rsplit("\n", 1)[-1]
+        self.counts[f"times candidate 3 is answered {answer.split(' ', 2)[-1]}"] += 1
+        if answer != "0 1 Denied 5":
+            self.wrong.append(f"{name}: candidate 2 was told Granted 5, and behind a cut candidate 3 is told {answer!r}")
 
     def syncs_of_an_opening(self, root):
         """How many syncs there are before the first round."""
         return sum(note.call == "synced" for note in self.life(root, [], "none")[2])
 
-    def life(self, root, requests, fault="none", disk=None):
+    def life(self, root, requests, fault="none", disk=None, before_round=None):
         """A life in which one round is asked, and which is killed behind its answer: what it told, its status, its notes."""
         trace = f"{self.room.path}/trace"
         open(trace, "wb").close()
@@ -75,6 +88,8 @@ class TwiceVoter:
         try:
             if not running.hear_until(lambda told: b"\nready\n" in b"\n" + told):
                 raise Ended(running)
+            if before_round:
+                before_round()
             if requests:
                 wanted = running.told.count(b"\n") + 1 + len(requests)
                 running.feed("".join(line + "\n" for line in ["round"] + requests + ["end"]))

@@ -62,7 +62,9 @@ class DeviceTrial:
             kind = random.choice(["none", f"kill {random.randint(30, 60 + 3 * self.count)}"])
             second = self.room.watched(root, states, random, random.choice([0, 1, self.count]), kind, again)
             states = second.candidates(len(second.told))
-        self.room.found(f"{self.device.cut()}/live", states)
+        left = self.device.cut()
+        self.counts["pages that couldn't be read at a cut"] = self.device.unreadable
+        self.room.found(f"{left}/live", states)
 
     def failing(self, root):
         """A life whose device fails from a random answer on: what was heard, and what may stand."""

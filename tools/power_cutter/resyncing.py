@@ -17,6 +17,7 @@ from trace import fell
 ERRORS = [errno.EIO, errno.ENOSPC]
 # How often a sync that failed left nothing of its changes on the medium, to one time that it left some.
 NOTHING = 2
+CALLS_OF_AN_OPENING = 60
 
 
 class Boot:
@@ -65,22 +66,26 @@ class Resyncer(Refuser):
         return left_of(file, self.random, self.random.choice(["lost"] * NOTHING * len(WAYS) + WAYS))
 
     def life(self, boot, count, fault, random):
-        """A life with an error at a sync: the boot as it is behind it, or None where the run has no such sync."""
+        """A life with an error at a sync, or killed: the boot as it is behind it, or None where the run has no such sync."""
         root = self.room.root("live", boot.tree)
         ran = self.room.watched(root, boot.states, random, count, fault, boot.again)
-        if not fell(ran.notes):
-            return None
-        self.counts["faults"] += 1
-        self.judge(ran, fault)
+        if fault.startswith("refuse"):
+            if not fell(ran.notes):
+                return None
+            self.counts["faults"] += 1
+            self.judge(ran, fault)
         for note in ran.notes:
             boot.disk.take(note)
         boot.disk.forget_handles()
         return Boot(read_tree(root), boot.disk, ran.candidates(len(ran.told)), asked_again(ran.heard))
 
     def go_on(self, name, boot):
-        """Starts the program again in the same boot: once without an error, and with one at each sync of a short run."""
+        """Starts the program again in the same boot: without an error, killed, and with an error at each sync of a short run."""
         self.counts["rounds asked again"] += len(boot.again)
         self.last_life(f"{name}, started again", boot, self.count)
+        fault = f"kill {self.random.randint(1, CALLS_OF_AN_OPENING)}"
+        killed = self.life(deepcopy(boot), 1, fault, self.random)
+        self.last_life(f"{name}, {fault}, started again", killed, 2)
         number = 0
         while time.time() < self.end:
             number += 1

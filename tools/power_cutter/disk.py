@@ -28,11 +28,11 @@ class Disk:
     """What lies below a root, by the calls so far. `drops` has the kinds of syncs that are passed over: "bytes", "names".
 
     `lose` says what a sync that failed leaves of a file on the medium. Without it the changes stay open: enough for a cut
-    that comes right after.
+    that comes right after. `sticks` says whether pages that were new at that sync stay lost until they are cut off.
     """
 
-    def __init__(self, root, tree=None, drops=(), lose=None):
-        self.root, self.drops, self.lose = root, drops, lose
+    def __init__(self, root, tree=None, drops=(), lose=None, sticks=False):
+        self.root, self.drops, self.lose, self.sticks = root, drops, lose, sticks
         self.top = Directory()
         # changes of names that aren't durable, in their order
         self.pending = []
@@ -76,7 +76,7 @@ class Disk:
         """A sync failed: a file's changes are lost; a directory's names are as they were, and its next sync keeps them."""
         if self.lose and isinstance(target, File):
             self.failed_syncs += 1
-            target.lose(self.lose(target))
+            target.lose(self.lose(target), self.sticks)
 
     def take_opened(self, note):
         """A file or a directory is opened, and perhaps made."""

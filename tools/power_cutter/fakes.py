@@ -43,7 +43,7 @@ def refusals(room, seconds, until_wrong):
 def failed_syncs(room, seconds, until_wrong):
     """Fails syncs for so long, or until something is wrong."""
     end, number = time.time() + seconds, 1
-    resyncer = Resyncer(room, Random(1), settings, 5, 6, end)
+    resyncer = Resyncer(room, Random(1), settings, 5, 6, end, sticks=True)
     while time.time() < end and not (until_wrong and resyncer.wrong):
         resyncer.run(f"run {number}", number)
         number += 1
@@ -93,6 +93,7 @@ def try_fakes(path, library, seconds):
     failed = 0
     trials = [("right", each, False, {}) for each in (kills, cuts, refusals, failed_syncs, lives, denials)]
     trials += [(wrong, cuts, True, {}) for wrong in CUT] + [("passes-over", refusals, True, {}), ("no-write-back", failed_syncs, True, {})]
+    trials += [("in-place", failed_syncs, True, {})]
     trials += [(wrong, lives, True, {}) for wrong in HELD] + [("takes-leave", denials, True, {})]
     trials += [("right", cuts, True, {"drops": [kind]}) for kind in ("bytes", "names")]
     trials += [("right", copies, False, {})]

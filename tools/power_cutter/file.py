@@ -16,6 +16,8 @@ class File:
     def __init__(self, synced=b""):
         self.synced, self.changes = synced, []
         self.now, self.kept = bytearray(synced), bytearray(synced)
+        # pages whose bytes the medium shows as zeros until they are cut off
+        self.stuck = set()
 
     def change(self, place, bytes_):
         """A write, or another size where there are no bytes. Bytes that the cache has already change nothing but what was lost."""
@@ -37,8 +39,21 @@ class File:
 
     def note(self, place, bytes_):
         """A change is on its way to the medium."""
+        if bytes_ is None:
+            self.stuck = {page for page in self.stuck if page * PAGE < place}
+        elif self.stuck:
+            bytes_ = self.shown(place, bytes_)
         self.changes.append((place, bytes_))
         apply(self.kept, place, bytes_)
+
+    def shown(self, place, bytes_):
+        """What the medium shows of a write: zeros in pages that are stuck."""
+        shown = bytearray(bytes_)
+        for page in self.stuck:
+            first, end = max(page * PAGE, place), min((page + 1) * PAGE, place + len(bytes_))
+            if first < end:
+                shown[first - place : end - place] = bytes(end - first)
+        return bytes(shown)
 
     def dirty(self, first, end):
         """The pages of these places are written whole: what the medium lacks of them is on its way again."""
@@ -50,8 +65,14 @@ class File:
         """All changes are on the medium."""
         self.synced, self.changes = bytes(self.kept), []
 
-    def lose(self, left):
-        """A sync failed: these bytes are on the medium, and nothing but a shortening is on its way. A read gives what it gave."""
+    def lose(self, left, sticks=False):
+        """A sync failed: these bytes are on the medium, and nothing but a shortening is on its way. A read gives what it gave.
+
+        Where a file system sticks, as ext4 does, pages that were new at that sync take no bytes until they are cut off.
+        """
+        if sticks:
+            self.stuck |= set(range(-(-len(self.synced) // PAGE), -(-len(self.now) // PAGE)))
+            left = left[: len(self.synced)] + self.shown(len(self.synced), left[len(self.synced) :])
         self.synced, self.changes, self.kept = bytes(left), [], bytearray(left)
         if len(left) > len(self.now):
             self.note(len(self.now), None)

@@ -30,8 +30,9 @@ class Boot:
 class Resyncer(Refuser):
     """Plays one run over and over, with an error at each of its syncs, and a second one behind it."""
 
-    def __init__(self, room, random, settings, count, points, end):
+    def __init__(self, room, random, settings, count, points, end, sticks=False):
         super().__init__(room, random, settings, count, end)
+        self.sticks = sticks
         self.cutter = Cutter(room, random, settings, points)
         self.cutter.counts, self.cutter.wrong = self.counts, self.wrong
 
@@ -52,7 +53,7 @@ class Resyncer(Refuser):
         while time.time() < self.end:
             number += 1
             fault = f"refuse-sync {number} {error}"
-            disk = Disk(f"{self.room.path}/live", tree, lose=self.left)
+            disk = Disk(f"{self.room.path}/live", tree, lose=self.left, sticks=self.sticks)
             try:
                 boot = self.life(Boot(tree, disk, before, []), self.count, fault, Random(seed))
                 if boot is None:

@@ -28,8 +28,8 @@ class TwiceVoter:
 
     errors = [errno.EIO, errno.ENOSPC]
 
-    def __init__(self, room, random):
-        self.room, self.random = room, random
+    def __init__(self, room, random, sticks=False):
+        self.room, self.random, self.sticks = room, random, sticks
         self.counts = Counter()
         self.wrong = []
 
@@ -50,7 +50,7 @@ class TwiceVoter:
     def case(self, name, requests, error):
         """The five steps once, for several images of one cut."""
         root = self.room.root("live", {})
-        disk = Disk(root, lose=lambda file: file.synced)
+        disk = Disk(root, lose=lambda file: file.synced, sticks=self.sticks)
         syncs = self.syncs_of_an_opening(root)
         root = self.room.root("live", {})
         self.demand_cut(*self.life(root, requests, f"refuse-sync {syncs + 1} {error}", disk))

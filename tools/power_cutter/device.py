@@ -52,7 +52,7 @@ class Device:
         os.sync()
 
     def fail(self):
-        """Each write that reaches the device fails from now on, but for those of equal bytes."""
+        """Each write that reaches the device fails from now on, but for pages in which all bytes are alike."""
         self.tell("mem_limit", 1)
 
     def mend(self):

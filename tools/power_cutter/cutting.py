@@ -3,7 +3,8 @@ import os
 import zlib
 from collections import Counter
 
-from disk import Disk, File, read_tree
+from disk import Disk, read_tree
+from file import File
 from image import image
 from running import Fault
 

@@ -6,26 +6,11 @@ its own. It is as weak a disk as a program may meet: a file's sync keeps no name
 import os
 import posixpath
 
+from file import File
 from running import Fault
 
 CREATE, TRUNCATE = os.O_CREAT, os.O_TRUNC
 NOT_FOLLOWED = os.O_DSYNC | os.O_TMPFILE & ~os.O_DIRECTORY
-
-
-class File:
-    """A file: bytes that are durable, and the changes since, each a write (place, bytes) or a size (size, None)."""
-
-    def __init__(self, synced=b""):
-        self.synced, self.changes, self.now = synced, [], bytearray(synced)
-
-    def change(self, place, bytes_):
-        """A write, or another size where there are no bytes."""
-        self.changes.append((place, bytes_))
-        apply(self.now, place, bytes_)
-
-    def sync(self):
-        """All that was changed is durable."""
-        self.synced, self.changes = bytes(self.now), []
 
 
 class Directory:
@@ -39,27 +24,20 @@ class Unfollowed(Fault):
     """The trace has a call that the disk can't follow."""
 
 
-def apply(bytes_, place, written):
-    """Makes a change of a file's bytes."""
-    if written is None:
-        del bytes_[place:]
-        bytes_.extend(bytes(place - len(bytes_)))
-        return
-    if len(bytes_) < place:
-        bytes_.extend(bytes(place - len(bytes_)))
-    bytes_[place : place + len(written)] = written
-
-
 class Disk:
-    """What lies below a root, by the calls so far. `drops` has the kinds of syncs that are passed over: "bytes", "names"."""
+    """What lies below a root, by the calls so far. `drops` has the kinds of syncs that are passed over: "bytes", "names".
 
-    def __init__(self, root, tree=None, drops=()):
-        self.root, self.drops = root, drops
+    `lose` says what a sync that failed leaves of a file on the medium. Without it the changes stay open: enough for a cut
+    that comes right after. `sticks` says whether pages that were new at that sync stay lost until they are cut off.
+    """
+
+    def __init__(self, root, tree=None, drops=(), lose=None, sticks=False):
+        self.root, self.drops, self.lose, self.sticks = root, drops, lose, sticks
         self.top = Directory()
         # changes of names that aren't durable, in their order
         self.pending = []
         self.handles = {}
-        self.syncs = 0
+        self.syncs = self.failed_syncs = 0
         plant(self.top, tree or {})
 
     def forget_handles(self):
@@ -89,8 +67,16 @@ class Disk:
         """Takes a call of the trace."""
         if note.call == "other":
             raise Unfollowed(note.first.decode())
-        if not note.error and note.call not in ("told", "fell"):
+        if note.error and note.call == "synced":
+            self.fail_sync(self.handles[note.file])
+        elif not note.error and note.call not in ("told", "fell"):
             getattr(self, "take_" + note.call.replace(" ", "_"))(note)
+
+    def fail_sync(self, target):
+        """A sync failed: a file's changes are lost; a directory's names are as they were, and its next sync keeps them."""
+        if self.lose and isinstance(target, File):
+            self.failed_syncs += 1
+            target.lose(self.lose(target), self.sticks)
 
     def take_opened(self, note):
         """A file or a directory is opened, and perhaps made."""

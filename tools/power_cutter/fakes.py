@@ -10,6 +10,7 @@ from holding import Holder
 from killing import Killer
 from node import Node, settings
 from refusing import Refuser
+from resyncing import Resyncer
 from running import HERE
 from trial import Room
 
@@ -37,6 +38,16 @@ def refusals(room, seconds, until_wrong):
         refuser.run(f"run {number}", number)
         number += 1
     return refuser, "faults"
+
+
+def failed_syncs(room, seconds, until_wrong):
+    """Fails syncs for so long, or until something is wrong."""
+    end, number = time.time() + seconds, 1
+    resyncer = Resyncer(room, Random(1), settings, 5, 6, end, sticks=True)
+    while time.time() < end and not (until_wrong and resyncer.wrong):
+        resyncer.run(f"run {number}", number)
+        number += 1
+    return resyncer, "cuts"
 
 
 def kills(room, seconds, _until_wrong):
@@ -80,8 +91,9 @@ def denials(room, seconds, until_wrong):
 def try_fakes(path, library, seconds):
     """Tries each store; how many were judged wrongly."""
     failed = 0
-    trials = [("right", each, False, {}) for each in (kills, cuts, refusals, lives, denials)]
-    trials += [(wrong, cuts, True, {}) for wrong in CUT] + [("passes-over", refusals, True, {})]
+    trials = [("right", each, False, {}) for each in (kills, cuts, refusals, failed_syncs, lives, denials)]
+    trials += [(wrong, cuts, True, {}) for wrong in CUT] + [("passes-over", refusals, True, {}), ("no-write-back", failed_syncs, True, {})]
+    trials += [("in-place", failed_syncs, True, {})]
     trials += [(wrong, lives, True, {}) for wrong in HELD] + [("takes-leave", denials, True, {})]
     trials += [("right", cuts, True, {"drops": [kind]}) for kind in ("bytes", "names")]
     trials += [("right", copies, False, {})]

@@ -3,7 +3,8 @@
 A synced byte stands where no later change touches it. Of each change since (a write, a shortening, a growth) anything may be
 left: nothing, all, a part, or other bytes in its place; and the file ends anywhere in what was touched at its end.
 """
-from disk import Directory, File, apply, set_name
+from disk import Directory, set_name
+from file import File, apply
 
 SECTOR = 512
 WAYS = ["lost", "kept", "front", "front", "front", "some", "sectors", "garbled", "garbled", "holes", "short"]
@@ -52,7 +53,7 @@ def left_of(file, random, way):
     if not file.changes or way == "lost":
         return file.synced
     if way == "kept":
-        return bytes(file.now)
+        return bytes(file.kept)
     return {"front": front, "some": some, "sectors": sectors, "garbled": garbled, "holes": holes, "short": short}[way](file, random)
 
 
@@ -94,7 +95,7 @@ def sectors(file, random):
 
 def garbled(file, random):
     """All changes, with other bytes in some of the places that they touched."""
-    left, spans = bytearray(file.now), touched(file)
+    left, spans = bytearray(file.kept), touched(file)
     for _ in range(random.choice([1, 1, 2, 5])):
         first, end = random.choice(spans)
         at = random.randrange(first, max(end, first + 1))
@@ -107,7 +108,7 @@ def garbled(file, random):
 
 def holes(file, random):
     """As long as it is, or was at most, with zeros, or bytes that nobody wrote, wherever something was touched."""
-    size = random.choice([len(file.now), greatest(file)])
+    size = random.choice([len(file.kept), greatest(file)])
     fill = random.choice([bytes(size), random.randbytes(size)])
     return fitted(file, bytearray(fill))
 
@@ -115,7 +116,7 @@ def holes(file, random):
 def short(file, random):
     """All changes, and the file ends somewhere in what they touched."""
     least = least_size(file)
-    left = bytearray(file.now)
+    left = bytearray(file.kept)
     if least < len(left):
         del left[random.randint(least, len(left)) :]
     return fitted(file, left)

@@ -6,7 +6,8 @@
                        refuse (nothing is done, and ERROR is answered), part (half of a write is done, and ERROR is answered),
                        short (half of a write is done, and that is answered), made (the call is done, and ERROR is answered),
                        gone (as refuse, and every later call too), kill (the program is killed before the call),
-                       kill-part (the program is killed behind half of a write), kill-made (it is killed behind the call)
+                       kill-part (the program is killed behind half of a write), kill-made (it is killed behind the call),
+                       refuse-sync (as refuse, and N counts the syncs alone)
 
    Reads, and calls that ask for names, sizes and locks, aren't noted, but are counted and refused as the others.
 
@@ -32,7 +33,7 @@
 #include <unistd.h>
 
 enum call { OPENED = 1, CLOSED, COPIED, WRITTEN, CUT, SYNCED, RENAMED, UNLINKED, MADE_DIRECTORY, REMOVED_DIRECTORY, TOLD, OTHER, FELL };
-enum fault { NONE, REFUSE, PART, SHORT, MADE, GONE, KILL, KILL_PART, KILL_MADE };
+enum fault { NONE, REFUSE, PART, SHORT, MADE, GONE, KILL, KILL_PART, KILL_MADE, REFUSE_SYNC };
 
 /* A note: two byte strings of these lengths follow. */
 struct note {
@@ -68,11 +69,11 @@ static ssize_t (*real_getdents64)(int, void *, size_t);
 static void *(*real_mmap)(void *, size_t, int, int, int, off_t);
 
 static void find_fault(void) {
-    static const char *names[] = {"none", "refuse", "part", "short", "made", "gone", "kill", "kill-part", "kill-made"};
+    static const char *names[] = {"none", "refuse", "part", "short", "made", "gone", "kill", "kill-part", "kill-made", "refuse-sync"};
     char kind[32] = "none";
     const char *text = getenv("POWER_CUTTER_FAULT");
     if (text) sscanf(text, "%31s %ld %d", kind, &fault_number, &fault_error);
-    for (int each = 0; each < 9; each++)
+    for (int each = 0; each < 10; each++)
         if (!strcmp(kind, names[each])) fault = each;
 }
 
@@ -142,13 +143,16 @@ static void note_path(enum call call, int error, int file, int64_t at, const cha
 }
 
 /* Whether the fault falls at this call; a program that is to be killed before it is killed. */
-static int falls(void) {
+static int falls_at(int is_sync) {
+    if (fault == REFUSE_SYNC && !is_sync) return 0;
     counted++;
     if (fault == NONE || counted < fault_number || (counted > fault_number && fault != GONE)) return 0;
     if (fault == KILL) raise(SIGKILL);
     note(FELL, fault_error, fault, counted, "", 0, NULL);
     return 1;
 }
+
+static int falls(void) { return falls_at(0); }
 
 /* What is answered behind a call that was done though the fault fell at it. */
 static long after(int fell, long answer) {
@@ -159,7 +163,7 @@ static long after(int fell, long answer) {
 }
 
 static int is_refused(int fell) {
-    if (!fell || (fault != REFUSE && fault != GONE && fault != PART)) return 0;
+    if (!fell || (fault != REFUSE && fault != GONE && fault != PART && fault != REFUSE_SYNC)) return 0;
     errno = fault_error;
     return 1;
 }
@@ -340,7 +344,7 @@ ssize_t pread64(int file, void *room, size_t size, off64_t at) { return read_fro
 
 static int changed(int (*make)(int), int file, enum call call) {
     enter();
-    int below = follows(file), fell = below && falls(), answer = -1;
+    int below = follows(file), fell = below && falls_at(call == SYNCED), answer = -1;
     if (!is_refused(fell)) answer = make(file);
     if (below) note(call, answer < 0 ? errno : 0, file, 0, "", 0, NULL);
     answer = after(fell, answer);

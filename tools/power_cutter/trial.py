@@ -74,15 +74,15 @@ class Room:
                 return place
         raise Fault(self.subject.differs(state, candidates))
 
-    def watched(self, root, before, random, count, fault="none"):
-        """A watched run over a root in which one of some states stands: it opens, serves a plan, and closes."""
+    def watched(self, root, before, random, count, fault="none", first=()):
+        """A watched run over a root in which one of some states stands: it opens, serves first events and a plan, and closes."""
         trace = f"{self.path}/trace"
         if os.path.exists(trace):
             os.remove(trace)
         running = self.start(root, Watch(self.library, root, trace, fault))
         heard = None
         try:
-            heard, status = self.serve(running, before, random, count, fault)
+            heard, status = self.serve(running, before, random, count, fault, first)
         finally:
             running.process.kill()
             running.process.wait()
@@ -99,7 +99,7 @@ class Room:
         if heard and status == 0 and heard.answered() < len(heard.events):
             raise Fault(f"{heard.answered()} of {len(heard.events)} events are answered")
 
-    def serve(self, running, before, random, count, fault):
+    def serve(self, running, before, random, count, fault, first):
         """What was heard of a run, or None where it didn't open; and its status."""
         try:
             state, shown = self.subject.opens(running)
@@ -113,7 +113,7 @@ class Room:
             running.close_input()
             return None, running.hear_all()
         self.place(state, before)
-        plan = self.subject.plan(random, state, count)
+        plan = list(first) + self.subject.plan(random, state, count)
         running.feed(self.subject.text(plan), closes=True)
         status = running.hear_all()
         return self.subject.hear(state, shown + plan, running.told, may_refuse=is_refusing(fault)), status

@@ -1,17 +1,18 @@
 //! The operating system's files, as a device.
 ghost use Rattle.raft_log_disk_storage.specs.declared.storage.Storage.{Storage};
 
+use super::growing::{grow, write_long, write_pieces};
 use super::record::Record;
 use raft_log_disk_device::Device;
 use raft_log_disk_storage::Storage;
 use std::alloc::Global;
 use std::collections::BTreeMap;
+use std::fs;
 use std::fs::{File, OpenOptions};
 use std::io::ErrorKind;
 use std::os::unix::fs::FileExt;
 use std::rt::Files;
 use std::snapshot::Snapshot;
-use std::{fs, io};
 
 const CREATED: u64 = 0;
 
@@ -38,7 +39,8 @@ pub(crate) const PIECE: usize = 1 << 16;
 
 /// The operating system's files, as a device. Each file that has a name is open; the directories stay locked
 /// until it is dropped. A method makes one call, of a write or a growth one for each piece of its bytes,
-/// and then notes it; only clauses read what is noted.
+/// and then notes it; only clauses read what is noted. A growth, and a write of several pieces that makes the
+/// file longer, is also synced.
 #[derive(Drop)]
 pub struct FileDevice<R> {
     rt: R,
@@ -124,7 +126,12 @@ impl<R: Files<File = File> + Drop> Device for FileDevice<R> {
         let Some(opened) = self.files.get(&file) else {
             return Err(ErrorKind::NotFound);
         };
-        write_pieces(opened, offset, bytes).map_err(|error| error.kind())?;
+        let written = if bytes.len() > PIECE {
+            write_long(opened, offset, bytes)
+        } else {
+            opened.write_all_at(bytes, offset as u64)
+        };
+        written.map_err(|error| error.kind())?;
         self.record
             .note(&[WRITTEN, file as u64, offset as u64], bytes);
         Ok(())
@@ -147,13 +154,7 @@ impl<R: Files<File = File> + Drop> Device for FileDevice<R> {
         let Some(opened) = self.files.get(&file) else {
             return Err(ErrorKind::NotFound);
         };
-        let length = opened.metadata().map_err(|error| error.kind())?.len() as usize;
-        for offset in (length..size).step_by(PIECE) {
-            let count = self.zeros.len().min(size.saturating_sub(offset));
-            opened
-                .write_all_at(&self.zeros[..count], offset as u64)
-                .map_err(|error| error.kind())?;
-        }
+        grow(opened, &self.zeros, size).map_err(|error| error.kind())?;
         self.record.note(&[GROWN, file as u64, size as u64], &[]);
         Ok(())
     }
@@ -180,13 +181,4 @@ impl<R: Files<File = File> + Drop> Device for FileDevice<R> {
     fn close(&mut self, file: usize) {
         let _closed = self.files.remove(&file);
     }
-}
-
-/// Writes bytes into a file from an offset on, a piece at a time. If this fails, some of them may be written.
-fn write_pieces(opened: &File, offset: usize, bytes: &[u8]) -> io::Result<()> {
-    for start in (0..bytes.len()).step_by(PIECE) {
-        let end = bytes.len().min(start.saturating_add(PIECE));
-        opened.write_all_at(&bytes[start..end], offset.wrapping_add(start) as u64)?;
-    }
-    Ok(())
 }

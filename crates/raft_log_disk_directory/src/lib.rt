@@ -4,6 +4,7 @@
 
 pub mod fault;
 pub mod file_device;
+mod growing;
 mod load;
 mod log_names;
 mod making_durable;

@@ -79,7 +79,7 @@ fn closed(rt: &HostRuntime, steps: &[(Step, Told)]) -> Result<(MemoryFileSystem,
     let mut system = prepared(rt.alloc())?;
     let mut pipe = opened(rt, &mut system, nothing(rt))?;
     let count = answered_so(rt, &mut system, &mut pipe, steps);
-    pipe.close(rt.alloc(), rt, &mut system);
+    let _ = pipe.close(rt.alloc(), rt, &mut system);
     Ok((system, count))
 }
 

@@ -313,7 +313,7 @@ fn answered(
     let mut system = prepared(rt.alloc())?;
     let mut pipe = pipe(rt, &mut system, target_size, capacity)?;
     let count = answered_so(rt, &mut system, &mut pipe, steps);
-    pipe.close(rt.alloc(), rt, &mut system);
+    let _ = pipe.close(rt.alloc(), rt, &mut system);
     Ok(count.wrapping_add(sized_so(&system, closed)))
 }
 

@@ -135,15 +135,17 @@ impl Run {
         true
     }
 
-    /// The pipe is closed: what is known of its records then.
+    /// The pipe is closed: what is known of its records then. If the close succeeds, all of them are durable.
     pub fn close(self, rt: &HostRuntime, system: &mut MemoryFileSystem) -> Closed {
         let Run {
             queue,
             pipe,
-            known,
+            mut known,
             ..
         } = self;
-        pipe.close(rt.alloc(), rt, system);
+        if pipe.close(rt.alloc(), rt, system).is_ok() {
+            known.sync();
+        }
         Closed { queue, known }
     }
 

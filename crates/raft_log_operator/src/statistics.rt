@@ -232,11 +232,20 @@ fn entries_of(
     for index in first..last.saturating_add(1) {
         match engine.get_entry::<RawEntries>(group, index) {
             Ok(Some(entry)) => entries.add(entry.bytes.len()),
-            Ok(None) | Err(Error::Corruption(_)) => {}
-            Err(error) => return Err(CommandFault::Log(error)),
+            Ok(None) => {}
+            Err(error) => {
+                if !is_damage(&error) {
+                    return Err(CommandFault::Log(error));
+                }
+            }
         }
     }
     Ok(entries)
+}
+
+/// Whether a call failed as the bytes of an entry are damaged.
+fn is_damage(error: &Error) -> bool {
+    matches!(error, Error::Corruption(_))
 }
 
 /// The keys of a group, with their values.

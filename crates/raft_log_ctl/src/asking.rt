@@ -3,16 +3,16 @@ use raft_log_operator::{Command, Place, Task, USAGE, Unread};
 use std::env::Env;
 use std::{env, io};
 
-/// The status where it is done.
+/// The status if the task was done.
 pub const DONE: u8 = 0;
 
-/// The status where it is done, and a hole or a damaged file was found.
+/// The status if the task was done, and found a hole, a gap or a damaged file.
 pub const FAULTY: u8 = 1;
 
 /// The status for wrong arguments.
 pub const WRONG_ARGUMENTS: u8 = 2;
 
-/// The status where something was refused.
+/// The status if the task failed.
 pub const REFUSED: u8 = 3;
 
 /// What is left to do.

@@ -1,7 +1,7 @@
 //! What an operator does with a log in a real directory: `raft_log_ctl --help` tells how.
 //!
-//! The status is 0 where it is done, 1 where it is done and a hole or a damaged file was found, 2 for wrong arguments,
-//! and 3 where something was refused, which standard error tells.
+//! The status is 0 if the task was done, 1 if it was done and found a hole, a gap or a damaged file, 2 for wrong
+//! arguments, and 3 if the task failed, which standard error tells.
 #![tactic(auto)]
 
 mod asking;

@@ -86,7 +86,7 @@ fn open<R: Files<File = File> + Threads + AllocGlobal + Clone + Sync + Drop>(
         Some(spill) => Some(spill.as_str()),
         None => None,
     };
-    let fault = match open_directories(rt, place.directory.as_str(), spill) {
+    let fault = match open_for(rt, place.directory.as_str(), spill, task) {
         Ok(files) => return Ok((files, place)),
         Err(fault) => fault,
     };
@@ -94,6 +94,19 @@ fn open<R: Files<File = File> + Threads + AllocGlobal + Clone + Sync + Drop>(
         return open_home(rt, &place);
     }
     Err(Refusal::Directory(fault))
+}
+
+/// Opens the directories of a log as a task needs them: `unpad` alone writes to the log's files.
+fn open_for<R: Files<File = File> + Threads + AllocGlobal + Clone + Sync + Drop>(
+    rt: &R,
+    directory: &str,
+    spill: Option<&str>,
+    task: &Task,
+) -> Result<DirectoryFileSystem<FileDevice<R>>, DirectoryFault> {
+    match task {
+        Task::Unpad => open_directories(rt, directory, spill),
+        _ => open_directories(rt, directory, spill),
+    }
 }
 
 /// Whether a path isn't opened as it is no directory's.

@@ -30,6 +30,7 @@ Copies place target old new =
 abbrev pub FailsToCopy : Place → String Global → CommandFault → Disk → Disk → Type 0
 FailsToCopy place target (Log error) old new = FailsToFork (kept_settings place) (string_bytes target) error old new
 FailsToCopy place target (Output _) old new = Copies place target old new
+FailsToCopy place target _ old new = ⊥
 
 -- of the log in these directories each file that has an alignment was written anew without it
 abbrev pub TakesPadding : Place → Disk → Disk → Type 0
@@ -40,6 +41,7 @@ TakesPadding place old new =
 abbrev pub FailsToTakePadding : Place → CommandFault → Disk → Disk → Type 0
 FailsToTakePadding place (Log error) old new = FailsToUnpad (directories_of (kept_settings place)) error old new
 FailsToTakePadding place (Output _) old new = TakesPadding place old new
+FailsToTakePadding place _ old new = ⊥
 
 -- what a task leaves that is done: only a copy and the taking out of padding change anything
 abbrev pub Does : Place → Task → Disk → Disk → Type 0

@@ -1,36 +1,43 @@
-//! A log is checked for holes.
-use crate::copying::copy_of;
-use crate::fault::{CommandFault, Outcome};
-use crate::place::Place;
-use crate::settings::kept_settings;
-use log::Log;
-use raft_log_closed::check_log;
-use raft_log_engine::{FileSystem, RecoveryMode};
-use std::alloc::Global;
-use std::io::Write;
-use std::thread::Threads;
+//! A log is checked for damage, gaps and holes.
+ghost use Rattle.std.specs.Prelude.{◌≡◌, IfOk};
+ghost use Rattle.raft_log_operator.specs.Sound.{IsIntactLog};
 
-/// Writes a line for each group of a log that has a hole in its entries, or that there is none. The check is one of a
-/// copy in memory, whose damaged files are cut behind their last good record; the log isn't touched.
+use crate::fault::{CommandFault, Outcome};
+use crate::inspection::{QueueFaults, inspect, write_files};
+use crate::place::Place;
+use raft_log_engine::FileSystem;
+use std::alloc::Global;
+use std::io;
+use std::io::Write;
+
+/// Writes a line for each gap in the numbers of a queue's files, for each file that an open would cut or refuse, and
+/// for each group that has a hole in its entries; or that there is none of these. Nothing is changed.
 ///
-/// Refused as `copy_of` and `check_log` are, and where the output is refused.
-pub fn check<R: Threads + Log + Sync, F: FileSystem, W: Write>(
-    rt: &R,
+/// Fails as `inspect` does, and if the output isn't written.
+pub fn check<F: FileSystem, W: Write>(
     alloc: Global,
     files: &F,
     place: &Place,
     out: &mut W,
-) -> Result<Outcome, CommandFault> {
-    let mut copy = copy_of(alloc, files, place)?;
-    let mut config = kept_settings(alloc, place)?;
-    config.recovery_mode = RecoveryMode::TolerateAnyCorruption;
-    let findings = check_log(rt, alloc, config, &mut copy)?;
-    if findings.is_empty() {
-        writeln!(out, "no holes")?;
+) -> Result<Outcome, CommandFault>
+    ensures { IfOk result (λ outcome. outcome ≡ Outcome.Sound → IsIntactLog place.now (F.disk files.now)) }
+{
+    let faults = inspect(alloc, files, place)?;
+    if faults.are_none() {
+        writeln!(out, "no holes, no damage, no gaps")?;
         return Ok(Outcome::Sound);
     }
-    for (group, last) in findings {
+    write_files(&faults.append, out)?;
+    write_files(&faults.rewrite, out)?;
+    write_holes(&faults.append, out)?;
+    write_holes(&faults.rewrite, out)?;
+    Ok(Outcome::Faulty)
+}
+
+/// Writes a line for each group of a queue that has a hole.
+fn write_holes<W: Write>(faults: &QueueFaults, out: &mut W) -> io::Result<()> {
+    for (group, last) in &faults.holes {
         writeln!(out, "group {group}: a hole behind entry {last}")?;
     }
-    Ok(Outcome::Faulty)
+    Ok(())
 }

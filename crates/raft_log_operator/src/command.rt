@@ -11,8 +11,9 @@ use thiserror::Error;
 pub const USAGE: &str = "usage: raft_log_ctl COMMAND
 
   dump PATH         each item of the log in the directory PATH, or of the one log file PATH
-  check DIR         each group of the log in DIR that has a hole in its entries, or 'no holes'
-  stat DIR          what the log in DIR holds, in numbers
+  check DIR         what is wrong with the log in DIR: missing files, damaged files, and groups with a hole in
+                    their entries; or 'no holes, no damage, no gaps'
+  stat DIR          what the log in DIR holds, in numbers; missing and damaged files are listed first
   fork DIR TARGET   copies the log in DIR into TARGET, which may not be there, and tells each copy
   unpad DIR         writes each file of the log in DIR that has an alignment anew without it, and tells which,
                     or 'no padding'
@@ -21,7 +22,7 @@ pub const USAGE: &str = "usage: raft_log_ctl COMMAND
 Of a log with a second directory that one is named last, by --spill-dir DIR2. A log that is in use
 is refused. Only fork and unpad change anything: fork makes TARGET, unpad writes files of the log anew.
 
-status: 0 done; 1 done, and a hole or a damaged file was found; 2 wrong arguments; 3 refused
+status: 0 done; 1 done, and a hole, a missing or a damaged file was found; 2 wrong arguments; 3 refused
 ";
 
 /// What the program is asked for.
@@ -38,7 +39,7 @@ pub enum Command {
 pub enum Task {
     /// The log's items are listed, or those of one file.
     Dump,
-    /// The log is checked for holes.
+    /// The log is checked for damage, gaps and holes.
     Check,
     /// What the log holds is told in numbers.
     Stat,

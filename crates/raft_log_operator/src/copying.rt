@@ -1,14 +1,15 @@
 //! A log's directories are copied into memory.
 use crate::fault::CommandFault;
 use crate::place::Place;
-use raft_log_engine::{FileSystem, Handle, MemoryFileSystem, Permission};
+use raft_log_engine::{Error, FileSystem, Handle, MemoryFileSystem, Permission};
 use std::alloc::Global;
+use std::io::ErrorKind;
 
 /// How many bytes are copied at a time.
 const PIECE: usize = 1 << 20;
 
 /// A file system in memory that holds a log's directories with all their files, synced. What is done with it doesn't
-/// touch the log. Refused where a directory isn't there or a file isn't read, and for want of memory.
+/// touch the log. Fails if a directory isn't listed, if a file isn't opened or read, and if memory is short.
 pub fn copy_of<F: FileSystem>(
     alloc: Global,
     files: &F,
@@ -30,16 +31,33 @@ fn copy_directory<F: FileSystem>(
     copy: &mut MemoryFileSystem,
 ) -> Result<(), CommandFault> {
     let mut room = vec![in alloc; 0u8; PIECE]?;
-    let names = files.list(directory)?;
-    copy.create_dir(directory)?;
+    let names = match files.list(directory) {
+        Ok(names) => names,
+        Err(kind) => return Err(CommandFault::at(alloc, directory, Error::Io(kind))),
+    };
+    if let Err(kind) = copy.create_dir(directory) {
+        return Err(CommandFault::at(alloc, directory, Error::Io(kind)));
+    }
     for name in names {
         let path = format!(in alloc; "{directory}/{name}")?;
-        let from = files.open(path.as_str(), Permission::ReadOnly)?;
-        let to = copy.create(path.as_str())?;
-        copy_file(files, from, copy, to, &mut room)?;
-        copy.sync(to)?;
+        if let Err(kind) = copy_path(files, path.as_str(), copy, &mut room) {
+            return Err(CommandFault::at(alloc, path.as_str(), Error::Io(kind)));
+        }
     }
     Ok(())
+}
+
+/// Copies the file with this path, and syncs the copy.
+fn copy_path<F: FileSystem>(
+    files: &F,
+    path: &str,
+    copy: &mut MemoryFileSystem,
+    room: &mut [u8],
+) -> Result<(), ErrorKind> {
+    let from = files.open(path, Permission::ReadOnly)?;
+    let to = copy.create(path)?;
+    copy_file(files, from, copy, to, room)?;
+    copy.sync(to)
 }
 
 /// Copies the bytes of a file.
@@ -49,7 +67,7 @@ fn copy_file<F: FileSystem>(
     copy: &mut MemoryFileSystem,
     to: Handle,
     room: &mut [u8],
-) -> Result<(), CommandFault> {
+) -> Result<(), ErrorKind> {
     let size = files.file_size(from)?;
     for offset in (0..size).step_by(PIECE) {
         let count = files.read_at(from, offset, room)?;

@@ -11,8 +11,8 @@ use std::io::Write;
 /// `find_files`, and of each its items in order, up to its end or up to what is broken in it, which is told in the
 /// place of the rest and is `Faulty`. Nothing is changed.
 ///
-/// Refused where the files aren't found or a file isn't read, for want of memory, and where the output is refused;
-/// what was written stays.
+/// Fails if the files aren't found, if a file isn't read, if memory is short, and if the output isn't written; what was
+/// written stays.
 pub fn dump<F: FileSystem, W: Write>(
     alloc: Global,
     files: &F,
@@ -36,7 +36,12 @@ fn dump_file<F: FileSystem, W: Write>(
     out: &mut W,
 ) -> Result<Outcome, CommandFault> {
     let mut outcome = Outcome::Sound;
-    for answer in LogItemReader::new_file_reader(alloc, files, file.path.as_str())? {
+    let path = file.path.as_str();
+    let items = match LogItemReader::new_file_reader(alloc, files, path) {
+        Ok(items) => items,
+        Err(error) => return Err(CommandFault::at(alloc, path, error)),
+    };
+    for answer in items {
         match answer {
             Ok(item) => {
                 let line = ItemLine {
@@ -46,7 +51,7 @@ fn dump_file<F: FileSystem, W: Write>(
                 writeln!(out, "{line}")?;
             }
             Err(Error::Memory) => return Err(CommandFault::Log(Error::Memory)),
-            Err(Error::Io(kind)) => return Err(CommandFault::Log(Error::Io(kind))),
+            Err(Error::Io(kind)) => return Err(CommandFault::at(alloc, path, Error::Io(kind))),
             Err(error) => {
                 let text = FileText(file.id);
                 writeln!(out, "{text}: broken: {error}")?;

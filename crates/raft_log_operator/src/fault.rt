@@ -1,6 +1,7 @@
 //! Why a command isn't done.
 use raft_log_engine::Error as LogError;
-use std::alloc::{AllocError, AllocFailed};
+use raft_log_inspection::InspectFault;
+use std::alloc::{AllocError, AllocFailed, Global};
 use std::io;
 use std::io::ErrorKind;
 use thiserror::Error;
@@ -11,6 +12,14 @@ pub enum CommandFault {
     /// The log refused, or the file system below it.
     #[error("{0}")]
     Log(LogError),
+    /// A call on the file or the directory with this path failed.
+    #[error("{path}: {error}")]
+    File {
+        /// The path.
+        path: String,
+        /// Why the call failed.
+        error: LogError,
+    },
     /// What was to be told wasn't written.
     #[error("the output was refused: {0}")]
     Output(io::Error),
@@ -21,8 +30,24 @@ pub enum CommandFault {
 pub enum Outcome {
     /// Nothing is wrong.
     Sound,
-    /// A hole or a damaged file was found.
+    /// A hole, a gap or a damaged file was found.
     Faulty,
+}
+
+impl CommandFault {
+    /// The failure of a call on a path: `Log` if memory is short, else `File`.
+    pub(crate) fn at(alloc: Global, path: &str, error: LogError) -> CommandFault {
+        if matches!(
+            error,
+            LogError::Memory | LogError::Io(ErrorKind::OutOfMemory)
+        ) {
+            return CommandFault::Log(LogError::Memory);
+        }
+        match String::from_str(alloc, path) {
+            Ok(path) => CommandFault::File { path, error },
+            Err(_) => CommandFault::Log(LogError::Memory),
+        }
+    }
 }
 
 impl From<LogError> for CommandFault {
@@ -31,9 +56,12 @@ impl From<LogError> for CommandFault {
     }
 }
 
-impl From<ErrorKind> for CommandFault {
-    fn from(kind: ErrorKind) -> CommandFault {
-        CommandFault::Log(LogError::Io(kind))
+impl From<InspectFault> for CommandFault {
+    fn from(fault: InspectFault) -> CommandFault {
+        match fault {
+            InspectFault::Path { path, error } => CommandFault::File { path, error },
+            InspectFault::Log(error) => CommandFault::Log(error),
+        }
     }
 }
 

@@ -16,8 +16,8 @@ pub struct FoundFile {
 }
 
 /// The log files of a log: Rewrite's first, each queue's by their numbers, and of two with one number first that of
-/// the main directory. Where the main path is a file's, it is that one. Refused where a directory isn't there, or the
-/// one file has no log file's name.
+/// the main directory. If the main path is a file's, it is that one. Fails if a directory isn't listed, or if the one
+/// file doesn't have a log file's name.
 pub fn find_files<F: FileSystem>(
     alloc: Global,
     files: &F,
@@ -25,28 +25,30 @@ pub fn find_files<F: FileSystem>(
 ) -> Result<Vec<FoundFile>, CommandFault> {
     let mut found = Vec::new(alloc);
     let path = place.directory.as_str();
-    match add_files(alloc, files, path, &mut found) {
-        Err(CommandFault::Log(Error::Io(ErrorKind::InvalidInput))) => {
-            found.push(one_file(alloc, path)?)?
-        }
-        Err(fault) => return Err(fault),
-        Ok(()) => {}
+    match files.list(path) {
+        Ok(names) => add_files(alloc, path, names.as_slice(), &mut found)?,
+        Err(ErrorKind::InvalidInput) => found.push(one_file(alloc, path)?)?,
+        Err(kind) => return Err(CommandFault::at(alloc, path, Error::Io(kind))),
     }
     if let Some(spill) = &place.spill_directory {
-        add_files(alloc, files, spill.as_str(), &mut found)?;
+        let path = spill.as_str();
+        match files.list(path) {
+            Ok(names) => add_files(alloc, path, names.as_slice(), &mut found)?,
+            Err(kind) => return Err(CommandFault::at(alloc, path, Error::Io(kind))),
+        }
     }
     found.sort_by_key(|file| file.id)?;
     Ok(found)
 }
 
-/// Adds the log files of a directory.
-fn add_files<F: FileSystem>(
+/// Adds the log files among those with these names in a directory.
+fn add_files(
     alloc: Global,
-    files: &F,
     directory: &str,
+    names: &[String],
     found: &mut Vec<FoundFile>,
 ) -> Result<(), CommandFault> {
-    for name in files.list(directory)? {
+    for name in names {
         if let Some(id) = FileId::parse_file_name(name.as_str()) {
             let path = format!(in alloc; "{directory}/{name}")?;
             found.push(FoundFile { id, path })?;

@@ -1,5 +1,5 @@
-//! What an operator does with a log that nobody has open: its items are listed, it is checked for holes, copied, told
-//! in numbers, and rid of padding.
+//! What an operator does with a log that nobody has open: its items are listed, it is checked for damage, gaps and
+//! holes, copied, told in numbers, and rid of padding.
 //!
 //! [`Command::parse`] reads what is asked for, and [`run`] does it over a file system that is lent.
 #![tactic(auto)]
@@ -11,6 +11,7 @@ mod dumping;
 mod fault;
 mod forking;
 mod found_file;
+mod inspection;
 pub mod place;
 mod running;
 mod settings;

@@ -1,5 +1,6 @@
 //! A task is done.
-ghost use Rattle.std.specs.Prelude.{IfErr, OnOk};
+ghost use Rattle.std.specs.Prelude.{◌≡◌, IfErr, IfOk, OnOk};
+ghost use Rattle.raft_log_operator.specs.Sound.{IsSoundFor};
 ghost use Rattle.raft_log_operator.specs.Tasks.{Does, FailsToDo};
 
 use crate::checking::check;
@@ -16,8 +17,11 @@ use std::alloc::Global;
 use std::io::Write;
 use std::thread::Threads;
 
-/// Does a task on the log in these directories of a file system, and writes what it tells. Only a copy
-/// and the taking out of padding change anything. Refused as the task is.
+/// Does a task on the log in these directories of a file system, and writes what it tells. Only a copy and the taking
+/// out of padding change anything. Fails as the task does.
+///
+/// `Sound` of a check says that the log is intact: no file is damaged, no number is missing, and no group has a hole.
+/// `Sound` of `Stat` says so of the files alone.
 pub fn run<R: Threads + Log + Sync, F: FileSystem, W: Write>(
     rt: &R,
     alloc: Global,
@@ -29,10 +33,12 @@ pub fn run<R: Threads + Log + Sync, F: FileSystem, W: Write>(
     ensures ok { OnOk result (Does place.now task.now (F.disk files.old) (F.disk files.new)) }
     ensures err { IfErr result (λ fault.
         FailsToDo place.now task.now fault (F.disk files.old) (F.disk files.new)) }
+    ensures sound { IfOk result (λ outcome. outcome ≡ Outcome.Sound
+        → IsSoundFor place.now task.now (F.disk files.old)) }
 {
     match task {
         Task::Dump => dump(alloc, files, place, out),
-        Task::Check => check(rt, alloc, files, place, out),
+        Task::Check => check(alloc, files, place, out),
         Task::Stat => stat(rt, alloc, files, place, out),
         Task::Fork(target) => fork_into(rt, alloc, files, place, target, out),
         Task::Unpad => unpad_log(alloc, files, place, out),

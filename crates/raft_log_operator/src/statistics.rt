@@ -1,7 +1,11 @@
 //! What a log holds, in numbers.
+ghost use Rattle.std.specs.Prelude.{◌≡◌, IfOk};
+ghost use Rattle.raft_log_operator.specs.Sound.{HasIntactFiles};
+
 use crate::copying::copy_of;
 use crate::fault::{CommandFault, Outcome};
 use crate::found_file::{FoundFile, find_files};
+use crate::inspection::{inspect, write_files};
 use crate::place::Place;
 use crate::settings::kept_settings;
 use crate::text::queue_word;
@@ -12,7 +16,7 @@ use raft_log_engine::{
 };
 use raft_log_record_items::RawEntries;
 use std::alloc::Global;
-use std::io::Write;
+use std::io::{ErrorKind, Write};
 use std::thread::Threads;
 
 /// How much there is of something.
@@ -35,12 +39,35 @@ impl Amount {
     }
 }
 
-/// Writes what a log holds: of each queue its files, of each group its entries and keys; and of the bytes of all
-/// files how many are of entries, keys and values that stand, and how many of ones that are gone or stand twice. The
-/// groups are those of an engine that is opened, by the usual settings, over a copy in memory; the log isn't touched.
+/// Writes what a log holds: the gaps between its files and the damaged ones, as a check does; of each queue its files,
+/// of each group its entries and keys; and of the bytes of all files how many are of entries, keys and values that
+/// stand, and how many of ones that are gone, damaged or stand twice.
 ///
-/// Refused as `copy_of` is, where that engine isn't opened or an entry isn't read, and where the output is refused.
+/// The groups are those of an engine that is opened, by the usual settings, over a copy in memory. If it isn't opened,
+/// a line tells why, and all bytes of files are told alone. The log isn't touched.
+///
+/// Fails as `inspect` and `copy_of` do, if the engine doesn't read an entry, and if the output isn't written.
 pub fn stat<R: Threads + Log + Sync, F: FileSystem, W: Write>(
+    rt: &R,
+    alloc: Global,
+    files: &F,
+    place: &Place,
+    out: &mut W,
+) -> Result<Outcome, CommandFault>
+    ensures { IfOk result (λ outcome. outcome ≡ Outcome.Sound → HasIntactFiles place.now (F.disk files.now)) }
+{
+    let faults = inspect(alloc, files, place)?;
+    write_files(&faults.append, out)?;
+    write_files(&faults.rewrite, out)?;
+    let told = tell_all(rt, alloc, files, place, out)?;
+    if faults.has_clean_files() {
+        return Ok(told);
+    }
+    Ok(Outcome::Faulty)
+}
+
+/// Writes the numbers. `Faulty` if no engine is opened over the copy.
+fn tell_all<R: Threads + Log + Sync, F: FileSystem, W: Write>(
     rt: &R,
     alloc: Global,
     files: &F,
@@ -50,22 +77,33 @@ pub fn stat<R: Threads + Log + Sync, F: FileSystem, W: Write>(
     let found = find_files(alloc, files, place)?;
     let copy = copy_of(alloc, files, place)?;
     let held = bytes_held(alloc, &copy, found.as_slice())?;
-    let append = tell_queue(&copy, found.as_slice(), LogQueue::Append, out)?;
-    let rewrite = tell_queue(&copy, found.as_slice(), LogQueue::Rewrite, out)?;
+    let append = tell_queue(alloc, &copy, found.as_slice(), LogQueue::Append, out)?;
+    let rewrite = tell_queue(alloc, &copy, found.as_slice(), LogQueue::Rewrite, out)?;
+    let all = append.saturating_add(rewrite);
     let config = kept_settings(alloc, place)?;
     let mut engine = match Engine::open_with_file_system(rt, alloc, config, copy) {
         Ok(engine) => engine,
-        Err(refused) => return Err(CommandFault::Log(refused.error)),
+        Err(refused) => return tell_refusal(&refused.error, all, out),
     };
     let live = tell_groups(&mut engine, out)?;
-    let all = append.saturating_add(rewrite);
     let garbage = held.saturating_sub(live);
     writeln!(out, "{all} bytes of files: {live} live, {garbage} garbage")?;
     Ok(Outcome::Sound)
 }
 
+/// Writes that no engine is opened, and how many bytes all files have. Want of memory is a failure.
+fn tell_refusal<W: Write>(error: &Error, all: u64, out: &mut W) -> Result<Outcome, CommandFault> {
+    if matches!(error, Error::Memory) {
+        return Err(CommandFault::Log(Error::Memory));
+    }
+    writeln!(out, "no groups, since an open fails: {error}")?;
+    writeln!(out, "{all} bytes of files")?;
+    Ok(Outcome::Faulty)
+}
+
 /// Writes the files of a queue, and answers how many bytes they have.
 fn tell_queue<W: Write>(
+    alloc: Global,
     files: &MemoryFileSystem,
     found: &[FoundFile],
     queue: LogQueue,
@@ -75,8 +113,11 @@ fn tell_queue<W: Write>(
     let mut span = None;
     for file in found {
         if file.id.queue == queue {
-            let handle = files.open(file.path.as_str(), Permission::ReadOnly)?;
-            size.add(files.file_size(handle)?);
+            let path = file.path.as_str();
+            match size_of(files, path) {
+                Ok(bytes) => size.add(bytes),
+                Err(kind) => return Err(CommandFault::at(alloc, path, Error::Io(kind))),
+            }
             let first = span.map_or(file.id.seq, |span: (u64, u64)| span.0);
             span = Some((first, file.id.seq));
         }
@@ -91,6 +132,12 @@ fn tell_queue<W: Write>(
         None => writeln!(out, "{word}: no files")?,
     }
     Ok(bytes)
+}
+
+/// How many bytes the file with this path has.
+fn size_of(files: &MemoryFileSystem, path: &str) -> Result<usize, ErrorKind> {
+    let handle = files.open(path, Permission::ReadOnly)?;
+    files.file_size(handle)
 }
 
 /// How many bytes of entries, keys and values stand in files, whether they are still meant or not.
@@ -109,7 +156,11 @@ fn bytes_held(
 /// How many bytes of entries, keys and values stand in a file, up to what is broken in it.
 fn bytes_in(alloc: Global, files: &MemoryFileSystem, path: &str) -> Result<u64, CommandFault> {
     let mut held = 0u64;
-    for answer in LogItemReader::new_file_reader(alloc, files, path)? {
+    let items = match LogItemReader::new_file_reader(alloc, files, path) {
+        Ok(items) => items,
+        Err(error) => return Err(CommandFault::at(alloc, path, error)),
+    };
+    for answer in items {
         match answer {
             Ok(item) => held = held.saturating_add(bytes_of(&item)),
             Err(Error::Memory) => return Err(CommandFault::Log(Error::Memory)),
@@ -170,7 +221,7 @@ fn tell_group<W: Write>(
     Ok(entries.saturating_add(bytes))
 }
 
-/// The entries of a group from one index to another.
+/// The entries of a group from one index to another, but for those whose bytes are damaged.
 fn entries_of(
     engine: &mut Engine<MemoryFileSystem>,
     group: u64,
@@ -179,11 +230,22 @@ fn entries_of(
 ) -> Result<Amount, CommandFault> {
     let mut entries = Amount::none();
     for index in first..last.saturating_add(1) {
-        if let Some(entry) = engine.get_entry::<RawEntries>(group, index)? {
-            entries.add(entry.bytes.len());
+        match engine.get_entry::<RawEntries>(group, index) {
+            Ok(Some(entry)) => entries.add(entry.bytes.len()),
+            Ok(None) => {}
+            Err(error) => {
+                if !is_damage(&error) {
+                    return Err(CommandFault::Log(error));
+                }
+            }
         }
     }
     Ok(entries)
+}
+
+/// Whether a call failed as the bytes of an entry are damaged.
+fn is_damage(error: &Error) -> bool {
+    matches!(error, Error::Corruption(_))
 }
 
 /// The keys of a group, with their values.

@@ -1,5 +1,6 @@
-//! How items of a log are told.
+//! How items of a log are told, and what is wrong with its files.
 use raft_log_engine::{Command, FileId, LogItem, LogItemContent, LogQueue};
+use raft_log_inspection::{Damage, Gap};
 use raft_log_record_items::{EntryIndexes, KeyValue, OpType};
 use std::fmt;
 
@@ -60,6 +61,46 @@ impl fmt::Display for FileText {
         let seq = self.0.seq;
         let queue = queue_word(self.0.queue);
         write!(f, "{queue} {seq}")
+    }
+}
+
+/// A gap between files of a queue, as the line that tells it.
+#[derive(Clone, Copy)]
+pub struct GapLine {
+    /// The queue.
+    pub queue: LogQueue,
+    /// The gap.
+    pub gap: Gap,
+}
+
+impl fmt::Display for GapLine {
+    fn fmt<W: fmt::Write>(&self, f: &mut fmt::Formatter<W>) -> fmt::Result {
+        let queue = queue_word(self.queue);
+        let Gap { before, behind } = self.gap;
+        if behind <= before {
+            return write!(f, "{queue}: two files have the number {behind}");
+        }
+        let first = before.saturating_add(1);
+        let last = behind.saturating_sub(1);
+        if first == last {
+            write!(f, "{queue}: file {first} is missing")
+        } else {
+            write!(f, "{queue}: files {first} to {last} are missing")
+        }
+    }
+}
+
+/// A damaged file, as the line that tells it.
+#[derive(Clone, Copy)]
+pub struct DamageLine<'a>(pub &'a Damage);
+
+impl fmt::Display for DamageLine<'_> {
+    fn fmt<W: fmt::Write>(&self, f: &mut fmt::Formatter<W>) -> fmt::Result {
+        let file = FileText(self.0.id);
+        let offset = self.0.offset;
+        let cause = &self.0.cause;
+        let path = self.0.path.as_str();
+        write!(f, "{file}: damaged at offset {offset}: {cause}: {path}")
     }
 }
 

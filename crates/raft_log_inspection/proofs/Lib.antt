@@ -1,0 +1,2 @@
+mod ZeroLemmas
+mod FileLemmas

@@ -1,0 +1,77 @@
+-- A log's files without damage and gaps, and what an inspection of them says.
+use Rattle.std.specs.Prelude.{◌≡◌, ◌≤◌, ◌⊎◌, ◌==◌, ℕ, Bool, true, Option, Some, None, List, [], All, drop, unwrap_or}
+use Rattle.std.specs.List.{AllZip}
+use Rattle.std.specs.List.Sorted.{IsPermutation}
+use Rattle.raft_log_record_base.specs.declared.errors.Error.{Error}
+use Rattle.raft_log_record_base.specs.declared.pipe_log.LogQueue.{LogQueue}
+use Rattle.raft_log_record_base.specs.declared.pipe_log.LogQueue.TheVariants as queues
+use Rattle.raft_log_record_base.specs.declared.pipe_log.FileId.{FileId}
+use Rattle.raft_log_disk.specs.Disk.{Disk}
+use Rattle.raft_log_file_reader.specs.Source.{bytes_in}
+use Rattle.raft_log_table_segments.specs.Machines.{Batch}
+use Rattle.raft_log_table_segments.specs.Segments.{all_batches}
+use Rattle.raft_log_open_scan.specs.Found.{AreFilesIn, found_path}
+use Rattle.raft_log_open_scan.specs.Runs.{IsConsecutive}
+use Rattle.raft_log_open_scan.specs.declared.file_kind.FileKind.{FileKind}
+use Rattle.raft_log_open_scan.specs.declared.file_kind.FileKind.TheVariants as kinds
+use Rattle.raft_log_open_scan.specs.declared.scanning.found.FoundFile.{FoundFile}
+use Rattle.raft_log_open_found.specs.Batches.{TakesBatches, said}
+use Rattle.raft_log_open_found.specs.Reading.{FileReading, ReadsBytes}
+use Rattle.raft_log_inspection.specs.declared.inspecting.QueueInspection.{QueueInspection}
+
+-- the kind of a queue's files
+abbrev pub kind_of : LogQueue → FileKind
+kind_of queues.Append = kinds.Append
+kind_of queues.Rewrite = kinds.Rewrite
+
+-- which file of the log it is
+abbrev pub id_of : LogQueue → FoundFile → FileId
+id_of queue file = record { queue = queue; seq = file.seq }
+
+-- all these bytes are zeros
+abbrev pub AreZeros : List ℕ → Type 0
+AreZeros bytes = All (λ byte. byte ≡ 0) bytes
+
+-- Nothing is wrong with a file whose last whole record ends here: the file ends there too. A queue's last file may
+-- have zeros alone after it, as a log grows it ahead; without a header it may have nothing but zeros.
+abbrev pub IsUndamaged : Bool → List ℕ → Option ℕ → Option Error → Type 0
+IsUndamaged last content end fault =
+    (fault ≡ None) ⊎ ((last ≡ true) × AreZeros (drop (unwrap_or end 0) content))
+
+-- A file of a queue whose last file has the number `newest`: its bytes read as a header and these batches, each of a
+-- whole record, its entry block too, and nothing is wrong after the last one.
+pub record IsIntactFile (queue : LogQueue) (directories : List (List ℕ)) (d : Disk) (newest : ℕ) (file : FoundFile)
+    (batches : List Batch) : Type 0 where
+  pub node : ℕ
+  pub named : d.names (found_path (kind_of queue) directories file) ≡ Some node
+  pub read : FileReading
+  pub reads : ReadsBytes true (id_of queue file) (bytes_in (d.files node)) read
+  pub undamaged : IsUndamaged (file.seq == newest) (bytes_in (d.files node)) read.end read.fault
+  pub holds : batches ≡ said (id_of queue file) read.batches
+
+-- The numbers of a queue's log files in these directories are consecutive, none of the files is damaged, and these
+-- are their batches, file after file.
+pub record IsIntactQueue (queue : LogQueue) (directories : List (List ℕ)) (d : Disk) (batches : List Batch)
+    : Type 0 where
+  pub found : List FoundFile
+  pub all : AreFilesIn (kind_of queue) directories d found
+  pub files : List FoundFile
+  pub same : IsPermutation found files
+  pub consecutive : IsConsecutive files
+  pub newest : ℕ
+  pub highest : All (λ file. file.seq ≤ newest) files
+  pub segments : List (List Batch)
+  pub intact : AllZip (IsIntactFile queue directories d newest) files segments
+  pub joined : batches ≡ all_batches segments
+
+-- nothing wrong was found
+abbrev pub IsClean : QueueInspection → Type 0
+IsClean inspection = (inspection.gaps.items ≡ []) × (inspection.damages.items ≡ [])
+
+-- A machine was handed the records of a queue's files. If nothing wrong was found, the queue is intact, and these
+-- are its records.
+pub record InspectsQueue {M : Type 0} (reads : List Batch → M → Type 0) (queue : LogQueue)
+    (directories : List (List ℕ)) (d : Disk) (old new : M) (inspection : QueueInspection) : Type 0 where
+  pub batches : List Batch
+  pub taken : TakesBatches reads batches old new
+  pub intact : IsClean inspection → IsIntactQueue queue directories d batches

@@ -1,0 +1,25 @@
+//! The highest number of files.
+
+ghost use Rattle.std.specs.Prelude.{◌≤◌, All};
+
+use raft_log_open_scan::scanning::found::FoundFile;
+use raft_log_record_base::FileSeq;
+
+/// The highest number that one of these files has; 0 of no files.
+pub(crate) fn newest_of(files: &[FoundFile]) -> FileSeq
+    ensures { All (λ file. file.seq ≤ result) files.now }
+{
+    let mut newest = 0;
+    for file in files {
+        newest = higher(newest, file.seq);
+    }
+    newest
+}
+
+/// The higher one of two numbers.
+fn higher(one: FileSeq, other: FileSeq) -> FileSeq
+    ensures one { one ≤ result }
+    ensures other { other ≤ result }
+{
+    if one < other { other } else { one }
+}

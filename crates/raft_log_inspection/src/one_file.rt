@@ -1,0 +1,96 @@
+//! One file of a queue is read.
+
+ghost use Rattle.std.specs.Prelude.{◌≡◌, ◌<◌, None, IfOk, OnOk, length, map};
+ghost use Rattle.std.specs.String.{string_bytes};
+ghost use Rattle.raft_log_file_reader.specs.Source.{bytes_in};
+ghost use Rattle.raft_log_inspection.specs.Intact.{IsUndamaged};
+ghost use Rattle.raft_log_inspection.specs.Steps.{HandsFile};
+
+use crate::damage::Damage;
+use crate::fault::InspectFault;
+use crate::listing::{kind_of, path_of};
+use crate::zeros::has_zeros_from;
+use raft_log_disk::{FileSystem, Permission};
+use raft_log_file_reader::LogItemBatchFileReader;
+use raft_log_open_found::{FoundFile as ReadFile, ListedFile, read_file};
+use raft_log_open_scan::scanning::found::FoundFile;
+use raft_log_record_base::{FileId, FileSeq, LogQueue};
+use raft_log_table_segments::ReplayMachine;
+use std::alloc::Global;
+
+/// Reads a file of a queue, whose last file has the number `newest`, hands a machine its records, and returns the
+/// file's damage, if it has any. Fails as `inspect_queue` does.
+pub(crate) fn read_one<F: FileSystem, M: ReplayMachine>(
+    alloc: Global,
+    files: &F,
+    reader: &mut LogItemBatchFileReader,
+    queue: LogQueue,
+    paths: &[String],
+    file: FoundFile,
+    newest: FileSeq,
+    machine: &mut M,
+) -> Result<Option<Damage>, InspectFault>
+    requires { file.path_id < length paths.now }
+    ensures { IfOk result (HandsFile (M.reads queue) queue (map string_bytes paths.now)
+        (F.disk files.now) newest file machine.old machine.new) }
+{
+    let path = path_of(alloc, kind_of(queue), paths, file)?;
+    let handle = match files.open(path.as_str(), Permission::ReadOnly) {
+        Ok(handle) => handle,
+        Err(kind) => return Err(InspectFault::refused(alloc, path.as_str(), kind)),
+    };
+    // Of a file that is read as a last one each record's entry block is looked at.
+    let listed = ListedFile {
+        id: FileId {
+            queue,
+            seq: file.seq,
+        },
+        handle,
+        is_last: true,
+    };
+    match read_file(alloc, files, reader, listed, machine) {
+        Ok(read) => damage_of(alloc, files, path, listed, file.seq == newest, read),
+        Err(error) => Err(InspectFault::Path { path, error }),
+    }
+}
+
+/// The damage of a file that was read, which is its queue's last one or not, if it has any.
+fn damage_of<F: FileSystem>(
+    alloc: Global,
+    files: &F,
+    path: String,
+    listed: ListedFile,
+    is_last: bool,
+    read: ReadFile,
+) -> Result<Option<Damage>, InspectFault>
+    ensures declined { OnOk result (read.declined ≡ None) }
+    ensures undamaged { IfOk result (λ damage. damage ≡ None → IsUndamaged is_last
+        (bytes_in ((F.disk files.now).files listed.handle.file)) read.end read.fault) }
+{
+    let ReadFile {
+        format: _format,
+        end,
+        fault,
+        declined,
+    } = read;
+    if let Some(error) = declined {
+        return Err(InspectFault::Log(error));
+    }
+    let Some(cause) = fault else {
+        return Ok(None);
+    };
+    let offset = end.unwrap_or(0);
+    if is_last {
+        match has_zeros_from(alloc, files, listed.handle, offset) {
+            Ok(true) => return Ok(None),
+            Ok(false) => {}
+            Err(error) => return Err(InspectFault::Path { path, error }),
+        }
+    }
+    Ok(Some(Damage {
+        id: listed.id,
+        path,
+        offset,
+        cause,
+    }))
+}

@@ -1,0 +1,84 @@
+//! The end of a file is told from zeros.
+
+ghost use Rattle.std.specs.Prelude.{◌≡◌, ◌↔◌, ◌<◌, IsTrue, IfOk, drop, length};
+ghost use Rattle.raft_log_file_reader.specs.Source.{bytes_in};
+ghost use Rattle.raft_log_inspection.specs.Intact.{AreZeros};
+ghost use Rattle.raft_log_inspection.specs.Steps.{IsPieceOf};
+
+use raft_log_disk::{FileSystem, Handle};
+use raft_log_record_base::Result;
+use std::alloc::Global;
+use std::io::ErrorKind;
+
+/// How many bytes are read at a time.
+const PIECE: usize = 1 << 16;
+
+/// A piece of a file that was read.
+#[derive(Clone, Copy)]
+pub(crate) struct Piece {
+    /// How many bytes it has.
+    pub(crate) count: usize,
+    /// Whether they are all zeros.
+    pub(crate) has_zeros: bool,
+}
+
+/// Whether a file has zeros alone from this offset on; nothing is that too. `Io` if a read fails, or `Memory`.
+pub(crate) fn has_zeros_from<F: FileSystem>(
+    alloc: Global,
+    files: &F,
+    handle: Handle,
+    offset: usize,
+) -> Result<bool>
+    ensures { IfOk result (λ zeros. IsTrue zeros
+        ↔ AreZeros (drop offset (bytes_in ((F.disk files.now).files handle.file)))) }
+{
+    let size = files.file_size(handle)?;
+    let mut room = vec![in alloc; 0u8; PIECE]?;
+    let zeros = scan_zeros(files, handle, offset, size, room.as_mut_slice())?;
+    Ok(zeros)
+}
+
+/// Whether a file of this size has zeros alone from this offset on; as many bytes are read at a time as the room has.
+fn scan_zeros<F: FileSystem>(
+    files: &F,
+    handle: Handle,
+    offset: usize,
+    size: usize,
+    room: &mut [u8],
+) -> Result<bool, ErrorKind>
+    requires some { 0 < length room.old }
+    requires whole { size ≡ length (bytes_in ((F.disk files.now).files handle.file)) }
+    ensures { IfOk result (λ zeros. IsTrue zeros
+        ↔ AreZeros (drop offset (bytes_in ((F.disk files.now).files handle.file)))) }
+{
+    let mut at = offset;
+    while at < size {
+        let piece = read_piece(files, handle, at, room)?;
+        if !piece.has_zeros {
+            return Ok(false);
+        }
+        at += piece.count;
+    }
+    Ok(true)
+}
+
+/// Reads bytes from an offset on into the room.
+fn read_piece<F: FileSystem>(
+    files: &F,
+    handle: Handle,
+    at: usize,
+    room: &mut [u8],
+) -> Result<Piece, ErrorKind>
+    ensures { IfOk result (IsPieceOf (bytes_in ((F.disk files.now).files handle.file)) at (length room.old)) }
+{
+    let count = files.read_at(handle, at, room)?;
+    let has_zeros = are_zeros(&room[..count]);
+    Ok(Piece { count, has_zeros })
+}
+
+/// Whether all bytes are zeros.
+fn are_zeros(bytes: &[u8]) -> bool
+    ensures { IsTrue result ↔ AreZeros bytes.now }
+{
+    bytes.iter().all(|byte| *byte == 0)
+}

@@ -1,5 +1,5 @@
 -- A batch that was filled with a change.
-use Rattle.std.proofs.Common.{◌≡◌, ℕ, ◌<◌, ◌≤◌, ◌^◌, refl, sym, ap, subst, ◌∙◌, arith}
+use Rattle.std.proofs.Common.{◌≡◌, ℕ, ◌<◌, ◌^◌, refl, sym, ap, subst, ◌∙◌, arith}
 use Rattle.raft_log_record_frames.specs.Record.{record_len}
 use Rattle.raft_log_record_batches.specs.declared.log_batch.BatchState.{BatchState}
 use Rattle.raft_log_record_batches.specs.declared.log_batch.BatchState.TheVariants.{Filling}
@@ -10,7 +10,7 @@ use Rattle.raft_voter_outline.specs.declared.outline.decision.Change.{Change}
 use Rattle.raft_voter_outline.specs.declared.outline.decision.Write.{Write}
 use Rattle.raft_voter_outline.specs.declared.outline.decision.Write.TheVariants as writes
 use Rattle.raft_voter_messages.specs.declared.reply.VoterState.{VoterState}
-use Rattle.raft_voter_outline.specs.Outlines.{ChangesEach, IsChangeOf, sent_of}
+use Rattle.raft_voter_outline.specs.Outlines.{ChangesEach, sent_of}
 use Rattle.raft_voter_outline.specs.State.{State}
 use Rattle.raft_voter_records.specs.Changes.{IsFresh, with_change, with_state, with_write}
 use Rattle.raft_voter_record_laws.proofs.Saying.{changes_are_said}

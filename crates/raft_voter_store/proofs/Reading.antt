@@ -1,11 +1,10 @@
 -- One more entry is read.
-use Rattle.std.proofs.Common.{◌≡◌, ℕ, ◌+◌, ◌<◌, ◌^◌, List, [], ◌∷◌, ◌++◌, length, map, length-take, take, get_or, true, IsTrue, refl, sym, ap, subst, ◌∙◌, arith}
+use Rattle.std.proofs.Common.{◌≡◌, ℕ, ◌+◌, ◌<◌, ◌^◌, List, [], ◌∷◌, ◌++◌, length, map, length-take, take, get_or, sym, ap, subst, ◌∙◌, arith}
 use Rattle.std.proofs.lemmas.Bool.Decides.{nat_tests}
 use Rattle.std.proofs.lemmas.List.{length-map, map-append, take_more}
 use Rattle.raft_log_record_items.specs.declared.raw_message.RawMessage.{RawMessage}
 use Rattle.raft_voter_messages.specs.declared.reply.Entry.{Entry}
-use Rattle.raft_voter_messages.specs.Ranges.{fits}
-use Rattle.raft_voter_messages.specs.StoredForms.{IsEntry, stored_entry_fits}
+use Rattle.raft_voter_messages.specs.StoredForms.{IsEntry}
 use Rattle.raft_voter.specs.Laws.{AreReadAs}
 
 -- an entry that is read stands below 2 ^ 63

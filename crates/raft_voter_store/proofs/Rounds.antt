@@ -3,19 +3,16 @@ use Rattle.std.proofs.Common.{◌≡◌, ℕ, zero, suc, ◌<◌, ◌≤◌, ◌
 use Rattle.std.specs.Prelude.{◌⊎◌, slice_get, take}
 use Rattle.raft_log_disk.specs.Causes.{IsLater}
 use Rattle.raft_log_record_base.specs.declared.errors.Error.{Error}
-use Rattle.raft_log_record_base.specs.declared.errors.Error.TheVariants as errors
-use Rattle.raft_log_engine.specs.raft_log_engine_laws.specs.Shows.{Home, Shows, has_failed}
-use Rattle.raft_log_engine.specs.raft_log_engine_laws.specs.Syncing.{FailsToSyncAppend, NotSynced, SyncsAppend}
+use Rattle.raft_log_engine.specs.raft_log_engine_laws.specs.Shows.{Shows, has_failed}
+use Rattle.raft_log_engine.specs.raft_log_engine_laws.specs.Syncing.{NotSynced, SyncsAppend}
 use Rattle.raft_voter_messages.specs.declared.reply.Reply.{Reply}
 use Rattle.raft_voter_messages.specs.declared.reply.Reply.TheVariants as replies
 use Rattle.raft_voter_messages.specs.declared.request.Request.{Request}
 use Rattle.raft_voter_messages.specs.Ranges.{in_range}
 use Rattle.raft_voter_outline.specs.State.{State}
-use Rattle.raft_voter.specs.Rounds.{World}
 use Rattle.raft_voter.specs.Service.{is_refused, refused_from}
-use Rattle.raft_voter_standing_laws.specs.Ends.{Answered, GaveUp, Unsynced, Went}
+use Rattle.raft_voter_standing_laws.specs.Ends.{Went}
 use Rattle.raft_voter_standing_laws.specs.Requests.{Broke, Served, TurnedDown}
-use Rattle.raft_voter_standing_laws.specs.Standing.{AreOutlines, Keeps}
 use Rattle.raft_voter_standing_laws.proofs.Composing.{later_same, later_twice}
 use Rattle.raft_voter_standing_laws.proofs.Ending.{rounds_end}
 use Rattle.raft_voter_standing_laws.proofs.Going.{rounds_go_on}

@@ -1,12 +1,12 @@
 -- The store meets what is asked of a service of rounds.
-use Rattle.std.proofs.Common.{◌≡◌, ◌∙◌, ℕ, ◌≤◌, true, false, List, [], length, Result, Ok, Err, IfErr, IfOk, refl, sym, ap, subst, inl, inr, arith}
+use Rattle.std.proofs.Common.{◌≡◌, ℕ, true, false, List, [], length, Result, Ok, Err, IfErr, IfOk, refl, sym, ap, subst, inl, inr, arith}
 use Rattle.std.specs.Prelude.{◌⊎◌, IsTrue}
 use Rattle.raft_log_engine.specs.raft_log_engine_laws.specs.Shows.{Home, Shows, has_failed}
 use Rattle.raft_voter_messages.specs.declared.reply.Reply.{Reply}
 use Rattle.raft_voter_messages.specs.declared.request.Request.{Request}
 use Rattle.raft_voter_outline.specs.State.{State}
 use Rattle.raft_voter.specs.Rounds.{World, after, are_rising}
-use Rattle.raft_voter.specs.Service.{AnswersRound, CutRound, CutsOff, FailsAs, IsOpenAt, MayFollow, Service, TakesNothing, TookNone, TookSome, refused_from, uncut}
+use Rattle.raft_voter.specs.Service.{AnswersRound, CutsOff, FailsAs, IsOpenAt, MayFollow, TakesNothing, TookNone, TookSome, refused_from}
 use Rattle.raft_voter.specs.declared.service.Cause.{Cause}
 use Rattle.raft_voter.specs.declared.service.Cause.TheVariants as causes
 use Rattle.raft_voter_standing_laws.specs.Ends.{GaveUp, Unsynced}
@@ -16,7 +16,7 @@ use Rattle.raft_voter_standing_laws.proofs.Ending.{left_behind_rounds}
 use Rattle.raft_voter_standing_laws.proofs.Keeping.{engines_leave_logs, voters_are_left}
 use Rattle.raft_voter_standing_laws.proofs.Places.{rising, told_rounds_are_answered}
 use Rattle.raft_voter_store.specs.Rounds.{AreExcused, CutsRoundOff, RoundIsAnswered}
-use Rattle.raft_voter_store.specs.Service.{HasFailedCall, LeavesAt, LeavesBehind, MayRefuse, ServesVoters, service_in, voter_service}
+use Rattle.raft_voter_store.specs.Service.{HasFailedCall, LeavesAt, LeavesBehind, MayRefuse, service_in, voter_service}
 use Rattle.raft_voter_store.specs.Service.LeavesAt.{left, running}
 
 -- what two clauses say of a refusal

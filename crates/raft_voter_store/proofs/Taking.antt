@@ -1,5 +1,5 @@
 -- One request: each exit is a call of one law.
-use Rattle.std.proofs.Common.{◌≡◌, ℕ, ◌<◌, ◌^◌, ◌==◌, Bool, true, false, if◌then◌else◌, List, [], map, Option, Some, None, refl, sym, ap, subst, inl, inr, ◌∙◌, arith}
+use Rattle.std.proofs.Common.{◌≡◌, ℕ, ◌<◌, ◌^◌, ◌==◌, true, false, if◌then◌else◌, List, [], map, Option, Some, None, refl, sym, ap, subst, inl, inr, ◌∙◌, arith}
 use Rattle.std.proofs.Math.Path.{fun_ext}
 use Rattle.std.specs.Prelude.{◌⊎◌, OnSome}
 use Rattle.std.specs.Borrow.{MutBor}
@@ -29,7 +29,7 @@ use Rattle.raft_voter_outlines.specs.Kept.{kept_of, kept_or_fresh, outlines_in}
 use Rattle.raft_voter_outlines.specs.Lending.{HasOutline}
 use Rattle.raft_voter.specs.Laws.{AreReadAs}
 use Rattle.raft_voter_standing_laws.specs.Laws.{IsBare}
-use Rattle.raft_voter_standing_laws.specs.Reads.{IsCounted, IsRaw, ReadsNone}
+use Rattle.raft_voter_standing_laws.specs.Reads.{IsCounted, IsRaw}
 use Rattle.raft_voter_standing_laws.specs.Requests.{SaysChange, Served, StepsOutlines, TurnedDown}
 use Rattle.raft_voter_standing_laws.specs.Requests.WasTurnedDown.{no_memory}
 use Rattle.raft_voter_standing_laws.proofs.Fetching.{fetched_entries_are_read, unfetched_entries_are_unread}

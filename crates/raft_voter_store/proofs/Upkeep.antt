@@ -1,13 +1,9 @@
 -- Purges change no voter: each exit is a call of one law.
-use Rattle.std.proofs.Common.{◌≡◌, ℕ, List, inl, inr, sym, subst, Result, Ok, Err, IfOk, OnOk}
-use Rattle.std.specs.Prelude.{◌⊎◌}
+use Rattle.std.proofs.Common.{inl, inr, sym, subst, Result, Ok, Err, IfOk, OnOk}
 use Rattle.raft_log_record_base.specs.declared.errors.Error.{Error}
 use Rattle.raft_log_engine.specs.raft_log_engine_core.specs.Purging.{StopsPurgingExpired, StopsRewritingAppend}
 use Rattle.raft_voter_standing_laws.specs.raft_log_engine_laws.specs.Fetching.{HadFailed}
-use Rattle.raft_voter_standing_laws.specs.raft_log_engine_laws.specs.Shows.{Home, LogMap, Shows}
-use Rattle.raft_voter_standing_laws.specs.raft_log_engine_laws.specs.Holding.{Holds}
-use Rattle.raft_voter_standing_laws.specs.raft_log_engine_laws.specs.Settled.{HoldsSettled}
-use Rattle.raft_voter_standing_laws.specs.raft_log_engine_laws.proofs.Settling.{settled_held}
+use Rattle.raft_voter_standing_laws.specs.raft_log_engine_laws.specs.Shows.{Shows}
 use Rattle.raft_voter_standing_laws.specs.Calls.{KeepsMap, KeepsOrLeavesMap}
 use Rattle.raft_voter_standing_laws.specs.Standing.{Keeps}
 use Rattle.raft_voter_standing_laws.proofs.Keeping.{purges_keep_voters}

@@ -1,5 +1,4 @@
 -- What a purge makes of a store's voters.
-use Rattle.std.specs.Prelude.{◌≡◌}
 use Rattle.raft_log_record_base.specs.declared.errors.Error.{Error}
 use Rattle.raft_log_engine.specs.raft_log_engine_laws.specs.Shows.{Home, Shows}
 use Rattle.raft_voter.specs.Rounds.{World}

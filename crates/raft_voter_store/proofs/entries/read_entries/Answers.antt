@@ -1,4 +1,4 @@
-use Rattle.std.proofs.Common.{◌∙◌, List, ℕ, arith, sym, subst}
+use Rattle.std.proofs.Common.{List, ℕ, arith, subst}
 use Rattle.raft_voter_messages.specs.StoredForms.{IsEntry}
 use Rattle.raft_voter_store.proofs.Reading.{read_more}
 use Rattle.raft_voter_store.proofs.entries.read_entries.Goals as goal

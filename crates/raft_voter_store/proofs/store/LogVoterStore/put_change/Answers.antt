@@ -1,6 +1,5 @@
 use Rattle.std.proofs.Common.{subst, sym, ◌∙◌}
 use Rattle.std.proofs.lemmas.Result.{on_err_weaker, on_ok_weaker}
-use Rattle.raft_log_engine.specs.raft_log_engine_core.specs.Reads.{shows_of}
 use Rattle.raft_voter_outline.specs.Outlines.{ChangesEach}
 use Rattle.raft_voter_outline.specs.State.{State}
 use Rattle.raft_voter_outlines.specs.Kept.{outlines_in}

@@ -1,7 +1,9 @@
 //! A task is done on a log in real directories.
 use crate::asking::{DONE, FAULTY, REFUSED};
 use log::Log;
-use raft_log_disk_directory::{DirectoryFault, DirectoryFileSystem, FileDevice, open_directories};
+use raft_log_disk_directory::{
+    DirectoryFault, DirectoryFileSystem, FileDevice, open_directories, open_directories_for_reading,
+};
 use raft_log_operator::{CommandFault, Outcome, Place, Task, run};
 use std::alloc::AllocError;
 use std::fs::File;
@@ -105,7 +107,7 @@ fn open_for<R: Files<File = File> + Threads + AllocGlobal + Clone + Sync + Drop>
 ) -> Result<DirectoryFileSystem<FileDevice<R>>, DirectoryFault> {
     match task {
         Task::Unpad => open_directories(rt, directory, spill),
-        _ => open_directories(rt, directory, spill),
+        _ => open_directories_for_reading(rt, directory, spill),
     }
 }
 
@@ -123,7 +125,7 @@ fn open_home<R: Files<File = File> + Threads + AllocGlobal + Clone + Sync + Drop
     place: &Place,
 ) -> Result<(DirectoryFileSystem<FileDevice<R>>, Place), Refusal> {
     let (home, path) = place.file_in(rt.alloc())?;
-    let files = open_directories(rt, home.as_str(), None)?;
+    let files = open_directories_for_reading(rt, home.as_str(), None)?;
     let file = Place {
         directory: path,
         spill_directory: None,

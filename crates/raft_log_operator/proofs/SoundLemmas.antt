@@ -37,5 +37,5 @@ intact_files place d faults log clean queues.Append = (log.append.batches, log.a
 intact_files place d faults log clean queues.Rewrite = (log.rewrite.batches, log.rewrite.intact clean.1)
 
 pub intact_log : (place : Place) (d : Disk) (faults : LogFaults) → InspectsLog place d faults → AreNone faults → IsIntactLog place d
-intact_log place d faults log none queues.Append = (log.append.batches, log.append.intact none.0.0, log.append.whole none.1.0)
-intact_log place d faults log none queues.Rewrite = (log.rewrite.batches, log.rewrite.intact none.0.1, log.rewrite.whole none.1.1)
+intact_log place d faults log none queues.Append = (log.append.batches, log.append.intact none.0.0, log.append.whole none.1)
+intact_log place d faults log none queues.Rewrite = (log.rewrite.batches, log.rewrite.intact none.0.1, log.rewrite.whole none.2)

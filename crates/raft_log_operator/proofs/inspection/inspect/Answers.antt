@@ -1,7 +1,7 @@
-use Rattle.std.proofs.Common.{◌≡◌, List, ℕ, ap, map, subst, ◌∙◌}
+use Rattle.std.proofs.Common.{List, ℕ, ap, map, subst, ◌∙◌}
 use Rattle.std.specs.String.{string_bytes}
 use Rattle.raft_log_record_base.specs.declared.pipe_log.LogQueue.TheVariants as queues
-use Rattle.raft_log_operator.specs.Sound.{InspectsOne, directories_in}
+use Rattle.raft_log_operator.specs.Sound.{InspectsOne}
 use Rattle.raft_log_operator.proofs.inspection.inspect.Goals as goal
 
 pub returns : goal.returns

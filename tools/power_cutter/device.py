@@ -69,13 +69,12 @@ class Device:
 
     def copy(self, path):
         """Copies what the device has, past any cache."""
-        handle, room = os.open(self.path, os.O_RDONLY | os.O_DIRECT), mmap.mmap(-1, PIECE)
-        with open(path, "wb") as file:
+        room = mmap.mmap(-1, PIECE)
+        with open(path, "wb") as file, open(self.path, "rb", buffering=0, opener=direct) as device:
             file.truncate(self.size)
             for at in range(0, self.size, PIECE):
-                if self.read(handle, room, at):
+                if self.read(device.fileno(), room, at):
                     os.pwrite(file.fileno(), room, at)
-        os.close(handle)
 
     def read(self, handle, room, at):
         """Reads a piece, and whether it has anything but zeros. A page that can't be read, as one whose write failed, is zeros."""
@@ -90,3 +89,8 @@ class Device:
                     self.unreadable += 1
                 room[place : place + PAGE] = page[:]
         return room[:] != bytes(PIECE)
+
+
+def direct(path, flags):
+    """Opens a device past the page cache."""
+    return os.open(path, flags | os.O_DIRECT)

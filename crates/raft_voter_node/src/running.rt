@@ -37,10 +37,10 @@ pub fn run<R: Threads + Log + Sync + Clock, F: FileSystem + Sync + Drop, I: BufR
         }
     }
     let closed = node.close(rt);
-    match closed.result {
-        Ok(()) => Ok(closed.files),
-        Err(error) => bail!("the log was not closed cleanly: {error}"),
+    if let Err(error) = &closed.result {
+        bail!("the log was not closed cleanly: {error}");
     }
+    Ok(closed.files)
 }
 
 /// Writes lines, and hands them on.

@@ -1,6 +1,7 @@
 -- A key that is put in a log has its value there.
 use Rattle.std.proofs.Common.{◌≡◌, ◌==◌, ℕ, Bool, true, false, List, [], ◌∷◌, ◌++◌, Option, Some, None, inl, inr, refl, sym, ap, ◌∙◌, arith, if◌then◌else◌}
-use Rattle.std.specs.Prelude.{IsTrue, option_map, unwrap_or}
+use Rattle.std.specs.Prelude.{IsTrue, OnOk, Ok, Result, option_map, unwrap_or}
+use Rattle.std.proofs.Common.{subst}
 use Rattle.std.proofs.lemmas.Bool.{false≢true}
 use Rattle.raft_log_engine.specs.raft_log_model_laws.specs.Groups.{taken}
 use Rattle.raft_log_engine.specs.raft_log_model_laws.specs.Item.Record.{Plain}
@@ -9,6 +10,7 @@ use Rattle.raft_log_engine.specs.raft_log_model_laws.specs.Meaning.{Content, say
 use Rattle.raft_log_engine.specs.raft_log_model_laws.specs.Meaning.Slot.{Key}
 use Rattle.raft_log_engine.specs.raft_log_model_laws.specs.Meaning.Content.{Value}
 use Rattle.raft_log_engine.specs.raft_log_model_laws.proofs.Tests.{put_sets}
+use Rattle.raft_log_engine.specs.raft_log_record_base.specs.declared.errors.Error.{Error}
 use Rattle.raft_log_engine.specs.raft_log_record_items.specs.declared.entry.EntryIndex.{EntryIndex}
 use Rattle.raft_log_engine.specs.raft_log_record_items.specs.Items.{put_item}
 use Rattle.raft_log_engine.specs.raft_log_record_marks.specs.Key.{is_internal}
@@ -79,6 +81,10 @@ only_put old new g k v empty puts =
 
 some_items : (b : Batch) (g : ℕ) (k v : List ℕ) → b.items ≡ put_item g k v ∷ [] → b.items ≡ [] → ⊥
 some_items b g k v some none = let clash : put_item g k v ∷ [] ≡ [] = sym some ∙ none in let never : ⊥ = cc in never
+
+-- what holds of a call that succeeded
+pub of_ok : (came : Result (Unit {0}) Error) (v : Unit {0}) (P : Type 0) → came ≡ Ok v → OnOk came P → P
+of_ok came v P is holds = subst (λ (r : Result (Unit {0}) Error). OnOk r P) is holds
 
 -- opened, written, read, closed
 module _ {F : Type 0} (disk : F → Disk) (tells : F → List ℕ → ℕ → Type 0) (config : Config) (g : ℕ) (k v : List ℕ) (old new : F) (found : Option (List ℕ)) where

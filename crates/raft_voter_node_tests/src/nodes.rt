@@ -87,19 +87,19 @@ fn a_node_whose_log_fails_ends(rt: HostRuntime) -> Result<(), Fail> {
     Ok(())
 }
 
-/// With which error a node over these files ends, which is asked nothing; none if it closes.
+/// With which error a node over these files ends, which is asked nothing; no text if it closes.
 fn end_of<R: Threads + Log + Sync + Clock>(
     rt: &R,
     alloc: Global,
     files: MemoryFileSystem,
-) -> anyhow::Result<Option<String>> {
+) -> anyhow::Result<String> {
     let mut config = Config::default(alloc);
     config.dir = String::from_str(alloc, "raft")?;
     let mut input = b"".as_slice();
     let mut output = Vec::new(alloc);
     match run(rt, alloc, config, files, &mut input, &mut output) {
-        Ok(_files) => Ok(None),
-        Err(error) => Ok(Some(format!(in alloc; "{error}")?)),
+        Ok(_files) => Ok(String::new(alloc)),
+        Err(error) => Ok(format!(in alloc; "{error}")?),
     }
 }
 
@@ -113,7 +113,7 @@ fn a_node_whose_close_is_refused_ends_with_that(rt: HostRuntime) -> Result<(), F
     // an open without files makes nine changing calls, and the close's first is a sync
     files.arm(&Fault::Refuse(10))?;
     let ended = end_of(&rt, alloc, files)?;
-    assert!(rt; matches!(ended, Some(text) if text.as_str() == UNCLEAN));
+    assert!(rt; ended.as_str() == UNCLEAN);
     Ok(())
 }
 

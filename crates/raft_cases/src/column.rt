@@ -1,0 +1,42 @@
+//! What a program of cases implements, and how it plays its files.
+use crate::command::Command;
+use crate::fault::CaseFault;
+use crate::playing::{Mode, Playing};
+use std::env::Env;
+use std::fs::File;
+use std::process::ExitCode;
+use std::rt::Files;
+use std::{env, fs, io};
+
+/// The status if a case failed or a file couldn't be read.
+const FAILED: u8 = 1;
+
+/// What the commands of a column do.
+pub trait Column {
+    /// Begins a case: nothing is left of the case before.
+    fn begin(&mut self) -> Result<(), CaseFault>;
+
+    /// Plays a command and returns its answer, of one line or several. No text stands for `ok`.
+    fn answer(&mut self, command: &mut Command) -> Result<String, CaseFault>;
+}
+
+/// Plays the case files that the program's arguments name, and prints a line for each case. The status is 0 if each
+/// answer is the expected one, else 1. If the first argument is `--rewrite`, prints the files with the actual
+/// answers instead.
+pub fn play<R: Env + Files<File = File> + Print + AllocGlobal, C: Column>(
+    rt: &R,
+    column: &mut C,
+) -> io::Result<ExitCode> {
+    let mut mode = Mode::Compares;
+    let mut is_good = true;
+    for word in env::args(rt)?.skip(1) {
+        if word.as_str() == "--rewrite" {
+            mode = Mode::Rewrites;
+        } else {
+            let text = fs::read_to_string(rt, word.as_str())?;
+            let mut playing = Playing::new(rt.alloc(), mode);
+            is_good &= playing.play(rt, column, word.as_str(), text.as_str())?;
+        }
+    }
+    Ok(ExitCode::from(if is_good { 0 } else { FAILED }))
+}

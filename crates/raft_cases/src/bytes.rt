@@ -173,7 +173,11 @@ pub fn dump(alloc: Global, bytes: &[u8]) -> Result<String, AllocError> {
             0
         };
         if zeros < 2 {
-            let line = format!(in alloc; "{offset:6}: {} {}\n", hex(alloc, row)?, letters(alloc, row)?)?;
+            let line = format!(in alloc;
+                "{offset:6}: {} {}\n",
+                hex(alloc, row)?,
+                letters(alloc, row)?
+            )?;
             text.push_str(line.as_str())?;
         } else if zeros == 2 {
             text.push_str("     *\n")?;
@@ -189,7 +193,11 @@ pub fn dump(alloc: Global, bytes: &[u8]) -> Result<String, AllocError> {
 fn letters(alloc: Global, bytes: &[u8]) -> Result<String, AllocError> {
     let mut text = String::new(alloc);
     for byte in bytes.iter() {
-        let letter = if (33..127).contains(byte) { char::from(*byte) } else { '.' };
+        let letter = if (33..127).contains(byte) {
+            char::from(*byte)
+        } else {
+            '.'
+        };
         text.push(letter)?;
     }
     Ok(text)

@@ -117,10 +117,7 @@ impl Command {
     pub fn check_all_taken(&self) -> Result<(), CaseFault> {
         for argument in self.arguments.iter() {
             if !argument.is_taken {
-                return Err(CaseFault::unknown_argument(
-                    self.alloc,
-                    argument.key.as_str(),
-                ));
+                return Err(CaseFault::unknown_argument(self.alloc, argument.key.as_str()));
             }
         }
         Ok(())

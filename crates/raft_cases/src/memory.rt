@@ -22,7 +22,10 @@ pub fn play_on_files(
         "directory" => done(alloc, system.create_dir(command.text("path")?.as_str())),
         "file" => {
             let bytes = command.bytes_if("bytes")?.unwrap_or(Vec::new(alloc));
-            done(alloc, create(system, command.text("path")?.as_str(), bytes.as_slice()))
+            done(
+                alloc,
+                create(system, command.text("path")?.as_str(), bytes.as_slice()),
+            )
         }
         "delete" => done(alloc, system.delete(command.text("path")?.as_str())),
         "rename" => done(

@@ -84,8 +84,12 @@ impl Playing {
         self.end_command(rt, column, name)?;
         match parsed {
             Line::Definition(defined, value) => {
-                let definition =
-                    Definition::new(self.alloc, defined, value, self.definitions.as_slice())?;
+                let definition = Definition::new(
+                    self.alloc,
+                    defined,
+                    value,
+                    self.definitions.as_slice(),
+                )?;
                 self.definitions.push(definition)?;
             }
             Line::Case(case) => {
@@ -171,7 +175,10 @@ impl Playing {
         } else if actual.as_str() != expected.as_str() {
             self.has_failed = true;
             self.is_good = false;
-            println!(rt; "FAILED {name}:{}: case {}: {command}", self.place, self.case)?;
+            println!(rt;
+                "FAILED {name}:{}: case {}: {command}",
+                self.place, self.case
+            )?;
             println!(rt; "expected:\n{expected}actual:\n{actual}")?;
         }
         Ok(())

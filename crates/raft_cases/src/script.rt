@@ -86,7 +86,11 @@ fn push_named(
 ) -> Result<(), AllocError> {
     for definition in definitions.iter().rev() {
         if let Some(rest) = piece.strip_prefix(definition.name.as_str()) {
-            if rest.is_empty() || rest.starts_with("+") || rest.starts_with(" ") || rest.starts_with("*") {
+            if rest.is_empty()
+                || rest.starts_with("+")
+                || rest.starts_with(" ")
+                || rest.starts_with("*")
+            {
                 text.push_str(definition.value.as_str())?;
                 return text.push_str(rest);
             }

@@ -1,12 +1,13 @@
 //! Two batches on their way to a file, and an atomic group.
-use raft_log_record_commands::answers::{done, failed, show_items, truth};
-use crate::batch_steps::{add, add_messages, finish, mark, merge, reserve, sign, take_back};
-use crate::batch_steps::{put_message, record, written};
-use raft_log_record_commands::spelled::items;
-use raft_log_record_commands::words::{block, byte_lists, file, numbers, version};
+use crate::batch_steps::{
+    add, add_messages, finish, mark, merge, put_message, record, reserve, sign, take_back, written,
+};
 use raft_cases::{CaseFault, Command, show_bytes};
 use raft_log_record_base::{FileId, LogFileContext, LogQueue};
 use raft_log_record_batches::{AtomicGroupBuilder, AtomicGroupStatus, LogBatch};
+use raft_log_record_commands::answers::{done, failed, show_items, truth};
+use raft_log_record_commands::spelled::items;
+use raft_log_record_commands::words::{block, byte_lists, file, numbers, version};
 use raft_log_record_items::LogItem;
 use raft_log_record_marks::Marking;
 use std::alloc::{AllocError, Global};
@@ -46,7 +47,10 @@ impl Batches {
             },
             "sign" => self.sign(command)?,
             "record" => self.record()?,
-            "written" => done(alloc, written(alloc, &mut self.batch, block(alloc, command)?))?,
+            "written" => done(
+                alloc,
+                written(alloc, &mut self.batch, block(alloc, command)?),
+            )?,
             _ => return self.play_rest(name, command),
         };
         Ok(Some(answer))
@@ -123,14 +127,20 @@ impl Batches {
     fn add_messages(&mut self, command: &mut Command) -> Result<String, CaseFault> {
         let group = command.number("group")?;
         let entries = byte_lists(self.alloc, command, "entries")?;
-        done(self.alloc, add_messages(self.alloc, &mut self.batch, group, entries))
+        done(
+            self.alloc,
+            add_messages(self.alloc, &mut self.batch, group, entries),
+        )
     }
 
     /// `put-message group=N key=BYTES value=BYTES`: the key gets a message.
     fn put_message(&mut self, command: &mut Command) -> Result<String, CaseFault> {
         let group = command.number("group")?;
         let (key, value) = (command.bytes("key")?, command.bytes("value")?);
-        done(self.alloc, put_message(self.alloc, &mut self.batch, group, key.as_slice(), value))
+        done(
+            self.alloc,
+            put_message(self.alloc, &mut self.batch, group, key.as_slice(), value),
+        )
     }
 
     /// `mark-part part=begin|middle|end [number=N]`: marks the batch as a part of the atomic group, a new one if it

@@ -1,9 +1,9 @@
 //! A list of items: what is added, its bytes, and what a footer gives.
+use raft_cases::{CaseFault, Command, show_bytes};
+use raft_log_record_base::{Error, FileId, LogFileContext, LogQueue};
 use raft_log_record_commands::answers::{done, failed, push_line, show_entry, show_items, truth};
 use raft_log_record_commands::spelled::items;
 use raft_log_record_commands::words::{block, file, version};
-use raft_cases::{CaseFault, Command, show_bytes};
-use raft_log_record_base::{Error, FileId, LogFileContext, LogQueue};
 use raft_log_record_items::{CompressionType, LogItem, LogItemContent, OpType};
 use raft_log_record_lists::LogItemBatch;
 use std::alloc::Global;
@@ -163,7 +163,10 @@ fn add_one(alloc: Global, list: &mut LogItemBatch, item: LogItem) -> Result<(), 
         LogItemContent::Command(command) => Ok(list.add_command(group, command)?),
         LogItemContent::Kv(pair) => match pair.op_type {
             OpType::Put => {
-                let value = pair.value.as_ref().map_or(&[][..], |value| value.as_slice());
+                let value = pair
+                    .value
+                    .as_ref()
+                    .map_or(&[][..], |value| value.as_slice());
                 Ok(list.put(alloc, group, pair.key.as_slice(), value)?)
             }
             OpType::Del => Ok(list.delete(alloc, group, pair.key.as_slice())?),

@@ -1,8 +1,8 @@
 //! Records of a voter's changes.
-use raft_log_record_commands::answers::{failed, show_items};
 use raft_cases::{CaseFault, Command};
 use raft_log_record_base::{Error, Result};
 use raft_log_record_batches::LogBatch;
+use raft_log_record_commands::answers::{failed, show_items};
 use raft_voter_messages::{Items, Request};
 use raft_voter_outline::{Decision, Outline};
 use raft_voter_records::fill_change;
@@ -60,10 +60,7 @@ impl Voters {
 }
 
 /// One entry of this term, without data.
-fn one_entry(
-    alloc: Global,
-    term: u64,
-) -> std::result::Result<Items<(u64, Items<u8>)>, AllocError> {
+fn one_entry(alloc: Global, term: u64) -> std::result::Result<Items<(u64, Items<u8>)>, AllocError> {
     let mut entries = Items::new(alloc);
     entries.push((term, Items::new(alloc)))?;
     Ok(entries)

@@ -73,11 +73,7 @@ impl Column for Records {
 }
 
 /// Plays a command that needs nothing but its arguments; none if it is none of these.
-fn compute(
-    alloc: Global,
-    name: &str,
-    command: &mut Command,
-) -> Result<Option<String>, CaseFault> {
+fn compute(alloc: Global, name: &str, command: &mut Command) -> Result<Option<String>, CaseFault> {
     if let Some(answer) = play_on_records(alloc, name, command)? {
         return Ok(Some(answer));
     }

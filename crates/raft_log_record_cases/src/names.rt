@@ -1,11 +1,11 @@
 //! Names and headers of log files, and padding.
-use raft_log_record_commands::answers::{failed, show_file, truth};
-use raft_log_record_commands::words::{file, version};
 use raft_cases::{CaseFault, Command, show_bytes};
 use raft_log_file_format::{
     FileNameExt, LogFileFormat, build_reserved_file_name, is_zero_padded, parse_reserved_file_name,
 };
 use raft_log_record_base::{FileId, Result};
+use raft_log_record_commands::answers::{failed, show_file, truth};
+use raft_log_record_commands::words::{file, version};
 use std::alloc::Global;
 
 /// Plays a command on names and headers; none if it is none of these.
@@ -18,10 +18,16 @@ pub fn play(
         "name-file" => show_name(alloc, file(alloc, command)?.build_file_name(alloc))?,
         "path-file" => {
             let dir = command.text("dir")?;
-            show_name(alloc, file(alloc, command)?.build_file_path(alloc, dir.as_str()))?
+            show_name(
+                alloc,
+                file(alloc, command)?.build_file_path(alloc, dir.as_str()),
+            )?
         }
         "name-reserved" => {
-            show_name(alloc, build_reserved_file_name(alloc, command.number("file")?))?
+            show_name(
+                alloc,
+                build_reserved_file_name(alloc, command.number("file")?),
+            )?
         }
         "parse-name" => match FileId::parse_file_name(command.text("name")?.as_str()) {
             Some(id) => show_file(alloc, id)?,

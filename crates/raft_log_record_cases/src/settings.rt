@@ -1,11 +1,11 @@
 //! Settings: read from TOML, printed, checked and made whole.
-use raft_log_record_commands::answers::{failed, push_line, truth};
-use raft_log_record_commands::words::text;
 use log::sink::Memory;
 use log::{Level, Logged};
 use raft_cases::{CaseFault, Command};
 use raft_log_file_settings::Config;
 use raft_log_record_base::ReadableSize;
+use raft_log_record_commands::answers::{failed, push_line, truth};
+use raft_log_record_commands::words::text;
 use std::alloc::{AllocError, Global};
 
 /// The keys of the TOML text that a command may say, and one that settings don't have.
@@ -113,7 +113,8 @@ impl Settings {
         };
         let lines = format!(in self.alloc;
             "dir {:?}\nspill-dir {spill}\nformat-version {}\n",
-            config.dir.as_str(), config.format_version
+            config.dir.as_str(),
+            config.format_version
         )?;
         text.push_str(lines.as_str())
     }
@@ -138,7 +139,11 @@ impl Settings {
             config.target_file_size, config.purge_threshold, config.purge_rewrite_garbage_ratio
         )?;
         text.push_str(lines.as_str())?;
-        self.push_size(text, "purge-rewrite-threshold", config.purge_rewrite_threshold)
+        self.push_size(
+            text,
+            "purge-rewrite-threshold",
+            config.purge_rewrite_threshold,
+        )
     }
 
     /// Appends the settings of files that are used again.

@@ -1,7 +1,9 @@
 //! Answers that several commands have.
 use raft_cases::{CaseFault, show_bytes};
 use raft_log_record_base::{Error, FileBlockHandle, FileId, LogQueue};
-use raft_log_record_items::{Bytes, Command, EntryIndex, KeyValue, LogItem, LogItemContent, OpType};
+use raft_log_record_items::{
+    Bytes, Command, EntryIndex, KeyValue, LogItem, LogItemContent, OpType,
+};
 use std::alloc::{AllocError, Global};
 
 /// The answer of a call that fails.
@@ -43,7 +45,12 @@ pub fn show_file(alloc: Global, id: FileId) -> Result<String, AllocError> {
 
 /// A block: its file, where it begins, and its length.
 fn show_block(alloc: Global, block: FileBlockHandle) -> Result<String, AllocError> {
-    format!(in alloc; "{} at {}, {} bytes", show_file(alloc, block.id)?, block.offset, block.len)
+    format!(in alloc;
+        "{} at {}, {} bytes",
+        show_file(alloc, block.id)?,
+        block.offset,
+        block.len
+    )
 }
 
 /// An entry: its index, its length and its offset in the block, and the block if it has one.

@@ -7,11 +7,7 @@ use std::alloc::{AllocError, Global};
 use std::io::ErrorKind;
 
 /// Plays a command on errors, files and versions; none if it is none of these.
-pub fn play(
-    alloc: Global,
-    name: &str,
-    command: &mut Command,
-) -> Result<Option<String>, CaseFault> {
+pub fn play(alloc: Global, name: &str, command: &mut Command) -> Result<Option<String>, CaseFault> {
     let answer = match name {
         "fail" => fail(alloc, command)?,
         "fail-codec" => fail_codec(alloc, command)?,

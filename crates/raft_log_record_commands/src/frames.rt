@@ -10,11 +10,7 @@ use raft_log_record_items::{CompressionType, LogItem};
 use std::alloc::{AllocError, Global};
 
 /// Plays a command on records; none if it is none of these.
-pub fn play(
-    alloc: Global,
-    name: &str,
-    command: &mut Command,
-) -> Result<Option<String>, CaseFault> {
+pub fn play(alloc: Global, name: &str, command: &mut Command) -> Result<Option<String>, CaseFault> {
     let answer = match name {
         "read-header" => read_header(alloc, command)?,
         "read-block" => read_block(alloc, command)?,
@@ -144,9 +140,7 @@ fn damage_record(alloc: Global, command: &mut Command) -> Result<String, CaseFau
     }
     let len = bytes.len();
     let bits = len.saturating_mul(8);
-    Ok(format!(in alloc;
-        "{beginnings} of {len} beginnings, {flipped} of {bits} flipped bits"
-    )?)
+    Ok(format!(in alloc; "{beginnings} of {len} beginnings, {flipped} of {bits} flipped bits")?)
 }
 
 /// How many copies of a record with a bit of this byte flipped are read.

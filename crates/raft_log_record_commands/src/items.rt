@@ -14,11 +14,7 @@ use raft_log_record_items::{
 use std::alloc::Global;
 
 /// Plays a command on items; none if it is none of these.
-pub fn play(
-    alloc: Global,
-    name: &str,
-    command: &mut Command,
-) -> Result<Option<String>, CaseFault> {
+pub fn play(alloc: Global, name: &str, command: &mut Command) -> Result<Option<String>, CaseFault> {
     let answer = match name {
         "read-item" => read(alloc, command)?,
         "read-number" => read_number(alloc, command)?,

@@ -14,11 +14,7 @@ use std::io;
 use std::io::{ErrorKind, Write};
 
 /// Plays a command on numbers; none if it is none of these.
-pub fn play(
-    alloc: Global,
-    name: &str,
-    command: &mut Command,
-) -> Result<Option<String>, CaseFault> {
+pub fn play(alloc: Global, name: &str, command: &mut Command) -> Result<Option<String>, CaseFault> {
     let answer = match name {
         "encode" => encode(alloc, command)?,
         "encode-limited" => encode_limited(alloc, command)?,

@@ -9,11 +9,7 @@ use std::alloc::Global;
 const ALIGNMENT: usize = 4096;
 
 /// Plays a command on sizes; none if it is none of these.
-pub fn play(
-    alloc: Global,
-    name: &str,
-    command: &mut Command,
-) -> Result<Option<String>, CaseFault> {
+pub fn play(alloc: Global, name: &str, command: &mut Command) -> Result<Option<String>, CaseFault> {
     let answer = match name {
         "read-size" => read(alloc, command)?,
         "print-size" => format!(in alloc; "{}", ReadableSize(command.number("bytes")?))?,

@@ -1,10 +1,10 @@
 //! Records of a queue, read in one piece and in segments that are joined.
-use raft_log_record_commands::answers::{failed, push_line};
-use raft_log_record_commands::spelled::items;
 use crate::tables::show_tables;
-use raft_log_record_commands::words::{number_in, numbers, queue_in};
 use raft_cases::{CaseFault, Command};
 use raft_log_record_base::{FileId, LogQueue, Result};
+use raft_log_record_commands::answers::{failed, push_line};
+use raft_log_record_commands::spelled::items;
+use raft_log_record_commands::words::{number_in, numbers, queue_in};
 use raft_log_record_items::LogItem;
 use raft_log_record_items::items::copied;
 use raft_log_table_all::MemTables;
@@ -250,7 +250,7 @@ impl Sweep<'_> {
 }
 
 /// `recover rewrite=RECORDS [cuts=LIST] append=RECORDS groups=LIST`: what is shown of groups where Append is read over
-/// Rewrite, and how many entries and values were read of Rewrite.
+/// Rewrite.
 fn recover(alloc: Global, command: &mut Command) -> std::result::Result<String, CaseFault> {
     let rewrite = records(alloc, command, "rewrite", LogQueue::Rewrite)?;
     let append = records(alloc, command, "append", LogQueue::Append)?;
@@ -262,23 +262,19 @@ fn recover(alloc: Global, command: &mut Command) -> std::result::Result<String, 
         from_right: false,
     };
     match recovered(alloc, rewrite.as_slice(), way, append.as_slice()) {
-        Ok((tables, written)) => {
-            let shown = show_tables(alloc, &tables, groups.as_slice())?;
-            Ok(format!(in alloc; "{shown}{written} read of Rewrite")?)
-        }
+        Ok(tables) => Ok(show_tables(alloc, &tables, groups.as_slice())?),
         Err(error) => failed(alloc, &error),
     }
 }
 
-/// The tables of Append over Rewrite, and how much was read of Rewrite.
+/// The tables of Append over Rewrite.
 fn recovered(
     alloc: Global,
     rewrite: &[ReadRecord],
     way: Way<'_>,
     append: &[ReadRecord],
-) -> Result<(MemTables, u64)> {
+) -> Result<MemTables> {
     let mut whole = read(alloc, rewrite, way)?;
     whole.merge_append_context(segment(alloc, append)?)?;
-    let written = whole.written();
-    Ok((whole.finish(), written))
+    Ok(whole.finish())
 }

@@ -1,10 +1,10 @@
 //! The table of one group: its steps.
-use raft_log_record_commands::answers::{done, failed};
-use raft_log_record_commands::spelled::entries;
 use crate::table_reads;
-use raft_log_record_commands::words::numbers;
 use raft_cases::{CaseFault, Command};
 use raft_log_record_base::{Error, FileBlockHandle, FileId, LogQueue};
+use raft_log_record_commands::answers::{done, failed};
+use raft_log_record_commands::spelled::entries;
+use raft_log_record_commands::words::numbers;
 use raft_log_record_items::{Bytes, EntryIndexes};
 use raft_log_table_lists::GroupFiles;
 use raft_log_table_one::{GlobalStats, MemTable};
@@ -52,7 +52,8 @@ impl Table {
         match name {
             "group" => {
                 let (from, to) = (command.number("from")?, command.number("to")?);
-                self.table.apply_rewrite_atomic_group(GroupFiles { from, to });
+                self.table
+                    .apply_rewrite_atomic_group(GroupFiles { from, to });
             }
             "clean" => self.table.clean(),
             "clear-marks" => self.table.clear_marks(),

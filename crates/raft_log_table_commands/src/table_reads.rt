@@ -1,8 +1,8 @@
 //! What is read of the table of one group.
-use raft_log_record_commands::answers::{failed, push_line, queue_name, show_entry, truth};
-use raft_log_record_commands::words::{byte_lists, file};
 use raft_cases::{CaseFault, Command, show_bytes};
 use raft_log_record_base::LogQueue;
+use raft_log_record_commands::answers::{failed, push_line, queue_name, show_entry, truth};
+use raft_log_record_commands::words::{byte_lists, file};
 use raft_log_record_items::{Bytes, EntryIndex};
 use raft_log_table_one::MemTable;
 use std::alloc::{AllocError, Global};

@@ -1,10 +1,10 @@
 //! The tables of all groups: segments that are read and joined, and batches that are written.
-use raft_log_record_commands::answers::{done, failed, show_items};
-use raft_log_record_commands::spelled::items;
 use crate::table_reads::show_table;
-use raft_log_record_commands::words::{file, numbers};
 use raft_cases::{CaseFault, Command};
 use raft_log_record_base::{Error, FileId, LogQueue};
+use raft_log_record_commands::answers::{done, failed, show_items};
+use raft_log_record_commands::spelled::items;
+use raft_log_record_commands::words::{file, numbers};
 use raft_log_record_items::LogItem;
 use raft_log_table_all::MemTables;
 use raft_log_table_lists::GroupFiles;

@@ -48,10 +48,14 @@ fn count_units(alloc: Global, command: &mut Command) -> Result<String, CaseFault
 /// `divide-size bytes=N by=N` or `by-bytes=N`: the size divided by a number or by a size.
 fn divide(alloc: Global, command: &mut Command) -> Result<String, CaseFault> {
     let size = ReadableSize(command.number("bytes")?);
-    let quotient = match (command.number_if("by")?, command.number_if("by-bytes")?) {
-        (Some(number), _) if number > 0 => (size / number).0,
-        (_, Some(bytes)) if bytes > 0 => size / ReadableSize(bytes),
-        _ => return Err(CaseFault::unreadable(alloc, "by")),
+    let by = command.number_if("by")?.unwrap_or(0);
+    let by_bytes = command.number_if("by-bytes")?.unwrap_or(0);
+    let quotient = if by > 0 {
+        (size / by).0
+    } else if by_bytes > 0 {
+        size / ReadableSize(by_bytes)
+    } else {
+        return Err(CaseFault::unreadable(alloc, "by"));
     };
     Ok(format!(in alloc; "{quotient}")?)
 }

@@ -8,4 +8,4 @@ mod tables;
 
 pub use replay::play_replay;
 pub use table::Table;
-pub use tables::Tables;
+pub use tables::{Tables, show_tables};

@@ -1,7 +1,20 @@
-//! Plays cases of file systems, files and pipes of a log.
+//! Plays cases of file systems, writers, readers and queues of files.
 #![tactic(auto)]
 
+pub mod answers;
 mod files;
+pub mod good_end;
+mod handles;
+mod listening;
+pub mod numbered;
+mod outcomes;
+mod pipes;
+mod queues;
+mod readers;
+mod records;
+mod watched;
+pub mod whole_end;
+mod writers;
 
 use files::Files;
 use raft_cases::play;

@@ -1,0 +1,3 @@
+-- Proofs of what the program promises.
+pub mod AtWork
+pub mod Marks

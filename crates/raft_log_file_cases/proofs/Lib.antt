@@ -1,3 +1,1 @@
--- Proofs of what the program promises.
 pub mod AtWork
-pub mod Marks

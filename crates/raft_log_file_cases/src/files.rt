@@ -1,9 +1,6 @@
 //! The commands of this program, and what they are played on.
 use crate::handles::play_on_handles;
-use crate::listening::tell;
-use crate::outcomes::{done, failed};
-use crate::pipes::{Pipe, open_pipe, play_on_pipe};
-use crate::queues::{Queue, begin, file_path, play_on_queue};
+use crate::outcomes::failed;
 use crate::readers::play_on_readers;
 use crate::records::play_on_batch;
 use crate::watched::{Kept, Watched};
@@ -17,19 +14,6 @@ use raft_log_record_base::Error;
 use raft_log_record_batches::LogBatch;
 use std::alloc::{AllocError, Global};
 
-/// What appends, rotates and syncs.
-#[derive(Drop)]
-enum Open {
-    /// Nothing.
-    Nothing,
-    /// A writer of one file.
-    Writer(LogFileWriter),
-    /// A queue of files, by the calls below a pipe.
-    Queue(Queue),
-    /// A pipe.
-    Pipe(Pipe),
-}
-
 /// A file system in memory, and what writes its files.
 #[derive(Drop)]
 pub struct Files {
@@ -39,8 +23,8 @@ pub struct Files {
     log: Memory,
     /// The batch that is being filled.
     batch: Option<LogBatch>,
-    /// What was opened last.
-    open: Open,
+    /// The writer that was opened last.
+    writer: Option<LogFileWriter>,
 }
 
 impl Files {
@@ -51,64 +35,25 @@ impl Files {
             system: Watched::new(alloc),
             log: Memory::new(alloc),
             batch: None,
-            open: Open::Nothing,
+            writer: None,
         }
     }
 
-    /// Opens a writer, a queue or a pipe, or closes a pipe; none if the command is none of these.
-    fn play_openings(&mut self, command: &mut Command) -> Result<Option<String>, CaseFault> {
-        let alloc = self.alloc;
-        let name = String::from_str(alloc, command.name())?;
-        let (log, system) = (&self.log, &mut self.system);
-        let answer = match name.as_str() {
-            "writer" => match open_writer(alloc, log, system, command)? {
-                Ok(writer) => {
-                    self.open = Open::Writer(writer);
-                    String::new(alloc)
-                }
-                Err(error) => failed(alloc, &error)?,
-            },
-            "queue" => match begin(alloc, log, system, command)? {
-                Ok(queue) => {
-                    self.open = Open::Queue(queue);
-                    String::new(alloc)
-                }
-                Err(text) => text,
-            },
-            "pipe" => match open_pipe(alloc, log, system, command)? {
-                Ok(pipe) => {
-                    self.open = Open::Pipe(pipe);
-                    String::new(alloc)
-                }
-                Err(error) => failed(alloc, &error)?,
-            },
-            _ => return Ok(None),
-        };
-        Ok(Some(answer))
-    }
-
-    /// Plays a command on what was opened last; none if that has no such command.
-    fn play_on_open(&mut self, command: &mut Command) -> Result<Option<String>, CaseFault> {
+    /// Plays a command that opens a writer, or one on it; none if the command is none of these.
+    fn play_on_writers(&mut self, command: &mut Command) -> Result<Option<String>, CaseFault> {
         let (alloc, log, system) = (self.alloc, &self.log, &mut self.system);
-        match &mut self.open {
-            Open::Nothing => Ok(None),
-            Open::Writer(writer) => play_on_writer(alloc, log, system, writer, command),
-            Open::Queue(queue) => play_on_queue(alloc, log, system, queue, command),
-            Open::Pipe(pipe) => play_on_pipe(alloc, log, system, pipe, command),
+        if command.name() == "writer" {
+            return match open_writer(alloc, log, system, command)? {
+                Ok(writer) => {
+                    self.writer = Some(writer);
+                    Ok(Some(String::new(alloc)))
+                }
+                Err(error) => Ok(Some(failed(alloc, &error)?)),
+            };
         }
-    }
-
-    /// Closes the pipe that was opened last; none if none was.
-    fn close_pipe(&mut self) -> Result<Option<String>, CaseFault> {
-        match std::mem::replace(&mut self.open, Open::Nothing) {
-            Open::Pipe(pipe) => {
-                let closed = pipe.close(self.alloc, &self.log, &mut self.system);
-                Ok(Some(done(self.alloc, closed)?))
-            }
-            other => {
-                self.open = other;
-                Ok(None)
-            }
+        match &mut self.writer {
+            Some(writer) => play_on_writer(alloc, log, system, writer, command),
+            None => Ok(None),
         }
     }
 
@@ -127,13 +72,12 @@ impl Files {
     fn play_else(&mut self, command: &mut Command) -> Result<String, CaseFault> {
         let name = String::from_str(self.alloc, command.name())?;
         match name.as_str() {
-            "tell" => tell(self.alloc, command),
-            "file-path" => file_path(self.alloc, command),
             "logged" => self.logged(),
             "short" => {
                 self.system.short_in.set(command.number("call")? as usize);
                 Ok(String::new(self.alloc))
             }
+            "reads" => Ok(format!(in self.alloc; "{}", self.system.take_reads().0)?),
             "keep-beside" => {
                 self.system.kept = kept(command)?;
                 Ok(String::new(self.alloc))
@@ -163,7 +107,11 @@ impl Files {
             return failed(self.alloc, &error);
         }
         let kept = &self.system.kept;
-        let order = if kept.falls { "down to" } else { "in some order to" };
+        let order = if kept.falls {
+            "down to"
+        } else {
+            "in some order to"
+        };
         format!(in self.alloc; "{} deletions, {order} {}", kept.deletions, kept.last)
     }
 
@@ -209,15 +157,7 @@ impl Column for Files {
         if let Some(answer) = self.play_on_record(command)? {
             return Ok(answer);
         }
-        if let Some(answer) = self.play_openings(command)? {
-            return Ok(answer);
-        }
-        if command.name() == "close" {
-            if let Some(answer) = self.close_pipe()? {
-                return Ok(answer);
-            }
-        }
-        if let Some(answer) = self.play_on_open(command)? {
+        if let Some(answer) = self.play_on_writers(command)? {
             return Ok(answer);
         }
         self.play_else(command)

@@ -1,15 +1,11 @@
-//! Plays cases of file systems, writers, readers and queues of files.
+//! Plays cases of file systems, and of writers and readers of log files.
 #![tactic(auto)]
 
 pub mod answers;
 mod files;
 pub mod good_end;
 mod handles;
-mod listening;
-pub mod numbered;
 mod outcomes;
-mod pipes;
-mod queues;
 mod readers;
 mod records;
 mod watched;

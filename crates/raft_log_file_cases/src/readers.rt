@@ -13,7 +13,9 @@ use raft_log_file_format::LogFileFormat;
 use raft_log_file_reader::{LogItemBatchFileReader, LogItemReader};
 use raft_log_record_base::{Error, FileId, LogQueue};
 use raft_log_record_batches::LogItemBatch;
-use raft_log_record_items::{Command as GroupCommand, EntryIndex, KeyValue, LogItem, LogItemContent};
+use raft_log_record_items::{
+    Command as GroupCommand, EntryIndex, KeyValue, LogItem, LogItemContent,
+};
 use std::alloc::{AllocError, Global};
 
 /// Plays a command that reads batches or items; none if the command is none of these.
@@ -44,7 +46,7 @@ fn batches(alloc: Global, system: &Watched, command: &mut Command) -> Result<Str
     let path = command.text("path")?;
     let handle = match system.files.open(path.as_str(), Permission::ReadOnly) {
         Ok(handle) => handle,
-        Err(kind) => Handle {
+        Err(_) => Handle {
             file: usize::MAX,
             permission: Permission::ReadOnly,
         },
@@ -54,14 +56,23 @@ fn batches(alloc: Global, system: &Watched, command: &mut Command) -> Result<Str
         "whole-end" => counted(alloc, whole_end(alloc, system, first_file(), handle))?,
         _ => {
             let block = command.number_or("block", 512)? as usize;
-            let shows_last = command.has("last")?;
             let text = steps(alloc, system, handle, block)?;
-            match (shows_last, text.as_str().split('\n').nth(4)) {
-                (true, Some(line)) => String::from_str(alloc, line)?,
-                _ => text,
+            if command.has("last")? {
+                last(alloc, text.as_str())?
+            } else {
+                text
             }
         }
     })
+}
+
+/// The line of the fourth batch without its reads, or that of the call that opens the file if it fails.
+fn last(alloc: Global, text: &str) -> Result<String, AllocError> {
+    let number = if text.starts_with("error") { 0 } else { 4 };
+    let line = text.split('\n').nth(number).unwrap_or("");
+    let mut parts = line.split(';');
+    let what = parts.next().unwrap_or("");
+    format!(in alloc; "{what};{}", parts.next().unwrap_or(""))
 }
 
 /// A line for each call on a reader: it opens the file, reads four batches, is reset, and reads one more.
@@ -133,10 +144,7 @@ fn header(alloc: Global, opened: &Result<LogFileFormat, Error>) -> Result<String
 }
 
 /// Whether a batch was read.
-fn batch(
-    alloc: Global,
-    found: &Result<Option<LogItemBatch>, Error>,
-) -> Result<String, AllocError> {
+fn batch(alloc: Global, found: &Result<Option<LogItemBatch>, Error>) -> Result<String, AllocError> {
     match found {
         Ok(Some(_)) => String::from_str(alloc, "batch"),
         Ok(None) => String::from_str(alloc, "none"),
@@ -200,7 +208,10 @@ fn entries_line(alloc: Global, entries: &[EntryIndex]) -> Result<String, AllocEr
     match (entries.first(), entries.last()) {
         (Some(first), Some(last)) => {
             let offset = first.entries.map_or(0, |block| block.offset);
-            format!(in alloc; "entries {}..{} in the block at {offset}", first.index, last.index)
+            format!(in alloc;
+                "entries {}..{} in the block at {offset}",
+                first.index, last.index
+            )
         }
         _ => String::from_str(alloc, "no entries"),
     }

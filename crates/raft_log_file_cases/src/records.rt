@@ -111,7 +111,11 @@ fn write_record(
 }
 
 /// The bytes of the record of a batch.
-fn record_of(alloc: Global, mut batch: LogBatch, context: &LogFileContext) -> Result<Vec<u8>, Error> {
+fn record_of(
+    alloc: Global,
+    mut batch: LogBatch,
+    context: &LogFileContext,
+) -> Result<Vec<u8>, Error> {
     if !matches!(batch.state(), BatchState::Filling) {
         return Ok(Vec::new(alloc));
     }

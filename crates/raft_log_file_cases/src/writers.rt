@@ -1,10 +1,13 @@
 //! Commands on one log file: a writer, and reads by its path.
-use crate::outcomes::{counted, done, failed, made, read};
+use crate::outcomes::{failed, made, read};
 use crate::watched::Watched;
 use log::sink::Memory;
 use raft_cases::{CaseFault, Command, hex};
+use raft_log_disk::{FileSystem, Permission};
 use raft_log_file_format::LogFileFormat;
-use raft_log_file_writer::{LogFileReader, LogFileWriter, build_file_reader, build_file_writer};
+use raft_log_file_writer::{
+    LogFileReader, LogFileWriter, build_file_reader, build_file_writer, build_header,
+};
 use raft_log_record_base::{Error, FileBlockHandle, FileId, LogQueue, Version};
 use std::alloc::{AllocError, Global};
 
@@ -21,7 +24,7 @@ pub fn format_of(alloc: Global, command: &mut Command) -> Result<LogFileFormat, 
     }
 }
 
-/// Opens a writer of a log file, which is created if that is asked for.
+/// Opens a writer of a log file, which it creates, or whose header it writes anew, if that is asked for.
 pub fn open_writer(
     alloc: Global,
     log: &Memory,
@@ -31,7 +34,23 @@ pub fn open_writer(
     let path = command.text("path")?;
     let format = format_of(alloc, command)?;
     let creates = command.has("create")?;
+    if command.has("reset")? {
+        return Ok(reset_writer(alloc, log, system, path.as_str(), &format));
+    }
     Ok(build_file_writer(log, alloc, system, path.as_str(), format, creates))
+}
+
+/// Opens a writer of a file, whose header is written anew.
+fn reset_writer(
+    alloc: Global,
+    log: &Memory,
+    system: &mut Watched,
+    path: &str,
+    format: &LogFileFormat,
+) -> Result<LogFileWriter, Error> {
+    let header = build_header(alloc, format)?;
+    let handle = system.open(path, Permission::ReadWrite)?;
+    Ok(LogFileWriter::open(log, system, handle, header.as_slice(), true)?)
 }
 
 /// Plays a command on a writer; none if the command is none of these.

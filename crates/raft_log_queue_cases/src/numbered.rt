@@ -1,7 +1,7 @@
 //! Records that have their number and the mark of the file that they are signed for.
 
 ghost use Rattle.std.specs.Prelude.{◌≡◌, ◌<◌, ◌≤◌, ◌%◌, ◌+◌, vec_len};
-ghost use Rattle.raft_log_file_cases.specs.Numbered.{marked};
+ghost use Rattle.raft_log_queue_cases.specs.Numbered.{marked};
 
 use raft_log_file_pipe::ReactiveBytes;
 use raft_log_record_base::LogFileContext;

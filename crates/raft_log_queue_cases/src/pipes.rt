@@ -1,13 +1,12 @@
 //! Commands on a pipe: one queue of log files.
 use crate::numbered::Numbered;
 use crate::outcomes::{counted, done, failed, read};
-use crate::queues::layout_of;
-use crate::watched::Watched;
-use crate::writers::format_of;
+use crate::queues::{layout_of, new_format};
 use log::sink::Memory;
 use raft_cases::{CaseFault, Command};
 use raft_log_disk::{FileSystem, Permission};
-use raft_log_file_format::{FileNameExt, LogFileFormat};
+use raft_log_disk_memory::MemoryFileSystem;
+use raft_log_file_format::FileNameExt;
 use raft_log_file_layout::LogLayout;
 use raft_log_file_pipe::{FoundFiles, NewFiles, PipeSettings, ReactiveBytes, SinglePipe};
 use raft_log_file_queue::File;
@@ -53,7 +52,7 @@ pub fn queue_of(command: &mut Command) -> Result<LogQueue, CaseFault> {
 pub fn open_pipe(
     alloc: Global,
     log: &Memory,
-    system: &mut Watched,
+    system: &mut MemoryFileSystem,
     command: &mut Command,
 ) -> Result<Result<Pipe, Error>, CaseFault> {
     let queue = queue_of(command)?;
@@ -62,12 +61,11 @@ pub fn open_pipe(
         .unwrap_or(String::from_str(alloc, "d")?);
     let target = command.number("target")? as usize;
     let capacity = command.number_or("keep", 0)? as usize;
-    let format = format_of(alloc, command)?;
     let end = command.number_if("end")?.map(|end| end as usize);
     let mut files = VecDeque::new(alloc);
     if let Some(first) = command.number_if("first")? {
         let last = command.number("last")?;
-        match found(alloc, system, queue, format, (first, last)) {
+        match found(alloc, system, queue, (first, last)) {
             Ok(found) => files = found,
             Err(error) => return Ok(Err(error)),
         }
@@ -78,7 +76,7 @@ pub fn open_pipe(
         recycled: VecDeque::new(alloc),
     };
     let layout = layout_of(alloc, queue, directories.as_str())?;
-    let new_files = match NewFiles::new(alloc, format, target) {
+    let new_files = match NewFiles::new(alloc, new_format(), target) {
         Ok(new_files) => new_files,
         Err(error) => return Ok(Err(error)),
     };
@@ -93,9 +91,8 @@ pub fn open_pipe(
 /// The files of a queue in the directory `d`, from a first to a last one.
 fn found(
     alloc: Global,
-    system: &Watched,
+    system: &MemoryFileSystem,
     queue: LogQueue,
-    format: LogFileFormat,
     (first, last): (u64, u64),
 ) -> Result<VecDeque<File>, Error> {
     let mut files = VecDeque::new(alloc);
@@ -104,7 +101,7 @@ fn found(
         files.push_back(File {
             seq,
             handle: system.open(path.as_str(), Permission::ReadWrite)?,
-            format,
+            format: new_format(),
             path_id: 0,
             reserved: false,
         })?;
@@ -116,7 +113,7 @@ fn found(
 pub fn play_on_pipe(
     alloc: Global,
     log: &Memory,
-    system: &mut Watched,
+    system: &mut MemoryFileSystem,
     pipe: &mut Pipe,
     command: &mut Command,
 ) -> Result<Option<String>, CaseFault> {
@@ -124,7 +121,10 @@ pub fn play_on_pipe(
     let answer = match name.as_str() {
         "append" => append(alloc, log, system, pipe, command)?,
         "rotate" => done(alloc, pipe.rotate(alloc, log, system)),
-        "purge" => counted(alloc, pipe.purge_to(alloc, log, system, command.number("to")?)),
+        "purge" => counted(
+            alloc,
+            pipe.purge_to(alloc, log, system, command.number("to")?),
+        ),
         "sync" => done(alloc, pipe.sync(log, system)),
         "read" => {
             let place = FileBlockHandle {
@@ -153,7 +153,7 @@ pub fn play_on_pipe(
 fn append(
     alloc: Global,
     log: &Memory,
-    system: &mut Watched,
+    system: &mut MemoryFileSystem,
     pipe: &mut Pipe,
     command: &mut Command,
 ) -> Result<Result<String, AllocError>, CaseFault> {
@@ -170,9 +170,7 @@ fn append(
     Ok(match appended {
         Ok(place) => format!(in alloc;
             "file {} at {} length {}",
-            place.id.seq,
-            place.offset,
-            place.len
+            place.id.seq, place.offset, place.len
         ),
         Err(error) => failed(alloc, &error),
     })

@@ -1,8 +1,8 @@
 use Rattle.std.proofs.Common.{◌≡◌, ◌-◌, ap, length, rules, ◌∙◌}
 use Rattle.std.proofs.Math.Path.{fun_ext}
 use Rattle.std.specs.Prelude.{slice_set}
-use Rattle.raft_log_file_cases.proofs.Marks.{marked_again}
-use Rattle.raft_log_file_cases.proofs.numbered.NumberedReactiveBytes.sign.Goals as goal
+use Rattle.raft_log_queue_cases.proofs.Marks.{marked_again}
+use Rattle.raft_log_queue_cases.proofs.numbered.NumberedReactiveBytes.sign.Goals as goal
 
 pub returns-clause-bytes : goal.returns-clause-bytes
 returns-clause-bytes c =

@@ -1,10 +1,9 @@
 //! Commands on the files of a queue, by the calls below a pipe.
 use crate::outcomes::{failed, made, refused};
-use crate::watched::Watched;
-use crate::writers::format_of;
 use log::sink::Memory;
 use raft_cases::{CaseFault, Command};
 use raft_log_disk::{Handle, Permission};
+use raft_log_disk_memory::MemoryFileSystem;
 use raft_log_file_format::LogFileFormat;
 use raft_log_file_layout::LogLayout;
 use raft_log_file_queue::{
@@ -12,7 +11,7 @@ use raft_log_file_queue::{
     rotate_to_new, sync_records,
 };
 use raft_log_file_writer::{LogFileWriter, build_header};
-use raft_log_record_base::LogQueue;
+use raft_log_record_base::{LogQueue, Version};
 use std::alloc::{AllocError, Global};
 use std::io::ErrorKind;
 
@@ -24,6 +23,11 @@ pub struct Queue {
     path: String,
     first: Handle,
     writer: LogFileWriter,
+}
+
+/// The format of new files.
+pub fn new_format() -> LogFileFormat {
+    LogFileFormat::new(Version::V2, 0)
 }
 
 /// The layout of a queue in directories, whose paths are joined by commas.
@@ -48,12 +52,12 @@ pub fn layout_of(
 pub fn begin(
     alloc: Global,
     log: &Memory,
-    system: &mut Watched,
+    system: &mut MemoryFileSystem,
     command: &mut Command,
 ) -> Result<Result<Queue, String>, CaseFault> {
     let path = command.text("path")?;
     let layout = layout_of(alloc, LogQueue::Append, "d")?;
-    let header = match build_header(alloc, &format_of(alloc, command)?) {
+    let header = match build_header(alloc, &new_format()) {
         Ok(header) => header,
         Err(error) => return Ok(Err(failed(alloc, &error)?)),
     };
@@ -73,7 +77,7 @@ pub fn begin(
 pub fn play_on_queue(
     alloc: Global,
     log: &Memory,
-    system: &mut Watched,
+    system: &mut MemoryFileSystem,
     queue: &mut Queue,
     command: &mut Command,
 ) -> Result<Option<String>, CaseFault> {
@@ -90,9 +94,18 @@ pub fn play_on_queue(
             }
         }
         "sync" => made(alloc, sync_records(&queue.layout, system, &queue.writer)),
-        "rotate" => made(alloc, rotate(log, system, queue, command.text("to")?.as_str())),
-        "rotate-over" => made(alloc, rotate_first(log, system, queue, command.text("to")?.as_str())),
-        "drop" => made(alloc, drop_file(&queue.layout, system, command.text("path")?.as_str())),
+        "rotate" => made(
+            alloc,
+            rotate(log, system, queue, command.text("to")?.as_str()),
+        ),
+        "rotate-over" => made(
+            alloc,
+            rotate_first(log, system, queue, command.text("to")?.as_str()),
+        ),
+        "drop" => made(
+            alloc,
+            drop_file(&queue.layout, system, command.text("path")?.as_str()),
+        ),
         "reopen" => made(alloc, reopen(log, system, queue, command.number_if("end")?)),
         "end" => format!(in alloc; "{}", queue.writer.offset()),
         _ => return Ok(None),
@@ -103,11 +116,16 @@ pub fn play_on_queue(
 /// Goes on in a new file.
 fn rotate(
     log: &Memory,
-    system: &mut Watched,
+    system: &mut MemoryFileSystem,
     queue: &mut Queue,
     path: &str,
 ) -> Result<(), ErrorKind> {
-    let Queue { layout, header, writer, .. } = queue;
+    let Queue {
+        layout,
+        header,
+        writer,
+        ..
+    } = queue;
     let _handle = rotate_to_new(layout, log, system, writer, path, header.as_slice())?;
     Ok(())
 }
@@ -115,23 +133,44 @@ fn rotate(
 /// Goes on over the first file, under another name.
 fn rotate_first(
     log: &Memory,
-    system: &mut Watched,
+    system: &mut MemoryFileSystem,
     queue: &mut Queue,
     path: &str,
 ) -> Result<(), ErrorKind> {
-    let Queue { layout, header, writer, first, path: from } = queue;
-    rotate_over(layout, log, system, writer, *first, from.as_str(), path, header.as_slice())
+    let Queue {
+        layout,
+        header,
+        writer,
+        first,
+        path: from,
+    } = queue;
+    rotate_over(
+        layout,
+        log,
+        system,
+        writer,
+        *first,
+        from.as_str(),
+        path,
+        header.as_slice(),
+    )
 }
 
 /// Opens the first file again, whose records were read up to an end.
 fn reopen(
     log: &Memory,
-    system: &mut Watched,
+    system: &mut MemoryFileSystem,
     queue: &mut Queue,
     end: Option<u64>,
 ) -> Result<(), ErrorKind> {
     let end = end.map(|end| end as usize);
-    let Queue { layout, header, writer, first, .. } = queue;
+    let Queue {
+        layout,
+        header,
+        writer,
+        first,
+        ..
+    } = queue;
     *writer = reopen_file(layout, log, system, *first, end, header.as_slice())?;
     Ok(())
 }

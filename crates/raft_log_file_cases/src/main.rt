@@ -1,15 +1,12 @@
 //! Plays cases of file systems, and of writers and readers of log files.
 #![tactic(auto)]
 
-pub mod answers;
 mod files;
-pub mod good_end;
 mod handles;
 mod outcomes;
 mod readers;
 mod records;
 mod watched;
-pub mod whole_end;
 mod writers;
 
 use files::Files;

@@ -1,8 +1,8 @@
 use Rattle.std.proofs.Common.{[], refl, ◌∙◌, inl, inr}
 use Rattle.raft_log_file_reader.specs.Reader.{end_of}
 use Rattle.raft_log_file_reader.specs.declared.open_file.OpenFile.{OpenFile}
-use Rattle.raft_log_file_cases.proofs.AtWork.{as_much, ended, went_on}
-use Rattle.raft_log_file_cases.proofs.whole_end.whole_end.Goals as goal
+use Rattle.raft_log_file_uses.proofs.AtWork.{as_much, ended, went_on}
+use Rattle.raft_log_file_uses.proofs.whole_end.whole_end.Goals as goal
 
 pub loop-batch-init : goal.loop-batch-init
 loop-batch-init g c =

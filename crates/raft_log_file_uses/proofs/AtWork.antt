@@ -12,7 +12,7 @@ use Rattle.raft_log_file_reader.specs.Reader.{IsReading, IsInsideFile, file_of, 
 use Rattle.raft_log_file_reader.specs.declared.open_file.OpenFile.{OpenFile}
 use Rattle.raft_log_file_reader.specs.declared.reader.LogItemBatchFileReader.{LogItemBatchFileReader}
 use Rattle.raft_log_file_reader.proofs.Readings.{batches_go_on_is}
-use Rattle.raft_log_file_cases.specs.GoodEnd.{HasReadSoFar, HasReadTo, EndsItsBatches}
+use Rattle.raft_log_file_uses.specs.GoodEnd.{HasReadSoFar, HasReadTo, EndsItsBatches}
 
 -- one more batch
 pub went_on : (id : FileId) (handle : Handle) (d : Disk) (old new : LogItemBatchFileReader) (items : List LogItem) (work : HasReadSoFar id handle d old)

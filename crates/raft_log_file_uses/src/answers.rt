@@ -1,7 +1,7 @@
 //! Reading all items of a directory's log files: the caller that `CALLING.md` of `raft_log_file_reader`
 //! shows.
 ghost use Rattle.std.specs.Prelude.{IfOk};
-ghost use Rattle.raft_log_file_cases.specs.Answers.{GivesDirectory};
+ghost use Rattle.raft_log_file_uses.specs.Answers.{GivesDirectory};
 
 use raft_log_disk::FileSystem;
 use raft_log_file_reader::LogItemReader;

@@ -1,5 +1,5 @@
 use Rattle.std.proofs.Common.{◌≡◌}
-use Rattle.raft_log_file_cases.proofs.answers.answers_of.Given as goal
+use Rattle.raft_log_file_uses.proofs.answers.answers_of.Given as goal
 
 -- the answers so far are those that came
 abbrev pub invariant-loop-answer : goal.invariant-loop-answer

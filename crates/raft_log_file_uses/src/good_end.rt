@@ -1,6 +1,6 @@
 //! Reading all batches of a log file: a proved caller of the reader.
 ghost use Rattle.std.specs.Prelude.{IfOk};
-ghost use Rattle.raft_log_file_cases.specs.GoodEnd.{EndsItsBatches};
+ghost use Rattle.raft_log_file_uses.specs.GoodEnd.{EndsItsBatches};
 
 use raft_log_disk::{FileSystem, Handle};
 use raft_log_file_reader::LogItemBatchFileReader;

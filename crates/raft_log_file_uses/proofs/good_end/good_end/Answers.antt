@@ -1,8 +1,8 @@
 use Rattle.std.proofs.Common.{[], refl, ◌∙◌, inl, inr}
 use Rattle.raft_log_file_reader.specs.Reader.{end_of}
 use Rattle.raft_log_file_reader.specs.declared.open_file.OpenFile.{OpenFile}
-use Rattle.raft_log_file_cases.proofs.AtWork.{went_on, less_left, ended}
-use Rattle.raft_log_file_cases.proofs.good_end.good_end.Goals as goal
+use Rattle.raft_log_file_uses.proofs.AtWork.{went_on, less_left, ended}
+use Rattle.raft_log_file_uses.proofs.good_end.good_end.Goals as goal
 
 pub loop-reader-init : goal.loop-reader-init
 loop-reader-init g c =

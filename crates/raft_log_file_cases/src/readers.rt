@@ -83,17 +83,20 @@ fn steps(
     block: usize,
 ) -> Result<String, AllocError> {
     let mut reader = LogItemBatchFileReader::new(alloc, block);
-    let mut text = open(alloc, system, &mut reader, handle)?;
-    push_reads(alloc, system, &mut text)?;
-    for _ in 0..4 {
-        let line = next(alloc, system, &mut reader)?;
-        text.push_str(line.as_str())?;
-        push_reads(alloc, system, &mut text)?;
-    }
+    let mut text = String::new(alloc);
+    let opened = open(alloc, system, &mut reader, handle)?;
+    push_line(alloc, system, &mut text, opened.as_str())?;
+    let first = next(alloc, system, &mut reader)?;
+    push_line(alloc, system, &mut text, first.as_str())?;
+    let second = next(alloc, system, &mut reader)?;
+    push_line(alloc, system, &mut text, second.as_str())?;
+    let third = next(alloc, system, &mut reader)?;
+    push_line(alloc, system, &mut text, third.as_str())?;
+    let fourth = next(alloc, system, &mut reader)?;
+    push_line(alloc, system, &mut text, fourth.as_str())?;
     reader.reset();
-    let line = next(alloc, system, &mut reader)?;
-    text.push_str(line.as_str())?;
-    push_reads(alloc, system, &mut text)?;
+    let closed = next(alloc, system, &mut reader)?;
+    push_line(alloc, system, &mut text, closed.as_str())?;
     Ok(text)
 }
 
@@ -125,14 +128,19 @@ fn next<F: FileSystem>(
     format!(in alloc; "{what}; end {}", reader.valid_offset())
 }
 
-/// Appends how many reads returned bytes, and where the last of them began.
-fn push_reads(alloc: Global, system: &Watched, text: &mut String) -> Result<(), AllocError> {
-    let reads = match system.take_reads() {
-        (0, _) => String::from_str(alloc, "\n")?,
-        (1, last) => format!(in alloc; "; a read at {last}\n")?,
-        (count, last) => format!(in alloc; "; {count} reads, the last at {last}\n")?,
+/// Appends the line of a call, with how many reads returned bytes, and where the last of them began.
+fn push_line(
+    alloc: Global,
+    system: &Watched,
+    text: &mut String,
+    line: &str,
+) -> Result<(), AllocError> {
+    let line = match system.take_reads() {
+        (0, _) => format!(in alloc; "{line}\n")?,
+        (1, last) => format!(in alloc; "{line}; a read at {last}\n")?,
+        (count, last) => format!(in alloc; "{line}; {count} reads, the last at {last}\n")?,
     };
-    text.push_str(reads.as_str())
+    text.push_str(line.as_str())
 }
 
 /// What the header of a file says.

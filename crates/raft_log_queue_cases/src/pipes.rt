@@ -159,7 +159,7 @@ fn append(
 ) -> Result<Result<String, AllocError>, CaseFault> {
     let appended = match command.number_if("number")? {
         Some(number) => {
-            let mut record = Numbered::new(alloc, number as u8)?;
+            let mut record = Numbered::new(alloc, number.min(127) as u8)?;
             pipe.append(alloc, log, system, &mut record)
         }
         None => {

@@ -37,15 +37,17 @@ pub fn layout_of(
     directories: &str,
 ) -> Result<LogLayout, AllocError> {
     let mut paths = Vec::new(alloc);
-    let (main, rest) = match directories.split_once(',') {
-        Some((main, second)) => (main, Some(second)),
-        None => (directories, None),
-    };
-    paths.push(String::from_str(alloc, main)?)?;
-    if let Some(second) = rest {
-        paths.push(String::from_str(alloc, second)?)?;
+    match directories.split_once(',') {
+        Some((main, second)) => {
+            paths.push(String::from_str(alloc, main)?)?;
+            paths.push(String::from_str(alloc, second)?)?;
+            Ok(LogLayout::new(queue, paths))
+        }
+        None => {
+            paths.push(String::from_str(alloc, directories)?)?;
+            Ok(LogLayout::new(queue, paths))
+        }
     }
-    Ok(LogLayout::new(queue, paths))
 }
 
 /// Begins a queue of Append in the directory `d`, whose first file has a path: the queue, or why it doesn't begin.

@@ -7,10 +7,10 @@ use crate::watched::Watched;
 use raft_cases::{CaseFault, Command, show_bytes};
 use raft_log_disk::{FileSystem, Handle, Permission};
 use raft_log_file_format::LogFileFormat;
+use raft_log_file_reader::{LogItemBatchFileReader, LogItemReader};
 use raft_log_file_uses::answers::answers_of;
 use raft_log_file_uses::good_end::good_end;
 use raft_log_file_uses::whole_end::whole_end;
-use raft_log_file_reader::{LogItemBatchFileReader, LogItemReader};
 use raft_log_record_base::{Error, FileId, LogQueue};
 use raft_log_record_batches::LogItemBatch;
 use raft_log_record_items::{

@@ -10,7 +10,7 @@ use raft_voter_messages::{Entry, Items, StoredFault, VoterState, read_state, sta
 use std::alloc::Global;
 
 /// The greatest base index of an outline that a case makes.
-const MOST_BASE: u64 = 1 << 40;
+const MOST_BASE: u64 = 1_000_000;
 
 /// Plays a command that begins voters in memory or an outline, or shows one; none if it is another command.
 pub fn play_in_memory(

@@ -25,7 +25,10 @@ pub fn play_sessions<
 ) -> Result<Option<String>, CaseFault> {
     let mut output = Vec::new(alloc);
     let ended = match command.name() {
-        "read-session" => return Ok(Some(read_events(alloc, session_of(alloc, command)?)?)),
+        "read-session" => {
+            let session = session_of(alloc, command)?;
+            return Ok(Some(read_events(alloc, session, command.has("count")?)?));
+        }
         "session" => {
             let session = session_of(alloc, command)?;
             run(rt, alloc, &mut session.as_slice(), &mut output)

@@ -5,12 +5,20 @@ use raft_voter_session::read_session;
 use raft_voter_world::{Event, Left};
 use std::alloc::{AllocError, Global};
 
-/// What a session says: its settings, and its events, one a line; or the line that can't be read.
-pub fn read_events(alloc: Global, session: Vec<u8>) -> Result<String, CaseFault> {
+/// What a session says: its settings, and its events, one a line, or how many events alone; or the line that can't be
+/// read.
+pub fn read_events(
+    alloc: Global,
+    session: Vec<u8>,
+    counts_only: bool,
+) -> Result<String, CaseFault> {
     let session = match read_session(alloc, session.as_slice()) {
         Ok(session) => session,
         Err(fault) => return Ok(refused(alloc, fault)?),
     };
+    if counts_only {
+        return Ok(format!(in alloc; "{} events", session.events.len())?);
+    }
     let mut text = match &session.settings {
         Some(settings) => format!(in alloc; "settings {:?}\n", settings.as_str())?,
         None => String::from_str(alloc, "no settings\n")?,

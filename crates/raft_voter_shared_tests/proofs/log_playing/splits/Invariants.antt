@@ -1,4 +1,4 @@
-use Rattle.raft_voter_shared_log_tests.proofs.playing.splits.Given as goal
+use Rattle.raft_voter_shared_tests.proofs.log_playing.splits.Given as goal
 
 abbrev pub ghosts-split_often-L-Ledger : goal.ghosts-split_often-L-Ledger
 ghosts-split_often-L-Ledger g a = record { name = a.blank.name; parts = a.blank.parts }

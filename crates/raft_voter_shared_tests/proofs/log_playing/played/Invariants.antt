@@ -1,4 +1,4 @@
-use Rattle.raft_voter_shared_log_tests.proofs.playing.played.Given as goal
+use Rattle.raft_voter_shared_tests.proofs.log_playing.played.Given as goal
 
 abbrev pub ghosts-settle_two-L-Ledger : goal.ghosts-settle_two-L-Ledger
 ghosts-settle_two-L-Ledger g a = record { name = a.blank.name; parts = a.blank.parts }

@@ -5,7 +5,7 @@ ghost use Rattle.raft_voter.specs.Rounds.{World};
 ghost use Rattle.raft_voter.specs.Service.{IsOpenAt};
 
 use crate::steps::{Step, Told, reads_its_own, take_steps};
-use crate::store::{Quiet, Store};
+use crate::log_store::{Quiet, Store};
 use raft_voter::{Items, RoundService};
 use raft_voter_shared_log::{
     Maintenance, Opening, Receipt, Seat, SettleCause, SettleFault, Settled, SharedStore,
@@ -22,7 +22,7 @@ use std::thread::Threads;
 pub enum Play {
     /// All is handed in.
     All,
-    /// All is handed in, with the two threads' parts swapped.
+    /// All is handed in, and each thread has the seat of the other.
     Swapped,
     /// The replies of the first receipt are taken away.
     Changed,
@@ -64,29 +64,21 @@ fn settle_two<'a, R: Threads + Wait + Send + Sync, L: Opening + Send + Sync>(
         alloc, store, blank, 1024,
     );
     let second = first.split()?;
-    let lent = &shared;
-    let (one, other) = if play == Play::Swapped {
-        let (other, one) = thread::join(
-            rt,
-            move || -> Option<Told<L>>
-                requires { IsSync R.row }
-            { take_steps(rt, alloc, lent, second, 2, steps) },
-            move || -> Option<Told<L>>
-                requires { IsSync R.row }
-            { take_steps(rt, alloc, lent, first, 1, steps) },
-        );
-        (one, other)
+    let (first, second) = if play == Play::Swapped {
+        (second, first)
     } else {
-        thread::join(
-            rt,
-            move || -> Option<Told<L>>
-                requires { IsSync R.row }
-            { take_steps(rt, alloc, lent, first, 1, steps) },
-            move || -> Option<Told<L>>
-                requires { IsSync R.row }
-            { take_steps(rt, alloc, lent, second, 2, steps) },
-        )
+        (first, second)
     };
+    let lent = &shared;
+    let (one, other) = thread::join(
+        rt,
+        move || -> Option<Told<L>>
+            requires { IsSync R.row }
+        { take_steps(rt, alloc, lent, first, 1, steps) },
+        move || -> Option<Told<L>>
+            requires { IsSync R.row }
+        { take_steps(rt, alloc, lent, second, 2, steps) },
+    );
     hand_in(alloc, shared, one?, other?, play)
 }
 

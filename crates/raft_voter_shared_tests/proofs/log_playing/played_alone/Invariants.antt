@@ -1,4 +1,4 @@
-use Rattle.raft_voter_shared_log_tests.proofs.playing.played_alone.Given as goal
+use Rattle.raft_voter_shared_tests.proofs.log_playing.played_alone.Given as goal
 
 abbrev pub ghosts-settle_one-L-Ledger : goal.ghosts-settle_one-L-Ledger
 ghosts-settle_one-L-Ledger g a = record { name = a.blank.name; parts = a.blank.parts }

@@ -10,10 +10,7 @@ use std::alloc::{AllocError, Global};
 use std::collections::VecDeque;
 
 /// Plays a command on a picture; none if it is another command.
-pub fn play_on_pictures(
-    alloc: Global,
-    command: &mut Command,
-) -> Result<Option<String>, CaseFault> {
+pub fn play_on_pictures(alloc: Global, command: &mut Command) -> Result<Option<String>, CaseFault> {
     match command.name() {
         "picture-lines" => Ok(Some(picture(alloc, command)?)),
         "escape" => Ok(Some(escape(alloc, command)?)),

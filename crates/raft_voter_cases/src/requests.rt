@@ -71,11 +71,7 @@ fn entries_of(alloc: Global, command: &mut Command) -> Result<Entries, CaseFault
 }
 
 /// Appends the entries of a list; no if one can't be read.
-pub fn push_entries(
-    alloc: Global,
-    list: &str,
-    entries: &mut Entries,
-) -> Result<bool, AllocError> {
+pub fn push_entries(alloc: Global, list: &str, entries: &mut Entries) -> Result<bool, AllocError> {
     for word in list.split(',') {
         match entry_of(alloc, word)? {
             Some(entry) => entries.push(entry)?,

@@ -16,9 +16,7 @@ use std::rt::Files;
 use std::thread::Threads;
 
 /// Plays a command on a session; none if it is another command.
-pub fn play_sessions<
-    R: Threads + Log + Sync + Files<File = File> + AllocGlobal + Clone + Drop,
->(
+pub fn play_sessions<R: Threads + Log + Sync + Files<File = File> + AllocGlobal + Clone + Drop>(
     rt: &R,
     alloc: Global,
     command: &mut Command,

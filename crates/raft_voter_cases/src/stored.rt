@@ -146,7 +146,10 @@ fn fault_texts(alloc: Global) -> Result<String, AllocError> {
     push_causes(alloc, &mut text)?;
     let rest = format!(in alloc;
         "memory: {Memory}\nsession: {}\nsession: {}\nopen: {}\nopen: {}",
-        SessionFault::Unreadable(3), SessionFault::Memory, OpenFault::Damaged, OpenFault::Memory
+        SessionFault::Unreadable(3),
+        SessionFault::Memory,
+        OpenFault::Damaged,
+        OpenFault::Memory
     )?;
     text.push_str(rest.as_str())?;
     Ok(text)

@@ -4,7 +4,7 @@ use crate::settings::config_of;
 use crate::texts::refused;
 use log::Log;
 use raft_cases::{CaseFault, Command, play_on_files, read_bytes};
-use raft_log_disk::Fault;
+use raft_log_disk::{Fault, FileSystem};
 use raft_log_disk_memory::{MemoryFileSystem, Piece, Remainder};
 use raft_log_file_listeners::Nobody;
 use raft_log_file_settings::Config;
@@ -157,6 +157,8 @@ fn look(
             Err(error) => refused(alloc, error)?,
         },
         "failed" => format!(in alloc; "{}", store.is_failed())?,
+        "failures" => format!(in alloc; "{}", store.file_system().failures())?,
+        "stopped" => format!(in alloc; "{}", store.file_system().has_stopped())?,
         "voters" => match store.voters() {
             Ok(voters) => voter_lines(alloc, voters.as_slice())?,
             Err(cause) => refused(alloc, cause)?,

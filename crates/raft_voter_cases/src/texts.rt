@@ -72,14 +72,28 @@ pub fn numbers_of(
     Ok(numbers)
 }
 
-/// The text of a session: `_` stands for a space and `;` for the end of a line.
+/// Appends the text of a session: `_` stands for a space and `;` for the end of a line.
 pub fn push_lines(text: &mut String, spelled: &str) -> Result<(), AllocError> {
-    for letter in spelled.chars() {
-        text.push(match letter {
-            '_' => ' ',
-            ';' => '\n',
-            other => other,
-        })?;
+    let mut is_first = true;
+    for line in spelled.split(';') {
+        if !is_first {
+            text.push('\n')?;
+        }
+        is_first = false;
+        push_words(text, line)?;
+    }
+    Ok(())
+}
+
+/// Appends a line: `_` stands for a space.
+fn push_words(text: &mut String, line: &str) -> Result<(), AllocError> {
+    let mut is_first = true;
+    for word in line.split('_') {
+        if !is_first {
+            text.push(' ')?;
+        }
+        is_first = false;
+        text.push_str(word)?;
     }
     Ok(())
 }

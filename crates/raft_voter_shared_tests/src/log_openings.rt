@@ -1,7 +1,7 @@
 //! One store on a log, opened three times.
 use crate::log_playing::{Play, played, played_alone};
-use crate::steps::Step;
 use crate::log_store::{Quiet, Store, USUAL, crash, open, quiet};
+use crate::steps::Step;
 use raft_log_engine::{Fault, MemoryFileSystem, Remainder};
 use raft_voter::{Items, Round, Transcript, judge};
 use raft_voter_shared_log::{Failure, Settled};

@@ -4,8 +4,8 @@ ghost use Rattle.std.specs.Thread.{IsSync};
 ghost use Rattle.raft_voter.specs.Rounds.{World};
 ghost use Rattle.raft_voter.specs.Service.{IsOpenAt};
 
-use crate::steps::{Step, Told, reads_its_own, take_steps};
 use crate::log_store::{Quiet, Store};
+use crate::steps::{Step, Told, reads_its_own, take_steps};
 use raft_voter::{Items, RoundService};
 use raft_voter_shared_log::{
     Maintenance, Opening, Receipt, Seat, SettleCause, SettleFault, Settled, SharedStore,

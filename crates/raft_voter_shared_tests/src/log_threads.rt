@@ -1,7 +1,7 @@
 //! Two threads at one store on a log.
 use crate::log_playing::{Play, Unsettled, played, splits};
-use crate::steps::Step;
 use crate::log_store::{Store, USUAL, open, quiet};
+use crate::steps::Step;
 use raft_log_engine::MemoryFileSystem;
 use raft_voter_shared_log::{SettleCause, Settled};
 use std::alloc::Global;

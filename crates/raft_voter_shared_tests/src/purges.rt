@@ -1,7 +1,7 @@
 //! One seat at a store whose files are rewritten, and go.
 use crate::log_playing::played_alone;
-use crate::steps::Step;
 use crate::log_store::{Quiet, SMALL, Store, USUAL, crash, open, quiet};
+use crate::steps::Step;
 use raft_log_engine::{LogQueue, MemoryFileSystem, Remainder};
 use std::alloc::Global;
 use std::sync::Wait;

@@ -59,8 +59,6 @@ fn left_words(alloc: Global, left: &Left) -> Result<String, AllocError> {
     match left {
         Left::Last => String::from_str(alloc, "what was synced"),
         Left::All => String::from_str(alloc, "all"),
-        Left::First { pieces, bytes } => {
-            format!(in alloc; "{pieces} changes and {bytes} bytes")
-        }
+        Left::First { pieces, bytes } => { format!(in alloc; "{pieces} changes and {bytes} bytes") }
     }
 }

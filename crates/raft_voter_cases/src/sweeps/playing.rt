@@ -168,7 +168,11 @@ impl Player {
             }
         }
         let is_refused = replies.contains(&Reply::Refused);
-        Ok(if is_refused { Ended::Refused } else { Ended::Done })
+        Ok(if is_refused {
+            Ended::Refused
+        } else {
+            Ended::Done
+        })
     }
 
     /// Of a round that was cut off the first model takes no request, the next one the first, and so on.

@@ -1,6 +1,6 @@
 //! Commands on a log that no engine has open.
 use crate::settings::{read_mode, read_settings};
-use crate::text::{item_text, or_none, push_line, refused};
+use crate::text::{error_text, item_text, or_none, push_line, refused};
 use log::Log;
 use raft_cases::{CaseFault, Command};
 use raft_log_closed::{
@@ -12,6 +12,7 @@ use raft_log_file_settings::RecoveryMode;
 use raft_log_open_scan::scanning::{ScannedFiles, scan};
 use raft_log_open_scan::share_workers;
 use raft_log_record_base::Error;
+use raft_log_record_items::LogItem;
 use raft_log_table_segments::chunk_size;
 use std::alloc::{AllocError, Global};
 use std::thread::Threads;
@@ -69,19 +70,28 @@ pub fn list_items(
     command: &mut Command,
 ) -> Result<String, CaseFault> {
     let path = command.text("path")?;
-    let items = match dump_with_file_system(alloc, path.as_str(), files) {
-        Ok(items) => items,
-        Err(error) => return refused(alloc, &error),
-    };
+    match items_text(alloc, files, path.as_str()) {
+        Ok(text) => or_none(text),
+        Err(error) => refused(alloc, &error),
+    }
+}
+
+/// The items of a path, one a line.
+fn items_text(alloc: Global, files: &MemoryFileSystem, path: &str) -> Result<String, Error> {
     let mut text = String::new(alloc);
-    for item in items {
-        let line = match item {
-            Ok(item) => item_text(alloc, &item)?,
-            Err(error) => refused(alloc, &error)?,
-        };
+    for answer in dump_with_file_system(alloc, path, files)? {
+        let line = answer_text(alloc, &answer)?;
         push_line(&mut text, line.as_str())?;
     }
-    or_none(text)
+    Ok(text)
+}
+
+/// An item, or why it can't be read.
+fn answer_text(alloc: Global, answer: &Result<LogItem, Error>) -> Result<String, AllocError> {
+    match answer {
+        Ok(item) => item_text(alloc, item),
+        Err(error) => error_text(alloc, error),
+    }
 }
 
 /// `check dir= [spill= mode= threads=]`: the first hole of each group.

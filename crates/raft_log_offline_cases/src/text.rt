@@ -7,7 +7,12 @@ use std::alloc::{AllocError, Global};
 
 /// The answer of a call that failed.
 pub fn refused(alloc: Global, error: &Error) -> Result<String, CaseFault> {
-    Ok(format!(in alloc; "error {error}")?)
+    Ok(error_text(alloc, error)?)
+}
+
+/// A failure as a line.
+pub fn error_text(alloc: Global, error: &Error) -> Result<String, AllocError> {
+    format!(in alloc; "error {error}")
 }
 
 /// Lines as an answer: `none` if there are none.
@@ -36,7 +41,7 @@ pub fn files_text(alloc: Global, files: &[FileId]) -> Result<String, CaseFault> 
 }
 
 /// An item as a line.
-pub fn item_text(alloc: Global, item: &LogItem) -> Result<String, CaseFault> {
+pub fn item_text(alloc: Global, item: &LogItem) -> Result<String, AllocError> {
     let group = item.raft_group_id;
     let content = match &item.content {
         LogItemContent::EntryIndexes(entries) => entries_text(alloc, entries)?,
@@ -46,7 +51,7 @@ pub fn item_text(alloc: Global, item: &LogItem) -> Result<String, CaseFault> {
         }
         LogItemContent::Kv(pair) => pair_text(alloc, pair)?,
     };
-    Ok(format!(in alloc; "group {group}: {content}")?)
+    format!(in alloc; "group {group}: {content}")
 }
 
 /// A run of entries: its first and its last index, and how many bytes it has.

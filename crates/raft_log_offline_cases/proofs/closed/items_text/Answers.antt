@@ -2,8 +2,8 @@ use Rattle.std.proofs.Common.{sym, subst}
 use Rattle.raft_log_disk_memory.specs.Memory.{disk_of}
 use Rattle.raft_log_file_reader.specs.ItemReader.{IsFileAtWork}
 use Rattle.raft_log_file_reader.specs.declared.item_reader.LogItemReader.{LogItemReader}
-use Rattle.raft_log_closed_tests.proofs.AtWork.{at_work}
-use Rattle.raft_log_closed_tests.proofs.aligned.dumped.Goals as goal
+use Rattle.raft_log_offline_cases.proofs.AtWork.{at_work}
+use Rattle.raft_log_offline_cases.proofs.closed.items_text.Goals as goal
 
 pub loop-answer-init : goal.loop-answer-init
 loop-answer-init c =

@@ -28,7 +28,7 @@ struct Sweep {
 
 /// Plays runs whose calls fail in turn, or one run without failures if no `way` is given. It shows how many calls a run
 /// has, or the first call whose failure loses something.
-pub fn sweep(alloc: Global, command: &mut Command) -> Result<String, CaseFault> {
+pub fn play_sweep(alloc: Global, command: &mut Command) -> Result<String, CaseFault> {
     let sweep = Sweep::parse(alloc, command)?;
     let outcome = if sweep.way.is_empty() {
         sweep.play_one()
@@ -39,7 +39,7 @@ pub fn sweep(alloc: Global, command: &mut Command) -> Result<String, CaseFault> 
 }
 
 /// Plays a run of each queue in one directory, step by step.
-pub fn pair(alloc: Global, command: &mut Command) -> Result<String, CaseFault> {
+pub fn play_pair(alloc: Global, command: &mut Command) -> Result<String, CaseFault> {
     let sweep = Sweep::parse(alloc, command)?;
     Ok(text_of(alloc, sweep.play_pair())?)
 }

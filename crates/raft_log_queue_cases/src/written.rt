@@ -3,7 +3,7 @@ use crate::listening::tell;
 use crate::outcomes::{done, failed};
 use crate::pipes::{Pipe, open_pipe, play_on_pipe};
 use crate::queues::{Queue, begin, file_path, play_on_queue};
-use crate::sweeps::{pair, sweep};
+use crate::sweeps::{play_pair, play_sweep};
 use log::sink::Memory;
 use raft_cases::{CaseFault, Column, Command, play_on_files};
 use raft_log_disk_memory::MemoryFileSystem;
@@ -97,8 +97,8 @@ impl Column for Written {
             "close" => self.close_pipe(),
             "file-path" => file_path(self.alloc, command),
             "tell" => tell(self.alloc, command),
-            "sweep" => sweep(self.alloc, command),
-            "pair" => pair(self.alloc, command),
+            "sweep" => play_sweep(self.alloc, command),
+            "pair" => play_pair(self.alloc, command),
             _ => match self.play_on_open(command)? {
                 Some(answer) => Ok(answer),
                 None => Err(CaseFault::UnknownCommand),

@@ -52,15 +52,12 @@ impl EventListener for Noting {
     }
 }
 
-/// Tells three listeners of these numbers and a hook of an event, and shows their numbers in the order in which they
-/// heard of it; for `held`, also the first file that is held back.
+/// Tells listeners of these numbers and a hook of an event, and shows their numbers in the order in which they heard of
+/// it; for `held`, also the first file that is held back.
 pub fn tell(alloc: Global, command: &mut Command) -> Result<String, CaseFault> {
     let heard = Arc::new(alloc, AtomicU64::new(0))?;
     let mut boxes: Vec<Box<dyn EventListener>> = Vec::new(alloc);
-    for word in command.text("listeners")?.as_str().split(',') {
-        let Ok(number) = word.parse::<u64>() else {
-            return Err(CaseFault::unreadable(alloc, "listeners"));
-        };
+    for number in numbers(alloc, command.text("listeners")?.as_str())? {
         let listener = Noting {
             number,
             heard: heard.clone()?,
@@ -72,21 +69,9 @@ pub fn tell(alloc: Global, command: &mut Command) -> Result<String, CaseFault> {
         heard: heard.clone()?,
     };
     let mut listeners = Listeners::new(boxes, hook);
-    let event = command.text("event")?;
-    let Some(least) = hear(&mut listeners, event.as_str()) else {
-        return Err(CaseFault::unreadable(alloc, "event"));
-    };
-    let order = heard.load(SeqCst);
-    Ok(match least {
-        Some(file) => format!(in alloc; "{order}, held from file {file} on")?,
-        None => format!(in alloc; "{order}")?,
-    })
-}
-
-/// Tells listeners of an event: the first file that they hold back; nothing if there is no such event.
-fn hear(listeners: &mut Listeners<Noting>, event: &str) -> Option<Option<FileSeq>> {
     let id = FileId::new(LogQueue::Append, 1);
-    match event {
+    let mut least = None;
+    match command.text("event")?.as_str() {
         "begun" => listeners.post_new_log_file(id),
         "appended" => listeners.on_append_log_file(FileBlockHandle {
             id,
@@ -94,9 +79,29 @@ fn hear(listeners: &mut Listeners<Noting>, event: &str) -> Option<Option<FileSeq
             len: 13,
         }),
         "applied" => listeners.post_apply_memtables(id),
-        "held" => return Some(listeners.first_file_not_ready_for_purge(LogQueue::Append)),
+        "held" => least = listeners.first_file_not_ready_for_purge(LogQueue::Append),
         "purged" => listeners.post_purge(id),
-        _ => return None,
+        _ => return Err(CaseFault::unreadable(alloc, "event")),
     }
-    Some(None)
+    shown(alloc, heard.load(SeqCst), least)
+}
+
+/// The numbers of a list.
+fn numbers(alloc: Global, list: &str) -> Result<Vec<u64>, CaseFault> {
+    let mut numbers = Vec::new(alloc);
+    for word in list.split(',') {
+        let Ok(number) = word.parse::<u64>() else {
+            return Err(CaseFault::unreadable(alloc, "listeners"));
+        };
+        numbers.push(number)?;
+    }
+    Ok(numbers)
+}
+
+/// Who heard in which order, and the first file that is held back.
+fn shown(alloc: Global, order: u64, least: Option<FileSeq>) -> Result<String, CaseFault> {
+    Ok(match least {
+        Some(file) => format!(in alloc; "{order}, held from file {file} on")?,
+        None => format!(in alloc; "{order}")?,
+    })
 }

@@ -16,4 +16,4 @@ pub use bytes::{dump, hex, read_bytes, show_bytes};
 pub use column::{Column, play};
 pub use command::Command;
 pub use fault::CaseFault;
-pub use memory::play_on_files;
+pub use memory::{look_at_files, play_on_files, read_fault, read_remainder};

@@ -17,6 +17,12 @@ pub fn play_on_files(
     system: &mut MemoryFileSystem,
     command: &mut Command,
 ) -> Result<Option<String>, CaseFault> {
+    if let Some(answer) = look_at_files(alloc, system, command)? {
+        return Ok(Some(answer));
+    }
+    if let Some(fault) = read_fault(command)? {
+        return Ok(Some(done(alloc, system.arm(&fault))?));
+    }
     let name = String::from_str(alloc, command.name())?;
     let answer = match name.as_str() {
         "directory" => done(alloc, system.create_dir(command.text("path")?.as_str())),
@@ -32,29 +38,47 @@ pub fn play_on_files(
             alloc,
             system.rename(command.text("from")?.as_str(), command.text("to")?.as_str()),
         ),
-        "list" => names(alloc, system.list(command.text("path")?.as_str())),
         "patch" | "cut" | "grow" => done(alloc, change(system, command)?),
-        "dump" | "bytes" | "size" => look(alloc, system, command)?,
-        "space" => done(
-            alloc,
-            system.arm(&Fault::Space(command.text("path")?, command.number("bytes")?)),
-        ),
-        "unreadable" => done(
-            alloc,
-            system.arm(&Fault::DenyRead(command.text("path")?, command.number("at")? as usize)),
-        ),
-        "refuse" | "stop" => done(alloc, system.arm(&fault(command)?)),
-        "failures" => format!(in alloc; "{}", system.failures()),
-        "stopped" => format!(in alloc; "{}", system.has_stopped()),
-        "crash" => done(alloc, crash(alloc, system, command)?),
+        "crash" => {
+            *system = system.remainder(&read_remainder(alloc, command)?)?;
+            done(alloc, Ok(()))
+        }
         _ => return Ok(None),
     };
     Ok(Some(answer?))
 }
 
+/// Plays a command that changes no file, and returns its answer; none if the command is none of these.
+pub fn look_at_files(
+    alloc: Global,
+    system: &MemoryFileSystem,
+    command: &mut Command,
+) -> Result<Option<String>, CaseFault> {
+    let name = String::from_str(alloc, command.name())?;
+    let answer = match name.as_str() {
+        "list" => names(alloc, system.list(command.text("path")?.as_str())),
+        "dump" | "bytes" | "size" => look(alloc, system, command)?,
+        "failures" => format!(in alloc; "{}", system.failures()),
+        "stopped" => format!(in alloc; "{}", system.has_stopped()),
+        _ => return Ok(None),
+    };
+    Ok(Some(answer?))
+}
+
+/// The fault that a command arms; none if the command arms none.
+pub fn read_fault(command: &mut Command) -> Result<Option<Fault>, CaseFault> {
+    let fault = match command.name() {
+        "space" => Fault::Space(command.text("path")?, command.number("bytes")?),
+        "unreadable" => Fault::DenyRead(command.text("path")?, command.number("at")? as usize),
+        "refuse" | "stop" => fault_of_call(command)?,
+        _ => return Ok(None),
+    };
+    Ok(Some(fault))
+}
+
 /// The fault of a refusal or a stop at the call whose number is `call`, counted from the first changing call on: whole,
 /// or after so many bytes of a write.
-fn fault(command: &mut Command) -> Result<Fault, CaseFault> {
+fn fault_of_call(command: &mut Command) -> Result<Fault, CaseFault> {
     let call = command.number("call")?;
     let part = command.number_if("part")?;
     let is_after = command.has("after")?;
@@ -124,16 +148,12 @@ fn content(alloc: Global, system: &MemoryFileSystem, path: &str) -> Call<Vec<u8>
     Ok(bytes)
 }
 
-/// Goes on with what a crash leaves: `keep=synced` of what isn't synced nothing, `keep=all` all of it, `keep=first`
-/// the first so many `changes` and so many `bytes` of the next one, `keep=LIST` a list by commas of `keep`, `lose` or
-/// hex bytes for each change.
-fn crash(
-    alloc: Global,
-    system: &mut MemoryFileSystem,
-    command: &mut Command,
-) -> Result<Call<()>, CaseFault> {
+/// What a crash leaves: of `keep=synced` nothing of what isn't synced, of `keep=all` all of it, of `keep=first` the
+/// first so many `changes` and so many `bytes` of the next one, of `keep=LIST` a list by commas of `keep`, `lose` or hex
+/// bytes for each change.
+pub fn read_remainder(alloc: Global, command: &mut Command) -> Result<Remainder, CaseFault> {
     let keep = command.text("keep")?;
-    let what = match keep.as_str() {
+    Ok(match keep.as_str() {
         "synced" => Remainder::LastSync,
         "all" => Remainder::AllWritten,
         "first" => Remainder::First {
@@ -141,9 +161,7 @@ fn crash(
             bytes: command.number_or("bytes", 0)? as usize,
         },
         list => Remainder::Pieces(pieces(alloc, list)?),
-    };
-    *system = system.remainder(&what)?;
-    Ok(Ok(()))
+    })
 }
 
 /// What a crash leaves of each change.

@@ -150,12 +150,13 @@ fn content(alloc: Global, system: &MemoryFileSystem, path: &str) -> Call<Vec<u8>
 
 /// What a crash leaves: of `keep=synced` nothing of what isn't synced, of `keep=all` all of it, of `keep=first` the
 /// first so many `changes` and so many `bytes` of the next one, of `keep=LIST` a list by commas of `keep`, `lose` or hex
-/// bytes for each change.
+/// bytes for each change; `keep=none` is a list of none.
 pub fn read_remainder(alloc: Global, command: &mut Command) -> Result<Remainder, CaseFault> {
     let keep = command.text("keep")?;
     Ok(match keep.as_str() {
         "synced" => Remainder::LastSync,
         "all" => Remainder::AllWritten,
+        "none" => Remainder::Pieces(Vec::new(alloc)),
         "first" => Remainder::First {
             pieces: command.number("changes")? as usize,
             bytes: command.number_or("bytes", 0)? as usize,

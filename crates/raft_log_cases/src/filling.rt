@@ -21,6 +21,8 @@ pub struct Made {
     size: usize,
     /// Whether each entry is written in a batch of its own, and read by itself.
     is_each: bool,
+    /// How much later than those of the group before a group's entries begin.
+    rise: u64,
 }
 
 impl Made {
@@ -34,7 +36,20 @@ impl Made {
             last: command.number("last")?,
             size: command.number("size")? as usize,
             is_each: command.has("each")?,
+            rise: command.number_or("rise", 0)?,
         })
+    }
+
+    /// The entries of one of the groups.
+    fn of(&self, group: u64) -> Made {
+        let later = group.saturating_sub(self.group).saturating_mul(self.rise);
+        Made {
+            group,
+            last_group: group,
+            first: self.first.saturating_add(later),
+            last: self.last.saturating_add(later),
+            ..*self
+        }
     }
 }
 
@@ -72,7 +87,7 @@ fn fill_groups<L: Log, P: PipeLog>(
     made: &Made,
 ) -> Result<()> {
     for group in made.group..made.last_group.saturating_add(1) {
-        fill_group(rt, alloc, engine, group, made)?;
+        fill_group(rt, alloc, engine, group, &made.of(group))?;
     }
     Ok(())
 }
@@ -139,7 +154,7 @@ pub fn filled<P: PipeLog>(
     let made = Made::read(command)?;
     let mut text = String::new(alloc);
     for group in made.group..made.last_group.saturating_add(1) {
-        let line = line_of(alloc, engine, group, &made)?;
+        let line = line_of(alloc, engine, group, &made.of(group))?;
         text.push_str(line.as_str())?;
     }
     Ok(text)

@@ -71,6 +71,10 @@ impl<'a, R: Threads + Log + Sync> Player<'a, R> {
             "gate" => self.set_gate(command),
             "passed" => self.passed(),
             "batch-empty" => Ok(truth(self.alloc, self.batch.is_empty())?),
+            "new-batch" => {
+                self.batch = LogBatch::default(self.alloc)?;
+                Ok(String::new(self.alloc))
+            }
             _ => self.play_on_log(command),
         }
     }

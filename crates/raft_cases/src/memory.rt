@@ -20,7 +20,7 @@ pub fn play_on_files(
     if let Some(answer) = look_at_files(alloc, system, command)? {
         return Ok(Some(answer));
     }
-    if let Some(fault) = read_fault(command)? {
+    if let Some(fault) = read_fault(alloc, command)? {
         return Ok(Some(done(alloc, system.arm(&fault))?));
     }
     let name = String::from_str(alloc, command.name())?;
@@ -66,8 +66,9 @@ pub fn look_at_files(
 }
 
 /// The fault that a command arms; none if the command arms none.
-pub fn read_fault(command: &mut Command) -> Result<Option<Fault>, CaseFault> {
-    let fault = match command.name() {
+pub fn read_fault(alloc: Global, command: &mut Command) -> Result<Option<Fault>, CaseFault> {
+    let name = String::from_str(alloc, command.name())?;
+    let fault = match name.as_str() {
         "space" => Fault::Space(command.text("path")?, command.number("bytes")?),
         "unreadable" => Fault::DenyRead(command.text("path")?, command.number("at")? as usize),
         "refuse" | "stop" => fault_of_call(command)?,

@@ -20,12 +20,14 @@ mod watched;
 mod words;
 mod writing;
 
+use log::{LevelFilter, Logged};
 use player::Player;
 use raft_cases::play;
 use std::io;
 use std::process::ExitCode;
 
 fn main(rt: HostRuntime) -> io::Result<ExitCode> {
-    let mut player = Player::new(&rt, rt.alloc())?;
+    let quiet = Logged::new(&rt, LevelFilter::Off, &rt);
+    let mut player = Player::new(&quiet, rt.alloc())?;
     play(&rt, &mut player)
 }

@@ -65,6 +65,14 @@ fn place(alloc: Global, command: &mut Command) -> std::result::Result<FileBlockH
     })
 }
 
+/// A number of 32 bits that a command says.
+fn small(alloc: Global, command: &mut Command, key: &str) -> std::result::Result<u32, CaseFault> {
+    match u32::try_from(command.number(key)?) {
+        Ok(number) => Ok(number),
+        Err(_) => Err(CaseFault::unreadable(alloc, key)),
+    }
+}
+
 impl Pipes {
     /// These pipes, to which this listener listens.
     pub fn new(alloc: Global, pipes: DualPipes<Files>, hearer: Hearer) -> Pipes {
@@ -154,23 +162,12 @@ impl Pipes {
                 done(alloc, self.cache.read(alloc, &self.pipes, block))?
             }
             "block-entry" => {
-                let (from, size) = (command.number("from")?, command.number("size")?);
-                answer(
-                    alloc,
-                    block_entry(alloc, &self.cache, from as u32, size as u32),
-                )?
+                let from = small(alloc, command, "from")?;
+                let size = small(alloc, command, "size")?;
+                answer(alloc, block_entry(alloc, &self.cache, from, size))?
             }
             "number-entry" => {
-                let (from, size) = (command.number("from")?, command.number("size")?);
-                let block = match command.has("file")? {
-                    true => Some(place(alloc, command)?),
-                    false => None,
-                };
-                let entry = EntryIndex {
-                    entries: block,
-                    entry_offset: from as u32,
-                    ..EntryIndex::unplaced(1, size as u32)
-                };
+                let entry = entry_of(alloc, command)?;
                 answer(
                     alloc,
                     number_entry(alloc, &mut self.cache, &self.pipes, &entry),
@@ -180,6 +177,16 @@ impl Pipes {
         };
         Ok(Some(text))
     }
+}
+
+/// The entry that a command says: `size` bytes from `from` on, of a block or of none.
+fn entry_of(alloc: Global, command: &mut Command) -> std::result::Result<EntryIndex, CaseFault> {
+    let mut entry = EntryIndex::unplaced(1, small(alloc, command, "size")?);
+    entry.entry_offset = small(alloc, command, "from")?;
+    if command.has("file")? {
+        entry.entries = Some(place(alloc, command)?);
+    }
+    Ok(entry)
 }
 
 /// Appends bytes, and shows where they are.
@@ -237,10 +244,8 @@ fn file_at<P: PipeLog>(
     command: &mut Command,
 ) -> std::result::Result<String, CaseFault> {
     let queue = queue(alloc, command)?;
-    let (part, parts) = (
-        command.number("part")? as u32,
-        command.number("parts")? as u32,
-    );
+    let part = small(alloc, command, "part")?;
+    let parts = small(alloc, command, "parts")?;
     if parts == 0 || part > parts {
         return Err(CaseFault::unreadable(alloc, "part"));
     }

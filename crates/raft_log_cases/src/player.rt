@@ -111,6 +111,7 @@ impl<'a, R: Threads + Log + Sync> Player<'a, R> {
         match open(self.rt, self.alloc, kind, config, files, hearer) {
             Ok(opened) => {
                 self.store = opened.store;
+                let _read = self.store.files().take_reads();
                 match opened.read {
                     Some((append, rewrite)) => Ok(format!(in self.alloc;
                         "{append} of append, {rewrite} of rewrite"
@@ -201,7 +202,8 @@ fn play_on_engine<L: Log, P: PipeLog>(
     batch: &mut LogBatch,
     command: &mut Command,
 ) -> Result<String, CaseFault> {
-    match command.name() {
+    let name = String::from_str(alloc, command.name())?;
+    match name.as_str() {
         "fill" => return fill(rt, alloc, engine, command),
         "filled" => return filled(alloc, engine, command),
         "scan" => return play_scan(alloc, engine, command),

@@ -81,7 +81,7 @@ impl Store {
             *self = Store::Closed(Watched::new(left));
             return Ok(Some(String::new(alloc)));
         }
-        if let Some(fault) = read_fault(command)? {
+        if let Some(fault) = read_fault(alloc, command)? {
             return Ok(Some(done(alloc, self.arm(&fault))?));
         }
         look_at_files(alloc, &self.files().files, command)
@@ -99,7 +99,7 @@ impl Store {
         }
     }
 
-    /// How many reads returned bytes, and how many bytes, since this was asked for last.
+    /// How many reads returned bytes, and how many bytes, since the open, or since this was asked for last.
     pub fn take_reads(&self, alloc: Global) -> std::result::Result<String, AllocError> {
         let (reads, bytes) = self.files().take_reads();
         format!(in alloc; "{reads} reads, {bytes} bytes")

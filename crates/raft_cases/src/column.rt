@@ -34,9 +34,20 @@ pub fn play<R: Env + Files<File = File> + Print + AllocGlobal, C: Column>(
             mode = Mode::Rewrites;
         } else {
             let text = fs::read_to_string(rt, word.as_str())?;
-            let mut playing = Playing::new(rt.alloc(), mode);
-            is_good &= playing.play(rt, column, word.as_str(), text.as_str())?;
+            is_good &= play_text(rt, column, mode, word.as_str(), text.as_str())?;
         }
     }
     Ok(ExitCode::from(if is_good { 0 } else { FAILED }))
+}
+
+/// Plays the text of a case file with this name, and prints a line for each case. Returns whether each answer is the
+/// expected one, and each command could be played.
+pub fn play_text<R: Print + AllocGlobal, C: Column>(
+    rt: &R,
+    column: &mut C,
+    mode: Mode,
+    name: &str,
+    text: &str,
+) -> io::Result<bool> {
+    Playing::new(rt.alloc(), mode).play(rt, column, name, text)
 }

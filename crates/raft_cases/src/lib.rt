@@ -13,7 +13,8 @@ mod playing;
 mod script;
 
 pub use bytes::{dump, hex, read_bytes, show_bytes};
-pub use column::{Column, play};
+pub use column::{Column, play, play_text};
 pub use command::Command;
 pub use fault::CaseFault;
 pub use memory::{look_at_files, play_on_files, read_fault, read_remainder};
+pub use playing::Mode;

@@ -166,13 +166,21 @@ impl Playing {
             return Ok(());
         }
         let line = expand(self.alloc, command.as_str(), self.definitions.as_slice())?;
-        let actual = match played(self.alloc, column, line.as_str(), self.case.is_empty()) {
-            Ok(answer) => normal(self.alloc, answer.as_str())?,
-            Err(fault) => format!(in self.alloc; "{fault}: this command can't be played\n")?,
+        let (actual, is_played) = match played(
+            self.alloc,
+            column,
+            line.as_str(),
+            self.case.is_empty(),
+        ) {
+            Ok(answer) => (normal(self.alloc, answer.as_str())?, true),
+            Err(fault) => (
+                format!(in self.alloc; "{fault}: this command can't be played\n")?,
+                false,
+            ),
         };
         if self.mode == Mode::Rewrites {
             rt.print(actual.as_str())?;
-        } else if actual.as_str() != expected.as_str() {
+        } else if !is_played || actual.as_str() != expected.as_str() {
             self.has_failed = true;
             self.is_good = false;
             println!(rt;

@@ -4,7 +4,9 @@ Modes deny root nothing, so where the harness runs as root the program runs as r
 """
 import os
 import re
+import shutil
 import stat
+import subprocess
 from collections import Counter
 
 from disk import read_tree
@@ -46,20 +48,30 @@ def files_of_another(log, _random):
         os.chmod(file, 0o644)
 
 
-# What is denied, how, and the path that is to be named.
+def mount_read_only(log, _random):
+    """The log's directory is mounted read-only."""
+    subprocess.run(["mount", "--bind", log, log], check=True)
+    subprocess.run(["mount", "-o", "remount,bind,ro", log], check=True)
+
+
+# What is denied, how, the path that is to be named, and whether all may still be read.
 DENIALS = [
-    ("a directory of mode 0", of_directory(0), "log"),
-    ("a directory that may only be written", of_directory(0o300), "log"),
-    ("a directory of which only the names may be read", of_directory(0o400), "log"),
-    ("a directory that may not be searched", of_directory(0o600), "log"),
-    ("files of mode 0", of_files(0), "log/"),
-    ("files that may only be read", of_files(0o400), "log/"),
-    ("files that may only be written", of_files(0o200), "log/"),
-    ("one file of mode 0", of_one_file(0), "log/"),
-    ("one file that may only be read", of_one_file(0o400), "log/"),
+    ("a directory of mode 0", of_directory(0), "log", False),
+    ("a directory that may only be written", of_directory(0o300), "log", False),
+    ("a directory of which only the names may be read", of_directory(0o400), "log", False),
+    ("a directory that may not be searched", of_directory(0o600), "log", False),
+    ("files of mode 0", of_files(0), "log/", False),
+    ("files that may only be read", of_files(0o400), "log/", True),
+    ("files that may only be written", of_files(0o200), "log/", False),
+    ("one file of mode 0", of_one_file(0), "log/", False),
+    ("one file that may only be read", of_one_file(0o400), "log/", True),
 ]
 if IS_ROOT:
-    DENIALS += [("a directory of another user", of_another, "log"), ("files of another user", files_of_another, "log/")]
+    DENIALS += [
+        ("a directory of another user", of_another, "log", False),
+        ("files of another user", files_of_another, "log/", True),
+        ("a read-only mount", mount_read_only, "log/", True),
+    ]
 
 
 class Denier:
@@ -79,9 +91,12 @@ class Denier:
         tree, standing = read_tree(root), ran.candidates(len(ran.told))
         commands = [("program", self.room.subject.words(self.room.settings_path))]
         commands += [("operator", self.operator + task) for task in TASKS if self.operator]
-        for denied, deny, path in DENIALS:
+        for denied, deny, path, may_read in DENIALS:
             for kind, command in commands:
-                self.attempt(f"{name}, {denied}, {command}", self.deny, kind, command, tree, deny, path)
+                right = self.demand_refused
+                if may_read and kind == "operator" and "unpad" not in command:
+                    right = self.demand_done
+                self.attempt(f"{name}, {denied}, {command}", self.deny, right, kind, command, tree, deny, path)
         for mode in (0o500, 0o100):
             self.attempt(f"{name}, a log in a directory of mode {mode:o}", self.deny_home, mode)
         self.attempt(f"{name}, with leave", self.room.found, self.room.root("image", tree), standing)
@@ -94,17 +109,19 @@ class Denier:
         except Fault as wrong:
             self.wrong.append(f"{name}: {wrong}")
 
-    def deny(self, kind, command, tree, deny, path):
-        """Starts a command over a log that it has no leave for."""
+    def deny(self, right, kind, command, tree, deny, path):
+        """Starts a command over a log that it may not change, or not even read; what is right then is demanded."""
         root = self.room.root("image", tree)
         before = facts(root)
         deny(f"{root}/log", self.random)
         modes = modes_of(root)
         try:
-            self.demand_refused(kind, command, root, path)
+            right(kind, command, root, path)
             if modes_of(root) != modes:
                 raise Fault("a mode or an owner changed")
         finally:
+            if deny is mount_read_only:
+                subprocess.run(["umount", f"{root}/log"], check=True)
             give_back(root)
         if facts(root) != before:
             raise Fault("something changed")
@@ -120,6 +137,19 @@ class Denier:
         if os.listdir(root):
             raise Fault("something was made")
 
+    def demand_done(self, kind, command, root, _path):
+        """Runs a command that only reads, which has to end with status 0. What it copied is as the log, and is taken away."""
+        running = Running(WITHOUT_PRIVILEGES + command, root)
+        running.close_input()
+        status = running.hear_all()
+        self.counts[f"readings of the {kind}"] += 1
+        if status != 0:
+            raise Fault(f"status {status}: {running.complaint()!r}")
+        if os.path.isdir(f"{root}/copy"):
+            if read_tree(f"{root}/copy") != read_tree(f"{root}/log"):
+                raise Fault("the copy differs")
+            shutil.rmtree(f"{root}/copy")
+
     def demand_refused(self, kind, command, root, path):
         """Runs a command, which has to be refused for want of leave to a path."""
         running = Running(WITHOUT_PRIVILEGES + command, root)
@@ -131,7 +161,7 @@ class Denier:
             raise Fault(f"status {status}, and it tells {running.told[-100:]!r}: {complaint!r}")
         named = (re.findall(NAMED, complaint) or [""])[0]
         is_named = named == path or path.endswith("/") and named.startswith(path)
-        if "ermission denied" not in complaint or not is_named:
+        if not re.search("ermission denied|ead-only file system", complaint) or not is_named:
             raise Fault(f"the complaint is {complaint!r}")
 
 

@@ -67,7 +67,7 @@ fn serve<R: Threads + Log + Sync + Input + Print + AllocGlobal, F: FileSystem + 
 }
 
 /// Makes the directory where it isn't there, and answers the file system over it.
-fn files<R: Files<File = File> + Threads + AllocGlobal + Clone + Sync + Drop>(
+fn files<R: Files<File = File> + Threads + Eprint + AllocGlobal + Clone + Sync + Drop>(
     rt: &R,
     directory: &str,
 ) -> anyhow::Result<DirectoryFileSystem<FileDevice<R>>> {

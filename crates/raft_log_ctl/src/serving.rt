@@ -66,7 +66,7 @@ pub fn serve<
 
 /// Does a task.
 fn attempt<
-    R: Files<File = File> + Threads + Print + AllocGlobal + Clone + Sync + Drop,
+    R: Files<File = File> + Threads + Print + Eprint + AllocGlobal + Clone + Sync + Drop,
     Q: Threads + Log + Sync,
 >(rt: &R, quiet: &Q, place: &Place, task: &Task) -> Result<Outcome, Refusal> {
     let task = task.trimmed(rt.alloc())?;
@@ -79,7 +79,7 @@ fn attempt<
 
 /// Opens the directories of a log; for a dump of one file, the directory in which it lies. Answers the place as the
 /// files are spelled.
-fn open<R: Files<File = File> + Threads + AllocGlobal + Clone + Sync + Drop>(
+fn open<R: Files<File = File> + Threads + Eprint + AllocGlobal + Clone + Sync + Drop>(
     rt: &R,
     place: Place,
     task: &Task,
@@ -99,7 +99,7 @@ fn open<R: Files<File = File> + Threads + AllocGlobal + Clone + Sync + Drop>(
 }
 
 /// Opens the directories of a log as a task needs them: `unpad` alone writes to the log's files.
-fn open_for<R: Files<File = File> + Threads + AllocGlobal + Clone + Sync + Drop>(
+fn open_for<R: Files<File = File> + Threads + Eprint + AllocGlobal + Clone + Sync + Drop>(
     rt: &R,
     directory: &str,
     spill: Option<&str>,
@@ -120,7 +120,7 @@ fn is_file(fault: &DirectoryFault, asked: &str) -> bool {
 }
 
 /// Opens the directory in which a file lies.
-fn open_home<R: Files<File = File> + Threads + AllocGlobal + Clone + Sync + Drop>(
+fn open_home<R: Files<File = File> + Threads + Eprint + AllocGlobal + Clone + Sync + Drop>(
     rt: &R,
     place: &Place,
 ) -> Result<(DirectoryFileSystem<FileDevice<R>>, Place), Refusal> {

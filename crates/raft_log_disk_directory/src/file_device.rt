@@ -2,17 +2,18 @@
 ghost use Rattle.raft_log_disk_storage.specs.declared.storage.Storage.{Storage};
 
 use super::growing::{grow, write_long, write_pieces};
+use super::open_file::{OpenFile, report};
 use super::record::Record;
 use raft_log_disk_device::Device;
 use raft_log_disk_storage::Storage;
 use std::alloc::Global;
 use std::collections::BTreeMap;
-use std::fs;
 use std::fs::{File, OpenOptions};
 use std::io::ErrorKind;
 use std::os::unix::fs::FileExt;
 use std::rt::Files;
 use std::snapshot::Snapshot;
+use std::{fs, io};
 
 const CREATED: u64 = 0;
 
@@ -40,25 +41,25 @@ pub(crate) const PIECE: usize = 1 << 16;
 /// The operating system's files, as a device. Each file that has a name is open; the directories stay locked
 /// until it is dropped. A method makes one call, of a write or a growth one for each piece of its bytes,
 /// and then notes it; only clauses read what is noted. A growth, and a write of several pieces that makes the
-/// file longer, is also synced.
+/// file longer, is also synced. A call that fails is printed to standard error, with the path.
 #[derive(Drop)]
 pub struct FileDevice<R> {
     rt: R,
-    files: BTreeMap<usize, File>,
+    files: BTreeMap<usize, OpenFile>,
     locks: Vec<File>,
     zeros: Vec<u8>,
     found: Snapshot<Storage>,
     record: Record,
 }
 
-impl<R: Files<File = File> + Drop> FileDevice<R> {
+impl<R: Files<File = File> + Eprint + AllocGlobal + Drop> FileDevice<R> {
     ghost use Rattle.raft_log_disk_directory.specs.Tracing.{IsFresh};
 
     /// The device whose files, by their numbers, are those of a model that was loaded with them; the handles
     /// that lock the directories are kept, and the zeros that files grow by.
     pub(crate) fn new(
         rt: R,
-        files: BTreeMap<usize, File>,
+        files: BTreeMap<usize, OpenFile>,
         locks: Vec<File>,
         zeros: Vec<u8>,
         storage: &Storage,
@@ -76,18 +77,24 @@ impl<R: Files<File = File> + Drop> FileDevice<R> {
     }
 }
 
-impl<R: Files<File = File> + Drop> Device for FileDevice<R> {
+impl<R: Files<File = File> + Eprint + AllocGlobal + Drop> Device for FileDevice<R> {
     ghost use Rattle.raft_log_disk_directory.specs.Tracing.{trace_of};
 
     ghost trace = { trace_of };
 
     fn create(&mut self, path: &str, file: usize) -> Result<(), ErrorKind> {
+        let Ok(named) = String::from_str(self.rt.alloc(), path) else {
+            return Err(ErrorKind::OutOfMemory);
+        };
         let made = OpenOptions::new()
             .read(true)
             .write(true)
             .create_new(true)
             .open(&self.rt, path);
-        let opened = made.map_err(|error| error.kind())?;
+        let opened = OpenFile {
+            file: made.map_err(|error| report(&self.rt, path, "create it", error))?,
+            path: named,
+        };
         let Ok(_) = self.files.insert(file, opened) else {
             return Err(ErrorKind::OutOfMemory);
         };
@@ -97,27 +104,34 @@ impl<R: Files<File = File> + Drop> Device for FileDevice<R> {
     }
 
     fn delete(&mut self, path: &str) -> Result<(), ErrorKind> {
-        fs::remove_file(&self.rt, path).map_err(|error| error.kind())?;
+        fs::remove_file(&self.rt, path).map_err(|error| report(
+            &self.rt,
+            path,
+            "delete it",
+            error,
+        ))?;
         self.record.note(&[DELETED, 0, 0], path.as_bytes());
         Ok(())
     }
 
     fn rename(&mut self, from: &str, to: &str) -> Result<(), ErrorKind> {
-        fs::rename(&self.rt, from, to).map_err(|error| error.kind())?;
+        fs::rename(&self.rt, from, to).map_err(|error| report(&self.rt, from, "rename it", error))?;
+        rename_open(self.rt.alloc(), &mut self.files, from, to);
         self.record.note_rename(from.as_bytes(), to.as_bytes());
         Ok(())
     }
 
     fn create_dir(&mut self, path: &str) -> Result<(), ErrorKind> {
-        fs::create_dir(&self.rt, path).map_err(|error| error.kind())?;
+        fs::create_dir(&self.rt, path).map_err(|error| report(&self.rt, path, "create it", error))?;
         self.record.note(&[MADE_DIRECTORY, 0, 0], path.as_bytes());
         Ok(())
     }
 
     fn sync_directory(&mut self, path: &str) -> Result<(), ErrorKind> {
         let named = if path.is_empty() { "." } else { path };
-        let opened = File::open(&self.rt, named).map_err(|error| error.kind())?;
-        opened.sync_all().map_err(|error| error.kind())?;
+        File::open(&self.rt, named)
+            .and_then(|opened| opened.sync_all())
+            .map_err(|error| report(&self.rt, named, "sync it", error))?;
         self.record.note(&[SYNCED_DIRECTORY, 0, 0], path.as_bytes());
         Ok(())
     }
@@ -127,11 +141,11 @@ impl<R: Files<File = File> + Drop> Device for FileDevice<R> {
             return Err(ErrorKind::NotFound);
         };
         let written = if bytes.len() > PIECE {
-            write_long(opened, offset, bytes)
+            write_long(&opened.file, offset, bytes)
         } else {
-            opened.write_all_at(bytes, offset as u64)
+            opened.file.write_all_at(bytes, offset as u64)
         };
-        written.map_err(|error| error.kind())?;
+        written.map_err(|error| report(&self.rt, opened.path.as_str(), "write", error))?;
         self.record
             .note(&[WRITTEN, file as u64, offset as u64], bytes);
         Ok(())
@@ -141,10 +155,12 @@ impl<R: Files<File = File> + Drop> Device for FileDevice<R> {
         let Some(opened) = self.files.get(&file) else {
             return Err(ErrorKind::NotFound);
         };
-        let length = opened.metadata().map_err(|error| error.kind())?.len();
-        if (size as u64) < length {
-            opened.set_len(size as u64).map_err(|error| error.kind())?;
-        }
+        shorten(&opened.file, size as u64).map_err(|error| report(
+            &self.rt,
+            opened.path.as_str(),
+            "truncate it",
+            error,
+        ))?;
         self.record
             .note(&[SHORTENED, file as u64, size as u64], &[]);
         Ok(())
@@ -154,7 +170,12 @@ impl<R: Files<File = File> + Drop> Device for FileDevice<R> {
         let Some(opened) = self.files.get(&file) else {
             return Err(ErrorKind::NotFound);
         };
-        grow(opened, &self.zeros, size).map_err(|error| error.kind())?;
+        grow(&opened.file, &self.zeros, size).map_err(|error| report(
+            &self.rt,
+            opened.path.as_str(),
+            "grow it",
+            error,
+        ))?;
         self.record.note(&[GROWN, file as u64, size as u64], &[]);
         Ok(())
     }
@@ -163,7 +184,12 @@ impl<R: Files<File = File> + Drop> Device for FileDevice<R> {
         let Some(opened) = self.files.get(&file) else {
             return Err(ErrorKind::NotFound);
         };
-        write_pieces(opened, offset, bytes).map_err(|error| error.kind())?;
+        write_pieces(&opened.file, offset, bytes).map_err(|error| report(
+            &self.rt,
+            opened.path.as_str(),
+            "write",
+            error,
+        ))?;
         self.record
             .note(&[WRITTEN_BACK, file as u64, offset as u64], bytes);
         Ok(())
@@ -173,12 +199,36 @@ impl<R: Files<File = File> + Drop> Device for FileDevice<R> {
         let Some(opened) = self.files.get(&file) else {
             return Err(ErrorKind::NotFound);
         };
-        opened.sync_data().map_err(|error| error.kind())?;
+        opened.file.sync_data().map_err(|error| report(
+            &self.rt,
+            opened.path.as_str(),
+            "sync it",
+            error,
+        ))?;
         self.record.note(&[SYNCED, file as u64, 0], &[]);
         Ok(())
     }
 
     fn close(&mut self, file: usize) {
         let _closed = self.files.remove(&file);
+    }
+}
+
+/// Cuts a file to a length. One that isn't longer stays as it is.
+fn shorten(opened: &File, size: u64) -> io::Result<()> {
+    if size < opened.metadata()?.len() {
+        opened.set_len(size)?;
+    }
+    Ok(())
+}
+
+/// Notes the new path of an open file. For want of memory it keeps the old one, which only messages show.
+fn rename_open(alloc: Global, files: &mut BTreeMap<usize, OpenFile>, from: &str, to: &str) {
+    for (_, opened) in files.iter_mut() {
+        if opened.path.as_str() == from {
+            if let Ok(path) = String::from_str(alloc, to) {
+                opened.path = path;
+            }
+        }
     }
 }

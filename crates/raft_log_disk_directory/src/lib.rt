@@ -8,6 +8,7 @@ mod growing;
 mod load;
 mod log_names;
 mod making_durable;
+mod open_file;
 pub mod opening;
 mod record;
 

@@ -5,6 +5,7 @@ ghost use Rattle.raft_log_disk_storage.specs.Storage.{IsStorageSound, IsWhole-pr
 ghost use Rattle.raft_log_disk_directory.specs.Loading.{AllRest, AllRest-prop, FillsFile};
 
 use super::log_names::ListedFile;
+use super::open_file::OpenFile;
 use raft_log_disk_storage::{Content, Storage, Stored};
 use std::alloc::Global;
 use std::collections::BTreeMap;
@@ -35,7 +36,7 @@ pub(crate) enum Access {
 #[derive(Drop)]
 pub(crate) struct Found {
     pub storage: Storage,
-    pub files: BTreeMap<usize, File>,
+    pub files: BTreeMap<usize, OpenFile>,
     pub locks: Vec<File>,
     access: Access,
     ghost whole: { IsStorageSound storage } by { IsWhole-prop storage },
@@ -84,9 +85,14 @@ impl Found {
         if !self.storage.has_directory(path) {
             return Err(ErrorKind::NotFound.into());
         }
+        let named = String::from_str(self.storage.alloc, path)?;
         let file = self.storage.files.len();
         self.storage.add_file(path)?;
         fill(&mut self.storage, file, content);
+        let opened = OpenFile {
+            file: opened,
+            path: named,
+        };
         match self.files.insert(file, opened) {
             Ok(_) => Ok(()),
             Err(_) => Err(ErrorKind::OutOfMemory.into()),

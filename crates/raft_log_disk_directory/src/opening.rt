@@ -25,7 +25,9 @@ use std::{fs, io};
 /// queue is written back, the same bytes, and synced, and then the directories are: so what the file system shows is
 /// durable, also if a sync failed before, in this boot of the machine. Paths are those of the operating system; the log's
 /// settings have to spell them the same. If this fails, no byte of a file and no name has changed.
-pub fn open_directories<R: Files<File = File> + Threads + AllocGlobal + Clone + Sync + Drop>(
+pub fn open_directories<
+    R: Files<File = File> + Threads + Eprint + AllocGlobal + Clone + Sync + Drop,
+>(
     rt: &R,
     directory: &str,
     spill_directory: Option<&str>,
@@ -58,7 +60,7 @@ pub fn open_directories<R: Files<File = File> + Threads + AllocGlobal + Clone + 
 /// Several readers may have a log open at once, but nobody who writes. A call that changes a file that was found stops the
 /// file system; new files may be made in other directories. This fails as `open_directories` does.
 pub fn open_directories_for_reading<
-    R: Files<File = File> + Threads + AllocGlobal + Clone + Sync + Drop,
+    R: Files<File = File> + Threads + Eprint + AllocGlobal + Clone + Sync + Drop,
 >(
     rt: &R,
     directory: &str,

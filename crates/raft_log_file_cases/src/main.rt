@@ -1,7 +1,13 @@
-//! Plays cases of file systems, files and pipes of a log.
+//! Plays cases of file systems, and of writers and readers of log files.
 #![tactic(auto)]
 
 mod files;
+mod handles;
+mod outcomes;
+mod readers;
+mod records;
+mod watched;
+mod writers;
 
 use files::Files;
 use raft_cases::play;

@@ -8,6 +8,7 @@
 
 mod asking;
 mod refusal;
+mod settings;
 
 use asking::{Asked, USAGE};
 use log::Log;
@@ -15,13 +16,14 @@ use raft_log_disk_directory::{DirectoryFileSystem, FileDevice, make_directory, o
 use raft_log_engine::{Config, FileSystem};
 use raft_voter_node::run;
 use refusal::Refusal;
+use settings::settings;
 use std::fs::File;
+use std::io;
 use std::io::{BufReader, Eprint, Input, Print};
 use std::process::ExitCode;
 use std::rt::Files;
 use std::thread::Threads;
 use std::time::Clock;
-use std::{fs, io};
 
 /// The status if the log failed or something was refused.
 const REFUSED: u8 = 1;
@@ -29,36 +31,8 @@ const REFUSED: u8 = 1;
 /// The status for wrong arguments.
 const WRONG_ARGUMENTS: u8 = 2;
 
-/// The settings of this file, or the default ones if there is none; in this directory.
-fn settings<R: Files<File = File> + AllocGlobal>(
-    rt: &R,
-    directory: String,
-    file: Option<String>,
-) -> Result<Config, Refusal> {
-    let mut config = match file {
-        Some(path) => read_settings(rt, path)?,
-        None => Config::default(rt.alloc()),
-    };
-    config.dir = directory;
-    Ok(config)
-}
-
-/// The settings of this file.
-fn read_settings<R: Files<File = File> + AllocGlobal>(
-    rt: &R,
-    path: String,
-) -> Result<Config, Refusal> {
-    match fs::read_to_string(rt, path.as_str()) {
-        Err(error) => Err(Refusal::Unread { path, error }),
-        Ok(text) => match Config::from_toml(rt.alloc(), text.as_str()) {
-            Err(error) => Err(Refusal::Settings { path, error }),
-            Ok(config) => Ok(config),
-        },
-    }
-}
-
 /// The file system over the directories of these settings, which are created if they do not exist.
-fn files<R: Files<File = File> + Threads + AllocGlobal + Clone + Sync + Drop>(
+fn files<R: Files<File = File> + Threads + Eprint + AllocGlobal + Clone + Sync + Drop>(
     rt: &R,
     config: &Config,
 ) -> Result<DirectoryFileSystem<FileDevice<R>>, Refusal> {

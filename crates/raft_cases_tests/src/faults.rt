@@ -1,0 +1,94 @@
+//! Case files that are good, and case files with one fault each.
+use raft_cases::{CaseFault, Column, Command, Mode, hex, play_text, show_bytes};
+use std::alloc::Global;
+use std::test::Fail;
+
+/// Says what it is told, and begins no case after `break`.
+#[derive(Drop)]
+struct Echo {
+    alloc: Global,
+    is_broken: bool,
+}
+
+impl Column for Echo {
+    fn begin(&mut self) -> Result<(), CaseFault> {
+        if self.is_broken {
+            Err(CaseFault::Memory)
+        } else {
+            Ok(())
+        }
+    }
+
+    fn answer(&mut self, command: &mut Command) -> Result<String, CaseFault> {
+        match command.name() {
+            "nothing" => Ok(String::new(self.alloc)),
+            "text" => command.text("of"),
+            "lines" => Ok(String::from_str(self.alloc, "one\n\n# two\n")?),
+            "number" => Ok(format!(in self.alloc; "{}", command.number("of")?)?),
+            "bytes" => Ok(show_bytes(self.alloc, command.bytes("of")?.as_slice())?),
+            "hex" => Ok(hex(self.alloc, command.bytes("of")?.as_slice())?),
+            "break" => {
+                self.is_broken = true;
+                Ok(String::new(self.alloc))
+            }
+            _ => Err(CaseFault::UnknownCommand),
+        }
+    }
+}
+
+/// Whether each case of a file is good.
+fn is_good(rt: &HostRuntime, text: &str) -> Result<bool, Fail> {
+    let mut echo = Echo {
+        alloc: rt.alloc(),
+        is_broken: false,
+    };
+    Ok(play_text(rt, &mut echo, Mode::Compares, "file", text)?)
+}
+
+/// Files in which each answer is as expected: an answer of nothing is `ok`, empty lines of one are left out, and a line
+/// that would be a comment has a space before it.
+const GOOD: [&str; 7] = [
+    "# nothing\n",
+    "case a\n> nothing\nok\n",
+    "case a\n> text of=b\nb\n> text of=c\nc\n\ncase b\n> nothing\nok",
+    "case a\n> lines\none\n # two\n",
+    "let four 'ab'+00*2\nlet six $four+0000\ncase a\n> bytes of=$six\n616200000000\n> hex of=$four\n61620000\n",
+    "case a\n> bytes of=00*9+'xy'*2+ff*10\n00*9+78797879+ff*10\n",
+    "case a\n> bytes of='ab'\n6162 'ab'\n> number of=7\n7\n",
+];
+
+/// Files with one fault: another answer, one too long or too short, none, one before a command, a command that the column
+/// doesn't have, arguments that it doesn't have, lacks, or can't read, a command before the first case, and a case that
+/// can't begin.
+const FAULTY: [&str; 14] = [
+    "case a\n> text of=b\nc\n",
+    "case a\n> text of=b\nb\nb\n",
+    "case a\n> lines\none\n",
+    "case a\n> nothing\n",
+    "case a\nok\n> nothing\nok\n",
+    "case a\n> something\nunknown command\n",
+    "case a\n> something\nunknown command: this command can't be played\n",
+    "case a\n> nothing at=1\nok\n",
+    "case a\n> text\nof= is missing\n",
+    "case a\n> number of=x\nx\n",
+    "case a\n> bytes of=616\n616\n",
+    "case a\n> bytes of='ab\n6162\n",
+    "> nothing\nok\ncase a\n",
+    "case a\n> break\nok\n\ncase b\n> nothing\nok\n",
+];
+
+#[test]
+fn good_files_are_good(rt: HostRuntime) -> Result<(), Fail> {
+    for text in GOOD.iter() {
+        assert!(rt; is_good(&rt, text)?, "{text}");
+    }
+    Ok(())
+}
+
+#[test]
+fn each_fault_is_found(rt: HostRuntime) -> Result<(), Fail> {
+    for text in FAULTY.iter() {
+        assert!(rt; !is_good(&rt, text)?, "{text}");
+    }
+    Ok(())
+}

@@ -1,3 +1,0 @@
-pub mod GoodEnd
-pub mod Answers
-pub mod Watched

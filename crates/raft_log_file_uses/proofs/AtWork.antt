@@ -1,0 +1,69 @@
+-- A reader at work, batch by batch.
+use Rattle.std.proofs.Common.{◌≡◌, ◌+◌, ◌<◌, ◌≤◌, ℕ, List, [], ◌∷◌, ◌++◌, refl, sym, ap, subst, ◌∙◌, arith}
+use Rattle.raft_log_record_base.specs.declared.pipe_log.FileBlockHandle.{FileBlockHandle}
+use Rattle.raft_log_record_base.specs.declared.pipe_log.FileId.{FileId}
+use Rattle.raft_log_record_items.specs.declared.item.LogItem.{LogItem}
+use Rattle.raft_log_disk.specs.Disk.{Disk}
+use Rattle.raft_log_disk.specs.declared.handle.Handle.{Handle}
+use Rattle.raft_log_file_reader.specs.Source.{bytes_of}
+use Rattle.raft_log_file_reader.specs.Batches.{HasBatch}
+use Rattle.raft_log_file_reader.specs.Laws.{EndsBehind}
+use Rattle.raft_log_file_reader.specs.Reader.{IsReading, IsInsideFile, file_of, end_of, size_in, left_of}
+use Rattle.raft_log_file_reader.specs.declared.open_file.OpenFile.{OpenFile}
+use Rattle.raft_log_file_reader.specs.declared.reader.LogItemBatchFileReader.{LogItemBatchFileReader}
+use Rattle.raft_log_file_reader.proofs.Readings.{batches_go_on_is}
+use Rattle.raft_log_file_uses.specs.GoodEnd.{HasReadSoFar, HasReadTo, EndsItsBatches}
+
+-- one more batch
+pub went_on : (id : FileId) (handle : Handle) (d : Disk) (old new : LogItemBatchFileReader) (items : List LogItem) (work : HasReadSoFar id handle d old)
+    → file_of new ≡ file_of old → IsReading d new → HasBatch work.file (bytes_of work.file.source d) (end_of old) items (end_of new) → HasReadSoFar id handle d new
+went_on id handle d old new items work same reading batch = record {
+  reading = reading;
+  file = work.file;
+  opened = same ∙ work.opened;
+  read = record {
+    is = work.read.is;
+    reads_by = work.read.reads_by;
+    start = work.read.start;
+    header = work.read.header;
+    batches = work.read.batches ++ items ∷ [];
+    has = batches_go_on_is work.file (bytes_of work.file.source d) work.read.start (end_of old) (end_of new) work.read.batches items work.read.has batch;
+  };
+}
+
+-- leaves less behind it
+pub less_left : (id : FileId) (handle : Handle) (d : Disk) (old new : LogItemBatchFileReader) → HasReadSoFar id handle d old → file_of new ≡ file_of old → IsReading d new
+    → end_of old < end_of new → left_of new < left_of old
+less_left id handle d old new work same reading further =
+    let within = (reading work.file (same ∙ work.opened)).within in
+    let size : size_in (file_of old) ≡ work.file.source.size = ap size_in work.opened in
+    let kept : size_in (file_of new) ≡ work.file.source.size = ap size_in (same ∙ work.opened) in
+    omega (arith, within, size, kept, further)
+
+-- where none comes any more the batches end
+pub ended : (id : FileId) (handle : Handle) (d : Disk) (old : LogItemBatchFileReader) (n : ℕ) (work : HasReadSoFar id handle d old) → n ≡ end_of old
+    → EndsBehind work.file (bytes_of work.file.source d) (end_of old) → EndsItsBatches id handle d n
+ended id handle d old n work is ends = subst (EndsItsBatches id handle d) (sym is) (record { file = work.file; read = work.read; ends = ends })
+
+-- a reader that stands where another one stood, by the same file
+pub record StandsAs (d : Disk) (old new : LogItemBatchFileReader) : Type 0 where
+  pub reading : IsReading d new
+  pub file : file_of new ≡ file_of old
+  pub end : end_of new ≡ end_of old
+
+-- is as much at work
+pub as_much : (id : FileId) (handle : Handle) (d : Disk) (old new : LogItemBatchFileReader) → HasReadSoFar id handle d old → StandsAs d old new → HasReadSoFar id handle d new
+as_much id handle d old new work same = record {
+  reading = same.reading;
+  file = work.file;
+  opened = same.file ∙ work.opened;
+  read = subst (HasReadTo id handle d work.file) (sym same.end) work.read;
+}
+
+-- and has as much behind it
+pub as_much_left : (d : Disk) (old new : LogItemBatchFileReader) → StandsAs d old new → left_of new ≡ left_of old
+as_much_left d old new same = rw (same.file, same.end) refl
+
+-- what lies in front of the end lies in the file
+pub inside_end : (block : FileBlockHandle) (d : Disk) (reader : LogItemBatchFileReader) (end : ℕ) → IsReading d reader → end ≡ end_of reader → block.offset + block.len ≤ end → IsInsideFile block reader
+inside_end block d reader end reading is front = λ file opened. omega (arith, (reading file opened).within, is, front)

@@ -1,0 +1,115 @@
+//! Who plays which command.
+use crate::arguments::play_on_arguments;
+use crate::judging::play_on_transcript;
+use crate::memory::play_in_memory;
+use crate::nodes::play_node;
+use crate::pictures::play_on_pictures;
+use crate::places::Case;
+use crate::requests::request_of;
+use crate::rounds::{end_round, take};
+use crate::sessions::play_sessions;
+use crate::stored::play_on_stored;
+use crate::stores::play_on_store;
+use crate::sweeps::{play_script, record};
+use log::Log;
+use raft_cases::{CaseFault, Column, Command, play_on_files};
+use raft_voter_messages::Items;
+use std::alloc::Global;
+use std::fs::File;
+use std::rt::Files;
+use std::sync::Wait;
+use std::thread::Threads;
+use std::time::Clock;
+
+/// Plays commands on voters: the runtime, and what the case has.
+#[derive(Drop)]
+pub struct Cases<'a, R> {
+    rt: &'a R,
+    alloc: Global,
+    case: Case,
+}
+
+impl<'a, R> Cases<'a, R> {
+    /// Before the first case.
+    pub fn new(rt: &'a R, alloc: Global) -> Cases<'a, R> {
+        Cases {
+            rt,
+            alloc,
+            case: Case::new(alloc),
+        }
+    }
+}
+
+impl<
+    'a,
+    R: Threads + Wait + Clock + Log + Sync + Files<File = File> + AllocGlobal + Clone + Drop,
+> Column for Cases<'a, R> {
+    fn begin(&mut self) -> Result<(), CaseFault> {
+        self.case = Case::new(self.alloc);
+        Ok(())
+    }
+
+    fn answer(&mut self, command: &mut Command) -> Result<String, CaseFault> {
+        if let Some(answer) = play_rounds(self.rt, self.alloc, &mut self.case, command)? {
+            return Ok(answer);
+        }
+        if let Some(answer) = play_without_files(self.alloc, &mut self.case, command)? {
+            return Ok(answer);
+        }
+        if let Some(answer) = play_sessions(self.rt, self.alloc, command)? {
+            return Ok(answer);
+        }
+        if let Some(answer) = play_node(self.rt, self.alloc, &mut self.case, command)? {
+            return Ok(answer);
+        }
+        if let Some(answer) = play_on_store(self.rt, self.alloc, &mut self.case, command)? {
+            return Ok(answer);
+        }
+        match play_on_files(self.alloc, &mut self.case.files, command)? {
+            Some(answer) => Ok(answer),
+            None => Err(CaseFault::UnknownCommand),
+        }
+    }
+}
+
+/// Plays a request, a round, or a command of a script; none if it is another command.
+fn play_rounds<R: Threads + Log + Sync>(
+    rt: &R,
+    alloc: Global,
+    case: &mut Case,
+    command: &mut Command,
+) -> Result<Option<String>, CaseFault> {
+    if let Some(answer) = play_script(rt, alloc, case, command)? {
+        return Ok(Some(answer));
+    }
+    if let Some((group, request)) = request_of(alloc, command)? {
+        return Ok(Some(take(rt, alloc, case, command, group, request)?));
+    }
+    match command.name() {
+        "round" => case.round = Some(Items::new(alloc)),
+        "end" => return Ok(Some(end_round(rt, alloc, case, command)?)),
+        _ => return record(alloc, case, command),
+    }
+    Ok(Some(String::new(alloc)))
+}
+
+/// Plays a command that needs no file; none if it is another one.
+fn play_without_files(
+    alloc: Global,
+    case: &mut Case,
+    command: &mut Command,
+) -> Result<Option<String>, CaseFault> {
+    if let Some(answer) = play_in_memory(alloc, case, command)? {
+        return Ok(Some(answer));
+    }
+    if let Some(answer) = play_on_stored(alloc, command)? {
+        return Ok(Some(answer));
+    }
+    if let Some(answer) = play_on_transcript(alloc, case, command)? {
+        return Ok(Some(answer));
+    }
+    if let Some(answer) = play_on_arguments(alloc, command)? {
+        return Ok(Some(answer));
+    }
+    play_on_pictures(alloc, command)
+}

@@ -1,0 +1,53 @@
+//! What a case has: its files, and who takes its requests.
+use crate::sweeps::Step;
+use raft_log_disk_memory::MemoryFileSystem;
+use raft_voter::{Outline, Voters};
+use raft_voter_messages::{Items, Request, Round, Transcript};
+use raft_voter_store::VoterStore;
+use std::alloc::Global;
+
+/// A store of voters whose log lies in memory.
+pub type Store = VoterStore<MemoryFileSystem>;
+
+/// Who takes the requests of a case.
+#[derive(Drop)]
+pub enum Place {
+    /// Nobody: no store is open.
+    Nowhere,
+    /// Voters in memory.
+    Memory(Voters),
+    /// The outline of one voter.
+    Outline(Outline),
+    /// A store.
+    Open(Store),
+}
+
+/// What a case has.
+#[derive(Drop)]
+pub struct Case {
+    /// The files, while no store is open on them.
+    pub files: MemoryFileSystem,
+    /// Who takes its requests.
+    pub place: Place,
+    /// The requests of a round that hasn't ended.
+    pub round: Option<Items<(u64, Request)>>,
+    /// Rounds whose outcome the case gives, for the judge.
+    pub transcript: Transcript,
+    /// The steps of a script that is to be swept, once it has begun.
+    pub script: Option<Vec<Step>>,
+}
+
+impl Case {
+    /// Without files, and with nobody who takes requests.
+    pub fn new(alloc: Global) -> Case {
+        Case {
+            files: MemoryFileSystem::new(alloc),
+            place: Place::Nowhere,
+            round: None,
+            transcript: Transcript {
+                rounds: Items::new(alloc),
+            },
+            script: None,
+        }
+    }
+}

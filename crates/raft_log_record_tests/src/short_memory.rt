@@ -96,16 +96,37 @@ impl Player {
     /// Whether a command has this answer, when it is played again if memory was refused. One that was done already,
     /// and whose answer found no memory, may then fail as too late.
     fn answers(&mut self, line: &str, want: &str) -> bool {
-        match self.play(line) {
-            Err(CaseFault::Memory) => {}
-            Err(_) => return false,
-            Ok(answer) if answer.as_str().starts_with("error Memory") => {}
-            Ok(answer) => return answer.as_str() == want,
+        let first = self.play(line);
+        if !is_short(&first) {
+            return is_answer(&first, want);
         }
-        match self.play(line) {
-            Ok(answer) => answer.as_str() == want || answer.as_str().starts_with("error Try again"),
-            Err(_) => false,
-        }
+        let second = self.play(line);
+        is_answer(&second, want) || is_late(&second)
+    }
+}
+
+/// Whether memory was refused.
+fn is_short(played: &Result<String, CaseFault>) -> bool {
+    match played {
+        Ok(answer) => answer.as_str().starts_with("error Memory"),
+        Err(CaseFault::Memory) => true,
+        Err(_) => false,
+    }
+}
+
+/// Whether a command that was done already has failed as too late.
+fn is_late(played: &Result<String, CaseFault>) -> bool {
+    match played {
+        Ok(answer) => answer.as_str().starts_with("error Try again"),
+        Err(_) => false,
+    }
+}
+
+/// Whether a command has this answer.
+fn is_answer(played: &Result<String, CaseFault>, want: &str) -> bool {
+    match played {
+        Ok(answer) => answer.as_str() == want,
+        Err(_) => false,
     }
 }
 

@@ -83,13 +83,18 @@ fn read_by(rt: &(impl Threads + Sync), alloc: Global, workers: usize) -> Result<
     Ok((shown, is_ordered))
 }
 
+/// Whether all was read, and each segment told in order.
+fn is_right(read: &Result<(String, bool)>) -> bool {
+    match read {
+        Ok((shown, is_ordered)) => *is_ordered && shown.as_str() == SHOWN,
+        Err(_) => false,
+    }
+}
+
 #[test]
 fn any_number_of_workers_reads_the_same(rt: HostRuntime) {
     for workers in [1, 2, 4] {
         let read = read_by(&rt, rt.alloc(), workers);
-        assert!(rt;
-            matches!(read, Ok((shown, true)) if shown.as_str() == SHOWN),
-            "{workers} workers"
-        );
+        assert!(rt; is_right(&read), "{workers} workers");
     }
 }

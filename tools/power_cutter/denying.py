@@ -58,8 +58,8 @@ def mount_read_only(log, _random):
 DENIALS = [
     ("a directory of mode 0", of_directory(0), "log", False),
     ("a directory that may only be written", of_directory(0o300), "log", False),
-    ("a directory of which only the names may be read", of_directory(0o400), "log", False),
-    ("a directory that may not be searched", of_directory(0o600), "log", False),
+    ("a directory of which only the names may be read", of_directory(0o400), "log/", False),
+    ("a directory that may not be searched", of_directory(0o600), "log/", False),
     ("files of mode 0", of_files(0), "log/", False),
     ("files that may only be read", of_files(0o400), "log/", True),
     ("files that may only be written", of_files(0o200), "log/", False),

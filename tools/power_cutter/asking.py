@@ -6,6 +6,8 @@ from collections import Counter
 
 LOW = {"low.toml": b'purge-threshold = "1MB"\n', "torn.toml": b"purge-threshold = \n"}
 USAGE = "usage: "
+VOTE = b"round\nvote 1 5 2 0 0\nend\n"
+FULL = "log/0000000000000001.raftlog: can't grow it: No space left on device"
 
 # The program, its arguments, its status, the stream that has the text, and the text with which it begins, or which is
 # part of it.
@@ -57,3 +59,20 @@ class Asker:
         (silent,) = streams.values()
         if ran.returncode != status or not is_there or silent:
             self.wrong.append(f"{program} {arguments}: status {ran.returncode}, {said!r}, and on the other stream {silent!r}")
+
+    def ask_on_full_disk(self):
+        """Runs the node on a file system that is too small: the call that fails is printed with its path. It needs root."""
+        path = os.path.realpath(f"{self.crates}/raftnode/out/raftnode")
+        if not os.path.isfile(path) or os.geteuid():
+            self.counts["runs on a full disk that could not be made"] += 1
+            return
+        with tempfile.TemporaryDirectory() as root:
+            subprocess.run(["mount", "-t", "tmpfs", "-o", "size=300k", "tmpfs", root], check=True)
+            try:
+                ran = subprocess.run([path, "log"], cwd=root, input=VOTE, capture_output=True, timeout=60)
+            finally:
+                subprocess.run(["umount", root], check=True)
+        self.counts["calls"] += 1
+        said = ran.stderr.decode()
+        if ran.returncode != 1 or FULL not in said:
+            self.wrong.append(f"raftnode on a full disk: status {ran.returncode}, {said!r}")

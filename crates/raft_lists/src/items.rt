@@ -7,8 +7,8 @@ use std::marker::Model;
 /// Bytes with an owner.
 pub type Bytes = Items<u8>;
 
-/// A growing list. It is a `Vec` of which contracts see the elements alone, and not its room, so that
-/// clauses compare lists, and types that hold them, as values.
+/// A growing list: a `Vec` of which contracts see only the elements, not the capacity. Clauses compare lists, and types
+/// that hold them, as values.
 #[derive(Debug, Drop)]
 pub struct Items<T> {
     items: Vec<T>,
@@ -52,7 +52,7 @@ impl<T: Eq> Eq for Items<T> {
 }
 
 impl<T> Items<T> {
-    /// An empty list, which takes no memory yet.
+    /// Returns an empty list. Allocates nothing.
     pub fn new(alloc: Global) -> Self
         ensures { result ≡ [] }
     {
@@ -61,14 +61,14 @@ impl<T> Items<T> {
         }
     }
 
-    /// The elements of a `Vec`, without a copy.
+    /// Wraps a `Vec`, without a copy.
     pub fn from_vec(items: Vec<T>) -> Self
         ensures { result ≡ items.items }
     {
         Items { items }
     }
 
-    /// The elements as a `Vec`, without a copy.
+    /// Returns the elements as a `Vec`, without a copy.
     pub fn into_vec(self) -> Vec<T>
         ensures { result.items ≡ self }
     {
@@ -76,21 +76,21 @@ impl<T> Items<T> {
         items
     }
 
-    /// How many elements there are.
+    /// Returns the number of elements.
     pub fn len(&self) -> usize
         ensures { result ≡ length self.now }
     {
         self.items.len()
     }
 
-    /// Whether there is no element.
+    /// Whether the list is empty.
     pub fn is_empty(&self) -> bool
         ensures { result ≡ (length self.now == 0) }
     {
         self.items.is_empty()
     }
 
-    /// The elements in order.
+    /// Returns the elements in order.
     pub fn as_slice(&self) -> &[T]
         ensures { result.now ≡ self.now }
     {
@@ -99,7 +99,7 @@ impl<T> Items<T> {
 }
 
 impl<T: Drop> Items<T> {
-    /// Adds an element at the end. Where memory is refused the list stays as it was.
+    /// Appends an element. If memory runs out, the list is unchanged.
     pub fn push(&mut self, item: T) -> Result<(), AllocError>
         ensures ok { OnOk result (self.new ≡ self.old ++ item ∷ []) }
         ensures err { OnErr result (self.new ≡ self.old) }
@@ -110,7 +110,7 @@ impl<T: Drop> Items<T> {
 }
 
 impl<T: Copy> Items<T> {
-    /// A copy of these elements.
+    /// Copies these elements into a new list.
     pub fn from_slice(alloc: Global, items: &[T]) -> Result<Self, AllocError>
         ensures { IfOk result (λ copy. copy ≡ items.now) }
     {

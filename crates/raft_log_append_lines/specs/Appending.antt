@@ -7,7 +7,7 @@ use Rattle.raft_log_engine.specs.raft_log_engine_laws.specs.Shows.{Shows}
 use Rattle.raft_log_engine.specs.raft_log_engine_laws.specs.Reading.{ReadsLast}
 use Rattle.raft_log_engine.specs.raft_log_engine_laws.specs.Writing.{WritesBytes}
 
--- The last index of group 1 was read; a batch whose one entry is the line, at the index behind it, was written and
+-- The last index of group 1 was read. A batch whose one entry is the line, at the index after it, was written and
 -- synced.
 pub record AppendsLine (line : List ℕ) (index : ℕ) (s t : Shows) : Type 0 where
   pub last : Option ℕ

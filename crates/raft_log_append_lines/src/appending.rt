@@ -1,4 +1,4 @@
-//! A line is appended to a log.
+//! Appends a line to a log.
 ghost use Rattle.std.specs.Prelude.{IfOk};
 ghost use Rattle.raft_log_engine.specs.raft_log_engine_core.specs.Reads.{shows_of};
 ghost use Rattle.raft_log_append_lines.specs.Appending.{AppendsLine};
@@ -10,7 +10,7 @@ use std::alloc::Global;
 /// The group whose entries the lines are.
 pub const GROUP: u64 = 1;
 
-/// Appends a line behind the last entry, and answers its index once it is durable; the first one's is 1.
+/// Appends a line after the last entry, and returns its index when it is durable; the first index is 1.
 pub fn append<P: PipeLog, R: Log>(
     rt: &R,
     alloc: Global,

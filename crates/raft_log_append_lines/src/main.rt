@@ -1,7 +1,7 @@
-//! Lines of standard input are kept in a log in a directory: each is answered once no crash takes it back.
+//! Keeps lines of standard input in a log in a directory. It confirms each line after no crash can lose it.
 //!
-//! The one argument is the directory, which is made where it isn't there. What stands in it is told first. The status
-//! is 1 where something was refused.
+//! The one argument is the directory, which is created if it doesn't exist. The program first prints the lines that are
+//! in it. The status is 1 if something failed.
 #![tactic(auto)]
 
 mod appending;
@@ -20,7 +20,7 @@ use std::process::ExitCode;
 use std::rt::Files;
 use std::thread::Threads;
 
-/// The directory that the program is told to keep the log in.
+/// The directory in which the program keeps the log.
 fn directory<R: Env + AllocGlobal>(rt: &R) -> anyhow::Result<String> {
     match env::args(rt)?.nth(1) {
         Some(directory) => Ok(directory),
@@ -28,7 +28,7 @@ fn directory<R: Env + AllocGlobal>(rt: &R) -> anyhow::Result<String> {
     }
 }
 
-/// Tells each entry that stands in a log.
+/// Prints each entry of a log.
 fn tell<R: Print + AllocGlobal, F: FileSystem>(
     rt: &R,
     engine: &mut Engine<F>,
@@ -44,7 +44,7 @@ fn tell<R: Print + AllocGlobal, F: FileSystem>(
     Ok(())
 }
 
-/// Opens the log in a directory over these files, tells what stands there, and appends each line that is read.
+/// Opens the log in a directory over these files, prints its entries, and appends each line that is read.
 fn serve<R: Threads + Log + Sync + Input + Print + AllocGlobal, F: FileSystem + Sync + Drop>(
     rt: &R,
     directory: &str,
@@ -66,7 +66,7 @@ fn serve<R: Threads + Log + Sync + Input + Print + AllocGlobal, F: FileSystem + 
     Ok(())
 }
 
-/// Makes the directory where it isn't there, and answers the file system over it.
+/// Creates the directory if it doesn't exist, and returns the file system over it.
 fn files<R: Files<File = File> + Threads + Eprint + AllocGlobal + Clone + Sync + Drop>(
     rt: &R,
     directory: &str,
@@ -75,7 +75,7 @@ fn files<R: Files<File = File> + Threads + Eprint + AllocGlobal + Clone + Sync +
     Ok(open_directories(rt, directory, None)?)
 }
 
-/// The exit of what was done; a refusal is told.
+/// The exit of the program; prints an error.
 fn exit<R: Eprint>(rt: &R, done: anyhow::Result<()>) -> ExitCode {
     match done {
         Ok(()) => ExitCode::SUCCESS,
@@ -86,8 +86,8 @@ fn exit<R: Eprint>(rt: &R, done: anyhow::Result<()>) -> ExitCode {
     }
 }
 
-// An open lends its file system to threads, so that one over real directories is handed on here, where the runtime is
-// no parameter.
+// An open lends its file system to threads. One over real directories is therefore passed on here, where the runtime
+// isn't a parameter.
 fn main(rt: HostRuntime) -> ExitCode {
     let directory = match directory(&rt) {
         Ok(directory) => directory,

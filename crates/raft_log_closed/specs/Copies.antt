@@ -9,8 +9,8 @@ use Rattle.raft_log_disk.specs.Causes.{Fails, IsLater}
 use Rattle.raft_log_open_scan.specs.Names.{built_name}
 use Rattle.raft_log_closed.specs.declared.source_file.SourceFile.{SourceFile}
 
--- Nothing that was there changed: each name and each file is as it was, with what is synced of it and what
--- isn't. Only the target may be a directory now, and only these paths may have got a file.
+-- Nothing that was there changed: each name and each file is as it was, with what is synced of it and what isn't.
+-- Only the target may be a directory now, and only these paths may have got a file.
 pub record AddsOnly (target : List ℕ) (own : List ℕ → Type 0) (old new : Disk) : Type 0 where
   pub directories : (path : List ℕ) → (path ≡ target → ⊥) → new.directories path ≡ old.directories path
   pub there : (path : List ℕ) → old.directories path ≡ true → new.directories path ≡ true
@@ -20,7 +20,7 @@ pub record AddsOnly (target : List ℕ) (own : List ℕ → Type 0) (old new : D
   pub unreadable : new.unreadable ≡ old.unreadable
   pub later : IsLater old new
 
--- under a path stands a file with the bytes that the source's file had, all of them synced
+-- the file under a path has the bytes that the source's file had, all of them synced
 pub record HasCopy (source : ℕ) (to : List ℕ) (old new : Disk) : Type 0 where
   pub file : File
   pub is : old.files source ≡ Some file
@@ -48,8 +48,8 @@ abbrev pub IsInTheWay : List ℕ → List SourceFile → Disk → Type 0
 IsInTheWay target files d =
     (file : SourceFile) × Contains files file × IsTaken (copy_path target file) d
 
--- Why a file isn't copied: a failure or a stop, an unreadable place, something else that has the path of a
--- copy, or want of memory.
+-- Why a file isn't copied: a failure or a stop, an unreadable place, something else under a copy's path, or lack of
+-- memory.
 abbrev pub IsCopyRefusal : List ℕ → List SourceFile → Error → Disk → Disk → Type 0
 IsCopyRefusal target files (errors.Io kind) old new =
     Fails old new ⊎ (HasUnreadable files old ⊎ ((kind ≡ AlreadyExists) × IsInTheWay target files old))

@@ -1,4 +1,4 @@
--- What a check of the log in a directory answers, and what it leaves.
+-- What a check of the log in a directory returns, and what it leaves.
 use Rattle.std.specs.Prelude.{◌≡◌, ℕ, List, ◌++◌, codes}
 use Rattle.std.specs.String.{string_bytes}
 use Rattle.raft_log_record_base.specs.declared.errors.Error.{Error}
@@ -19,11 +19,11 @@ checked_settings path = record default_settings { dir = path; recovery_mode = To
 abbrev pub HasPath : List ℕ → Disk → Type 0
 HasPath path d = IsFreePath path d → ⊥
 
--- how a path is told that nothing has
+-- the message for a path that nothing has
 abbrev pub told_absent : List ℕ → List ℕ
 told_absent path = codes "No such directory: " ++ path
 
--- nothing has the path, or memory ran out for saying so
+-- nothing has the path; `Memory` if there was none for the message
 abbrev pub TellsAbsence : List ℕ → Error → Type 0
 TellsAbsence path (errors.InvalidArgument text) = string_bytes text ≡ told_absent path
 TellsAbsence path errors.Memory = Unit {0}
@@ -36,8 +36,8 @@ pub record ChecksDirectory (path : List ℕ) (findings : List (ℕ × ℕ)) (old
   pub usual : settings_of config ≡ checked_settings path
   pub checks : ChecksLog config findings old new
 
--- Why a log wasn't checked: nothing has the path, and that is told; it isn't known, or memory ran out for the
--- settings; nothing is done then. Else as a check of the log is refused.
+-- Why a log wasn't checked. Nothing has the path, which the message has; it isn't known, or memory ran out for the
+-- settings: then nothing is done. Or the check of the log failed.
 pub data FailsToCheckDirectory (path : List ℕ) (error : Error) (old new : Disk) : Type 0 where
   absent : IsFreePath path old → TellsAbsence path error → new ≡ old → FailsToCheckDirectory path error old new
   unknown : FailsToLook old error → new ≡ old → FailsToCheckDirectory path error old new

@@ -1,4 +1,4 @@
--- What a dump of a log's files gives.
+-- What a dump of a log's files returns.
 use Rattle.std.specs.Prelude.{◌≡◌, ℕ, ◌⊎◌, false, None, List, codes}
 use Rattle.std.specs.String.{string_bytes}
 use Rattle.raft_log_record_base.specs.declared.errors.Error.{Error}
@@ -9,19 +9,20 @@ use Rattle.raft_log_file_reader.specs.Files.{IsOtherFile, told}
 use Rattle.raft_log_file_reader.specs.ItemReader.{ReadsFileAt, ReadsFilesIn}
 use Rattle.raft_log_file_reader.specs.declared.item_reader.LogItemReader.{LogItemReader}
 
--- what comes of the reader is what comes of the log files of the directory with this path, or of the log file
--- with it
+-- the reader returns what is in the log files of the directory with this path, or in the log file with it
 abbrev pub Dumps : {F : Type 0} → (F → Disk) → F → List ℕ → LogItemReader F → Type 0
 Dumps disk file_system path reader =
     ReadsFilesIn disk file_system path reader ⊎ ReadsFileAt disk file_system path reader
 
--- neither a directory nor a file has the path, and that is told
+-- neither a directory nor a file has the path, which the message has
 abbrev pub LacksBoth : List ℕ → Disk → List ℕ → Type 0
 LacksBoth path d text = (text ≡ told (codes "No such file or directory") path) × (d.names path ≡ None)
     × (d.directories path ≡ false)
 
--- Why nothing is dumped: the file system has stopped; or it runs, and nothing has the path, or a file without
--- a log file's name, or memory ran out.
+-- Why nothing is dumped:
+-- - the file system has stopped
+-- - it runs, and nothing has the path, or a file without a log file's name
+-- - memory ran out
 abbrev pub IsNoDump : List ℕ → Disk → Error → Type 0
 IsNoDump path d (errors.InvalidArgument text) =
     (d.stopped ≡ false) × (LacksBoth path d (string_bytes text) ⊎ IsOtherFile path d (string_bytes text))

@@ -1,4 +1,4 @@
--- What checkers tell.
+-- What checkers find.
 use Rattle.std.specs.BTreeMap.{BTreeMap, get}
 use Rattle.std.specs.List.Sorted.{IsStrictlySortedBy}
 use Rattle.std.specs.Option.{option_and_then, option_or}
@@ -18,7 +18,7 @@ pub record Lists (found : ℕ → Option ℕ) (findings : List (ℕ × ℕ)) : T
 abbrev pub told_by : ConsistencyChecker → ℕ → Option ℕ
 told_by checker group = option_and_then (λ k. k.hole_after) (kept_of checker group)
 
--- the first findings, and the second ones of the other groups
+-- the first findings, and for the other groups the second ones
 abbrev pub told_over : (ℕ → Option ℕ) → (ℕ → Option ℕ) → ℕ → Option ℕ
 told_over first second group = option_or (first group) (second group)
 
@@ -26,12 +26,12 @@ told_over first second group = option_or (first group) (second group)
 abbrev pub found_among : BTreeMap ℕ ℕ → ℕ → Option ℕ
 found_among found group = get nat_cmp found group
 
--- the finding of a group, if there is one, went over that in a map
+-- the finding of a group, if there is one, replaced that in a map
 pub record NotesFinding (group : ℕ) (end : Option ℕ) (old new : BTreeMap ℕ ℕ) : Type 0 where
   pub one : found_among new group ≡ option_or end (found_among old group)
   pub others : (other : ℕ) → (group == other) ≡ false → found_among new other ≡ found_among old other
 
--- these findings went over those in a map
+-- these findings replaced those in a map
 abbrev pub TellsOver : (ℕ → Option ℕ) → BTreeMap ℕ ℕ → BTreeMap ℕ ℕ → Type 0
 TellsOver told old new = (group : ℕ) → found_among new group ≡ told_over told (found_among old) group
 
@@ -39,6 +39,6 @@ TellsOver told old new = (group : ℕ) → found_among new group ≡ told_over t
 abbrev pub finding_in : List Batch → ℕ → Option ℕ
 finding_in batches group = finding (runs_of group batches)
 
--- the finding of a group in a log: that in Rewrite goes before that in Append
+-- the finding of a group in a log: the one in Rewrite, else the one in Append
 abbrev pub finding_of : List Batch → List Batch → ℕ → Option ℕ
 finding_of append rewrite = told_over (finding_in rewrite) (finding_in append)

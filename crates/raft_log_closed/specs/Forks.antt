@@ -26,7 +26,7 @@ LiesWithin directory path = (path ≡ directory) ⊎ ((rest : List ℕ) × (path
 abbrev pub LiesInOne : List (List ℕ) → List ℕ → Type 0
 LiesInOne directories path = (directory : List ℕ) × Contains directories directory × LiesWithin directory path
 
--- a directory is there, and has a file under the name of a log file, or of one that is kept to be used
+-- a directory is there, and has a file under the name of a log file, or of a reserved one
 pub record HoldsLogFile (directory : List ℕ) (d : Disk) : Type 0 where
   pub home : d.directories directory ≡ true
   pub name : List ℕ
@@ -34,12 +34,12 @@ pub record HoldsLogFile (directory : List ℕ) (d : Disk) : Type 0 where
   pub plain : IsPlain name
   pub there : d.names (directory ++ 47 ∷ name) ≡ None → ⊥
 
--- the settings let a log be copied: no file is used again, and no file is cut but the last
+-- the settings allow a copy: no file is recycled, and only last files are truncated
 pub record MayBeCopied (s : Settings) : Type 0 where
   pub recycle : s.enable_log_recycle ≡ false
   pub mode : s.recovery_mode ≡ TolerateAnyCorruption → ⊥
 
--- What stands against a copy, and how it is told: the first that does.
+-- What forbids a copy, and its message: the first reason that applies.
 pub data Forbids (s : Settings) (target : List ℕ) (d : Disk) (text : List ℕ) : Type 0 where
   recycles : s.enable_log_recycle ≡ true → text ≡ codes "enable_log_recycle should be false"
       → Forbids s target d text
@@ -50,13 +50,13 @@ pub data Forbids (s : Settings) (target : List ℕ) (d : Disk) (text : List ℕ)
   holds : MayBeCopied s → (LiesInOne (directories_of s) target → ⊥) → HoldsLogFile target d
       → text ≡ codes "the target holds log files" → Forbids s target d text
 
--- nothing stands against a copy
+-- nothing forbids a copy
 pub record IsFree (s : Settings) (target : List ℕ) (d : Disk) : Type 0 where
   pub settings : MayBeCopied s
   pub outside : LiesInOne (directories_of s) target → ⊥
   pub empty : HoldsLogFile target d → ⊥
 
--- nothing stands against a copy, and the settings are sound
+-- nothing forbids a copy, and the settings are sound
 abbrev pub AllowsFork : Settings → List ℕ → Disk → Type 0
 AllowsFork s target d = IsFree s target d × HasNoFault s
 
@@ -76,9 +76,9 @@ pub record CopiesAll (target : List ℕ) (files : List SourceFile) (old new : Di
   pub adds : AddsOnly target (IsCopyPath target files) old new
   pub copies : HaveCopies target files old new
 
--- Why not all of these files were copied, and what stands then: the first of them have their copies, the one
--- behind them may have one that was begun, and nothing else changed. What is told is how a call for that one
--- was refused, which came behind the copies.
+-- Why not all of these files were copied, and the disk then. The first of them have their copies, the next one may
+-- have one that was begun, and nothing else changed. The error is that of a call for the next one, after those
+-- copies.
 pub record FailsToCopyAll (target : List ℕ) (files : List SourceFile) (error : Error) (old new : Disk)
     : Type 0 where
   pub copied : List SourceFile
@@ -94,8 +94,8 @@ pub record FailsToCopyAll (target : List ℕ) (files : List SourceFile) (error :
 
 -- The whole.
 
--- A fork: the target is there, in it a copy of each of the log's files, one a number, and nothing else
--- changed; these are the paths of the copies, in the files' order.
+-- A fork: the target is there, in it a copy of each of the log's files, one a number, and nothing else changed. These
+-- are the paths of the copies, in the files' order.
 pub record Forks (s : Settings) (target : List ℕ) (copied : List (List ℕ)) (old new : Disk) : Type 0 where
   pub allowed : AllowsFork s target old
   pub files : List SourceFile
@@ -104,8 +104,12 @@ pub record Forks (s : Settings) (target : List ℕ) (copied : List (List ℕ)) (
   pub copies : CopiesAll target files old new
   pub paths : copied ≡ map (copy_path target) files
 
--- why nothing was begun: something stands against a copy, the settings are unsound, a directory of the log
--- isn't there, a name in it is no built one's, the file system has stopped, or memory ran out
+-- why nothing was begun:
+-- - something forbids a copy
+-- - the settings are unsound
+-- - a directory of the log isn't listed, or a name in it is misnamed
+-- - the file system has stopped
+-- - memory ran out
 abbrev pub IsForkRefusal : Settings → List ℕ → Disk → Error → Type 0
 IsForkRefusal s target d (errors.InvalidArgument text) = Forbids s target d (string_bytes text)
 IsForkRefusal s target d (errors.Other why) = IsFree s target d × IsRefusedFor s (errors.Other why)
@@ -116,14 +120,13 @@ IsForkRefusal s target d (errors.Corruption text) =
 IsForkRefusal s target d errors.Memory = Unit {0}
 IsForkRefusal s target d _ = ⊥
 
--- why the target isn't there, and what stands then: it couldn't be made, or memory ran out
+-- why the target isn't there, and the disk then: it couldn't be made, or memory ran out
 abbrev pub FailsToMakeTarget : List ℕ → Error → Disk → Disk → Type 0
 FailsToMakeTarget target (errors.Io kind) old new = FailsToMakeDirectory target kind old new
 FailsToMakeTarget target errors.Memory old new = new ≡ old
 FailsToMakeTarget target _ old new = ⊥
 
--- Why there is no fork, and what stands then: nothing was begun; the target wasn't made; or not all files
--- were copied.
+-- Why there is no fork, and the disk then: nothing was begun; the target wasn't made; or not all files were copied.
 pub data FailsToFork (s : Settings) (target : List ℕ) (error : Error) (old new : Disk) : Type 0 where
   refused : IsForkRefusal s target old error → new ≡ old → FailsToFork s target error old new
   homeless : AllowsFork s target old → FailsToMakeTarget target error old new

@@ -12,13 +12,12 @@ use Rattle.raft_log_closed.specs.Runs.{Run, finding, run_of_item, runs_in, runs_
 use Rattle.raft_log_closed.specs.declared.group_runs.GroupRuns.{GroupRuns}
 use Rattle.raft_log_closed.specs.declared.checker.ConsistencyChecker.{ConsistencyChecker}
 
--- where the last of these runs ends, which come behind one
+-- where the last of these runs ends, which follow one
 abbrev pub last_end : Run → List Run → ℕ
 last_end run [] = run.last
 last_end run (next ∷ runs) = last_end next runs
 
--- what is kept of a group's runs, if there are any: where the first begins, where the last ends, and the
--- finding
+-- what is kept of a group's runs, if there are any: where the first begins, where the last ends, and the finding
 abbrev pub kept : List Run → Option GroupRuns
 kept [] = None
 kept (run ∷ runs) = Some (record {
@@ -31,7 +30,7 @@ kept (run ∷ runs) = Some (record {
 abbrev pub hole_between : GroupRuns → GroupRuns → Option ℕ
 hole_between earlier later = if nat_lt (earlier.last + 1) later.first then Some earlier.last else None
 
--- what is kept of runs and of those behind them: the earlier finding goes before the later one
+-- what is kept of runs and of later ones: the earlier finding takes precedence
 abbrev pub followed : GroupRuns → GroupRuns → GroupRuns
 followed earlier later = record {
   first = earlier.first;
@@ -39,7 +38,7 @@ followed earlier later = record {
   hole_after = option_or earlier.hole_after (option_or (hole_between earlier later) later.hole_after);
 }
 
--- what is kept of runs and of those behind them, where there may be none of either
+-- what is kept of runs and of later ones, if there may be none of either
 abbrev pub both_kept : Option GroupRuns → Option GroupRuns → Option GroupRuns
 both_kept None later = later
 both_kept (Some earlier) None = Some earlier
@@ -49,30 +48,30 @@ both_kept (Some earlier) (Some later) = Some (followed earlier later)
 abbrev pub kept_of : ConsistencyChecker → ℕ → Option GroupRuns
 kept_of checker group = get nat_cmp checker.groups group
 
--- the checker keeps of each group what its runs in these batches come to, of whichever queue these are
+-- the checker keeps, for each group, its runs in these batches, of whichever queue these are
 abbrev pub KeepsRuns : LogQueue → List Batch → ConsistencyChecker → Type 0
 KeepsRuns queue batches checker = (group : ℕ) → kept_of checker group ≡ kept (runs_of group batches)
 
--- runs of a group came behind those that were kept of it
+-- runs of a group were added after those that were kept of it
 pub record FollowsIn (old new : ConsistencyChecker) (group : ℕ) (later : GroupRuns) : Type 0 where
   pub both : kept_of new group ≡ both_kept (kept_of old group) (Some later)
   pub others : (other : ℕ) → (group == other) ≡ false → kept_of new other ≡ kept_of old other
 
--- what one checker keeps of each group came behind what the other did
+-- what one checker keeps of each group was added after what the other did
 abbrev pub FollowsAll : ConsistencyChecker → ConsistencyChecker → ConsistencyChecker → Type 0
 FollowsAll old later new =
     (group : ℕ) → kept_of new group ≡ both_kept (kept_of old group) (kept_of later group)
 
--- batches are declined for want of memory alone
+-- batches are declined only for lack of memory
 abbrev pub IsOutOfMemory : LogQueue → List Batch → Error → Type 0
 IsOutOfMemory queue batches error = error ≡ errors.Memory
 
--- the run of an item, if it has any, came behind what was kept of its group
+-- the run of an item, if it has any, was added after what was kept of its group
 abbrev pub TakesItem : LogItem → ConsistencyChecker → ConsistencyChecker → Type 0
 TakesItem item old new =
     (group : ℕ) → kept_of new group ≡ both_kept (kept_of old group) (kept (run_of_item group item))
 
--- the runs of a batch came behind those that were kept of each group
+-- the runs of a batch were added after those that were kept of each group
 abbrev pub TakesRuns : List LogItem → ConsistencyChecker → ConsistencyChecker → Type 0
 TakesRuns items old new =
     (group : ℕ) (before : List Run) → kept_of old group ≡ kept before

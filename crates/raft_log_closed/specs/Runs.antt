@@ -6,12 +6,12 @@ use Rattle.raft_log_record_items.specs.declared.item.LogItemContent.{LogItemCont
 use Rattle.raft_log_record_items.specs.declared.item.LogItemContent.TheVariants as contents
 use Rattle.raft_log_table_segments.specs.Machines.{Batch}
 
--- entries of a group that one item holds: the indexes of the first and of the last
+-- entries of a group in one item: the indexes of the first and of the last
 pub record Run : Type 0 where
   pub first : ℕ
   pub last : ℕ
 
--- the index of the last of these entries, which stand behind one with this index
+-- the index of the last of these entries, which follow one with this index
 abbrev pub last_index : ℕ → List EntryIndex → ℕ
 last_index i [] = i
 last_index i (e ∷ es) = last_index e.index es
@@ -54,8 +54,7 @@ HasNoHole [] = Unit {0}
 HasNoHole (run ∷ []) = Unit {0}
 HasNoHole (run ∷ next ∷ runs) = (next.first ≤ run.last + 1) × HasNoHole (next ∷ runs)
 
--- a run starts past the end + 1 of the one before it, the first of all that do, and this is the end of that
--- one
+-- a run starts past the end + 1 of the one before it, as the first to do so, and this is that end
 pub record IsFirstHole (runs : List Run) (end : ℕ) : Type 0 where
   pub before : List Run
   pub run : Run

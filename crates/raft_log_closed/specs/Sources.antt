@@ -14,14 +14,13 @@ use Rattle.raft_log_open_scan.specs.declared.scanning.found.FoundFile.{FoundFile
 use Rattle.raft_log_closed.specs.Copies.{IsSourceThere}
 use Rattle.raft_log_closed.specs.declared.source_file.SourceFile.{SourceFile}
 
--- the first lies in an earlier directory than the second, or in the same one, where a name without a sign comes
--- first
+-- the first is in an earlier directory than the second, or in the same one, where a name without a sign comes first
 abbrev pub IsNoLater : FoundFile → FoundFile → Type 0
 IsNoLater a b = (a.path_id < b.path_id)
     ⊎ ((a.path_id ≡ b.path_id) × (a.signed ≡ true → b.signed ≡ true))
 
--- One of these files has the number, and it lies in the last of the directories that have one of this number;
--- of two in that directory it is the one whose name has a sign.
+-- One of these files has the number, and no other one of this number is in a later directory. If two are in its
+-- directory, it is the one whose name has a sign.
 pub record IsLastOf (found : List FoundFile) (file : FoundFile) : Type 0 where
   pub there : Contains found file
   pub last : (other : FoundFile) → Contains found other → other.seq ≡ file.seq → IsNoLater other file
@@ -32,13 +31,13 @@ AreRising [] = Unit {0}
 AreRising (file ∷ files) =
     ((other : FoundFile) → Contains files other → file.seq < other.seq) × AreRising files
 
--- of these files one for each number, in the order of the numbers: the last of those that have it
+-- one of these files for each number, in the order of the numbers: the last of those that have it
 pub record IsOneEach (found chosen : List FoundFile) : Type 0 where
   pub are : (file : FoundFile) → Contains chosen file → IsLastOf found file
   pub all : (file : FoundFile) → IsLastOf found file → Contains chosen file
   pub rising : AreRising chosen
 
--- no file stands behind this place, or one of another number
+-- no file follows this place, or one of another number
 abbrev pub IsNextAnother : List FoundFile → ℕ → Type 0
 IsNextAnother files at = (at + 1 ≡ length files)
     ⊎ ((d : FoundFile) → (slice_index_or files at d).seq ≡ (slice_index_or files (at + 1) d).seq → ⊥)
@@ -48,7 +47,7 @@ abbrev pub unless_again : FoundFile → List FoundFile → List FoundFile
 unless_again file [] = file ∷ []
 unless_again file (next ∷ files) = if nat_eq file.seq next.seq then [] else file ∷ []
 
--- of files in the order of their numbers the last of each number
+-- the last file of each number, among files in the order of their numbers
 abbrev pub lasts : List FoundFile → List FoundFile
 lasts [] = []
 lasts (file ∷ files) = unless_again file files ++ lasts files
@@ -61,7 +60,7 @@ pub record IsSource (kind : FileKind) (directories : List (List ℕ)) (d : Disk)
   pub small : found.seq < 10 ^ 16
   pub is : d.names (found_path kind directories found) ≡ Some file.handle.file
 
--- of the files of a kind in these directories, one a number, open
+-- the files of a kind in these directories, one a number, open
 pub record AreSourcesOf (kind : FileKind) (directories : List (List ℕ)) (d : Disk) (files : List SourceFile)
     : Type 0 where
   pub found : List FoundFile

@@ -19,7 +19,7 @@ pub record AreAllBytes (id : ℕ) (bytes : List ℕ) (d : Disk) : Type 0 where
   pub is : d.files id ≡ Some file
   pub all : bytes ≡ file.content
 
--- why a file wasn't read: its size wasn't told, or some place couldn't be read, or memory ran out
+-- why a file wasn't read: its size can't be read, some place can't be read, or memory ran out
 abbrev pub FailsToReadWhole : Handle → Disk → Error → Type 0
 FailsToReadWhole handle d (errors.Io kind) =
     IsNotMeasured handle d kind ⊎ ((count : ℕ) × IsUnread handle 0 count d kind)
@@ -31,23 +31,21 @@ abbrev pub Fills : ℕ → List ℕ → Disk → Disk → Type 0
 Fills id bytes old new =
     ((bytes ≡ []) × (new ≡ old)) ⊎ Changes id (after_change (Wrote 0 bytes)) old new
 
--- under a new name stands a file of these bytes, all synced, and nothing else changed
+-- a new name has a file of these bytes, all synced, and nothing else changed
 pub record MakesFile (path bytes : List ℕ) (old new : Disk) : Type 0 where
   pub adds : (target : List ℕ) → AddsOnly target (λ other. other ≡ path) old new
   pub copy : ℕ
   pub named : new.names path ≡ Some copy
   pub stands : new.files copy ≡ Some (at_rest bytes)
 
--- why a file wasn't made, which may have been begun: a failure or a stop, or the path can't be a
--- new file's
+-- why a file wasn't made, or was only begun: a failure or a stop, or the path can't be a new file's
 abbrev pub FailsToMake : List ℕ → Error → Disk → Disk → Type 0
 FailsToMake path (errors.Io kind) old new =
     ((target : List ℕ) → AddsOnly target (λ other. other ≡ path) old new)
     × (Fails old new ⊎ WrongCreate path old kind)
 FailsToMake path _ old new = ⊥
 
--- whose refusal is told of a file of these bytes that isn't made: that of its making, of the write of its
--- bytes, or of the sync behind
+-- which call failed, if a file of these bytes isn't made: its creation, the write of its bytes, or the sync after it
 pub data UnmadeBy (path bytes : List ℕ) (kind : ErrorKind) (old new : Disk) : Type 0 where
   not_created : FailsToCreate path kind old new → UnmadeBy path bytes kind old new
   not_filled : (handle : Handle) (made : Disk) → Creates path handle.file old made
@@ -55,7 +53,7 @@ pub data UnmadeBy (path bytes : List ℕ) (kind : ErrorKind) (old new : Disk) : 
   not_synced : (handle : Handle) (made full : Disk) → Creates path handle.file old made
       → Fills handle.file bytes made full → FailsToSync handle kind full new → UnmadeBy path bytes kind old new
 
--- an error of this kind tells it
+-- an error of the kind with which that call failed
 abbrev pub TellsUnmade : List ℕ → List ℕ → Error → Disk → Disk → Type 0
 TellsUnmade path bytes (errors.Io kind) old new = UnmadeBy path bytes kind old new
 TellsUnmade path bytes _ old new = ⊥
@@ -65,14 +63,13 @@ pub record CopiesOne (target : List ℕ) (file : SourceFile) (old new : Disk) : 
   pub adds : AddsOnly target (λ other. other ≡ copy_path target file) old new
   pub copy : HasCopy file.handle.file (copy_path target file) old new
 
--- why a file wasn't copied, whose copy may have been begun
+-- why a file wasn't copied, or its copy was only begun
 abbrev pub FailsToCopyOne : List ℕ → SourceFile → Error → Disk → Disk → Type 0
 FailsToCopyOne target file error old new =
     AddsOnly target (λ other. other ≡ copy_path target file) old new
     × IsCopyRefusal target (file ∷ []) error old new
 
--- Whose refusal is told of a file that isn't copied: that of a call which was to read it, or of one which was
--- to make its copy.
+-- Which call failed, if a file isn't copied: one that reads it, or one that makes its copy.
 abbrev pub TellsUncopied : List ℕ → SourceFile → Error → Disk → Disk → Type 0
 TellsUncopied target file (errors.Io kind) old new =
     (FailsToReadWhole file.handle old (errors.Io kind) × (new ≡ old))

@@ -15,9 +15,8 @@ use std::collections::BTreeMap;
 pub use telling::Finding;
 pub(crate) use telling::join_findings;
 
-/// What has read the batches of a queue, one behind the other: of each group it keeps where its runs begin
-/// and end, and the first hole between them. It declines a batch for want of memory alone, and may then only
-/// be dropped.
+/// Reads the batches of a queue, one after another. For each group it keeps where its runs begin and end, and the
+/// first hole between them. It declines a batch only for lack of memory, and may then only be dropped.
 #[derive(Drop)]
 pub struct ConsistencyChecker {
     alloc: Global,
@@ -35,7 +34,7 @@ impl ConsistencyChecker {
         }
     }
 
-    /// The runs of a group come behind those that are kept of it. Refused, nothing changes.
+    /// Adds the runs of a group after those that are kept of it. If it fails, nothing changes.
     fn follow(&mut self, group: u64, later: GroupRuns) -> Result<(), AllocError>
         ensures { OnOk result (FollowsIn self.old self.new group later) }
     {
@@ -47,7 +46,7 @@ impl ConsistencyChecker {
         Ok(())
     }
 
-    /// The runs of a batch come behind those that are kept. Refused, those of some of its items do.
+    /// Adds the runs of a batch after those that are kept. If it fails, those of some of its items are added.
     fn take(&mut self, items: &[LogItem]) -> Result<(), AllocError>
         ensures { OnOk result (TakesRuns items.now self.old self.new) }
     {
@@ -57,7 +56,7 @@ impl ConsistencyChecker {
         Ok(())
     }
 
-    /// The run of an item, if it has any, comes behind what is kept of its group. Refused, nothing changes.
+    /// Adds the run of an item, if it has any, after what is kept of its group. If it fails, nothing changes.
     fn take_item(&mut self, item: &LogItem) -> Result<(), AllocError>
         ensures { OnOk result (TakesItem item.now self.old self.new) }
     {
@@ -67,7 +66,7 @@ impl ConsistencyChecker {
         }
     }
 
-    /// What another checker keeps comes behind, group by group. Refused, that of some groups does.
+    /// Adds what another checker keeps, group by group. If it fails, that of some groups is added.
     fn follow_all(&mut self, later: ConsistencyChecker) -> Result<(), AllocError>
         ensures { OnOk result (FollowsAll self.old later self.new) }
     {
@@ -94,14 +93,14 @@ impl ReplayMachine for ConsistencyChecker {
     }
 }
 
-/// What makes checkers that have read nothing.
+/// Makes checkers that have read nothing.
 #[derive(Drop)]
 pub struct ConsistencyCheckerFactory {
     alloc: Global,
 }
 
 impl ConsistencyCheckerFactory {
-    /// The factory; its checkers take their memory here.
+    /// A factory whose checkers take their memory from `alloc`.
     pub fn new(alloc: Global) -> ConsistencyCheckerFactory {
         ConsistencyCheckerFactory { alloc }
     }

@@ -24,18 +24,22 @@ struct CheckedQueues {
     rewrite: ConsistencyChecker,
 }
 
-/// Checks the log of these settings for holes: of each group that has one, the end of the first run of
-/// entries after which the next one starts past the end + 1, in Rewrite or else in Append, sorted by group.
-/// The records are those that an open would read. What is missing before the first run or behind the last
-/// one isn't seen. Files with an alignment are read too.
+/// Checks the log of these settings for holes. A run of entries has a hole after it if the next run starts past its
+/// end + 1. Returns the end of the first such run for each group that has one, in Rewrite or else in Append, sorted
+/// by group.
 ///
-/// No engine is opened. As by an open, directories that aren't there are made, and where the settings
-/// tolerate damage, damaged files are cut behind their last good record and synced.
+/// The records are those that an open would read. What is missing before the first run or after the last one isn't
+/// seen. Files with an alignment are read too.
 ///
-/// `Io(Other)` of a file system that has stopped goes first, so that no stop is told as want of memory. `Other` where
-/// the settings have a fault; then as a scan and a recovery are refused: `Other`, `Corruption`,
-/// `Io` of the directories, `Io` where a file can't be read, `Corruption` or `Codec` for damage that isn't
-/// tolerated, `Io` where a file isn't cut or synced; `Memory`.
+/// Opens no engine. As an open does, makes missing directories, and if the settings tolerate damage, truncates
+/// damaged files after their last good record and syncs them.
+///
+/// A file system that has stopped is reported first, as `Io(Other)`, so that no stop is reported as lack of memory.
+/// Then fails:
+/// - with `Other` if the settings have a fault
+/// - as a scan does: with `Other`, `Corruption`, or `Io` of the directories
+/// - with `Io` if a file can't be read, or with `Corruption` or `Codec` for damage that isn't tolerated
+/// - with `Io` if a file isn't truncated or synced, or with `Memory`
 pub fn check_log<R: Threads + Log + Sync, F: FileSystem + Sync>(
     rt: &R,
     alloc: Global,
@@ -61,7 +65,7 @@ pub fn check_log<R: Threads + Log + Sync, F: FileSystem + Sync>(
     }
 }
 
-/// Reads both queues of the log of these settings, each into a checker of its own; then cuts damaged files.
+/// Reads both queues of the log of these settings, each into a checker of its own; then truncates damaged files.
 fn read_runs<R: Threads + Log + Sync, F: FileSystem + Sync>(
     rt: &R,
     alloc: Global,
@@ -106,7 +110,7 @@ fn find<R: Log, F: FileSystem>(
     }
 }
 
-/// Checks settings and makes them whole, for a log of which no file is known.
+/// Checks and sanitizes settings, for a log without a known file.
 fn begin<R: Log>(rt: &R, alloc: Global, config: Config) -> Result<DualPipesBuilder>
     ensures ok { IfOk result (IsBegun config) }
     ensures err { IfErr result (IsRefusedFor (settings_of config)) }

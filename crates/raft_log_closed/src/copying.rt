@@ -13,9 +13,8 @@ use raft_log_record_base::Result;
 use std::alloc::Global;
 use std::io::ErrorKind;
 
-/// Copies a file into a directory, under the name that is built for its number, and syncs it. Answers its path
-/// there. Where that is refused, the copy may have been begun, and an `Io` has the kind that the file system
-/// answered with.
+/// Copies a file into a directory, under the name that is built for its number, and syncs it. Returns its path there.
+/// If it fails, the copy may have been begun, and an `Io` has the kind that the file system returned.
 pub fn copy_file<F: FileSystem>(
     alloc: Global,
     file_system: &mut F,
@@ -38,7 +37,7 @@ pub fn copy_file<F: FileSystem>(
     Ok(path)
 }
 
-/// All bytes of a file.
+/// Reads all bytes of a file.
 fn read_whole<F: FileSystem>(alloc: Global, file_system: &F, handle: Handle) -> Result<Vec<u8>>
     ensures ok { IfOk result (λ bytes. AreAllBytes handle.file bytes.items (F.disk file_system.now)) }
     ensures err { IfErr result (FailsToReadWhole handle (F.disk file_system.now)) }
@@ -64,7 +63,7 @@ fn make_file<F: FileSystem>(file_system: &mut F, path: &str, bytes: &[u8]) -> Re
     Ok(())
 }
 
-/// Writes these bytes into an empty file; where there are none, no call is made.
+/// Writes these bytes into an empty file; if there are none, makes no call.
 fn fill<F: FileSystem>(file_system: &mut F, handle: Handle, bytes: &[u8]) -> Result<(), ErrorKind>
     ensures ok { OnOk result
         (Fills handle.file bytes.now (F.disk file_system.old) (F.disk file_system.new)) }

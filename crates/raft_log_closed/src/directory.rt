@@ -17,9 +17,9 @@ use std::io::ErrorKind;
 use std::thread::Threads;
 
 /// Checks the log in a directory for holes, as `check_log` does with the usual settings, under
-/// `TolerateAnyCorruption`: so damaged files are cut.
+/// `TolerateAnyCorruption`. This truncates damaged files.
 ///
-/// `InvalidArgument` where nothing has the path, and then nothing is done; else refused as `check_log` is.
+/// Fails with `InvalidArgument` if nothing has the path, and then nothing is done; else as `check_log` does.
 pub fn consistency_check_with_file_system<R: Threads + Log + Sync, F: FileSystem + Sync>(
     rt: &R,
     alloc: Global,
@@ -67,7 +67,7 @@ fn exists<F: FileSystem>(file_system: &F, path: &str) -> Result<bool>
     Ok(kind == ErrorKind::InvalidInput)
 }
 
-/// Why a path that nothing has isn't checked.
+/// The error for a path that nothing has.
 fn absent(alloc: Global, path: &str) -> Error
     ensures { TellsAbsence path.now result }
 {
@@ -77,7 +77,7 @@ fn absent(alloc: Global, path: &str) -> Error
     }
 }
 
-/// The settings that the log in a directory is checked with. `Memory`.
+/// The settings for a check of the log in a directory. Fails only with `Memory`.
 fn settings(alloc: Global, path: &str) -> Result<Config>
     ensures ok { IfOk result (λ config. settings_of config ≡ checked_settings path.now) }
     ensures err { IfErr result (λ error. error ≡ Memory) }

@@ -9,12 +9,14 @@ use raft_log_record_base::{Error, Result};
 use std::alloc::Global;
 use std::io::ErrorKind;
 
-/// The items of all log files of a directory, or of the one log file with this path: those of Rewrite first,
-/// each queue's files by their numbers, and of each file its items in order, up to its end or up to what is
-/// refused in it, which is told in their place. Nothing is changed.
+/// Returns the items of all log files of a directory, or of the one log file with this path. Rewrite's files come
+/// first, each queue's by their numbers, and each file's items in order. If something in a file can't be read, its
+/// error takes the place of the file's remaining items. Changes nothing.
 ///
-/// Refused as an invalid argument where neither a directory nor a file has the path, and where the file's
-/// name isn't a log file's.
+/// Fails:
+/// - with `InvalidArgument` if neither a directory nor a file has the path, or if the file's name isn't a log file's
+/// - with `Io` if the file system has stopped
+/// - with `Memory`
 pub fn dump_with_file_system<'a, F: FileSystem>(
     alloc: Global,
     path: &str,
@@ -32,7 +34,7 @@ pub fn dump_with_file_system<'a, F: FileSystem>(
     }
 }
 
-/// Why a path was found to be neither a directory's nor a file's.
+/// The error for a path that is neither a directory's nor a file's.
 fn absent(alloc: Global, stopped: bool, kind: ErrorKind, path: &str) -> Error
     ensures { TellsAbsent stopped kind (codes "No such file or directory") path.now result }
 {

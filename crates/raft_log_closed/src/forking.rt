@@ -38,14 +38,18 @@ pub struct CopyDetails {
     pub symlinked: Vec<String>,
 }
 
-/// Copies a log that no engine has open into a directory, which is made where it isn't there: all files of
-/// both queues, of several with one number that of the last directory, and no file that is kept to be used.
-/// Each copy is synced. Nothing of the log changes.
+/// Copies a log that no engine has open into a directory, which is made if it is missing. Copies all files of both
+/// queues; of several with one number, the one in the last directory. Copies no reserved file. Syncs each copy.
+/// Nothing of the log changes.
 ///
-/// Refused as `permit` says it; as `Io` where a directory of the log isn't there; as `Corruption` where a
-/// name in it says a number and isn't the one that is built for it: nothing was changed then. Later refusals
-/// are `Io` and `Memory`, and what was copied stays. Of a file system that has stopped `Io(Other)` goes first,
-/// so that no stop is told as want of memory.
+/// Before anything is changed, fails:
+/// - as `permit` does
+/// - with `Io` if a directory of the log isn't there
+/// - with `Corruption` if a name in it begins with a number and has more between it and the end
+///
+/// Later it fails with `Io` or `Memory`, and what was copied stays.
+///
+/// A file system that has stopped is reported first, as `Io(Other)`, so that no stop is reported as lack of memory.
 pub fn fork<F: FileSystem, L: Log>(
     rt: &L,
     alloc: Global,
@@ -128,7 +132,7 @@ fn sources_of<F: FileSystem>(
     Ok(sources)
 }
 
-/// Files of a kind as those that are copied. `Memory`.
+/// Files of a kind as those that are copied. Fails only with `Memory`.
 fn of_kind(alloc: Global, kind: FileKind, files: &[File]) -> Result<Vec<SourceFile>>
     ensures ok { IfOk result (λ sources. sources.items ≡ map (source_of kind) files.now) }
     ensures err { IfErr result (λ error. error ≡ Memory) }
@@ -144,7 +148,7 @@ fn of_kind(alloc: Global, kind: FileKind, files: &[File]) -> Result<Vec<SourceFi
     Ok(sources)
 }
 
-/// Makes a directory where nothing has the path.
+/// Makes a directory if nothing has the path.
 fn make_target<F: FileSystem>(file_system: &mut F, target: &str) -> Result<()>
     ensures ok { OnOk result
         (MakesIfAbsent target.now (F.disk file_system.old) (F.disk file_system.new)) }
@@ -160,7 +164,7 @@ fn make_target<F: FileSystem>(file_system: &mut F, target: &str) -> Result<()>
     Ok(())
 }
 
-/// Copies these files into a directory that is there, each synced, and answers the copies' paths.
+/// Copies these files into a directory that is there, syncs each, and returns the copies' paths.
 fn copy_files<F: FileSystem>(
     alloc: Global,
     file_system: &mut F,

@@ -6,13 +6,12 @@ ghost use Rattle.raft_log_closed.specs.Runs.{run_in, run_of_content};
 
 use raft_log_record_items::{EntryIndex, LogItem, LogItemContent};
 
-/// What is kept of the runs of one group: of entries that stand one behind the other in the records of a
-/// queue.
+/// What is kept of the runs of one group: of consecutive entries in the records of a queue.
 #[derive(Clone, Copy, Debug, PartialEq, Eq)]
 pub struct GroupRuns {
-    /// Where the first run begins.
+    /// The index at which the first run begins.
     pub first: u64,
-    /// Where the last one ends.
+    /// The index at which the last one ends.
     pub last: u64,
     /// The end of the first run after which the next one starts past the end + 1.
     pub hole_after: Option<u64>,
@@ -42,7 +41,7 @@ impl GroupRuns {
         })
     }
 
-    /// These runs and those behind them.
+    /// These runs and later ones.
     pub fn followed_by(self, later: GroupRuns) -> GroupRuns
         ensures { result ≡ followed self later }
     {
@@ -56,7 +55,7 @@ impl GroupRuns {
         }
     }
 
-    /// Where these runs end, if those behind them start past that + 1.
+    /// Where these runs end, if the later ones start past that + 1.
     fn hole_before(self, later: GroupRuns) -> Option<u64>
         ensures { result ≡ hole_between self later }
     {

@@ -15,7 +15,7 @@ pub fn findings_are_first_holes()
     ensures none { (runs : List Run) → (finding runs ≡ None) ↔ HasNoHole runs }
 {}
 
-/// A check that tolerates no damage cuts nothing: what a scan leaves on the disk stays.
+/// A check that tolerates no damage truncates nothing: the disk stays as the scan left it.
 pub fn strict_checks_cut_nothing()
     ensures { (config : Config) (append rewrite : List Batch) (old new : Disk)
         → (settings_of config).recovery_mode ≡ AbsoluteConsistency

@@ -1,6 +1,6 @@
-//! A log that no engine has open: copied file by file, whole and synced (`fork`), checked for holes in its
-//! entries (`consistency_check_with_file_system`), and its items listed (`dump_with_file_system`). Nothing that
-//! was there changes.
+//! A log that no engine has open is copied file by file (`fork`), checked for holes in its entries
+//! (`consistency_check_with_file_system`), or its items are listed (`dump_with_file_system`). A fork and a dump
+//! change nothing that was there; a check truncates damaged files if its settings tolerate damage.
 #![tactic(auto)]
 
 pub mod checker;

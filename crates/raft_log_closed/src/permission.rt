@@ -17,9 +17,12 @@ use raft_log_record_base::{Error, FileId, Result};
 use std::alloc::Global;
 use std::io::ErrorKind;
 
-/// Refuses a copy of a log that may be damaged by it, or that has no place of its own: where files are used
-/// again, where damaged files may be cut that aren't the last, and where the target lies in the log's own
-/// directories or holds log files, as an invalid argument; then unsound settings, as `Other`.
+/// Rejects a copy that may damage the log, or that has no place of its own. Fails with `InvalidArgument`:
+/// - if files are recycled
+/// - if damaged files that aren't the last may be truncated
+/// - if the target is in the log's own directories, or has log files
+///
+/// Then fails with `Other` for unsound settings.
 pub fn permit<F: FileSystem, L: Log>(
     rt: &L,
     alloc: Global,
@@ -71,8 +74,8 @@ fn lies_within(directory: &str, path: &str) -> bool
     rest.is_empty() || rest.starts_with('/')
 }
 
-/// Whether a directory has a file under the name of a log file, or of one that is kept to be used; none where
-/// there is no such directory.
+/// Whether a directory has a file under the name of a log file, or of a reserved one; false if there is no such
+/// directory.
 fn holds_log_file<F: FileSystem>(file_system: &F, directory: &str) -> Result<bool>
     ensures ok { IfOk result (λ holds.
         IsTrue holds ↔ HoldsLogFile directory.now (F.disk file_system.now)) }
@@ -91,7 +94,7 @@ fn holds_log_file<F: FileSystem>(file_system: &F, directory: &str) -> Result<boo
     Ok(false)
 }
 
-/// Whether one of these names is a log file's, or that of a file that is kept to be used.
+/// Whether one of these names is a log file's, or a reserved file's.
 fn has_file_name(names: &[String]) -> bool
     ensures { IsTrue result ↔ HasFileName (map string_bytes names.now) }
 {
@@ -103,14 +106,14 @@ fn has_file_name(names: &[String]) -> bool
     false
 }
 
-/// Whether a name is a log file's, or that of a file that is kept to be used.
+/// Whether a name is a log file's, or a reserved file's.
 fn is_file_name(name: &str) -> bool
     ensures { IsTrue result ↔ IsFileName name.now }
 {
     FileId::parse_file_name(name).is_some() || parse_reserved_file_name(name).is_some()
 }
 
-/// A copy of the settings. `Memory`.
+/// A copy of the settings. Fails only with `Memory`.
 fn copy_of(alloc: Global, config: &Config) -> Result<Config>
     ensures ok { IfOk result (λ copy. settings_of copy ≡ settings_of config.now) }
     ensures err { IfErr result (λ error. error ≡ Memory) }
@@ -136,7 +139,7 @@ fn copy_of(alloc: Global, config: &Config) -> Result<Config>
     })
 }
 
-/// A copy of the path of the spill directory, if the settings have one. `Memory`.
+/// A copy of the path of the spill directory, if the settings have one. Fails only with `Memory`.
 fn copy_of_spill_dir(alloc: Global, config: &Config) -> Result<Option<String>>
     ensures ok { IfOk result (λ spill. option_map string_bytes spill ≡ (settings_of config.now).spill_dir) }
     ensures err { IfErr result (λ error. error ≡ Memory) }

@@ -11,6 +11,6 @@ pub struct SourceFile {
     pub kind: FileKind,
     /// The file's number.
     pub seq: FileSeq,
-    /// What the file is read by.
+    /// The handle by which the file is read.
     pub handle: Handle,
 }

@@ -1,4 +1,4 @@
--- Two changes are written in one batch, and the power goes.
+-- Writing two changes in one batch, and losing power.
 use Rattle.std.specs.Prelude.{◌≡◌, ◌⊎◌, ℕ, List, [], ◌∷◌, ◌++◌, Bool, true, Option, None}
 use Rattle.raft_log_machine_laws.specs.Fresh.{nothing_stands}
 use Rattle.raft_log_engine.specs.raft_log_model_laws.specs.Groups.{taken}
@@ -19,12 +19,12 @@ use Rattle.raft_log_crash_uses.specs.Keys.{value_behind}
 use Rattle.raft_log_crash_uses.specs.Saving.{Loads}
 use Rattle.raft_log_crash_uses.specs.Standing.{CrashesWithoutChance, RunsOrIsLeft}
 
--- the record of a batch that says both changes
+-- the record of a batch that makes both changes
 abbrev pub said_by_both : KeyChange → KeyChange → Said
 said_by_both one other = Plain (record { group = one.group; item = word_of one.key.items one.value }
     ∷ record { group = other.group; item = word_of other.key.items other.value } ∷ [])
 
--- The log is that map without the batch, with it, or with it pending; and with it where the write was answered.
+-- The log is that map without the batch, with it, or with it pending; if the write succeeded, it is the map with it.
 pub record MayHave (answered : Bool) (home : Home) (e : Shows) (m : LogMap) (batch : Said) : Type 0 where
   pub done : List Said
   pub rest : List Said
@@ -32,8 +32,8 @@ pub record MayHave (answered : Bool) (home : Home) (e : Shows) (m : LogMap) (bat
   pub has : answered ≡ true → done ≡ batch ∷ []
   pub runs : RunsOrIsLeft home e (taken m done) rest
 
--- The log of these settings was opened, and both changes were written in one batch with a sync, which was answered,
--- or refused: whatever map the log was, it may have the batch.
+-- The log of these settings was opened, and both changes were written in one batch with a sync, which succeeded or
+-- failed. Whatever map the log had, it may have the batch.
 pub record TriesToWrite {F : Type 0} (disk : F → Disk) (tells : F → List ℕ → ℕ → Type 0) (config : Config)
     (one other : KeyChange) (old : F) (answered : Bool) (engine : Shows) : Type 0 where
   pub pipes : LogPipes
@@ -42,7 +42,7 @@ pub record TriesToWrite {F : Type 0} (disk : F → Disk) (tells : F → List ℕ
   pub tries : (home : Home) (m : LogMap) → HoldsFresh home pipes tables m
       → MayHave answered home engine m (said_by_both one other)
 
--- both keys were read of one open
+-- both keys were read from one log
 pub record LoadsBoth {F : Type 0} (disk : F → Disk) (tells : F → List ℕ → ℕ → Type 0) (config : Config)
     (one other : KeyChange) (old : F) (first second : Option (List ℕ)) : Type 0 where
   pub of_one : Loads disk tells config one.group one.key.items old first
@@ -57,9 +57,9 @@ AreBoth one other first second = (first ≡ value_behind one.group one.key.items
 abbrev pub IsNeither : Option (List ℕ) → Option (List ℕ) → Type 0
 IsNeither first second = (first ≡ None) × (second ≡ None)
 
--- Two changes were written in one batch, answered or refused, the power went, and both keys were read. Where there
--- was no log at first, both settings name the same directories, and nothing was left to chance, both are there, or
--- neither is; and both are where the write was answered.
+-- Two changes were written in one batch, which succeeded or failed, the power went, and both keys were read. Suppose
+-- that there was no log at first, both settings name the same directories, and there is no CRC collision. Then both
+-- changes are there, or neither is; and both are if the write succeeded.
 pub record WritesBothOrNeither {F : Type 0} (disk : F → Disk) (tells : F → List ℕ → ℕ → Type 0) (config : Config)
     (one other : KeyChange) (again : Config) (old : F) (answered : Bool) (first second : Option (List ℕ))
     : Type 0 where

@@ -1,4 +1,4 @@
--- Keys of a log are changed: what a change says in a batch, and what an engine is then.
+-- Changing keys of a log: what a change says in a batch, and what the engine holds then.
 use Rattle.std.specs.Prelude.{◌≡◌, ℕ, List, [], ◌∷◌, ◌++◌, Option, Some, None, false, map}
 use Rattle.std.specs.Global.{Vec}
 use Rattle.raft_log_engine.specs.raft_log_model_laws.specs.Groups.{taken}
@@ -14,16 +14,16 @@ use Rattle.raft_log_engine.specs.raft_log_engine_laws.specs.Shows.{Home, LogMap,
 use Rattle.raft_log_engine.specs.raft_log_engine_laws.specs.Holding.{Holds}
 use Rattle.raft_log_crash_uses.specs.declared.changing.KeyChange.{KeyChange}
 
--- what a change says of its group: the key gets the value, or it goes
+-- what a change says of its group: the key gets the value, or is deleted
 abbrev pub word_of : List ℕ → Option (Vec ℕ) → Item (List ℕ) (List ℕ)
 word_of key None = Del key
 word_of key (Some value) = Put key value.items
 
--- the record of a batch that says it alone
+-- the record of a batch with only this change
 abbrev pub said_by : KeyChange → Said
 said_by c = Plain (record { group = c.group; item = word_of c.key.items c.value } ∷ [])
 
--- the item of a batch that says it
+-- the item of a batch for this change
 abbrev pub item_of : ℕ → List ℕ → Option (Vec ℕ) → LogItem
 item_of group key None = del_item group key
 item_of group key (Some value) = put_item group key value.items
@@ -34,10 +34,10 @@ pub record AddsChange (c : KeyChange) (old new : Batch) : Type 0 where
   pub filling : new.state ≡ old.state
   pub users : is_internal c.key.items ≡ false
 
--- A key was changed durably: whatever map the log was, with nothing pending, it is that map with the change.
+-- A key was changed durably: any map that the log had, with nothing pending, became that map with the change.
 abbrev pub ChangesKey : KeyChange → Shows → Shows → Type 0
 ChangesKey c s t = (home : Home) (m : LogMap) → Holds home s m [] → Holds home t (taken m (said_by c ∷ [])) []
 
--- so were keys, one after another
+-- keys were changed so in order
 abbrev pub ChangesKeys : List KeyChange → Shows → Shows → Type 0
 ChangesKeys cs s t = (home : Home) (m : LogMap) → Holds home s m [] → Holds home t (taken m (map said_by cs)) []

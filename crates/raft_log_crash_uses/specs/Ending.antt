@@ -1,4 +1,4 @@
--- How an engine ends, and what is asked of chance then.
+-- How an engine ends, and the premise on CRC collisions then.
 use Rattle.std.specs.Prelude.{◌≡◌, ◌⊎◌, ℕ, Some, List, length, false}
 use Rattle.raft_log_file_laws.specs.Chains.{LiesIn, Meets, Written}
 use Rattle.raft_log_file_laws.specs.KeepsSynced.{IsHandedIn}
@@ -19,9 +19,10 @@ abbrev pub Ends : {C : Type 0} → Ending C → Shows → Disk → Type 0
 Ends (Crash what) e d = IsImage e.pipes.disk d
 Ends Close e d = has_failed e ≡ false → ClosesLog e.pipes d
 
--- No checksum is met by chance in the file that was a pipe's last one, before it was closed, as the close left it:
--- no header but its own; no record but those that the pipe wrote there, or that a write which isn't synced
--- handed in; and no file with an alignment.
+-- There is no CRC collision in the file that was a pipe's active one, as the close left it:
+-- - It has no header other than its own.
+-- - It has no record except those that the pipe wrote there, or that a write that isn't synced passed to it.
+-- - It doesn't read as a file with an alignment.
 pub record MeetsWritten (F : Format LogRecord) (files : PipeFiles) (before file : File) : Type 0 where
   pub headers : (other : List ℕ) → HasHeader F other file.content → other ≡ active_header files
   pub records : (at : ℕ) (w : Written LogRecord)
@@ -30,18 +31,18 @@ pub record MeetsWritten (F : Format LogRecord) (files : PipeFiles) (before file 
       ⊎ IsHandedIn file.changes at w.bytes
   pub plain : F.IsAligned files.active.seq file.content → ⊥
 
--- so it is of the file that has its number
+-- the same of the file that has its number
 abbrev pub LeavesWritten : Format LogRecord → PipeFiles → Disk → Disk → Type 0
 LeavesWritten F files old new = (before file : File) (path : List ℕ) (id : ℕ)
     → old.files files.writer.handle.file ≡ Some before → F.IsPath files.active.seq path
     → new.names path ≡ Some id → new.files id ≡ Some file → MeetsWritten F files before file
 
--- So it is of either queue: a close of an engine with these pipes left nothing to chance.
+-- A close of an engine with these pipes left no CRC collision in either queue.
 pub record ClosesWithoutChance (home : Home) (v : LogPipes) (d : Disk) : Type 0 where
   pub append : LeavesWritten (log_in home).append.format v.append.files v.disk d
   pub rewrite : LeavesWritten (log_in home).rewrite.format v.rewrite.files v.disk d
 
--- an end of an engine left nothing to chance
+-- an end of an engine left no CRC collision
 abbrev pub EndsWithoutChance : {C : Type 0} → Home → Ending C → Shows → Disk → Type 0
 EndsWithoutChance home (Crash what) e d = LeavesNoChance home e.pipes d
 EndsWithoutChance home Close e d = ClosesWithoutChance home e.pipes d

@@ -1,4 +1,4 @@
--- Lives of a log, and what a key is read as behind them.
+-- Lives of a log, and what a key reads as after them.
 use Rattle.std.specs.Prelude.{◌≡◌, ℕ, List, [], ◌∷◌, ◌++◌, Option, None, map}
 use Rattle.raft_log_engine.specs.raft_log_model_laws.specs.Groups.{taken}
 use Rattle.raft_log_engine.specs.raft_log_disk.specs.Disk.{Disk}
@@ -18,8 +18,8 @@ use Rattle.raft_log_crash_uses.specs.Ending.{Ends, EndsWithoutChance}
 use Rattle.raft_log_crash_uses.specs.Keys.{value_behind}
 use Rattle.raft_log_crash_uses.specs.Saving.{Loads}
 
--- The log of these settings was opened, and each of the changes was written durably: whatever map the log was, it
--- is that map with the changes, and nothing is pending.
+-- The log of these settings was opened, and each of the changes was written durably: any map that the log had became
+-- that map with the changes, and nothing is pending.
 pub record OpensAndChanges {F : Type 0} (disk : F → Disk) (tells : F → List ℕ → ℕ → Type 0) (config : Config)
     (changes : List KeyChange) (old : F) (engine : Shows) : Type 0 where
   pub pipes : LogPipes
@@ -28,7 +28,7 @@ pub record OpensAndChanges {F : Type 0} (disk : F → Disk) (tells : F → List 
   pub changed : (home : Home) (m : LogMap) → HoldsFresh home pipes tables m
       → Holds home engine (taken m (map said_by changes)) []
 
--- One life: the log was opened by settings that name its directories, its keys were changed, and it ended.
+-- One life: the log was opened with settings that name its directories, its keys were changed, and it ended.
 pub record LivesOnce {F C : Type 0} (disk : F → Disk) (tells : F → List ℕ → ℕ → Type 0) (life : Life C)
     (old new : F) : Type 0 where
   pub config : Config
@@ -48,7 +48,7 @@ abbrev pub AllLiveIn : {C : Type 0} → Home → List (Life C) → Type 0
 AllLiveIn home [] = Unit {0}
 AllLiveIn home (life ∷ lives) = (home_of life.config ≡ home) × AllLiveIn home lives
 
--- none of their ends left anything to chance
+-- none of their ends left a CRC collision
 abbrev pub LivesWithoutChance : {F C : Type 0} → (disk : F → Disk) → (tells : F → List ℕ → ℕ → Type 0) → Home
     → (lives : List (Life C)) → (old new : F) → LivesOn disk tells lives old new → Type 0
 LivesWithoutChance disk tells home [] old new on = Unit {0}
@@ -56,13 +56,13 @@ LivesWithoutChance disk tells home (life ∷ lives) old new on =
     EndsWithoutChance home life.ending on.1.engine (disk on.0)
     × LivesWithoutChance disk tells home lives on.0 new on.2
 
--- the changes of all lives, in their order
+-- the changes of all lives, in order
 abbrev pub changes_of : {C : Type 0} → List (Life C) → List KeyChange
 changes_of [] = []
 changes_of (life ∷ lives) = life.changes.items ++ changes_of lives
 
--- Lives were lived one after another, and a key was read of the log that they left. Where there was no log at
--- first, all settings name the same directories, and nothing was left to chance, it was read as the value that the
+-- Lives were lived one after another, and a key was read from the log that they left. Suppose that there was no log at
+-- first, all settings name the same directories, and there is no CRC collision. Then the key has the value that the
 -- changes of all lives give it.
 pub record ReadsTheFold {F C : Type 0} (disk : F → Disk) (tells : F → List ℕ → ℕ → Type 0) (lives : List (Life C))
     (last : Config) (group : ℕ) (key : List ℕ) (old : F) (found : Option (List ℕ)) : Type 0 where

@@ -1,4 +1,4 @@
--- Keys of a log are changed, the log is purged, and the power goes.
+-- Changing keys of a log, purging the log, and losing power.
 use Rattle.std.specs.Prelude.{◌≡◌, ℕ, List, [], Option, None, map}
 use Rattle.raft_log_machine_laws.specs.Fresh.{nothing_stands}
 use Rattle.raft_log_engine.specs.raft_log_model_laws.specs.Groups.{taken}
@@ -15,7 +15,7 @@ use Rattle.raft_log_crash_uses.specs.Lives.{OpensAndChanges}
 use Rattle.raft_log_crash_uses.specs.Saving.{Loads}
 use Rattle.raft_log_crash_uses.specs.Standing.{CrashesWithoutChance, RunsOrIsLeft}
 
--- whatever map the log was, with nothing pending, it is that map still, though the engine may have failed
+-- any map that the log had, with nothing pending, it still has, though the engine may have failed
 abbrev pub KeepsTheMap : Shows → Shows → Type 0
 KeepsTheMap s t = (home : Home) (m : LogMap) → RunsOrIsLeft home s m [] → RunsOrIsLeft home t m []
 
@@ -23,9 +23,9 @@ KeepsTheMap s t = (home : Home) (m : LogMap) → RunsOrIsLeft home s m [] → Ru
 abbrev pub map_of : List KeyChange → LogMap
 map_of changes = taken nothing_stands (map said_by changes)
 
--- Keys of a log were changed, it was purged, answered or refused, the power went, and a key was read. Where there
--- was no log at first, both settings name the same directories, and nothing was left to chance, it was read as the
--- value that the changes give it.
+-- Keys of a log were changed, it was purged, which succeeded or failed, the power went, and a key was read. Suppose
+-- that there was no log at first, both settings name the same directories, and there is no CRC collision. Then the key
+-- has the value that the changes give it.
 pub record ReadsBehindPurges {F : Type 0} (disk : F → Disk) (tells : F → List ℕ → ℕ → Type 0) (config : Config)
     (changes : List KeyChange) (again : Config) (group : ℕ) (key : List ℕ) (old : F) (found : Option (List ℕ))
     : Type 0 where

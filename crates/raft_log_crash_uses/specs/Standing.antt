@@ -1,4 +1,4 @@
--- What stands of a log when a crash comes, and what is asked of chance then.
+-- The state of a log at a crash, and the premise on CRC collisions then.
 use Rattle.std.proofs.Common.{inl, inr}
 use Rattle.std.specs.Prelude.{◌≡◌, ◌⊎◌, List, true}
 use Rattle.raft_log_engine.specs.raft_log_disk.specs.Disk.{Disk}
@@ -13,8 +13,8 @@ abbrev pub RunsOrIsLeft : Home → Shows → LogMap → List Said → Type 0
 RunsOrIsLeft home e m pending =
     Holds home e m pending ⊎ ((has_failed e ≡ true) × IsLeftAt home e.pipes.disk m pending)
 
--- A crash left nothing to chance: of an engine that runs, told of its pipes; of one that has failed, of the records
--- that its files have.
+-- A crash left no CRC collision. If the engine ran, this depends on its pipes; if it had failed, on the records in its
+-- files.
 abbrev pub CrashesWithoutChance : (home : Home) → (e : Shows) → (m : LogMap) → (pending : List Said)
     → RunsOrIsLeft home e m pending → Disk → Type 0
 CrashesWithoutChance home e m pending (inl holds) image = LeavesNoChance home e.pipes image

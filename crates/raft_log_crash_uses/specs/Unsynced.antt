@@ -1,4 +1,4 @@
--- A key's value is put in a log without a sync, and the power goes.
+-- Putting a key's value in a log without a sync, and losing power.
 use Rattle.std.specs.Prelude.{◌≡◌, ◌⊎◌, ℕ, List, [], ◌∷◌, Option, Some, None}
 use Rattle.raft_log_engine.specs.raft_log_disk.specs.Disk.{Disk}
 use Rattle.raft_log_engine.specs.raft_log_disk.specs.Image.{IsImage}
@@ -20,8 +20,8 @@ use Rattle.raft_log_crash_uses.specs.Keys.{value_behind}
 use Rattle.raft_log_crash_uses.specs.Lives.{AllLiveIn, LivesOn, LivesWithoutChance, changes_of}
 use Rattle.raft_log_crash_uses.specs.Saving.{Loads, put_of}
 
--- The log of these settings was opened, and a key's value was put in it: whatever map the log was, the put is
--- pending behind that map, or the map has it.
+-- The log of these settings was opened, and a key's value was put in it: for any map that the log had, the put is
+-- pending after that map, or the map has it.
 pub record PutsUnsynced {F : Type 0} (disk : F → Disk) (tells : F → List ℕ → ℕ → Type 0) (config : Config) (group : ℕ)
     (key value : List ℕ) (old : F) (engine : Shows) : Type 0 where
   pub pipes : LogPipes
@@ -30,7 +30,7 @@ pub record PutsUnsynced {F : Type 0} (disk : F → Disk) (tells : F → List ℕ
   pub put : (home : Home) (m : LogMap) → HoldsFresh home pipes tables m
       → EndsAt home engine m (put_of group key value ∷ [])
 
--- The log of these settings was opened, a key was read of it, and it ended: whatever map the log was, it is that,
+-- The log of these settings was opened, a key was read from it, and it ended: any map that the log had is unchanged,
 -- and the key has this value there.
 pub record LoadsAndEnds {F C : Type 0} (disk : F → Disk) (tells : F → List ℕ → ℕ → Type 0) (config : Config)
     (group : ℕ) (key : List ℕ) (ending : Ending C) (old : F) (found : Option (List ℕ)) (new : F) : Type 0 where
@@ -42,10 +42,10 @@ pub record LoadsAndEnds {F C : Type 0} (disk : F → Disk) (tells : F → List �
   pub told : (home : Home) (m : LogMap) → HoldsFresh home pipes tables m → StandsUnder m group key found
   pub ends : Ends ending engine (disk new)
 
--- A key was put without a sync, the power went, the key was read, the log lived on, and the key was read once
--- more. Where there was no log at first, all settings name the same directories, and nothing was left to chance, it
--- was read first as without a value, or with the one that was put; and later as the value that the changes since
--- give it, and as the same where there are none.
+-- A key was put without a sync, the power went, the key was read, the log lived on, and the key was read once more.
+-- Suppose that there was no log at first, all settings name the same directories, and there is no CRC collision. Then
+-- the first read gave no value, or the one that was put. The later read gave the value that the changes since give the
+-- key, and the same value if there are none.
 pub record StaysAsRead {F C : Type 0} (disk : F → Disk) (tells : F → List ℕ → ℕ → Type 0) (config : Config)
     (group : ℕ) (key value : List ℕ) (look : Config) (ending : Ending C) (lives : List (Life C)) (last : Config)
     (old : F) (first later : Option (List ℕ)) : Type 0 where

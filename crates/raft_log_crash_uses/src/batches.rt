@@ -1,4 +1,4 @@
-//! Two changes are written in one batch, and the power goes: both are there, or neither is.
+//! Writes two changes in one batch, and loses power: both are there, or neither is.
 
 ghost use Rattle.std.specs.Prelude.{IfOk, option_map};
 ghost use Rattle.raft_log_engine.specs.raft_log_engine_core.specs.Reads.{shows_of};
@@ -11,17 +11,17 @@ use raft_log_engine::{Config, Engine, EnginePipes, FileSystem, LogBatch, PipeLog
 use std::alloc::Global;
 use std::thread::Threads;
 
-/// What is read of two keys.
+/// The values of two keys.
 #[derive(Debug, Drop)]
 pub struct TwoValues {
-    /// Of the one.
+    /// The value of the one.
     pub first: Option<Vec<u8>>,
-    /// Of the other.
+    /// The value of the other.
     pub second: Option<Vec<u8>>,
 }
 
-/// Opens the log of these settings, and writes two changes in one batch, durably: the engine, and whether the write
-/// was answered.
+/// Opens the log of these settings, and writes two changes in one batch, durably. Returns the engine, and whether the
+/// write succeeded.
 pub fn try_to_write<R: Threads + Log + Sync, F: FileSystem + Sync + Drop>(
     rt: &R,
     alloc: Global,
@@ -65,9 +65,8 @@ pub fn load_both<R: Threads + Log + Sync, F: FileSystem + Sync + Drop>(
     Ok(TwoValues { first, second })
 }
 
-/// Begins the log of these settings, writes two changes in one batch, which may be refused, or fail, loses power, of
-/// which this is left, and reads both keys by other settings. Answers whether the write was answered, and what was
-/// read.
+/// Begins the log of these settings, writes two changes in one batch, which may fail, and loses power, which leaves
+/// this. Then reads both keys with other settings. Returns whether the write succeeded, and what was read.
 pub fn read_both<R: Threads + Log + Sync, F: FileSystem + Sync + Drop, C: Crash<F>>(
     rt: &R,
     alloc: Global,

@@ -1,4 +1,4 @@
-//! Keys of a log are changed.
+//! Changes keys of a log.
 
 ghost use Rattle.std.specs.Prelude.{◌≡◌, IfOk, OnOk};
 ghost use Rattle.raft_log_engine.specs.raft_log_engine_core.specs.Reads.{shows_of};
@@ -9,18 +9,18 @@ use log::Log;
 use raft_log_engine::{LogBatch, LogEngine, PipeLog, Result};
 use std::alloc::Global;
 
-/// A change of a group's key: it gets a value, or where there is none, it is deleted.
+/// A change of a group's key: it gets a value, or is deleted if there is none.
 #[derive(Debug, Drop)]
 pub struct KeyChange {
     /// The group.
     pub group: u64,
     /// The key.
     pub key: Vec<u8>,
-    /// Its value from then on.
+    /// Its value after the change.
     pub value: Option<Vec<u8>>,
 }
 
-/// Adds a change to a batch. A key of the log's own is refused.
+/// Adds a change to a batch. Rejects a key of the log's own.
 pub fn add(alloc: Global, batch: &mut LogBatch, change: &KeyChange) -> Result<()>
     requires { batch.old.state ≡ Filling }
     ensures { OnOk result (AddsChange change.now batch.old batch.new) }
@@ -31,7 +31,7 @@ pub fn add(alloc: Global, batch: &mut LogBatch, change: &KeyChange) -> Result<()
     }
 }
 
-/// Writes a change, durably.
+/// Writes a change durably.
 pub fn write_change<L: Log, P: PipeLog>(
     rt: &L,
     alloc: Global,
@@ -47,7 +47,7 @@ pub fn write_change<L: Log, P: PipeLog>(
     Ok(())
 }
 
-/// Writes changes, each durably, in their order.
+/// Writes changes in order, each durably.
 pub fn write_changes<L: Log, P: PipeLog>(
     rt: &L,
     alloc: Global,

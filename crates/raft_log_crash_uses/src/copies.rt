@@ -1,4 +1,4 @@
-//! A log that no engine has open is copied, and a key is read of the copy.
+//! Copies a log that no engine has open, and reads a key from the copy.
 
 ghost use Rattle.std.specs.Prelude.{IfOk, option_map};
 ghost use Rattle.raft_log_crash_uses.specs.Copies.{LoadsCopy};
@@ -9,7 +9,7 @@ use raft_log_engine::{Config, FileSystem, Result, fork};
 use std::alloc::Global;
 use std::thread::Threads;
 
-/// Copies the log of these settings into a directory, and reads a key of the copy, by settings of its own.
+/// Copies the log of these settings into a directory, and reads a key from the copy, with settings of its own.
 pub fn load_copy<R: Threads + Log + Sync, F: FileSystem + Sync + Drop>(
     rt: &R,
     alloc: Global,

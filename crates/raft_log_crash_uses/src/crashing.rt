@@ -1,4 +1,4 @@
-//! A log is begun, a key's value is saved in it, and the power goes.
+//! Begins a log, saves a key's value in it, and loses power.
 
 ghost use Rattle.std.specs.Prelude.{IfOk, option_map};
 ghost use Rattle.raft_log_crash_uses.specs.Crashing.{SavesAcrossACrash};
@@ -9,8 +9,8 @@ use raft_log_engine::{Config, FileSystem, MemoryFileSystem, Remainder, Result};
 use std::alloc::Global;
 use std::thread::Threads;
 
-/// Begins the log of these settings, saves a group's key in it, loses power, of which this is left, and reads the
-/// key by other settings: what any number of workers recover.
+/// Begins the log of these settings, saves a group's key in it, and loses power, which leaves this. Then reads the key
+/// with other settings, with any number of recovery workers.
 pub fn save_across_a_crash<R: Threads + Log + Sync>(
     rt: &R,
     alloc: Global,

@@ -1,4 +1,4 @@
-//! How an engine ends: a crash comes, or its log is closed.
+//! Ends an engine: by a crash, or by closing its log.
 
 ghost use Rattle.std.specs.Prelude.{IfOk};
 ghost use Rattle.raft_log_engine.specs.raft_log_engine_core.specs.Reads.{shows_of};
@@ -9,12 +9,12 @@ use raft_log_engine::{
     Engine, EnginePipes, FileSystem, MemoryFileSystem, PipeLog, Remainder, Result,
 };
 
-/// What a crash leaves of a file system: any image of its disk, which one, whoever runs a client says.
+/// What a crash leaves of a file system: any image of its disk. The caller chooses which one.
 pub trait Crash<F: FileSystem> {
     ghost use Rattle.std.specs.Prelude.{IfOk};
     ghost use Rattle.raft_log_engine.specs.raft_log_disk.specs.Image.{IsImage};
 
-    /// The file system that a restart finds after a crash at this moment. Refused for want of memory.
+    /// The file system that a restart finds after a crash at this moment. Fails only for lack of memory.
     fn leave(&self, files: &F) -> Result<F>
         ensures { IfOk result (λ left. IsImage (F.disk files.now) (F.disk left)) };
 }
@@ -28,13 +28,13 @@ impl Crash<MemoryFileSystem> for Remainder {
 /// How an engine ends.
 #[derive(Debug, Drop)]
 pub enum Ending<C> {
-    /// A crash comes.
+    /// A crash.
     Crash(C),
     /// The log is closed.
     Close,
 }
 
-/// Ends an engine, and answers the file system that the next open finds.
+/// Ends an engine, and returns the file system that the next open finds.
 pub fn end<L: Log, F: FileSystem + Sync + Drop, C: Crash<F>>(
     rt: &L,
     engine: Engine<F>,

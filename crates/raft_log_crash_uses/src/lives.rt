@@ -1,4 +1,4 @@
-//! Lives of a log: it is opened, keys are changed durably, and a crash comes, or it is closed.
+//! Lives of a log: it is opened, keys are changed durably, and it crashes or is closed.
 
 ghost use Rattle.std.specs.Prelude.{◌≡◌, IfOk, option_map};
 ghost use Rattle.raft_log_engine.specs.raft_log_engine_core.specs.Reads.{shows_of};
@@ -13,7 +13,7 @@ use raft_log_engine::{Config, Engine, EnginePipes, FileSystem, PipeLog, Result};
 use std::alloc::Global;
 use std::thread::Threads;
 
-/// A life of a log: the settings by which it is opened, with any number of workers; the changes that are written,
+/// A life of a log: the settings with which it is opened, with any number of workers; the changes that are written,
 /// each durably; and how it ends.
 #[derive(Drop)]
 pub struct Life<C> {
@@ -25,7 +25,7 @@ pub struct Life<C> {
     pub ending: Ending<C>,
 }
 
-/// The same settings once more.
+/// A copy of the settings.
 fn copy_settings(config: &Config) -> Result<Config>
     ensures { IfOk result (λ copy. home_of copy ≡ home_of config.now) }
 {
@@ -82,7 +82,7 @@ pub fn live_on<R: Threads + Log + Sync, F: FileSystem + Sync + Drop, C: Crash<F>
     Ok(current)
 }
 
-/// Lives one life after another, and reads a key of the log that they left.
+/// Lives one life after another, and reads a key from the log that they left.
 pub fn read_behind_lives<R: Threads + Log + Sync, F: FileSystem + Sync + Drop, C: Crash<F>>(
     rt: &R,
     alloc: Global,

@@ -1,4 +1,4 @@
-//! Keys of a log are changed, the log is purged, and the power goes.
+//! Changes keys of a log, purges the log, and loses power.
 
 ghost use Rattle.std.specs.Prelude.{IfOk, option_map};
 ghost use Rattle.raft_log_engine.specs.raft_log_engine_core.specs.Reads.{shows_of};
@@ -13,7 +13,7 @@ use raft_log_engine::{Config, FileSystem, LogEngine, PipeLog, Result};
 use std::alloc::Global;
 use std::thread::Threads;
 
-/// A purge of a log, as an engine's calls have it.
+/// A purge of a log, one for each call of an engine.
 #[derive(Clone, Copy, Debug, PartialEq, Eq)]
 pub enum Purge {
     /// Files that are past the thresholds of the settings.
@@ -26,7 +26,7 @@ pub enum Purge {
     Stale,
 }
 
-/// Purges a log: whether that was answered.
+/// Purges a log. Returns whether that succeeded.
 pub fn purge_once<L: Log, P: PipeLog>(rt: &L, engine: &mut LogEngine<P>, which: Purge) -> bool
     ensures { KeepsTheMap (shows_of P.shown engine.old) (shows_of P.shown engine.new) }
 {
@@ -38,7 +38,7 @@ pub fn purge_once<L: Log, P: PipeLog>(rt: &L, engine: &mut LogEngine<P>, which: 
     }
 }
 
-/// Purges a log by one purge after another, whichever of them are answered.
+/// Runs one purge of a log after another, whichever of them succeed.
 pub fn purge_all<L: Log, P: PipeLog>(rt: &L, engine: &mut LogEngine<P>, purges: &[Purge])
     ensures { KeepsTheMap (shows_of P.shown engine.old) (shows_of P.shown engine.new) }
 {
@@ -47,8 +47,8 @@ pub fn purge_all<L: Log, P: PipeLog>(rt: &L, engine: &mut LogEngine<P>, purges: 
     }
 }
 
-/// Begins the log of these settings, changes keys in it, purges it, loses power, of which this is left, and reads a
-/// key by other settings. Of the purges any may be refused, in any part of them.
+/// Begins the log of these settings, changes keys in it, purges it, and loses power, which leaves this. Then reads a
+/// key with other settings. Any purge may fail, at any point.
 pub fn read_behind_purges<R: Threads + Log + Sync, F: FileSystem + Sync + Drop, C: Crash<F>>(
     rt: &R,
     alloc: Global,

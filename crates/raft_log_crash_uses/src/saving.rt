@@ -1,4 +1,4 @@
-//! A key's value is saved in a log, and read of one.
+//! Saves a key's value in a log, and reads it from one.
 
 ghost use Rattle.std.specs.Prelude.{IfOk, option_map};
 ghost use Rattle.raft_log_engine.specs.raft_log_engine_core.specs.Reads.{shows_of};
@@ -32,7 +32,7 @@ pub fn save<R: Threads + Log + Sync, F: FileSystem + Sync + Drop>(
     Ok(engine)
 }
 
-/// Opens the log of these settings, and reads a group's key of it.
+/// Opens the log of these settings, and reads a group's key from it.
 pub fn load<R: Threads + Log + Sync, F: FileSystem + Sync + Drop>(
     rt: &R,
     alloc: Global,

@@ -1,4 +1,4 @@
-//! A key's value is put in a log without a sync, and the power goes: it is there, or it isn't, for good.
+//! Puts a key's value in a log without a sync, and loses power: it is there or it isn't, for good.
 
 ghost use Rattle.std.specs.Prelude.{IfOk, option_map};
 ghost use Rattle.raft_log_engine.specs.raft_log_engine_core.specs.Reads.{shows_of};
@@ -35,7 +35,7 @@ pub fn put_unsynced<R: Threads + Log + Sync, F: FileSystem + Sync + Drop>(
     Ok(engine)
 }
 
-/// Opens the log of these settings, reads a group's key of it, and ends the engine. Answers what was read, and what
+/// Opens the log of these settings, reads a group's key from it, and ends the engine. Returns what was read, and what
 /// the next open finds.
 pub fn load_and_end<R: Threads + Log + Sync, F: FileSystem + Sync + Drop, C: Crash<F>>(
     rt: &R,
@@ -58,8 +58,8 @@ pub fn load_and_end<R: Threads + Log + Sync, F: FileSystem + Sync + Drop, C: Cra
     Ok((found, left))
 }
 
-/// Begins the log of these settings, puts a group's key in it without a sync, loses power, reads the key by other
-/// settings, lives on, and reads the key once more. Answers what was read first, and last.
+/// Begins the log of these settings, puts a group's key in it without a sync, loses power, and reads the key with other
+/// settings. Then lives on, and reads the key once more. Returns what was read first and last.
 pub fn read_unsynced<R: Threads + Log + Sync, F: FileSystem + Sync + Drop, C: Crash<F>>(
     rt: &R,
     alloc: Global,

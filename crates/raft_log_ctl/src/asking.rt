@@ -1,4 +1,4 @@
-//! What the program is asked for.
+//! What the arguments request.
 use raft_log_operator::{Command, Place, Task, USAGE, Unread};
 use std::env::Env;
 use std::{env, io};
@@ -23,8 +23,7 @@ pub enum Asked {
     Task(Place, Task),
 }
 
-/// Reads the arguments. How the program is called is told where that is asked for, and to standard error where the
-/// arguments are wrong.
+/// Reads the arguments. Prints the usage if it is requested, or to standard error if the arguments are wrong.
 pub fn read_arguments<R: Env + Print + Eprint + AllocGlobal>(rt: &R) -> Asked {
     match parsed(rt) {
         Ok(Command::On(place, task)) => Asked::Task(place, task),
@@ -37,7 +36,7 @@ pub fn read_arguments<R: Env + Print + Eprint + AllocGlobal>(rt: &R) -> Asked {
     }
 }
 
-/// The command that the arguments spell. One that is no UTF-8 spells none.
+/// The command in the arguments. An argument that isn't UTF-8 is no command.
 fn parsed<R: Env + AllocGlobal>(rt: &R) -> Result<Command, Unread> {
     match env::args(rt) {
         Ok(arguments) => {
@@ -49,7 +48,7 @@ fn parsed<R: Env + AllocGlobal>(rt: &R) -> Result<Command, Unread> {
     }
 }
 
-/// The status behind a text, which may have been refused.
+/// The status after printing a text, which may have failed.
 fn told(text: io::Result<()>, status: u8) -> u8 {
     match text {
         Ok(()) => status,

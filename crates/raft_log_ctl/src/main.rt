@@ -1,7 +1,10 @@
-//! What an operator does with a log in a real directory: `raft_log_ctl --help` tells how.
+//! What an operator does with a log in a real directory: `raft_log_ctl --help` prints the usage.
 //!
-//! The status is 0 if the task was done, 1 if it was done and found a hole, a gap or a damaged file, 2 for wrong
-//! arguments, and 3 if the task failed, which standard error tells.
+//! The status is:
+//! - 0 if the task was done;
+//! - 1 if it was done and found a hole, a gap or a damaged file;
+//! - 2 for wrong arguments;
+//! - 3 if the task failed; standard error says why.
 #![tactic(auto)]
 
 mod asking;
@@ -16,7 +19,7 @@ fn main(rt: HostRuntime) -> ExitCode {
     let status = match read_arguments(&rt) {
         Asked::Done(status) => status,
         Asked::Task(place, task) => {
-            // What is warned of, as that a file is cut, happens to a copy in memory.
+            // Warnings, for example that a file is truncated, are about a copy in memory.
             let quiet = Logged::new(&rt, LevelFilter::Error, &rt);
             serve(&rt, &quiet, &place, &task)
         }

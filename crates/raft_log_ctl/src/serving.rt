@@ -1,4 +1,4 @@
-//! A task is done on a log in real directories.
+//! Runs a task on a log in real directories.
 use crate::asking::{DONE, FAULTY, REFUSED};
 use log::Log;
 use raft_log_disk_directory::{
@@ -13,13 +13,13 @@ use std::rt::Files;
 use std::thread::Threads;
 use thiserror::Error;
 
-/// Why a task isn't done.
+/// Why a task fails.
 #[derive(Debug, Drop, Error)]
 enum Refusal {
     /// The directories weren't opened.
     #[error("{0}")]
     Directory(DirectoryFault),
-    /// The task was refused.
+    /// The task failed.
     #[error("{0}")]
     Task(CommandFault),
 }
@@ -48,7 +48,7 @@ impl From<io::Error> for Refusal {
     }
 }
 
-/// Does a task on the log in these directories, and answers the status; a refusal is told to standard error. `quiet`
+/// Runs a task on the log in these directories, and returns the status; prints a failure to standard error. `quiet`
 /// starts the threads, and takes what is logged.
 pub fn serve<
     R: Files<File = File> + Threads + Print + Eprint + AllocGlobal + Clone + Sync + Drop,
@@ -64,7 +64,7 @@ pub fn serve<
     }
 }
 
-/// Does a task.
+/// Runs a task.
 fn attempt<
     R: Files<File = File> + Threads + Print + Eprint + AllocGlobal + Clone + Sync + Drop,
     Q: Threads + Log + Sync,
@@ -77,8 +77,8 @@ fn attempt<
     Ok(outcome)
 }
 
-/// Opens the directories of a log; for a dump of one file, the directory in which it lies. Answers the place as the
-/// files are spelled.
+/// Opens the directories of a log; for a dump of one file, the directory of that file. Returns the place with the paths
+/// that the opened files have.
 fn open<R: Files<File = File> + Threads + Eprint + AllocGlobal + Clone + Sync + Drop>(
     rt: &R,
     place: Place,
@@ -98,7 +98,7 @@ fn open<R: Files<File = File> + Threads + Eprint + AllocGlobal + Clone + Sync + 
     Err(Refusal::Directory(fault))
 }
 
-/// Opens the directories of a log as a task needs them: `unpad` alone writes to the log's files.
+/// Opens the directories of a log as a task needs them: only `unpad` writes to the log's files.
 fn open_for<R: Files<File = File> + Threads + Eprint + AllocGlobal + Clone + Sync + Drop>(
     rt: &R,
     directory: &str,
@@ -111,7 +111,7 @@ fn open_for<R: Files<File = File> + Threads + Eprint + AllocGlobal + Clone + Syn
     }
 }
 
-/// Whether a path isn't opened as it is no directory's.
+/// Whether opening a path failed because it isn't a directory.
 fn is_file(fault: &DirectoryFault, asked: &str) -> bool {
     match fault {
         DirectoryFault::NoDirectory(path) => path.as_str() == asked,
@@ -119,7 +119,7 @@ fn is_file(fault: &DirectoryFault, asked: &str) -> bool {
     }
 }
 
-/// Opens the directory in which a file lies.
+/// Opens the directory of a file.
 fn open_home<R: Files<File = File> + Threads + Eprint + AllocGlobal + Clone + Sync + Drop>(
     rt: &R,
     place: &Place,
@@ -133,7 +133,7 @@ fn open_home<R: Files<File = File> + Threads + Eprint + AllocGlobal + Clone + Sy
     Ok((files, file))
 }
 
-/// Tells to standard error what was refused, and why.
+/// Prints to standard error which task failed, and why.
 fn tell<R: Eprint>(rt: &R, place: &Place, task: &Task, refusal: &Refusal) {
     let directory = place.directory.as_str();
     let word = task.word();

@@ -1,4 +1,4 @@
--- What a directory of a file system has of a list of files.
+-- When a directory of a file system has exactly the files of a list.
 use Rattle.std.specs.Prelude.{◌≡◌, ℕ, true, List, ◌∷◌, ◌++◌, map, None}
 use Rattle.std.specs.List.{All, Contains}
 use Rattle.std.specs.String.{string_bytes}
@@ -23,32 +23,32 @@ names_of files = map name_of files
 abbrev pub IsUnnamed : List ℕ → Disk → Type 0
 IsUnnamed directory d = (name : List ℕ) → IsPlain name → d.names (path_in directory name) ≡ None
 
--- a path is a file's whose bytes are these, all of them synced
+-- the file at a path has these bytes, all of them synced
 abbrev pub IsAtRest : List ℕ → List ℕ → Disk → Type 0
 IsAtRest path bytes d = HasNamed path (λ file. file ≡ at_rest bytes) d
 
--- a path is a file's whose bytes are read as these
+-- a read of the file at a path returns these bytes
 abbrev pub HasContent : List ℕ → List ℕ → Disk → Type 0
 HasContent path bytes d = HasNamed path (λ file. file.content ≡ bytes) d
 
--- a file was made of these bytes, all of them synced, and no other changed
+-- a file with these bytes was created, all of them synced, and no other file changed
 pub record MakesFile (path bytes : List ℕ) (old new : Disk) : Type 0 where
   pub free : old.names path ≡ None
   pub made : IsAtRest path bytes new
   pub others : TouchesOnlyNames (λ other. other ≡ path) old new
 
--- a directory is there, and has exactly these files, all at rest
+-- a directory exists, and has exactly these files, all at rest
 pub record HoldsExactly (files : List StoredFile) (directory : List ℕ) (d : Disk) : Type 0 where
   pub there : d.directories directory ≡ true
   pub kept : All (λ file. IsAtRest (path_in directory (name_of file)) file.bytes.items d) files
   pub only : (name : List ℕ) → IsPlain name → (d.names (path_in directory name) ≡ None → ⊥)
       → Contains (names_of files) name
 
--- a directory is there, and has exactly some files, all at rest
+-- a directory exists, and has exactly the files of some list, all at rest
 abbrev pub HoldsFiles : List ℕ → Disk → Type 0
 HoldsFiles directory d = (files : List StoredFile) × HoldsExactly files directory d
 
--- these are the files of a directory, each once, as they are read
+-- these are the files of a directory, each once, with the bytes that a read returns
 pub record AreGathered (files : List StoredFile) (directory : List ℕ) (d : Disk) : Type 0 where
   pub listed : IsListing directory d (names_of files)
   pub read : All (λ file. HasContent (path_in directory (name_of file)) file.bytes.items d) files

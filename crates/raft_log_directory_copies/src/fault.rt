@@ -10,35 +10,35 @@ use thiserror::Error;
 /// Why files weren't copied.
 #[derive(Debug, Drop, Error)]
 pub enum CopyFault {
-    /// The operating system refused a call on a path of its own, as where nothing has it.
+    /// The operating system failed a call on one of its paths, for example because nothing is there.
     #[error("{path:?}: {error}")]
     System {
-        /// Which path.
+        /// The path of the call.
         path: String,
-        /// What it told.
+        /// The error that it returned.
         error: io::Error,
     },
-    /// The file system refused a call on a path in it, as where nothing has it.
+    /// The file system failed a call on one of its paths, for example because nothing is there.
     #[error("{path:?} of the file system: {kind}")]
     FileSystem {
-        /// Which path.
+        /// The path of the call.
         path: String,
-        /// What it told.
+        /// The error that it returned.
         kind: ErrorKind,
     },
-    /// The directory that the file system is to make for the files has one already.
+    /// The directory that was made for the files already has a file.
     #[error("{path:?} of the file system: it has files")]
     Occupied {
-        /// Which directory.
+        /// The path of the directory.
         path: String,
     },
-    /// Memory is short.
+    /// Out of memory.
     #[error("out of memory")]
     Memory,
 }
 
 impl CopyFault {
-    /// What the operating system told of a path.
+    /// The fault for the operating system's error on a path.
     pub(crate) fn of_system(alloc: Global, path: &str, error: io::Error) -> CopyFault {
         match String::from_str(alloc, path) {
             Ok(path) if error.kind() != ErrorKind::OutOfMemory => CopyFault::System { path, error },
@@ -46,7 +46,7 @@ impl CopyFault {
         }
     }
 
-    /// What a file system told of a path; where there is no memory for the path, without it.
+    /// The fault for a file system's error on a path. If there is no memory for the path, it names none.
     pub(crate) fn of_file_system(alloc: Global, path: &str, kind: ErrorKind) -> CopyFault
         ensures { result ≡ Memory → kind ≡ ErrorKind.OutOfMemory }
     {
@@ -62,7 +62,7 @@ impl CopyFault {
         }
     }
 
-    /// A directory of a file system has files.
+    /// The fault for a directory of a file system that has files.
     pub(crate) fn of_occupied(alloc: Global, path: &str) -> CopyFault {
         match String::from_str(alloc, path) {
             Ok(path) => CopyFault::Occupied { path },

@@ -1,4 +1,4 @@
-//! The files of a file system's directory are gathered.
+//! Gathers the files of a file system's directory.
 ghost use Rattle.std.specs.Prelude.{◌≡◌, false, Some, IfErr, IfOk};
 ghost use Rattle.std.specs.String.{string_bytes};
 ghost use Rattle.raft_log_directory_copies.specs.declared.fault.CopyFault.TheVariants.{Memory};
@@ -11,8 +11,9 @@ use raft_log_disk::{FileSystem, Permission};
 use std::alloc::Global;
 use std::io::ErrorKind;
 
-/// The files of a directory of a file system, each once, as they are read now, in no promised order. `FileSystem`
-/// where the directory isn't there or a file isn't read; a file system that has stopped isn't told as want of memory.
+/// The files of a directory of a file system, each once, as they are read now, in no promised order. Fails with
+/// `FileSystem` if the directory doesn't exist or a file can't be read. If the file system has stopped, the error isn't
+/// `Memory`.
 pub fn gather<F: FileSystem>(
     alloc: Global,
     file_system: &F,
@@ -33,7 +34,7 @@ pub fn gather<F: FileSystem>(
     Ok(files)
 }
 
-/// The file of a name in a directory.
+/// The file with a name in a directory.
 fn read_file<F: FileSystem>(
     alloc: Global,
     file_system: &F,
@@ -52,7 +53,7 @@ fn read_file<F: FileSystem>(
     }
 }
 
-/// All bytes of the file with a path.
+/// All bytes of the file at a path.
 fn read_whole<F: FileSystem>(
     alloc: Global,
     file_system: &F,

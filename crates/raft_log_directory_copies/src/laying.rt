@@ -1,4 +1,4 @@
-//! Files are laid out in a directory of a file system.
+//! Lays out files in a directory of a file system.
 ghost use Rattle.std.specs.Prelude.{◌≡◌, IfErr, IfOk, OnOk, false, true};
 ghost use Rattle.std.specs.String.{string_bytes};
 ghost use Rattle.raft_log_directory_copies.specs.declared.fault.CopyFault.TheVariants.{Memory};
@@ -10,10 +10,12 @@ use raft_log_disk::FileSystem;
 use std::alloc::Global;
 use std::io::ErrorKind;
 
-/// Makes a directory, and in it each of these files, synced. Answered, the directory has exactly these files, all at
-/// rest; refused, it may have some of them. `FileSystem` where the file system refuses a call: `AlreadyExists` where the
-/// directory is there, or two files have one name. `Occupied` where the directory, once it is made, has a file. A stop
-/// isn't told as want of memory.
+/// Makes a directory with each of these files, synced. If it succeeds, the directory has exactly these files, all at
+/// rest. If it fails, it may have some of them:
+/// - `FileSystem`: the file system failed a call. It is `AlreadyExists` if the directory exists, or if two files have
+///   one name.
+/// - `Occupied`: the directory had a file after it was made.
+/// - `Memory`: memory ran out. A stop isn't reported as this.
 pub fn lay_out<F: FileSystem>(
     alloc: Global,
     files: &[StoredFile],
@@ -48,7 +50,7 @@ fn make_directory<F: FileSystem>(
     }
 }
 
-/// Makes each of these files in a directory that is there.
+/// Makes each of these files in a directory that exists.
 fn make_files<F: FileSystem>(
     alloc: Global,
     files: &[StoredFile],
@@ -71,7 +73,7 @@ fn make_files<F: FileSystem>(
     Ok(())
 }
 
-/// Makes a file of these bytes, and syncs it.
+/// Makes a file with these bytes, and syncs it.
 fn make_file<F: FileSystem>(file_system: &mut F, path: &str, bytes: &[u8]) -> Result<(), ErrorKind>
     ensures ok { OnOk result (MakesFile path.now bytes.now (F.disk file_system.old) (F.disk file_system.new)) }
     ensures runs { OnOk result ((F.disk file_system.new).stopped ≡ false) }

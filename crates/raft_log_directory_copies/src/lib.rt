@@ -1,9 +1,9 @@
-//! The files of a directory are copied between a real directory and a file system: `load_directory` makes each file
-//! of a real directory in a file system, at rest, and `save_directory` writes each file of a file system's directory
-//! into a real one.
+//! Copies the files of a directory between a real directory and a file system. `load_directory` makes each file of a
+//! real directory in a file system, at rest. `save_directory` writes each file of a file system's directory into a real
+//! one.
 //!
-//! Between the two stands a list of files (`StoredFile`). What a file system holds of such a list, and which list it
-//! gives, is proved; what a real directory gives and takes is the operating system's.
+//! Both go through a list of files (`StoredFile`). It is proved what a file system then holds of such a list, and which
+//! list is read from it. What a real directory returns and stores is up to the operating system.
 #![tactic(auto)]
 
 pub mod fault;

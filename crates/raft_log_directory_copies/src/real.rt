@@ -1,4 +1,4 @@
-//! The files of a real directory, which is the operating system's.
+//! The files of a real directory.
 ghost use Rattle.std.specs.Prelude.{OnOk};
 ghost use Rattle.raft_log_directory_copies.specs.Copies.{HoldsFiles};
 
@@ -12,10 +12,10 @@ use std::io::{ErrorKind, Write};
 use std::rt::Files;
 use std::{fs, io};
 
-/// Makes a directory of a file system, and in it each regular file of a real directory, with its bytes, at rest. Links
-/// and directories in the real one are left out, and nothing in it is changed. `System` where it can't be read, as one
-/// that isn't there or has a name that is no UTF-8: then the file system is as it was. Otherwise refused as `lay_out`
-/// is: then it may have some of the files.
+/// Makes a directory in a file system, with each regular file of a real directory, with its bytes, at rest. Links and
+/// directories are skipped, and nothing in the real directory is changed. Fails with `System` if the real directory
+/// can't be read, for example if it doesn't exist or a name in it isn't UTF-8; the file system is then unchanged.
+/// Otherwise fails as `lay_out` does; the file system may then have some of the files.
 pub fn load_directory<R: Files<File = File> + AllocGlobal + Clone + Drop, F: FileSystem>(
     rt: &R,
     path: &str,
@@ -28,9 +28,9 @@ pub fn load_directory<R: Files<File = File> + AllocGlobal + Clone + Drop, F: Fil
     lay_out(rt.alloc(), files.as_slice(), file_system, directory)
 }
 
-/// Writes each file of a file system's directory, as it is read now, into a real directory that is there. `FileSystem`
-/// where the file system doesn't give the files, as where it hasn't the directory: then nothing was written; later
-/// refusals are as those of `write_directory`.
+/// Writes each file of a file system's directory, as it is read now, into a real directory that exists. Fails with
+/// `FileSystem` if the file system can't return the files, for example if the directory doesn't exist; nothing was
+/// written then. Otherwise fails as `write_directory` does.
 pub fn save_directory<R: Files<File = File> + AllocGlobal, F: FileSystem>(
     rt: &R,
     file_system: &F,
@@ -41,8 +41,8 @@ pub fn save_directory<R: Files<File = File> + AllocGlobal, F: FileSystem>(
     write_directory(rt, files.as_slice(), path)
 }
 
-/// The regular files of a real directory, in no promised order. Links and directories in it are left out. `System`
-/// where it can't be read.
+/// The regular files of a real directory, in no promised order. Links and directories in it are skipped. Fails with
+/// `System` if it can't be read.
 pub fn read_directory<R: Files<File = File> + AllocGlobal + Clone + Drop>(
     rt: &R,
     path: &str,
@@ -67,9 +67,9 @@ pub fn read_directory<R: Files<File = File> + AllocGlobal + Clone + Drop>(
     Ok(files)
 }
 
-/// Writes files into a real directory that is there, and syncs each of them, and then the directory. A file that has
-/// one of the names is written anew, and others stay. `System` where the directory isn't there, or a file can't be
-/// written; then some files may have been written.
+/// Writes files into a real directory that exists, and syncs each of them, and then the directory. A file with one of
+/// the names is overwritten; other files stay. Fails with `System` if the directory doesn't exist or a file can't be
+/// written; some files may then have been written.
 pub fn write_directory<R: Files<File = File> + AllocGlobal>(
     rt: &R,
     files: &[StoredFile],
@@ -88,7 +88,7 @@ pub fn write_directory<R: Files<File = File> + AllocGlobal>(
         .map_err(|error| CopyFault::of_system(rt.alloc(), path, error))
 }
 
-/// A file of a directory, or nothing where the entry is none.
+/// The file of an entry; none if the entry is no regular file.
 fn read_entry<R: Files<File = File> + AllocGlobal>(
     rt: &R,
     entry: &DirEntry<R>,

@@ -1,5 +1,5 @@
--- What the calls of a pipe do, told of the numbered files alone. `Ties` says which files may be there while
--- the pipe runs, `allows` which the images allow; a pipe's own model of its files meets these words.
+-- What a pipe's calls do, in terms of the numbered files alone. `ties` says which files may be there while the pipe
+-- runs, `allows` which files the images allow. A pipe's own model of its files satisfies these definitions.
 use Rattle.std.specs.Prelude.{◌≡◌, ℕ, ◌⊎◌, List, [], ◌++◌}
 use Rattle.raft_log_model_laws.specs.Item.{Record, Tagged}
 use Rattle.raft_log_model_laws.specs.Groups.{Map, appended, directory_meaning}
@@ -31,22 +31,22 @@ abbrev pub put : {E V : Type 0} → Which → Files E V → ℕ → FileQueue E 
 put InAppend f from q = with_append f from q
 put InRewrite f from q = with_rewrite f from q
 
--- what some quiet events, as a rotation is, made of the queue
+-- the queue's files after some quiet events, such as a rotation
 abbrev pub MovedIn : {E V : Type 0} → Which → Files E V → Type 0
 MovedIn which f = Moved (from_at which f) (queue_at which f)
 
--- a record is written, behind some quiet events, in file n
+-- some quiet events happen, then the record is appended to file n
 abbrev pub Appends : {S E V : Type 0} → (S → Files E V → Type 0) → Which → Record E V → ℕ → S → S → Type 0
 Appends {S} {E} {V} ties which y n s t =
     (f : Files E V) → ties s f
     → (a : MovedIn which f) × (a.queue.last ≡ n) × ties t (put which f a.from (grown a.queue y))
 
--- a record was refused, what was written of it was cut back, and that was synced
+-- the record wasn't written: what was written of it was truncated, and that was synced
 abbrev pub CutsBack : {S E V : Type 0} → (S → Files E V → Type 0) → Which → S → S → Type 0
 CutsBack {S} {E} {V} ties which s t =
     (f : Files E V) → ties s f → (a : MovedIn which f) × ties t (put which f a.from (settled_files a.queue))
 
--- no record is written; some quiet events may have come
+-- no record is written; some quiet events may have happened
 abbrev pub LeavesOut : {S E V : Type 0} → (S → Files E V → Type 0) → Which → S → S → Type 0
 LeavesOut {S} {E} {V} ties which s t =
     (f : Files E V) → ties s f → (a : MovedIn which f) × ties t (put which f a.from a.queue)
@@ -64,19 +64,18 @@ abbrev pub Syncs : {S E V : Type 0} → (S → Files E V → Type 0) → Which �
 Syncs {S} {E} {V} ties which s t =
     (f : Files E V) → ties s f → ties t (put which f (from_at which f) (settled_files (queue_at which f)))
 
--- all that was written to the queue is synced: by a sync, by a rotation, or where a refused record was cut
--- back
+-- all that was written to the queue is synced: by a sync, by a rotation, or after a truncation
 abbrev pub Settles : {S E V : Type 0} → (S → Files E V → Type 0) → Which → S → S → Type 0
 Settles {S} {E} {V} ties which s t =
     (f : Files E V) → ties s f
     → (a : MovedIn which f) × (a.queue.pending ≡ []) × ties t (put which f a.from a.queue)
 
--- the pipe failed, and what was there is what may be there
+-- the pipe failed, and the files that were there are among those the images allow
 abbrev pub FailsWhole : {S E V : Type 0} → (S → Files E V → Type 0) → (S → Files E V → Type 0) → S → S
     → Type 0
 FailsWhole {S} {E} {V} ties allows s t = (f : Files E V) → ties s f → allows t f
 
--- the span begins at file n, or before it, and of the files below some may be lost
+-- the live range begins at file n or before it, and some of the files below may be lost
 abbrev pub Raises : {S E V : Type 0} → (S → Files E V → Type 0) → (S → Files E V → Type 0) → Which → ℕ → S → S
     → Type 0
 Raises {S} {E} {V} ties become which n s t =
@@ -85,8 +84,8 @@ Raises {S} {E} {V} ties become which n s t =
     × ((a : Moved (from_at which f) (raised_files (queue_at which f) out stay))
     × become t (put which f a.from a.queue))
 
--- what an open reads of a queue: which of the gone files are in the span again, and which of the unsynced
--- records an image kept
+-- what an open reads of a queue: which of the gone files are in the live range again, and which of the unsynced records
+-- an image kept
 pub record ReadAgain {E V : Type 0} (q : FileQueue E V) : Type 0 where
   pub below : List (LogFile E V)
   pub again : List (LogFile E V)
@@ -95,7 +94,7 @@ pub record ReadAgain {E V : Type 0} (q : FileQueue E V) : Type 0 where
   pub gone : below ++ again ≡ q.gone
   pub image : kept ++ lost ≡ q.pending
 
--- the files once that is synced
+-- the files once these records are synced
 abbrev pub read_files : {E V : Type 0} → (q : FileQueue E V) → ReadAgain q → FileQueue E V
 read_files q r =
     record q { gone = r.below; full = r.again ++ q.full; synced = q.synced ++ r.kept; pending = [] }
@@ -104,7 +103,7 @@ read_files q r =
 abbrev pub records_read : {E V : Type 0} → (q : FileQueue E V) → ReadAgain q → List (Record E V)
 records_read q r = records_of r.again ++ ((queue_of q).live ++ r.kept)
 
--- the view is made of what was read of both queues, now in these files
+-- the view is built from what was read of both queues, which is now in these files
 pub record IsMadeOf {E V : Type 0} (v : View E V) (rewrite append : List (Record E V)) (f : Files E V)
     : Type 0 where
   pub map : v.map ≡ directory_meaning rewrite append
@@ -113,8 +112,8 @@ pub record IsMadeOf {E V : Type 0} (v : View E V) (rewrite append : List (Record
   pub noted : AreNoted v.whereabouts v.noted f.append
   pub noted_in_rewrite : AreNotedInRewrite v.map v.whereabouts v.noted_in_rewrite f.rewrite
 
--- an open: whichever files may have been there, it read some image of them and synced what it read; and where
--- the entries of each group were one run, the view is made of it
+-- an open: for any files that may have been there, it read some image of them and synced what it read. If each group's
+-- entries were one run, the view is built from it
 abbrev pub Replays : {S E V : Type 0} → (S → Files E V → Type 0) → (S → Files E V → Type 0) → View E V → S → S
     → Type 0
 Replays {S} {E} {V} allows ties v s t =
@@ -125,11 +124,11 @@ Replays {S} {E} {V} allows ties v s t =
     → IsMadeOf v (records_read f.rewrite r) (records_read f.append a)
     (record f { rewrite = read_files f.rewrite r; append = read_files f.append a }))
 
--- a pipe that is nothing but its files: the ones that it has are there, and no others
+-- a pipe that is nothing but its files: exactly these are there
 abbrev pub IsExactly : {E V : Type 0} → Files E V → Files E V → Type 0
 IsExactly s f = f ≡ s
 
--- the view is true, and Rewrite ends with an atomic group that has begun in file `from` and not ended
+-- the view is true, and Rewrite ends with an atomic group that began in file `from` and has not ended
 pub record IsInGroup {E V : Type 0} (may_be : Files E V → Type 0) (v : View E V) (m : Map E V)
     (pending : List (Record E V)) (from n : ℕ) (first : List (Tagged E V)) (more : List (List (Tagged E V)))
     : Type 0 where

@@ -1,5 +1,4 @@
--- The model of a whole directory: the numbered files of both queues, what they mean, and where each thing
--- stands.
+-- The model of a whole directory: the numbered files of both queues, what they mean, and where each thing is stored.
 use Rattle.std.specs.Prelude.{ℕ, Bool, false}
 use Rattle.raft_log_model_laws.specs.Groups.{Map}
 use Rattle.raft_log_machine_laws.specs.Whereabouts.{Whereabouts}
@@ -9,14 +8,14 @@ use Rattle.raft_log_machine_laws.specs.Replay.{IsReplayable}
 use Rattle.raft_log_machine_laws.specs.Images.{HasRuns}
 use Rattle.raft_log_machine_laws.specs.Fresh.{nothing_stands, nowhere}
 
--- the numbered files of both queues: those that are not behind a gap are numbered from these on
+-- the numbered files of both queues: those after the last gap are numbered from these on
 pub record Files (E V : Type 0) : Type 0 where
   pub rewrite : FileQueue E V
   pub rewrite_from : ℕ
   pub append : FileQueue E V
   pub append_from : ℕ
 
--- the files, the map that is synced of them, and where each thing of it and of the pending batches stands
+-- the files, the map that is synced in them, and where each thing of it and of the pending batches is stored
 pub record Model (E V : Type 0) : Type 0 where
   pub files : Files E V
   pub map : Map E V
@@ -36,7 +35,7 @@ machine_of d = record {
   failed = d.failed;
 }
 
--- all that the laws of the machine ask, and each queue's files are numbered without a gap
+-- all premises of the machine's laws, and each queue's files are numbered without a gap
 pub record IsModelSound {E V : Type 0} (d : Model E V) : Type 0 where
   pub kept : IsKept (machine_of d)
   pub replay : IsReplayable (machine_of d)
@@ -44,11 +43,11 @@ pub record IsModelSound {E V : Type 0} (d : Model E V) : Type 0 where
   pub rewrite_numbers : IsNumbered d.files.rewrite_from d.files.rewrite
   pub append_numbers : IsNumbered d.files.append_from d.files.append
 
--- the files with others of Append, which count from this number on
+-- the files with other ones of Append, which are numbered from this number on
 abbrev pub with_append : {E V : Type 0} → Files E V → ℕ → FileQueue E V → Files E V
 with_append f from q = record f { append = q; append_from = from }
 
--- the files with others of Rewrite, which count from this number on
+-- the files with other ones of Rewrite, which are numbered from this number on
 abbrev pub with_rewrite : {E V : Type 0} → Files E V → ℕ → FileQueue E V → Files E V
 with_rewrite f from q = record f { rewrite = q; rewrite_from = from }
 
@@ -56,6 +55,6 @@ with_rewrite f from q = record f { rewrite = q; rewrite_from = from }
 abbrev pub no_files : {E V : Type 0} → Files E V
 no_files = record { rewrite = fresh_files; rewrite_from = 1; append = fresh_files; append_from = 1 }
 
--- the model of a directory in which nothing was ever written: nothing stands
+-- the model of a directory in which nothing was ever written: the map is empty
 abbrev pub fresh_model : {E V : Type 0} → Model E V
 fresh_model = record { files = no_files; map = nothing_stands; whereabouts = λ g. nowhere; failed = false }

@@ -1,10 +1,10 @@
--- What may happen to a queue's files while nothing is written: syncs, rotations, files that are lost.
+-- What may happen to a queue's files while nothing is written: syncs, rotations, and losses of files.
 use Rattle.std.specs.Prelude.{◌≡◌, ℕ, ◌+◌, List, [], ◌∷◌, ◌++◌}
 use Rattle.raft_log_model_laws.specs.Item.{Record}
 use Rattle.raft_log_machine_laws.specs.Files.{LogFile, FileQueue, FileEvent, FileStep, numbered_from}
 use Rattle.raft_log_machine_laws.specs.Files.FileEvent.{Grow, Sync, Rotate, Raise, Lose, Read}
 
--- a quiet event: no record comes, and the span begins where it began
+-- a quiet event: it appends no record, and the live range begins where it began
 abbrev pub IsQuiet : {E V : Type 0} → FileEvent E V → Type 0
 IsQuiet (Grow ys) = ⊥
 IsQuiet Sync = Unit {0}
@@ -13,28 +13,28 @@ IsQuiet (Raise out stay) = ⊥
 IsQuiet (Lose before file rest) = Unit {0}
 IsQuiet (Read below again kept) = ⊥
 
--- the files q, numbered from n on, come to p, numbered from k on, by these quiet events
+-- these quiet events turn the files q, numbered from n on, into p, numbered from k on
 abbrev pub Moves : {E V : Type 0} → ℕ → FileQueue E V → List (FileEvent E V) → ℕ → FileQueue E V → Type 0
 Moves n q [] k p = (k ≡ n) × (p ≡ q)
 Moves {E} {V} n q (e ∷ es) k p =
     (next : FileQueue E V) × IsQuiet e × FileStep e q next × Moves (numbered_from n e) next es k p
 
--- what some quiet events made of a queue's files
+-- the files of a queue after some quiet events
 pub record Moved {E V : Type 0} (n : ℕ) (q : FileQueue E V) : Type 0 where
   pub events : List (FileEvent E V)
   pub from : ℕ
   pub queue : FileQueue E V
   pub moves : Moves n q events from queue
 
--- the last file takes a record
+-- the record is appended to the active file
 abbrev pub grown : {E V : Type 0} → FileQueue E V → Record E V → FileQueue E V
 grown q y = record q { pending = q.pending ++ y ∷ [] }
 
--- all of the last file is synced
+-- the active file is synced
 abbrev pub settled_files : {E V : Type 0} → FileQueue E V → FileQueue E V
 settled_files q = record q { synced = q.synced ++ q.pending; pending = [] }
 
--- the last file is synced, and an empty one of the next number comes behind it
+-- the active file is synced, and an empty file of the next number follows
 abbrev pub rotated : {E V : Type 0} → FileQueue E V → FileQueue E V
 rotated q = record q {
   full = q.full ++ record { number = q.last; records = q.synced ++ q.pending } ∷ [];
@@ -43,7 +43,7 @@ rotated q = record q {
   pending = [];
 }
 
--- the span begins later: its first files leave it, the others stay
+-- the live range begins later: its first files leave it, the others stay
 abbrev pub raised_files : {E V : Type 0} → FileQueue E V → List (LogFile E V) → List (LogFile E V)
     → FileQueue E V
 raised_files q out stay = record q { gone = q.gone ++ out; full = stay }

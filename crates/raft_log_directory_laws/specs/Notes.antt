@@ -1,4 +1,4 @@
--- The files that an engine notes for each slot: a queue may begin at the least of them, and no later.
+-- The files that an engine notes for each slot. A queue may begin at the least of them, and no later.
 use Rattle.std.specs.Prelude.{◌≡◌, ℕ, ◌<◌, ◌≤◌, ◌⊎◌, true, false, List, [], ◌∷◌, ◌++◌, None}
 use Rattle.raft_log_model_laws.specs.Item.{Record, Tagged, items_of}
 use Rattle.raft_log_model_laws.specs.Meaning.{Slot, says}
@@ -18,22 +18,22 @@ abbrev pub IsAmong : {A : Type 0} → List A → A → Type 0
 IsAmong [] y = ⊥
 IsAmong (x ∷ xs) y = (y ≡ x) ⊎ IsAmong xs y
 
--- the record lies in the file of that number
+-- the record is in the file of that number
 abbrev pub RecordLiesIn : {E V : Type 0} → ℕ → Record E V → List (LogFile E V) → Type 0
 RecordLiesIn n y [] = ⊥
 RecordLiesIn n y (f ∷ fs) = ((f.number ≡ n) × IsAmong f.records y) ⊎ RecordLiesIn n y fs
 
--- a record in that file of the span speaks of the slot
+-- a record in that file of the live range says something of the slot
 abbrev pub SpeaksIn : {E V : Type 0} → FileQueue E V → ℕ → ℕ → Slot → Type 0
 SpeaksIn {E} {V} q g n s =
     (y : Record E V) × RecordLiesIn n y (span q q.pending) × IsSpoken (says s (of_group g (items_of y)))
 
--- what stands in the slot stands in Append
+-- what is in the slot is stored in Append
 abbrev pub IsAppended : Whereabouts → Slot → Type 0
 IsAppended t (Index i) = (t.split ≤ i) × (i < t.end)
 IsAppended t (Key k) = t.appended k ≡ true
 
--- of each slot that stands in Append a record in the noted file speaks
+-- for each slot that is stored in Append, a record in the noted file says something of it
 abbrev pub AreNoted : {E V : Type 0} → (ℕ → Whereabouts) → Notes → FileQueue E V → Type 0
 AreNoted whereabouts notes q = (g : ℕ) (s : Slot) → IsAppended (whereabouts g) s → SpeaksIn q g (notes g s) s
 
@@ -51,8 +51,8 @@ abbrev pub AllBelow : {E V : Type 0} → ℕ → List (LogFile E V) → Type 0
 AllBelow n [] = Unit {0}
 AllBelow n (f ∷ fs) = (f.number < n) × AllBelow n fs
 
--- what counts of the span's files from that number on speaks of the slot: a plain record there, or an atomic
--- group that is whole there
+-- what counts of the live range's files from that number on says something of the slot: a plain record there does, or
+-- an atomic group that is whole there
 pub record SpeaksFrom {E V : Type 0} (q : FileQueue E V) (g n : ℕ) (s : Slot) : Type 0 where
   pub front : List (LogFile E V)
   pub back : List (LogFile E V)
@@ -60,23 +60,23 @@ pub record SpeaksFrom {E V : Type 0} (q : FileQueue E V) (g n : ℕ) (s : Slot) 
   pub from : AllFrom n back
   pub spoken : IsSpoken (says s (rewritten g (records_of back)))
 
--- what stands in the slot stands in Rewrite
+-- what is in the slot is stored in Rewrite
 abbrev pub IsInRewrite : Whereabouts → Slot → Type 0
 IsInRewrite t (Index i) = (t.first ≤ i) × (i < t.split)
 IsInRewrite t (Key k) = t.appended k ≡ false
 
--- of each slot that stands in Rewrite, what counts from the noted file on speaks; of a key of which nothing
--- stands nothing need be noted
+-- for each slot that is stored in Rewrite, what counts from the noted file on says something of it; a slot that holds
+-- nothing needs no note
 abbrev pub AreNotedInRewrite : {E V : Type 0} → Map E V → (ℕ → Whereabouts) → Notes → FileQueue E V → Type 0
 AreNotedInRewrite m whereabouts notes q =
     (g : ℕ) (s : Slot) → IsInRewrite (whereabouts g) s → (m g s ≡ None) ⊎ SpeaksFrom q g (notes g s) s
 
--- no file of Rewrite below that number is noted
+-- no file of Rewrite below this number is noted
 abbrev pub RewriteStandsFrom : {E V : Type 0} → ℕ → Map E V → (ℕ → Whereabouts) → Notes → Type 0
 RewriteStandsFrom n m whereabouts notes =
     (g : ℕ) (s : Slot) → IsInRewrite (whereabouts g) s → (m g s ≡ None) ⊎ (n ≤ notes g s)
 
--- the records of an atomic group that has not ended are the last of the span, all of them in files from that
+-- the records of an atomic group that has not ended are the last of the live range, all of them in files from that
 -- number on
 pub record GoesOnFrom {E V : Type 0} (q : FileQueue E V) (from n : ℕ) (first : List (Tagged E V))
     (more : List (List (Tagged E V))) : Type 0 where

@@ -1,4 +1,4 @@
-//! What an engine says of its log goes on with each call on Append, answered or refused.
+//! What stays true of an engine's log after each call on Append, whether it succeeds or fails.
 
 ghost use Rattle.std.specs.Prelude.{◌≡◌, ◌⊎◌, ◌∷◌, ℕ, List, ◌++◌, []};
 ghost use Rattle.raft_log_model_laws.specs.Groups.{taken, Map};
@@ -12,8 +12,8 @@ ghost use Rattle.raft_log_directory_laws.specs.Tables.{GrowsTo};
 
 use crate::pipes::TiedFiles;
 
-/// A batch that is written is pending behind the others, or behind those of them that a rotation left
-/// pending.
+/// After a write, the batch is pending, after the other pending batches. If the write rotated, some of these may be
+/// synced.
 pub fn written_batch_is_pending<P: TiedFiles>()
     ensures { (s t : P) (v : View P.Entry P.Value) (m : Map P.Entry P.Value)
         (pending : List (Record P.Entry P.Value)) → IsAt (P.ties s) v m pending
@@ -21,8 +21,8 @@ pub fn written_batch_is_pending<P: TiedFiles>()
         → Appends P.ties InAppend y n s t → GrowsTo y n v u → ViewEndsAt (P.ties t) u m (pending ++ y ∷ []) }
 {}
 
-/// A batch that is refused leaves no trace: cut back, all batches before it are synced; left out, some first
-/// ones are.
+/// A batch that isn't written leaves nothing in the log. If the pipe truncated what it wrote of it, all batches before
+/// it are synced. If it wrote nothing, the first few of them may be synced.
 pub fn refused_batch_leaves_no_trace<P: TiedFiles>()
     ensures cut_back { (s t : P) (v : View P.Entry P.Value) (m : Map P.Entry P.Value)
         (pending : List (Record P.Entry P.Value)) → IsAt (P.ties s) v m pending
@@ -32,7 +32,7 @@ pub fn refused_batch_leaves_no_trace<P: TiedFiles>()
         → LeavesOut P.ties InAppend s t → ViewEndsAt (P.ties t) v m pending }
 {}
 
-/// Where the pipe fails at a batch, the log ends with it or without it.
+/// If the pipe fails while it writes a batch, the log ends with that batch or without it.
 pub fn batch_of_a_failed_pipe_may_be_there<P: TiedFiles>()
     ensures { (s t : P) (v : View P.Entry P.Value) (m : Map P.Entry P.Value)
         (pending : List (Record P.Entry P.Value)) → IsAt (P.ties s) v m pending
@@ -41,7 +41,7 @@ pub fn batch_of_a_failed_pipe_may_be_there<P: TiedFiles>()
         → LogEnds (P.allows t) m pending ⊎ LogEnds (P.allows t) m (pending ++ y ∷ []) }
 {}
 
-/// A sync that is answered puts all pending batches on the map; one that fails leaves the log as it was.
+/// After a sync that succeeds, all pending batches are in the map. If it fails, the log is unchanged.
 pub fn synced_batches_are_in_the_map<P: TiedFiles>()
     ensures answered { (s t : P) (v : View P.Entry P.Value) (m : Map P.Entry P.Value)
         (pending : List (Record P.Entry P.Value)) → IsAt (P.ties s) v m pending
@@ -51,8 +51,8 @@ pub fn synced_batches_are_in_the_map<P: TiedFiles>()
         → FailsWhole P.ties P.allows s t → IsLog (P.allows t) m pending }
 {}
 
-/// Once all that was written to Append is synced, by a sync, a rotation or a cut back, all batches are in the
-/// map, and what was settled in Rewrite stays so.
+/// Once Append is synced, by a sync, a rotation or a truncation, all batches are in the map. A settled Rewrite stays
+/// settled.
 pub fn settled_append_has_all_batches<P: TiedFiles>()
     ensures batches { (s t : P) (v : View P.Entry P.Value) (m : Map P.Entry P.Value)
         (pending : List (Record P.Entry P.Value)) → Settles P.ties InAppend s t
@@ -63,8 +63,8 @@ pub fn settled_append_has_all_batches<P: TiedFiles>()
     ensures cut_back { (s t : P) (which : Which) → CutsBack P.ties which s t → Settles P.ties which s t }
 {}
 
-/// Calls one after another: where some first batches are synced and then some of the others, some first ones
-/// of all are; and where none is pending in the end, all are in the map.
+/// Calls one after another. If one syncs the first few batches and a later one the first few of the rest, together they
+/// synced the first few of all. If nothing is pending at the end, all batches are in the map.
 pub fn ends_of_calls_compose<P: TiedFiles>()
     ensures view { (t : P) (m : Map P.Entry P.Value) (v : View P.Entry P.Value)
         (done rest more pending : List (Record P.Entry P.Value)) → done ++ rest ≡ pending
@@ -77,8 +77,8 @@ pub fn ends_of_calls_compose<P: TiedFiles>()
         → IsAt (P.ties t) v (taken (taken m done) rest) [] → IsAt (P.ties t) v (taken m pending) [] }
 {}
 
-/// Append may begin at the least file noted for it, or before it, once nothing is pending in either queue and
-/// no mark is owed: the map stays, whether the files below are lost, kept, or their deletion fails half way.
+/// If nothing is pending in either queue and no tombstone is owed, Append may begin at the least file noted for it, or
+/// before it. The map stays, whether the files below are lost or kept, or their deletion fails half way.
 pub fn raised_append_keeps_the_map<P: TiedFiles>()
     ensures answered { (s t : P) (v : View P.Entry P.Value) (m : Map P.Entry P.Value) (n : ℕ)
         → IsSettled (P.ties s) v m → Raises P.ties P.ties InAppend n s t

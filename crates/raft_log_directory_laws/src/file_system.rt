@@ -1,13 +1,13 @@
-//! A file system, as a log is read of it.
+//! A file system as a recovery reads a log from it.
 
 ghost use Rattle.raft_log_directory_laws.specs.Images.{Readings};
 
-/// Says which images a crash may leave of a file system, and which files a recovery may read of each.
+/// Defines which images a crash may leave of a file system, and which files a recovery may read from each.
 pub trait LogImages {
-    /// What stands for an entry.
+    /// The type of an entry.
     type Entry;
 
-    /// What stands for a key's value.
+    /// The type of a key's value.
     type Value;
 
     ghost readings: { Readings Self Self.Entry Self.Value };

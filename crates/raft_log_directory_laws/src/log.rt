@@ -1,4 +1,4 @@
-//! What a log promises of the images that a crash may leave, over any way to read them.
+//! What a log promises about the images that a crash may leave, however they are read.
 
 ghost use Rattle.std.specs.Prelude.{◌≡◌, ℕ, ◌≤◌, List, [], length, take};
 ghost use Rattle.raft_log_model_laws.specs.Groups.{taken, Map};
@@ -17,21 +17,21 @@ ghost use Rattle.raft_log_directory_laws.specs.Log.{IsAt, IsLog, IsLogOf, View};
 use crate::file_system::LogImages;
 use crate::pipes::TiedFiles;
 
-/// A file system without log files is the log of nothing.
+/// A file system without log files is an empty log.
 pub fn no_files_are_the_log_of_nothing<D: LogImages>()
     ensures { (d : D) → ((image : D) → D.readings.leaves d image → ReadsNothing D.readings image)
         → IsLogOf D.readings d nothing_stands [] }
 {}
 
-/// A crash takes back nothing but pending batches: each image means the map after some first ones of them,
-/// the same from whatever starts the two queues are read.
+/// A crash loses only pending batches. Each image means the map after some first pending batches, and means the same
+/// from every start of the two queues.
 pub fn crash_keeps_what_is_synced<D: LogImages>()
     ensures { (d : D) (m : Map D.Entry D.Value) (pending : List (Record D.Entry D.Value)) (image : D)
         → IsLogOf D.readings d m pending → D.readings.leaves d image
         → (k : ℕ) × (k ≤ length pending) × Means D.readings image (taken m (take k pending)) }
 {}
 
-/// An image that is its own only image is a log itself: of the map after some first pending batches, and
+/// An image that is its own only image is a log itself. Its map is the one after some first pending batches, and
 /// nothing is pending.
 pub fn image_is_a_log<D: LogImages>()
     ensures { (d : D) (m : Map D.Entry D.Value) (pending : List (Record D.Entry D.Value)) (image : D)
@@ -39,8 +39,8 @@ pub fn image_is_a_log<D: LogImages>()
         → (k : ℕ) × (k ≤ length pending) × IsLogOf D.readings image (taken m (take k pending)) [] }
 {}
 
-/// A file system whose images show no more than those of another one, as a refused open leaves it, is the
-/// same log.
+/// If the images of a file system show no more than those of another one, it is the same log. An open that fails leaves
+/// such a file system.
 pub fn no_more_images_are_the_same_log<D: LogImages>()
     ensures log { (old new : D) (m : Map D.Entry D.Value) (pending : List (Record D.Entry D.Value))
         → ShowsNoMore D.readings old new
@@ -48,14 +48,14 @@ pub fn no_more_images_are_the_same_log<D: LogImages>()
     ensures means { (old new : D) → ShowsNoMore D.readings old new → MeansNoMore D.readings old new }
 {}
 
-/// Where each image means what an image before meant, the promise made before holds.
+/// If each image means what some image before meant, the promise made before still holds.
 pub fn promise_is_kept_later<D: LogImages>()
     ensures { (old new : D) (m : Map D.Entry D.Value) (pending : List (Record D.Entry D.Value)) (image : D)
         → IsLogOf D.readings old m pending → MeansNoMore D.readings old new → D.readings.leaves new image
         → (k : ℕ) × (k ≤ length pending) × Means D.readings image (taken m (take k pending)) }
 {}
 
-/// A fork is the same log as what it was copied from, where that is its own only image.
+/// A fork is the same log as its source, if the source is its own only image.
 pub fn fork_is_the_same_log<D: LogImages>()
     ensures { (source copy : D) (m : Map D.Entry D.Value) (pending : List (Record D.Entry D.Value))
         → IsOwnImage D.readings source
@@ -63,7 +63,7 @@ pub fn fork_is_the_same_log<D: LogImages>()
         → IsLogOf D.readings source m pending → IsLogOf D.readings copy m pending }
 {}
 
-/// The log of an engine is what is left once its tables are forgotten.
+/// An engine's log is what remains without its tables.
 pub fn engine_is_a_log<P: TiedFiles>()
     ensures { (s : P) (v : View P.Entry P.Value) (m : Map P.Entry P.Value)
         (pending : List (Record P.Entry P.Value))

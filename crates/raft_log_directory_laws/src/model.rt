@@ -1,5 +1,4 @@
-//! The model of a directory is sound from a fresh one on, and doesn't care where a group without entries
-//! counts on.
+//! The model of a fresh directory is sound. It stays sound if groups without entries are renumbered.
 
 ghost use Rattle.std.specs.Prelude.{ℕ, List};
 ghost use Rattle.raft_log_model_laws.specs.Groups.{Map};
@@ -13,8 +12,8 @@ pub fn fresh_model_is_sound<E, V>()
     ensures { IsModelSound (fresh_model {E = E} {V = V}) }
 {}
 
-/// The table of a group without entries may take any number at any time: the model stays sound, and what an
-/// engine knows stays true.
+/// The `whereabouts` of a group without entries may begin at any index at any time. The model stays sound, and the
+/// view stays true.
 pub fn renumbered_groups_are_sound<E, V>()
     ensures model { (f : Files E V) (m : Map E V) (whereabouts next : ℕ → Whereabouts)
         → ((g : ℕ) → IsRenumbered (whereabouts g) (next g))

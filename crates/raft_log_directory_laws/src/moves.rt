@@ -1,5 +1,4 @@
-//! What an engine knows stays true of the files, whatever syncs, rotations and losses of old files happen to
-//! them.
+//! An engine's view stays true through any syncs, rotations and losses of old files.
 
 ghost use Rattle.std.specs.Prelude.{◌≡◌, ℕ, ◌+◌, ◌∷◌, List, ◌++◌, [], length};
 ghost use Rattle.raft_log_model_laws.specs.Groups.{taken, Map};
@@ -9,8 +8,8 @@ ghost use Rattle.raft_log_directory_laws.specs.Log.{Follows, Stands, View};
 ghost use Rattle.raft_log_directory_laws.specs.Model.{with_append, with_rewrite, Files};
 ghost use Rattle.raft_log_directory_laws.specs.Moves.{rotated, settled_files, Moved};
 
-/// After any quiet events of Append, in any order, some first batches are synced and the others are pending,
-/// and what an engine knows is true of the files. After any of Rewrite nothing has changed.
+/// After any quiet events of Append, in any order, some first batches are synced and the others are pending, and the
+/// view is true. Quiet events of Rewrite change nothing.
 pub fn quiet_events_are_followed<E, V>()
     ensures append { (v : View E V) (f : Files E V) (m : Map E V) (pending : List (Record E V))
         (a : Moved f.append_from f.append) → Stands v f m pending → Follows v f m pending a }
@@ -19,8 +18,8 @@ pub fn quiet_events_are_followed<E, V>()
         → Stands v f m pending → Stands v (with_rewrite f r.from r.queue) m pending }
 {}
 
-/// Once Append's last file is synced, be it by a sync, by a rotation, or where a refused record was cut back,
-/// the map is the one after all pending batches, and none is pending. A lost file changes nothing.
+/// Once Append's active file is synced, by a sync, a rotation or a truncation, the map is the one after all pending
+/// batches, and none is pending. A lost file changes nothing.
 pub fn append_moves_are_followed<E, V>()
     ensures sync { (v : View E V) (f : Files E V) (m : Map E V) (pending : List (Record E V))
         → Stands v f m pending
@@ -36,7 +35,7 @@ pub fn append_moves_are_followed<E, V>()
         (record f.append { behind = f.append.behind ++ before; gone = rest })) m pending }
 {}
 
-/// A sync, a rotation and a lost file of Rewrite change nothing.
+/// A sync, a rotation or a lost file of Rewrite changes nothing.
 pub fn rewrite_moves_are_followed<E, V>()
     ensures sync { (v : View E V) (f : Files E V) (m : Map E V) (pending : List (Record E V))
         → Stands v f m pending

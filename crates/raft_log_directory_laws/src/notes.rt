@@ -1,5 +1,5 @@
-//! The files noted for each slot: a queue may begin at the least of them, for what stays says all that stands
-//! there.
+//! The files noted for each slot. A queue may begin at the least of them, because the files that stay hold all that the
+//! queue stores.
 
 ghost use Rattle.std.specs.Prelude.{◌≡◌, ◌⊎◌, ◌∷◌, ℕ, List, ◌++◌, [], Option};
 ghost use Rattle.raft_log_model_laws.specs.Groups.{appended, rewritten, Map};
@@ -23,8 +23,8 @@ ghost use Rattle.raft_log_directory_laws.specs.Notes.{
   SpeaksFrom,
 };
 
-/// What counts of Rewrite from a file on and speaks of a slot goes on speaking of it: behind each record, be
-/// it a begin, a middle or an end, and through syncs, rotations and losses.
+/// Suppose that what counts of Rewrite from a file on says something of a slot. It still does after each record (a
+/// begin, a middle or an end), and after syncs, rotations and losses.
 pub fn what_speaks_goes_on<E, V>()
     ensures grown { (q : FileQueue E V) (y : Record E V) (g n : ℕ) (s : Slot)
         → SpeaksFrom q g n s → SpeaksFrom (grown q y) g n s }
@@ -32,8 +32,8 @@ pub fn what_speaks_goes_on<E, V>()
         → SpeaksFrom q g n s → SpeaksFrom p.queue g n s }
 {}
 
-/// Where Append begins at the least file noted for it, or before it, the records that stay hold all that
-/// stands in Append: so its first files may leave the span.
+/// If Append begins at the least file noted for it, or before it, the records that stay hold all that is stored in
+/// Append. Its first files may then leave the live range.
 pub fn noted_files_have_what_is_appended<E, V>()
     ensures { (f : Files E V) (m : Map E V) (whereabouts : ℕ → Whereabouts) (notes : Notes) (n : ℕ)
         (out stay : List (LogFile E V)) → IsModelSound (running f m whereabouts) → f.append.pending ≡ []
@@ -42,8 +42,8 @@ pub fn noted_files_have_what_is_appended<E, V>()
         → (g : ℕ) → HasAppended (whereabouts g) (appended g (records_of stay ++ f.append.synced)) }
 {}
 
-/// Where Rewrite begins at the least file noted for it, or before it, what counts of the records that stay
-/// holds all that stands in Rewrite, atomic groups too.
+/// If Rewrite begins at the least file noted for it, or before it, what counts of the records that stay holds all that
+/// is stored there, atomic groups too.
 pub fn noted_files_have_what_is_rewritten<E, V>()
     ensures { (f : Files E V) (m : Map E V) (whereabouts : ℕ → Whereabouts) (notes : Notes) (n : ℕ)
         (out stay : List (LogFile E V)) → IsModelSound (running f m whereabouts) → f.append.pending ≡ []
@@ -52,8 +52,8 @@ pub fn noted_files_have_what_is_rewritten<E, V>()
         → (g : ℕ) → HasRewritten (m g) (whereabouts g) (rewritten g (records_of stay ++ f.rewrite.synced)) }
 {}
 
-/// A raise of either queue to a file at or below the least noted one is followed: of Append where nothing is
-/// pending in either queue and no mark is owed, of Rewrite where nothing is pending.
+/// The view stays true after either queue is raised to a file at or below the least noted one. For Append nothing may
+/// be pending in either queue and no tombstone owed; for Rewrite nothing may be pending.
 pub fn raises_are_followed<E, V>()
     ensures append { (v : View E V) (f : Files E V) (m : Map E V) (n : ℕ) (out stay : List (LogFile E V))
         → f.rewrite.pending ≡ [] → out ++ stay ≡ f.append.full → AllBelow n out
@@ -65,8 +65,8 @@ pub fn raises_are_followed<E, V>()
         → Stands v f m [] → Stands v (with_rewrite f f.rewrite_from (raised_files f.rewrite out stay)) m [] }
 {}
 
-/// A full rewrite leaves one file: where nothing stands in Append any more, no file of it is noted, so it may
-/// begin at any of its files; all but the last lie below the last; and raised to that, its span is that file
+/// A full rewrite leaves one file. Once nothing is stored in Append, no file of it is noted, so it may begin at any of
+/// its files. All files but the last are below the last. Once it is raised to the last, its live range is that file
 /// alone.
 pub fn full_rewrite_leaves_one_file<E, V>()
     ensures notes { (v : View E V) → ((g : ℕ) (s : Slot) → IsAppended (v.whereabouts g) s → ⊥)
@@ -76,8 +76,8 @@ pub fn full_rewrite_leaves_one_file<E, V>()
         ≡ record { number = q.last; records = q.synced ++ q.pending } ∷ [] }
 {}
 
-/// What comes to stand in a queue by a list of items, the items speak of: so the file of their record may be
-/// noted for it. What Rewrite takes brings nothing into Append.
+/// If a list of items puts a slot into a queue, the items say something of it, and the file of their record may be
+/// noted for it. A record of Rewrite puts nothing into Append.
 pub fn items_speak_of_what_they_bring<E, V>()
     ensures append { (t u : Whereabouts) (xs : List (Item E V)) (s : Slot)
         → GrowsBy t xs u → IsAppended u s → IsAppended t s ⊎ IsSpoken (says s xs) }

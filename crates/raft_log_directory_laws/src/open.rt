@@ -1,4 +1,4 @@
-//! An open: the map after some first pending batches, whatever image it found.
+//! An open shows the map after some first pending batches, whichever image it found.
 
 ghost use Rattle.std.specs.Prelude.{ℕ, ◌≤◌, List, [], length, take};
 ghost use Rattle.raft_log_model_laws.specs.Groups.{taken, Map};
@@ -8,9 +8,8 @@ ghost use Rattle.raft_log_directory_laws.specs.Log.{IsAt, IsLog, View};
 
 use crate::pipes::TiedFiles;
 
-/// Of whatever log a file system was, an open that is answered shows the map after some first pending
-/// batches, and has none pending. That what it reads can be made into tables is no premise: the entries of
-/// each group are one run in every image.
+/// An open that succeeds shows the map after some first pending batches of the log, and has none pending. It needs no
+/// premise that tables can be built from what it reads: in every image each group's entries are one run.
 pub fn open_shows_what_was_kept<P: TiedFiles>()
     ensures { (s t : P) (v : View P.Entry P.Value) (m : Map P.Entry P.Value)
         (pending : List (Record P.Entry P.Value))

@@ -1,4 +1,4 @@
-//! The running pipes of an engine, as far as they say which files are there.
+//! The running pipes of an engine: which files they allow.
 
 ghost use Rattle.std.specs.Prelude.{◌≡◌, ℕ, List, ◌++◌};
 ghost use Rattle.raft_log_model_laws.specs.Item.{Record};
@@ -20,13 +20,13 @@ ghost use Rattle.raft_log_directory_laws.specs.Model.{Files};
 ghost use Rattle.raft_log_directory_laws.specs.Moves.{grown, raised_files, rotated, settled_files};
 ghost use Rattle.raft_log_directory_laws.specs.Notes.{AllBelow};
 
-/// Says which numbered files may be there: while the pipes run, by what they keep of them, and always, by
-/// what the images allow.
+/// Defines which numbered files may be there: while the pipes run, from their own state; at any time, from what the
+/// images allow.
 pub trait TiedFiles {
-    /// What stands for an entry.
+    /// The type of an entry.
     type Entry;
 
-    /// What stands for a key's value.
+    /// The type of a key's value.
     type Value;
 
     ghost ties: { Self → Files Self.Entry Self.Value → Type 0 };
@@ -36,7 +36,7 @@ pub trait TiedFiles {
     ghost ties_allow: { (s : Self) (f : Files Self.Entry Self.Value) → ties s f → allows s f };
 }
 
-/// None of the words on a pipe's calls is empty: a pipe that is nothing but its files meets each.
+/// None of the definitions of a pipe's calls is empty: a pipe that is nothing but its files satisfies each.
 pub fn words_on_pipes_can_be_met<E, V>()
     ensures appends { (which : Which) (f : Files E V) (y : Record E V)
         → Appends IsExactly which y (queue_at which f).last f

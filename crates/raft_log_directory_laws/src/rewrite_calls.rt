@@ -1,5 +1,4 @@
-//! What an engine says of its log goes on with each call on Rewrite, answered or refused: the map never
-//! changes.
+//! What stays true of an engine's log after each call on Rewrite, whether it succeeds or fails. The map never changes.
 
 ghost use Rattle.std.specs.Prelude.{◌∷◌, ℕ, List, ◌++◌, []};
 ghost use Rattle.raft_log_model_laws.specs.Groups.{Map};
@@ -15,7 +14,7 @@ ghost use Rattle.raft_log_directory_laws.specs.Tables.{CarriesTo, EndsGroupTo};
 
 use crate::pipes::TiedFiles;
 
-/// A sync of Rewrite, and a record that is refused there, change nothing.
+/// A sync of Rewrite changes nothing, and neither does a record that fails there.
 pub fn refused_record_of_rewrite_changes_nothing<P: TiedFiles>()
     ensures sync { (s t : P) (v : View P.Entry P.Value) (m : Map P.Entry P.Value)
         (pending : List (Record P.Entry P.Value)) → IsAt (P.ties s) v m pending
@@ -30,7 +29,7 @@ pub fn refused_record_of_rewrite_changes_nothing<P: TiedFiles>()
         → LeavesOut P.ties InRewrite s t → IsAt (P.ties t) v m pending }
 {}
 
-/// Marks, copies and what is rewritten again keep the map, be the record there for sure or not.
+/// Tombstones, copies and restated records keep the map, whether the record is certainly there or may be.
 pub fn carried_record_keeps_the_map<P: TiedFiles>()
     ensures answered { (s t : P) (v : View P.Entry P.Value) (m : Map P.Entry P.Value)
         (u : View P.Entry P.Value) (xs : List (Tagged P.Entry P.Value)) (n : ℕ)
@@ -42,7 +41,7 @@ pub fn carried_record_keeps_the_map<P: TiedFiles>()
         → IsAt (P.ties s) v m [] → IsLog (P.allows t) m [] }
 {}
 
-/// The begin of an atomic group: its file is the one from which on the group lies.
+/// The begin of an atomic group: the group is stored from that record's file on.
 pub fn begun_group_keeps_the_map<P: TiedFiles>()
     ensures answered { (s t : P) (v : View P.Entry P.Value) (m : Map P.Entry P.Value)
         (pending : List (Record P.Entry P.Value)) → IsAt (P.ties s) v m pending
@@ -55,7 +54,7 @@ pub fn begun_group_keeps_the_map<P: TiedFiles>()
         → MayAppend P.ties P.allows InRewrite (Part (Begin n) xs) s t → IsLog (P.allows t) m pending }
 {}
 
-/// A middle of an atomic group, rotations between its records, and a group that is given up: nothing of it
+/// A middle of an atomic group, rotations between its records, and a group that is given up: nothing of the group
 /// counts.
 pub fn unended_group_keeps_the_map<P: TiedFiles>()
     ensures answered { (s t : P) (v : View P.Entry P.Value) (m : Map P.Entry P.Value) (from n : ℕ)
@@ -80,7 +79,7 @@ pub fn unended_group_keeps_the_map<P: TiedFiles>()
         → IsAt (P.ties s) v m pending }
 {}
 
-/// The end of an atomic group: all of it counts at once, and the map stays.
+/// The end of an atomic group: the whole group counts at once, and the map stays.
 pub fn ended_group_keeps_the_map<P: TiedFiles>()
     ensures answered { (s t : P) (v : View P.Entry P.Value) (m : Map P.Entry P.Value) (from n : ℕ)
         (first : List (Tagged P.Entry P.Value)) (more : List (List (Tagged P.Entry P.Value)))
@@ -94,7 +93,7 @@ pub fn ended_group_keeps_the_map<P: TiedFiles>()
         → IsInGroup (P.ties s) v m [] from n first more → IsLog (P.allows t) m [] }
 {}
 
-/// Rewrite may begin at the least file noted for it, or before it, once nothing is pending: the map stays.
+/// Once nothing is pending, Rewrite may begin at the least file noted for it, or before it. The map stays.
 pub fn raised_rewrite_keeps_the_map<P: TiedFiles>()
     ensures answered { (s t : P) (v : View P.Entry P.Value) (m : Map P.Entry P.Value) (n : ℕ)
         → IsSettled (P.ties s) v m → Raises P.ties P.ties InRewrite n s t

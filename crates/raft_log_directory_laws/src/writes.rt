@@ -1,4 +1,4 @@
-//! What an engine knows goes on with each record that a queue takes.
+//! How an engine's view changes with each record that a queue appends.
 
 ghost use Rattle.std.specs.Prelude.{◌∷◌, ℕ, List, ◌++◌, []};
 ghost use Rattle.raft_log_model_laws.specs.Groups.{Map};
@@ -12,22 +12,22 @@ ghost use Rattle.raft_log_directory_laws.specs.Moves.{grown, Moved};
 ghost use Rattle.raft_log_directory_laws.specs.Notes.{GoesOnFrom};
 ghost use Rattle.raft_log_directory_laws.specs.Tables.{CarriesTo, EndsGroupTo, GrowsTo};
 
-/// A batch that Append takes is one more pending batch, and is noted in the last file.
+/// A batch appended to Append is one more pending batch, and is noted in the active file.
 pub fn batch_is_followed<E, V>()
     ensures { (v u : View E V) (f : Files E V) (m : Map E V) (pending : List (Record E V)) (y : Record E V)
         → GrowsTo y f.append.last v u → Stands v f m pending
         → Stands u (with_append f f.append_from (grown f.append y)) m (pending ++ y ∷ []) }
 {}
 
-/// Marks, copies out of Append and what is rewritten again, in one record of Rewrite, while no batch is
-/// pending: the map stays, and what comes to stand in Rewrite is noted in its last file.
+/// Tombstones, copies out of Append and restated records, in one record of Rewrite, while no batch is pending. The map
+/// stays, and what they put into Rewrite is noted in its active file.
 pub fn copies_are_followed<E, V>()
     ensures { (v u : View E V) (f : Files E V) (m : Map E V) (xs : List (Tagged E V))
         → CarriesTo xs f.rewrite.last v u → Stands v f m []
         → Stands u (with_rewrite f f.rewrite_from (grown f.rewrite (Plain xs))) m [] }
 {}
 
-/// The begin and each middle of an atomic group change nothing that an engine knows.
+/// The begin and each middle of an atomic group change nothing in the view.
 pub fn unended_group_is_followed<E, V>()
     ensures begin { (v : View E V) (f : Files E V) (m : Map E V) (pending : List (Record E V)) (n : ℕ)
         (xs : List (Tagged E V)) → AllFit xs → Stands v f m pending
@@ -38,8 +38,7 @@ pub fn unended_group_is_followed<E, V>()
         → Stands v (with_rewrite f f.rewrite_from (grown f.rewrite (Part (Middle n) xs))) m pending }
 {}
 
-/// At its end an atomic group counts as one record would, and what comes to stand in Rewrite by it is noted
-/// in the file of its begin.
+/// At its end an atomic group counts as one record would. What it puts into Rewrite is noted in the file of its begin.
 pub fn ended_group_is_followed<E, V>()
     ensures { (v u : View E V) (f : Files E V) (m : Map E V) (from n : ℕ) (first : List (Tagged E V))
         (more : List (List (Tagged E V))) (xs : List (Tagged E V))
@@ -47,7 +46,7 @@ pub fn ended_group_is_followed<E, V>()
         → Stands u (with_rewrite f f.rewrite_from (grown f.rewrite (Part (End n) xs))) m [] }
 {}
 
-/// From its begin on an atomic group lies in files from the begin's on: with each middle, and through
+/// After its begin an atomic group is in files from the begin's file on. This stays true with each middle, and through
 /// rotations, syncs and losses between its records.
 pub fn group_goes_on_from_its_begin<E, V>()
     ensures begin { (f : Files E V) (n : ℕ) (xs : List (Tagged E V))

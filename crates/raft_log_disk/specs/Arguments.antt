@@ -1,4 +1,5 @@
--- Which error says that an argument is wrong, and where the state shows it; which one is told after a stop.
+-- Which error a wrong argument returns, in which states an argument is wrong, and which error a call returns after a
+-- stop.
 use Rattle.std.specs.Prelude.{◌≡◌, ℕ, ◌⊎◌, true, false, None, List}
 use Rattle.std.specs.declared.io.ErrorKind.{ErrorKind}
 use Rattle.std.specs.declared.io.ErrorKind.TheVariants.{NotFound, AlreadyExists, PermissionDenied, IsADirectory, InvalidInput, OutOfMemory, Other}
@@ -10,17 +11,17 @@ use Rattle.raft_log_disk.specs.declared.handle.Permission.TheVariants.{ReadOnly}
 abbrev pub IsTaken : List ℕ → Disk → Type 0
 IsTaken path d = (d.names path ≡ None → ⊥) ⊎ (d.directories path ≡ true)
 
--- `AlreadyExists` for a path that is taken, `NotFound` where no directory is there for it
+-- `AlreadyExists` for a path that is taken, `NotFound` if its directory doesn't exist
 abbrev pub WrongCreate : List ℕ → Disk → ErrorKind → Type 0
 WrongCreate path d error = ((error ≡ AlreadyExists) × IsTaken path d)
     ⊎ ((error ≡ NotFound) × (HasDirectory path d → ⊥))
 
--- `NotFound` where no file has the name
+-- `NotFound` if no file has the name
 abbrev pub WrongName : List ℕ → Disk → ErrorKind → Type 0
 WrongName path d error = (error ≡ NotFound) × (d.names path ≡ None)
 
--- `NotFound` where no file has the name; for the new one, `IsADirectory` for a directory's path, `NotFound`
--- where no directory is there for it
+-- `NotFound` if no file has the name; for the new name, `IsADirectory` if it is a directory's path, `NotFound` if its
+-- directory doesn't exist
 abbrev pub WrongRename : List ℕ → List ℕ → Disk → ErrorKind → Type 0
 WrongRename from to d error = WrongName from d error ⊎ (((error ≡ IsADirectory) × (d.directories to ≡ true))
     ⊎ ((error ≡ NotFound) × (HasDirectory to d → ⊥)))
@@ -29,26 +30,26 @@ WrongRename from to d error = WrongName from d error ⊎ (((error ≡ IsADirecto
 abbrev pub WrongDirectory : List ℕ → Disk → ErrorKind → Type 0
 WrongDirectory path d error = (error ≡ AlreadyExists) × IsTaken path d
 
--- `NotFound` where the handle's file is gone
+-- `NotFound` if the handle's file is gone
 abbrev pub WrongHandle : Handle → Disk → ErrorKind → Type 0
 WrongHandle handle d error = (error ≡ NotFound) × (d.files handle.file ≡ None)
 
--- `NotFound` where the handle's file is gone, and `PermissionDenied` where the handle may only read
+-- `NotFound` if the handle's file is gone, and `PermissionDenied` if the handle may only read
 abbrev pub WrongWriter : Handle → Disk → ErrorKind → Type 0
 WrongWriter handle d error =
     WrongHandle handle d error ⊎ ((error ≡ PermissionDenied) × (handle.permission ≡ ReadOnly))
 
--- `InvalidInput` where the path is a file's, `NotFound` where nothing has it
+-- `InvalidInput` if the path is a file's, `NotFound` if nothing has it
 abbrev pub WrongListing : List ℕ → Disk → ErrorKind → Type 0
 WrongListing path d error = ((error ≡ InvalidInput) × (d.names path ≡ None → ⊥))
     ⊎ ((error ≡ NotFound) × (d.names path ≡ None) × (d.directories path ≡ false))
 
--- what is told after a stop: `Other`, whatever the call and its arguments
+-- the error after a stop: `Other`, whatever the call and its arguments
 abbrev pub IsAfterStop : Disk → ErrorKind → Type 0
 IsAfterStop d error = (d.stopped ≡ true) × (error ≡ Other)
 
--- A refused call that changes nothing: after a stop, and then it tells `Other` and nothing else; of a file
--- system that runs, for a wrong argument or for want of memory.
+-- A call that fails and changes nothing. After a stop it returns `Other` and nothing else. If the file system runs, it
+-- fails for a wrong argument or for lack of memory.
 pub data IsDeclined (wrong : Type 0) (d : Disk) (error : ErrorKind) : Type 0 where
   stopped : d.stopped ≡ true → error ≡ Other → IsDeclined wrong d error
   wrong_argument : d.stopped ≡ false → wrong → IsDeclined wrong d error

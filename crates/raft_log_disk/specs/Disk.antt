@@ -1,26 +1,26 @@
--- What a file system holds: directories, names, and of each file its content, what is synced of it, and the
--- changes made since.
+-- What a file system holds: directories, names, and for each file its content, what is synced of it, and the changes
+-- made since.
 use Rattle.std.specs.Prelude.{◌≡◌, ℕ, ◌+◌, ◌-◌, ◌<◌, ◌^◌, Bool, true, false, Option, None, List, [], ◌∷◌, ◌++◌, length, slice_index}
 use Rattle.std.specs.Map.{update}
 use Rattle.std.specs.declared.io.ErrorKind.{ErrorKind}
 use Rattle.std.proofs.Common.{nat_eq, take, drop, replicate}
 
--- A change of a file that isn't synced yet: a write, with all bytes that were handed in, also where the call
--- was refused when some of them had landed; a shortening to a size; a growth to a size by zeros.
+-- A change of a file that isn't synced yet: a write, with all bytes that were passed in, even if the call failed after
+-- it wrote some of them; a truncation to a size; a growth to a size by zeros.
 pub data Change : Type 0 where
   Wrote : (at : ℕ) (bytes : List ℕ) → Change
   ShortenedTo : (size : ℕ) → Change
   GrewTo : (size : ℕ) → Change
 
--- A file: what a read gives now, what was synced, and the changes since then, the oldest first.
+-- A file: what a read returns now, what was synced, and the changes since then, the oldest first.
 pub record File : Type 0 where
   pub content : List ℕ
   pub synced : List ℕ
   pub changes : List Change
 
--- A file system. A path names the file with a number; a number is given once and never again, so that a
--- handle stays with its file. Whether a place of a file is unreadable is a mark on the file and outlives
--- writes and renames. Failures are counted, and the kinds are kept that they were told as, the last one first.
+-- A file system. A path names the file with a number. Each number is given once, so a handle stays with its file.
+-- Whether a place of a file is unreadable is a mark on the file, which outlives writes and renames. Failures are
+-- counted, and the kinds that they returned are kept, the last one first.
 pub record Disk : Type 0 where
   pub directories : List ℕ → Bool
   pub names : List ℕ → Option ℕ
@@ -35,7 +35,7 @@ pub record Disk : Type 0 where
 abbrev pub at_rest : List ℕ → File
 at_rest bytes = record { content = bytes; synced = bytes; changes = [] }
 
--- so many zeros
+-- n zeros
 abbrev pub zeros : ℕ → List ℕ
 zeros n = replicate n 0
 
@@ -43,17 +43,17 @@ zeros n = replicate n 0
 abbrev pub grown : ℕ → List ℕ → List ℕ
 grown size bytes = bytes ++ zeros (size - length bytes)
 
--- old bytes with others over them from a place on; a gap between the end and that place is zeros
+-- old bytes with others over them from an offset on; a gap between the end and that offset is filled with zeros
 abbrev pub spliced : ℕ → List ℕ → List ℕ → List ℕ
 spliced at bytes old =
     let room = grown (at + length bytes) old in take at room ++ (bytes ++ drop (at + length bytes) room)
 
--- what a write of these bytes at a place makes of old ones: one of no bytes changes nothing, wherever it is
+-- old bytes after a write of these bytes at an offset; no bytes change nothing, whatever the offset
 abbrev pub overwritten : ℕ → List ℕ → List ℕ → List ℕ
 overwritten at [] old = old
 overwritten at (b ∷ bs) old = spliced at (b ∷ bs) old
 
--- what a change makes of a content when it is carried out whole
+-- a content after a change that is done whole
 abbrev pub changed : Change → List ℕ → List ℕ
 changed (Wrote at bytes) old = overwritten at bytes old
 changed (ShortenedTo size) old = take size old
@@ -71,13 +71,13 @@ with_file id file d = record d { files = update nat_eq d.files id file }
 abbrev pub IsPlain : List ℕ → Type 0
 IsPlain name = (k : ℕ) → k < length name → slice_index name k ≡ 47 → ⊥
 
--- a path of a file: a directory's, a slash, and a name without a slash
+-- a path of a file: a directory's path, a slash, and a name without a slash
 pub record IsPathIn (directory path : List ℕ) : Type 0 where
   pub name : List ℕ
   pub joined : path ≡ directory ++ 47 ∷ name
   pub plain : IsPlain name
 
--- some directory that is there is the path's own
+-- the path's own directory exists
 pub record HasDirectory (path : List ℕ) (d : Disk) : Type 0 where
   pub directory : List ℕ
   pub inside : IsPathIn directory path

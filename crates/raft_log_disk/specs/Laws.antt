@@ -8,48 +8,48 @@ use Rattle.raft_log_disk.specs.Image.{Touches, end_of, IsLeft, IsImage, IsSound,
 use Rattle.raft_log_disk.specs.Calls.{with_change, flushed, created, deleted, renamed, with_directory, with_marks, counted, at_stop, InPart, IsStopKind, IsRight, RefusedChange, RefusedWhole}
 use Rattle.raft_log_disk.specs.Causes.{HasCause, Fails, IsUndisturbed}
 
--- the files as they stand are an image
+-- each file with its present content: that is an image
 abbrev pub StandsIsImage : Type 0
 StandsIsImage = (d : Disk) → IsSound d → IsImage d (as_it_stands d)
 
--- where every file is synced, the files as they stand are the only image
+-- if every file is synced, each file with its present content is the only image
 abbrev pub SyncedIsOnlyImage : Type 0
 SyncedIsOnlyImage = (d image : Disk) → IsSound d → IsAllSynced d → IsImage d image → image ≡ as_it_stands d
 
--- of a file whose changes are all synced a stop leaves what a read gives
+-- if a file's changes are all synced, a crash leaves of it what a read returns
 abbrev pub SyncedFileHasOneImage : Type 0
 SyncedFileHasOneImage = (d image : Disk) (id : ℕ) (file : File) → IsSound d → d.files id ≡ Some file
     → file.changes ≡ [] → IsImage d image
     → image.files id ≡ Some (at_rest file.content)
 
--- what a second stop leaves of what a first one left, the first one could have left
+-- what a second crash leaves of what a first one left, the first one could have left
 abbrev pub ImageOfImage : Type 0
 ImageOfImage = (d image later : Disk) → IsImage d image → IsImage image later → IsImage d later
 
--- what a stop leaves of a sound disk is sound
+-- what a crash leaves of a sound disk is sound
 abbrev pub ImageIsSound : Type 0
 ImageIsSound = (d image : Disk) → IsSound d → IsImage d image → IsSound image
 
--- whatever byte is put into a written range, or behind where the file was shortened, of what may be left:
--- that may be left too
+-- if some bytes may be left, they may also be left with any byte in a written range, or after the point where the file
+-- was truncated
 abbrev pub AnyByteLeft : Type 0
 AnyByteLeft = (file : File) (bytes : List ℕ) (change : Change) (place byte : ℕ)
     → Contains file.changes change → Touches change place
     → IsLeft file bytes → IsLeft file (set bytes place byte)
 
--- where no failure was counted since, and the disk runs and can be read, there is no cause
+-- if no failure was counted since, and the disk runs and can be read, there is no cause
 abbrev pub UndisturbedHasNoCause : (ℕ → Type 0) → Type 0
 UndisturbedHasNoCause files = (old new : Disk) → IsUndisturbed new → new.failures ≡ old.failures
     → HasCause files old new → ⊥
 
--- A place of another file is no cause: where each place of the files in question can be read, a refusal was
+-- A place of another file is no cause: if each place of the files that the call asks for can be read, a failure was
 -- counted, or the file system has stopped.
 abbrev pub OtherFilesAreNoCause : (ℕ → Type 0) → Type 0
 OtherFilesAreNoCause files = (old new : Disk) → ((id place : ℕ) → files id → new.unreadable id place ≡ false)
     → HasCause files old new → Fails old new
 
--- A refused call whose arguments were right, on a disk that runs on, was counted, and the kind that it tells
--- is the one that is kept with the failure, in front of those before.
+-- If a call with right arguments fails and the disk still runs, the failure was counted. The kind that it returns is
+-- kept with the failure, before the earlier ones.
 pub record CountedRefusalTellsItsKind (wrong : ErrorKind → Type 0) (done : Disk → Type 0) : Type 0 where
   pub change : (id : ℕ) (change : Change) (error : ErrorKind) (old new : Disk)
       → IsRight wrong → new.stopped ≡ false → RefusedChange id change wrong error old new
@@ -58,7 +58,7 @@ pub record CountedRefusalTellsItsKind (wrong : ErrorKind → Type 0) (done : Dis
       → IsRight wrong → new.stopped ≡ false → RefusedWhole done wrong error old new
       → new.kinds ≡ error ∷ old.kinds
 
--- two kinds that such a call tells are one
+-- if such a call may return two kinds, they are the same
 pub record CountedRefusalHasOneKind (wrong : ErrorKind → Type 0) (done : Disk → Type 0) : Type 0 where
   pub change : (id : ℕ) (change : Change) (a b : ErrorKind) (old new : Disk)
       → IsRight wrong → new.stopped ≡ false → RefusedChange id change wrong a old new
@@ -67,14 +67,15 @@ pub record CountedRefusalHasOneKind (wrong : ErrorKind → Type 0) (done : Disk 
       → IsRight wrong → new.stopped ≡ false → RefusedWhole done wrong a old new
       → RefusedWhole done wrong b old new → a ≡ b
 
--- a refused call that leaves a file system that has stopped, before it or at it, doesn't tell of want of memory
+-- a failed call that leaves a stopped file system, whether it stopped before the call or at it, doesn't return
+-- `OutOfMemory`
 pub record StopIsNoWantOfMemory (wrong : ErrorKind → Type 0) (done : Disk → Type 0) : Type 0 where
   pub change : (id : ℕ) (change : Change) (error : ErrorKind) (old new : Disk)
       → new.stopped ≡ true → RefusedChange id change wrong error old new → IsStopKind error
   pub whole : (error : ErrorKind) (old new : Disk)
       → new.stopped ≡ true → RefusedWhole done wrong error old new → IsStopKind error
 
--- what a call may leave of a sound disk is sound
+-- if a disk is sound, what a call may leave of it is sound
 pub record CallsKeepSound : Type 0 where
   pub change : (d : Disk) (id : ℕ) (file : File) (change : Change) (content : List ℕ) → IsSound d
       → d.files id ≡ Some file
@@ -97,13 +98,13 @@ pub record CallsKeepSound : Type 0 where
 abbrev pub NamedIsUsed : Type 0
 NamedIsUsed = (d : Disk) (path : List ℕ) (id : ℕ) → IsSound d → d.names path ≡ Some id → id < d.unused
 
--- no name lies in a directory that isn't there
+-- no name is in a directory that doesn't exist
 abbrev pub AbsentHoldsNoName : Type 0
 AbsentHoldsNoName = (d : Disk) (directory path : List ℕ) → IsSound d → d.directories directory ≡ false
     → IsPathIn directory path → d.names path ≡ None
 
--- What a stop may leave doesn't depend on marks, on counted failures and their kinds, nor on whether the file
--- system has stopped.
+-- What a crash may leave doesn't depend on marks, on counted failures and their kinds, nor on whether the file system
+-- has stopped.
 pub record ImagesStay : Type 0 where
   pub marks : (d image : Disk) (unreadable : ℕ → ℕ → Bool) → IsImage d image
       → IsImage (with_marks unreadable d) image

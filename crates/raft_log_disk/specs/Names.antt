@@ -1,5 +1,5 @@
--- What a call on names changes, and what it leaves as it was. A file that stays has its bytes, what is synced
--- of them and the changes since: whatever is known of it goes on to hold.
+-- What a call on names changes, and what it leaves unchanged. A file that stays keeps its bytes, what is synced of
+-- them, and the changes since, so whatever is known of it stays true.
 use Rattle.std.specs.Prelude.{◌≡◌, ℕ, Some, None, List, []}
 use Rattle.raft_log_disk.specs.Disk.{File, Disk, at_rest}
 use Rattle.raft_log_disk.specs.Image.{IsSound}
@@ -19,8 +19,8 @@ pub record DeletionLeaves (path : List ℕ) (id : ℕ) (d : Disk) : Type 0 where
   pub names : (other : List ℕ) → (other ≡ path → ⊥) → (deleted path id d).names other ≡ d.names other
   pub files : (other : ℕ) → (other ≡ id → ⊥) → (deleted path id d).files other ≡ d.files other
 
--- a file has another name, and not the old one any more; it is as it was, and so is each other file but one
--- that had the new name, which is gone
+-- a file has another name, and not the old one any more; it is unchanged, and so is each other file, but a file that
+-- had the new name is gone
 pub record RenamingLeaves (from to : List ℕ) (id : ℕ) (d : Disk) : Type 0 where
   pub named : (renamed from to id d).names to ≡ Some id
   pub unnamed : (from ≡ to → ⊥) → (renamed from to id d).names from ≡ None
@@ -31,7 +31,7 @@ pub record RenamingLeaves (from to : List ℕ) (id : ℕ) (d : Disk) : Type 0 wh
       → (renamed from to id d).names other ≡ d.names other
   pub files : (other : ℕ) → (d.names to ≡ Some other → ⊥) → (renamed from to id d).files other ≡ d.files other
 
--- each creation on a sound disk, each deletion and each renaming changes its own names and files alone
+-- each creation on a sound disk, each deletion and each renaming changes only its own names and files
 pub record NamesChange : Type 0 where
   pub creation : (d : Disk) (path : List ℕ) → IsSound d → CreationLeaves path d
   pub deletion : (d : Disk) (path : List ℕ) (id : ℕ) → DeletionLeaves path id d

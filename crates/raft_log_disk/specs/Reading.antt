@@ -1,4 +1,4 @@
--- What the calls that change nothing answer.
+-- Results of the calls that change nothing.
 use Rattle.std.specs.Prelude.{◌≡◌, ℕ, ◌+◌, ◌-◌, ◌<◌, ◌≤◌, ◌⊎◌, ◌++◌, true, false, Some, None, List, [], ◌∷◌, length, slice_index_or}
 use Rattle.std.specs.List.{Contains}
 use Rattle.std.specs.declared.io.ErrorKind.{ErrorKind}
@@ -9,14 +9,13 @@ use Rattle.raft_log_disk.specs.declared.handle.Handle.{Handle}
 use Rattle.raft_log_disk.specs.declared.handle.Permission.{Permission}
 use Rattle.raft_log_disk.specs.Arguments.{WrongHandle, WrongName, WrongListing, IsAfterStop, IsDeclined}
 
--- the handle is that of the file with the name
+-- the handle is for the file with the name
 pub record IsOpened (path : List ℕ) (permission : Permission) (handle : Handle) (d : Disk) : Type 0 where
   pub runs : d.stopped ≡ false
   pub is : d.names path ≡ Some handle.file
   pub permitted : handle.permission ≡ permission
 
--- A read filled its room, up to the file's end, with the file's bytes from a place on; none of these is
--- unreadable.
+-- A read filled its buffer, up to the file's end, with the file's bytes from an offset on; none of these is unreadable.
 pub record FillsRoom (id at : ℕ) (d : Disk) (before after : List ℕ) (count : ℕ) : Type 0 where
   pub runs : d.stopped ≡ false
   pub file : File
@@ -25,8 +24,8 @@ pub record FillsRoom (id at : ℕ) (d : Disk) (before after : List ℕ) (count :
   pub bytes : after ≡ take count (drop at file.content) ++ drop count before
   pub readable : (place : ℕ) → at ≤ place → place < at + count → d.unreadable id place ≡ false
 
--- A read is refused after a stop, where the file is gone, and where a place that it asks for, within the
--- file, is unreadable; after a stop it tells `Other` and nothing else, and so it does for such a place.
+-- A read fails after a stop, if the file is gone, or if a place that it asks for, within the file, is unreadable. It
+-- fails with `Other` after a stop and for such a place.
 pub data IsUnread (handle : Handle) (at count : ℕ) (d : Disk) (error : ErrorKind) : Type 0 where
   stopped : d.stopped ≡ true → error ≡ Other → IsUnread handle at count d error
   gone : d.stopped ≡ false → WrongHandle handle d error → IsUnread handle at count d error
@@ -55,10 +54,10 @@ pub record IsListing (directory : List ℕ) (d : Disk) (names : List (List ℕ))
 abbrev pub IsNotOpened : List ℕ → Disk → ErrorKind → Type 0
 IsNotOpened path d error = IsDeclined (WrongName path d error) d error
 
--- why a directory wasn't listed, or its space not told
+-- why a directory wasn't listed, or its space wasn't returned
 abbrev pub IsNotListed : List ℕ → Disk → ErrorKind → Type 0
 IsNotListed directory d error = IsDeclined (WrongListing directory d error) d error
 
--- why a file's size wasn't told
+-- why a file's size wasn't returned
 abbrev pub IsNotMeasured : Handle → Disk → ErrorKind → Type 0
 IsNotMeasured handle d error = IsAfterStop d error ⊎ ((d.stopped ≡ false) × WrongHandle handle d error)

@@ -1,8 +1,8 @@
-//! Laws of what calls leave.
+//! Laws of the disk after a call.
 
 ghost use Rattle.raft_log_disk.specs.Laws.{CallsKeepSound};
 
-/// Whatever a call leaves, whole or in part, of a sound disk is sound.
+/// If a disk is sound, it is sound after a call, whether that is done whole or in part.
 pub fn calls_keep_a_disk_sound()
     ensures { CallsKeepSound }
 {}

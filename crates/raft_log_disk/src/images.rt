@@ -1,18 +1,18 @@
-//! Laws of what a crash may leave.
+//! Laws of crash images.
 
 ghost use Rattle.raft_log_disk.specs.Laws.{StandsIsImage, SyncedIsOnlyImage, SyncedFileHasOneImage, ImageOfImage, ImageIsSound, AnyByteLeft, ImagesStay, NamedIsUsed, AbsentHoldsNoName};
 
-/// A crash may leave the files as they stand.
+/// A crash may leave each file with its present content.
 pub fn stands_is_an_image()
     ensures { StandsIsImage }
 {}
 
-/// Where all files are synced, a crash leaves them as they stand.
+/// If all files are synced, a crash leaves each with its present content.
 pub fn synced_files_have_one_image()
     ensures { SyncedIsOnlyImage }
 {}
 
-/// After a sync of a file, a crash leaves of it what a read gives.
+/// If a file's changes are all synced, a crash leaves of it what a read returns.
 pub fn synced_file_has_one_image()
     ensures { SyncedFileHasOneImage }
 {}
@@ -27,7 +27,7 @@ pub fn image_of_a_sound_disk_is_sound()
     ensures { ImageIsSound }
 {}
 
-/// Any byte may stand in a written range, or behind where a file was shortened.
+/// Any byte may be left at a place in a written range, or after the point where a file was truncated.
 pub fn any_byte_may_be_left()
     ensures { AnyByteLeft }
 {}
@@ -37,12 +37,12 @@ pub fn images_stay()
     ensures { ImagesStay }
 {}
 
-/// A name leads to a number that was given, so a new file's number is none that a name leads to.
+/// A name leads to a number that was given, so no name leads to a new file's number.
 pub fn names_lead_to_used_numbers()
     ensures { NamedIsUsed }
 {}
 
-/// A directory that isn't there holds no name, so none of a file that a crash left.
+/// No name is in a directory that doesn't exist, so no file that a crash left has such a name.
 pub fn absent_directories_hold_no_name()
     ensures { AbsentHoldsNoName }
 {}

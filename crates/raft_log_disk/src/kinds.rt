@@ -1,4 +1,4 @@
-//! The kinds that failures were told as, which only clauses read, and the kind that a stop is told as.
+//! The error kinds of failures, which only clauses read, and the kind that a call returns at a stop.
 ghost use Rattle.std.specs.Prelude.{◌≡◌, List, [], ◌∷◌};
 ghost use Rattle.std.specs.Borrow.{ftrue};
 ghost use Rattle.std.specs.declared.io.ErrorKind.{ErrorKind};
@@ -7,7 +7,7 @@ ghost use Rattle.raft_log_disk.specs.Calls.{IsToldAtStop};
 use std::io::ErrorKind;
 use std::marker::{Model, PhantomData};
 
-/// The kinds that a file system told its counted failures as, the last one first. It has no bytes, and costs
+/// The kinds that a file system returned for its counted failures, the last one first. It has no bytes, and costs
 /// nothing.
 #[derive(Drop)]
 pub struct Kinds {
@@ -19,13 +19,13 @@ impl Model for Kinds {
     ghost also_owns = { λ _. ftrue };
 }
 
-// It has no bytes, so that whoever holds one may be lent to another thread.
+// It has no bytes, so a value that holds one may be sent to another thread.
 unsafe impl Send for Kinds {}
 
 unsafe impl Sync for Kinds {}
 
 impl Kinds {
-    /// No failure was told.
+    /// No failures.
     pub fn new() -> Kinds
         ensures { result.told ≡ [] }
     {
@@ -34,14 +34,13 @@ impl Kinds {
         }
     }
 
-    /// Notes the kind that a failure is told as.
+    /// Notes the kind that a failure returns.
     pub fn note(&mut self, _kind: &ErrorKind)
         ensures { self.new.told ≡ _kind.now ∷ self.old.told }
     {}
 }
 
-/// What is told of a call that would tell this kind, where the file system stops at it: the kind, and `ResourceBusy`
-/// in place of want of memory.
+/// The kind that a call returns if the file system stops at it: this kind, or `ResourceBusy` instead of `OutOfMemory`.
 pub fn told_at_stop(kind: ErrorKind) -> ErrorKind
     ensures { IsToldAtStop kind result }
 {

@@ -1,6 +1,6 @@
-//! What a store asks of a file system (`FileSystem`), and in what words: what a file system holds, what each
-//! call changes of it, answered or refused, and what a crash may leave, as definitions for contracts.
-//! Functions without a body state the laws of these definitions.
+//! The file system that a store needs (`FileSystem`), and definitions for its contracts: what a file system holds, how
+//! each call changes it if it succeeds or fails, and what a crash may leave. Functions without a body state the laws of
+//! these definitions.
 #![tactic(auto)]
 
 pub mod calls;

@@ -5,19 +5,19 @@ ghost use Rattle.raft_log_disk.specs.Disk.{File};
 ghost use Rattle.raft_log_disk.specs.Names.{NamesChange};
 ghost use Rattle.raft_log_disk.specs.Touching.{OtherNamesStay};
 
-/// What a creation, a deletion and a renaming change, and what they leave: a renamed file is as it was.
+/// What a creation, a deletion and a renaming change, and what stays: a renamed file's bytes and changes are unchanged.
 pub fn names_change()
     ensures { NamesChange }
 {}
 
-/// Says which names are a queue's own, and what is known of a file.
+/// Defines which names are a queue's own, and what is known of a file.
 pub trait Owning {
     ghost own: { List ℕ → Type 0 };
 
     ghost known: { File → Type 0 };
 }
 
-/// What is known of the file of another name goes on to hold where only one's own names were touched.
+/// What is known of the file of another name stays true if only one's own names were touched.
 pub fn other_names_stay<W: Owning>()
     ensures { OtherNamesStay W.own W.known }
 {}

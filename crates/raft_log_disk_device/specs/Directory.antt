@@ -13,17 +13,17 @@ use Rattle.raft_log_disk_device.specs.Following.{shown}
 use Rattle.raft_log_disk_device.specs.declared.device.Device as device
 use Rattle.raft_log_disk_device.specs.declared.directory.DirectoryFileSystem.{DirectoryFileSystem}
 
--- the disk with so many failures counted, which were told as these kinds
+-- the disk with this many failures counted, which were reported as these kinds
 abbrev pub with_failures : ℕ → List ErrorKind → Disk → Disk
 with_failures failures kinds d = record d { failures = failures; kinds = kinds }
 
--- A failure of a kind was counted, and is told as that; or, where the count is full, the file system stopped,
--- and that isn't told as want of memory. Nothing else happened.
+-- A failure was counted and reported as its kind; or the count is full, the file system stopped, and the error isn't
+-- out of memory. Nothing else happened.
 abbrev pub FailsOnce : ErrorKind → ErrorKind → Disk → Disk → Type 0
 FailsOnce kind error old new =
     ((error ≡ kind) × (new ≡ counted error old)) ⊎ (IsToldAtStop kind error × (new ≡ at_stop old))
 
--- what is told of a call that the device did or refused: a refused one is a stop
+-- what is returned for a device call that succeeded or failed: a failed one is a stop
 abbrev pub IsToldOf : Result (Unit {0}) ErrorKind → Result (Unit {0}) ErrorKind → Type 0
 IsToldOf made result =
     MatchResult made (λ v. result ≡ Ok v) (λ kind. IfErr result (IsToldAtStop kind) × OnOk result ⊥)
@@ -32,11 +32,11 @@ IsToldOf made result =
 abbrev pub LacksDirectory : List ℕ → Disk → ErrorKind → Type 0
 LacksDirectory path d error = IsAfterStop d error ⊎ ((d.stopped ≡ false) × WrongListing path d error)
 
--- the file system has stopped, or it runs and the handle's file is gone
+-- the file system has stopped, or it runs and the handle's file was deleted
 abbrev pub LacksFile : Handle → Disk → ErrorKind → Type 0
 LacksFile handle d error = IsAfterStop d error ⊎ ((d.stopped ≡ false) × WrongHandle handle d error)
 
--- the file system has stopped, or it runs and the handle's file is gone or the handle may only read
+-- the file system has stopped, or it runs and the handle's file was deleted or the handle may only read
 abbrev pub LacksWriter : Handle → Disk → ErrorKind → Type 0
 LacksWriter handle d error = IsAfterStop d error ⊎ ((d.stopped ≡ false) × WrongWriter handle d error)
 
@@ -45,7 +45,7 @@ module _ {D : Type 0} (g : device.Ghosts D) where
   abbrev pub disk_of : DirectoryFileSystem D g → Disk
   disk_of system = shown (g.trace system.device) system.stopped system.failures system.kinds.told
 
-  -- what was found on a file system's device, and the calls made of it since
+  -- what a file system's device had when it was opened, and the calls made on it since
   abbrev pub calls_of : DirectoryFileSystem D g → Trace
   calls_of system = g.trace system.device
 
@@ -60,12 +60,12 @@ module _ {D : Type 0} (g : device.Ghosts D) where
     pub runs : Runs system
     pub there : (contents_of system.storage).directories path ≡ true
 
-  -- the file system runs, and the handle's file is there
+  -- the file system runs, and the handle's file exists
   pub record RunsWithFile (handle : Handle) (system : DirectoryFileSystem D g) : Type 0 where
     pub runs : Runs system
     pub there : (contents_of system.storage).files handle.file ≡ None → ⊥
 
-  -- the file system runs, the handle's file is there, and the handle may write
+  -- the file system runs, the handle's file exists, and the handle may write
   pub record RunsWithWriter (handle : Handle) (system : DirectoryFileSystem D g) : Type 0 where
     pub file : RunsWithFile handle system
     pub writes : handle.permission ≡ ReadWrite

@@ -8,11 +8,11 @@ use Rattle.raft_log_disk_storage.specs.declared.storage.Storage.{Storage}
 use Rattle.raft_log_disk_storage.specs.Storage.{contents_of}
 use Rattle.raft_log_disk_device.specs.Device.{Trace, held_by, settled}
 
--- Until a stop, the model holds what the device does, and no directory owes a sync.
+-- Until a stop, the model holds what the device does, and no directory has to be synced.
 abbrev pub Follows : Bool → Storage → Trace → Type 0
 Follows stopped storage trace = stopped ≡ false → held_by trace ≡ settled (contents_of storage)
 
--- What is on the disk is what a crash finds on the device; each place of it can be read.
+-- The disk is what a crash leaves of the device; each place of it can be read.
 abbrev pub shown : Trace → Bool → ℕ → List ErrorKind → Disk
 shown trace stopped failures kinds = record (held_by trace).kept {
   unreadable = λ id place. false;
@@ -21,6 +21,6 @@ shown trace stopped failures kinds = record (held_by trace).kept {
   kinds = kinds;
 }
 
--- a device holds what it does in one way only, so that a type may keep the fact beside its fields
+-- `Follows` is a proposition, so that a type may keep it as a field
 pub Follows-prop : (stopped : Bool) (storage : Storage) (trace : Trace) → IsProp (Follows stopped storage trace)
 Follows-prop stopped storage trace = hlevel (Change-set, File-set, props)

@@ -7,10 +7,10 @@ use Rattle.raft_log_disk_device.specs.declared.device.Device as device
 use Rattle.raft_log_disk_device.specs.declared.directory.DirectoryFileSystem.{DirectoryFileSystem}
 
 module _ {D : Type 0} (g : device.Ghosts D) where
-  -- how many bytes the files of a directory may have in all, where that is set
+  -- how many bytes the files of a directory may have in all, if that is set
   abbrev pub spaces_of : DirectoryFileSystem D g → List ℕ → Option ℕ
   spaces_of system = get_by_text system.spaces
 
-  -- so many bytes are told to be free in a directory: what its files leave of the space that is set for it
+  -- the reported free space of a directory: what its files leave of the space that is set for it
   abbrev pub TellsFree : DirectoryFileSystem D g → List ℕ → ℕ → Type 0
   TellsFree system directory free = IsFree (spaces_of system) directory (contents_of system.storage) free

@@ -14,13 +14,13 @@ use raft_log_disk::Kinds;
 use raft_log_disk_storage::Storage;
 use std::collections::BTreeMap;
 
-/// A file system over a device, whose files also lie in memory, each byte once. A change goes to the model in
-/// memory first, and then to the device, which is synced where names changed. What is read comes from memory.
-/// Where the device refuses a call, the file system stops.
+/// A file system over a device, whose files are also in memory, each byte once. A change is made in memory first, and
+/// then on the device; if names changed, the device is synced. Reads come from memory. If a device call fails, the file
+/// system stops.
 #[derive(Drop)]
 pub struct DirectoryFileSystem<D: Device> {
     storage: Storage,
-    // How many bytes the files of a directory may have in all, for those for which it is set.
+    // How many bytes the files of a directory may have in all, for each directory that has a limit.
     spaces: BTreeMap<String, u64>,
     device: D,
     failures: u64,
@@ -38,7 +38,7 @@ impl<D: Device> DirectoryFileSystem<D> {
     ghost use Rattle.raft_log_disk_device.specs.Device.{settled};
     ghost use Rattle.raft_log_disk_device.specs.Directory.{calls_of, disk_of};
 
-    /// The file system over a device that holds what a model does, with no directory that owes a sync.
+    /// The file system over a device. The model must hold what the device does, and no directory may have to be synced.
     pub fn new(storage: Storage, device: D) -> DirectoryFileSystem<D>
         requires whole { IsStorageSound storage }
         requires follows { held_by (D.Device.trace device) ≡ settled (contents_of storage) }

@@ -1,5 +1,5 @@
-//! Changes of names that no crash takes back once they are answered: behind each call the directories are synced
-//! whose names it changed.
+//! Changes of names that are durable once they succeed: after each call, the directories whose names it changed are
+//! synced.
 ghost use Rattle.std.specs.Prelude.{◌≡◌, OnOk, OnErr};
 ghost use Rattle.raft_log_disk_device.specs.Device.{Created, Deleted, Renamed, MadeDirectory, home, changed_by, Does, MayDo};
 
@@ -7,7 +7,7 @@ use crate::device::Device;
 use std::io::ErrorKind;
 use std::path::Path;
 
-/// The directory in which a path lies.
+/// The parent directory of a path.
 fn home(path: &str) -> &str
     ensures { result.now ≡ home path.now }
 {
@@ -28,7 +28,7 @@ pub fn create<D: Device>(device: &mut D, path: &str, file: usize) -> Result<(), 
     device.sync_directory(home(path))
 }
 
-/// Deletes the file that has a name, and this number.
+/// Deletes the file at a path, which has this number.
 pub fn delete<D: Device>(device: &mut D, path: &str, file: usize) -> Result<(), ErrorKind>
     ensures ok { OnOk result
         (Does (changed_by (Deleted path.now)) (D.trace device.old) (D.trace device.new)) }
@@ -51,7 +51,7 @@ pub fn create_dir<D: Device>(device: &mut D, path: &str) -> Result<(), ErrorKind
     device.sync_directory(home(path))
 }
 
-/// Renames a file; one that had the new name, with this number, is gone.
+/// Renames a file. The file that had the new name, with this number, is deleted.
 pub fn rename<D: Device>(
     device: &mut D,
     from: &str,
@@ -72,7 +72,7 @@ pub fn rename<D: Device>(
     device.sync_directory(home(from))
 }
 
-/// Lets go of a file that another one was renamed over, if it wasn't that file itself.
+/// Closes a file that another one was renamed over, unless it was that file itself.
 fn close_replaced<D: Device>(device: &mut D, is_same: bool, replaced: Option<usize>)
     ensures { D.trace device.new ≡ D.trace device.old }
 {

@@ -1,5 +1,5 @@
-//! A file system over a device, as one over real files is: each change goes to a model in memory and then to the
-//! device, whose calls stand in a trace, and what a crash leaves is what the trace says.
+//! A file system over a device, such as one over real files. Each change is made on a model in memory and then on the
+//! device. The device's calls are in a trace, which determines what a crash leaves.
 #![tactic(auto)]
 
 pub mod device;

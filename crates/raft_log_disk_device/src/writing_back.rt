@@ -1,4 +1,4 @@
-//! A file is written back, so that its bytes reach the medium also where an earlier sync of them failed.
+//! Writes a file back, so that its bytes reach the medium even if an earlier sync of them failed.
 ghost use Rattle.std.specs.Prelude.{◌≡◌, ◌<◌, ◌≤◌, None, length, OnOk};
 ghost use Rattle.raft_log_disk_storage.specs.Held.{held_of};
 ghost use Rattle.raft_log_disk_storage.specs.Steps.{size_of};
@@ -10,8 +10,8 @@ use crate::device::Device;
 use raft_log_disk_storage::Storage;
 use std::io::ErrorKind;
 
-/// Writes the bytes of a file again, which the device has as the model does, as many at a time as the room holds, and
-/// syncs them. If the device fails a call, this fails as that call did. At no moment does a crash find other bytes.
+/// Writes the bytes of a file again and syncs them, as many at a time as the room holds. The device must have the same
+/// bytes as the model. If a device call fails, this returns its error. At no moment does a crash leave other bytes.
 pub fn write_back<D: Device>(
     device: &mut D,
     storage: &Storage,
@@ -30,7 +30,7 @@ pub fn write_back<D: Device>(
     device.sync(file)
 }
 
-/// Writes the bytes of a file again, and doesn't sync them.
+/// Writes the bytes of a file again, without a sync.
 fn write_pieces<D: Device>(
     device: &mut D,
     storage: &Storage,

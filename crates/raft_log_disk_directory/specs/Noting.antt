@@ -1,9 +1,9 @@
--- How a call of the operating system is noted: a kind, a file, an offset or a size, and a path or bytes.
+-- How a call of the operating system is noted: its kind, a file, an offset or a size, and a path or bytes.
 use Rattle.std.specs.Prelude.{ℕ, List, slice_index, ◌==◌, if◌then◌else◌}
 use Rattle.raft_log_disk.specs.Disk.{Wrote, ShortenedTo, GrewTo}
 use Rattle.raft_log_disk_device.specs.Device.{DeviceCall, Created, Deleted, MadeDirectory, SyncedDirectory, Changed, Synced, WroteBack}
 
--- the call of this kind
+-- the call of this kind, with this file, number, and path or bytes
 abbrev pub call_of_kind : ℕ → ℕ → ℕ → List ℕ → DeviceCall
 call_of_kind kind file number text =
     if kind == 0 then Created text file
@@ -16,7 +16,7 @@ call_of_kind kind file number text =
     else (if kind == 7 then Synced file
     else WroteBack file number text)))))))
 
--- the call that these three numbers and a path or bytes say
+-- the call that these three numbers and this path or these bytes encode
 abbrev pub call_of : List ℕ → List ℕ → DeviceCall
 call_of numbers text =
     call_of_kind (slice_index numbers 0) (slice_index numbers 1) (slice_index numbers 2) text

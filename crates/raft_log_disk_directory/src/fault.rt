@@ -4,39 +4,39 @@ use std::io;
 use std::io::ErrorKind;
 use thiserror::Error;
 
-/// Why directories weren't opened. No byte of a file in them was changed, and no name.
+/// Why directories weren't opened. No byte and no name of a file in them was changed.
 #[derive(Debug, Drop, Error)]
 pub enum DirectoryFault {
-    /// Nothing has the path.
+    /// Nothing is at the path.
     #[error("there is no directory {0:?}")]
     Missing(String),
-    /// What has the path is no directory.
+    /// The path is no directory.
     #[error("{0:?} is no directory")]
     NoDirectory(String),
-    /// Another log has the directory open, in this process or another one.
+    /// Another log has the directory open, in this or another process.
     #[error("{0:?} is in use by another log")]
     InUse(String),
-    /// An entry with the name of a log file is no regular file, but a link, say, or a directory.
+    /// An entry with the name of a log file is no regular file, but for example a link or a directory.
     #[error("{0:?} has the name of a log file and is no regular file")]
     Irregular(String),
-    /// The directory is named twice.
+    /// The same directory was given twice.
     #[error("{0:?} is named twice")]
     Twice(String),
-    /// The operating system refused a call, as for want of leave.
+    /// The operating system failed a call, for example for lack of permission.
     #[error("{path:?}: {error}")]
     Refused {
-        /// Of which path.
+        /// The path of the call.
         path: String,
-        /// What the operating system told.
+        /// The error that the operating system returned.
         error: io::Error,
     },
-    /// Memory is short.
+    /// Out of memory.
     #[error("out of memory")]
     Memory,
 }
 
 impl DirectoryFault {
-    /// What the operating system told when a directory was to be opened and locked.
+    /// The fault for an error of opening and locking a directory.
     pub(crate) fn of_directory(alloc: Global, path: &str, error: io::Error) -> DirectoryFault {
         let Ok(path) = String::from_str(alloc, path) else {
             return DirectoryFault::Memory;
@@ -51,7 +51,7 @@ impl DirectoryFault {
         }
     }
 
-    /// What the operating system told when the files of a directory were to be read.
+    /// The fault for an error of reading the files of a directory.
     pub(crate) fn of_files(alloc: Global, path: &str, error: io::Error) -> DirectoryFault {
         match String::from_str(alloc, path) {
             Ok(path) if error.kind() != ErrorKind::OutOfMemory => {

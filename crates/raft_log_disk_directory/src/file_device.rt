@@ -33,15 +33,17 @@ const SYNCED: u64 = 7;
 
 const WRITTEN_BACK: u64 = 8;
 
-/// The most bytes that one call writes, and how many zeros are kept for the growth of a file. What a longer one writes
-/// some systems hold as one long piece in memory, and each short write there, and each sync behind it, goes over all of
-/// that piece.
+/// The most bytes that one system call writes, and the size of the buffer of zeros for growing files. Some systems keep
+/// a longer write as one long piece in memory: each short write into that piece, and each sync after it, goes over the
+/// whole piece.
 pub(crate) const PIECE: usize = 1 << 16;
 
-/// The operating system's files, as a device. Each file that has a name is open; the directories stay locked
-/// until it is dropped. A method makes one call, of a write or a growth one for each piece of its bytes,
-/// and then notes it; only clauses read what is noted. A growth, and a write of several pieces that makes the
-/// file longer, is also synced. A call that fails is printed to standard error, with the path.
+/// The operating system's files, as a device.
+/// - Each file that has a name is open; the directories stay locked until the device is dropped.
+/// - A method makes one system call, or, for a write or a growth, one for each piece of its bytes. It then notes the
+///   call; only clauses read the notes.
+/// - A growth, and a write of several pieces that makes the file longer, is also synced.
+/// - A call that fails is printed to standard error, with the path.
 #[derive(Drop)]
 pub struct FileDevice<R> {
     rt: R,
@@ -55,8 +57,8 @@ pub struct FileDevice<R> {
 impl<R: Files<File = File> + Eprint + AllocGlobal + Drop> FileDevice<R> {
     ghost use Rattle.raft_log_disk_directory.specs.Tracing.{IsFresh};
 
-    /// The device whose files, by their numbers, are those of a model that was loaded with them; the handles
-    /// that lock the directories are kept, and the zeros that files grow by.
+    /// The device over these files, which are those of the loaded model, by their numbers. It keeps the handles that
+    /// lock the directories, and the zeros for growing files.
     pub(crate) fn new(
         rt: R,
         files: BTreeMap<usize, OpenFile>,
@@ -214,7 +216,7 @@ impl<R: Files<File = File> + Eprint + AllocGlobal + Drop> Device for FileDevice<
     }
 }
 
-/// Cuts a file to a length. One that isn't longer stays as it is.
+/// Truncates a file to a length. A file that isn't longer is unchanged.
 fn shorten(opened: &File, size: u64) -> io::Result<()> {
     if size < opened.metadata()?.len() {
         opened.set_len(size)?;
@@ -222,7 +224,7 @@ fn shorten(opened: &File, size: u64) -> io::Result<()> {
     Ok(())
 }
 
-/// Notes the new path of an open file. For want of memory it keeps the old one, which only messages show.
+/// Notes the new path of an open file. If memory runs out, it keeps the old one, which only messages show.
 fn rename_open(alloc: Global, files: &mut BTreeMap<usize, OpenFile>, from: &str, to: &str) {
     for (_, opened) in files.iter_mut() {
         if opened.path.as_str() == from {

@@ -1,5 +1,5 @@
-//! A file system over directories of the operating system: each change is made of the real files too, and what is
-//! answered as durable was synced. `CALLING.md` says what is trusted of it.
+//! A file system over real directories: each change is also made on the real files, and a sync that succeeds has synced
+//! them. `CALLING.md` says what is trusted about it.
 #![tactic(auto)]
 
 pub mod fault;

@@ -1,4 +1,4 @@
-//! What lies in directories, loaded.
+//! Loads the files in directories.
 ghost use Rattle.std.specs.Prelude.{◌≡◌, None};
 ghost use Rattle.raft_log_disk_storage.specs.Held.{held_of};
 ghost use Rattle.raft_log_disk_storage.specs.Storage.{IsStorageSound, IsWhole-prop};
@@ -16,23 +16,22 @@ use std::os::unix::fs::FileExt;
 use std::rt::Files;
 use std::thread::{Threads, map_chunks};
 
-/// How many bytes are read at a time: so few that the room for them is still in the processor's cache when they come.
+/// How many bytes are read at a time: few enough that the buffer is still in the processor's cache when they arrive.
 const PIECE: usize = 1 << 18;
 
-/// How many threads read files at most.
+/// The most threads that read files.
 const READERS: usize = 32;
 
-/// What the files of directories are opened for.
+/// For what the files of directories are opened.
 #[derive(Clone, Copy, Debug, PartialEq, Eq)]
 pub(crate) enum Access {
-    /// To be read and written. Each is synced before it is read.
+    /// Reading and writing. Each file is synced before it is read.
     ReadWrite,
-    /// To be read alone. Nothing is changed, and nothing is synced.
+    /// Only reading. Nothing is changed, and nothing is synced.
     ReadOnly,
 }
 
-/// What lies in directories: a model of it, its files, open by the model's numbers, and the directories,
-/// locked.
+/// What is in directories: a model of it, its open files by the model's numbers, and the locked directories.
 #[derive(Drop)]
 pub(crate) struct Found {
     pub storage: Storage,
@@ -44,7 +43,7 @@ pub(crate) struct Found {
 }
 
 impl Found {
-    /// Nothing, before directories are opened for this.
+    /// An empty model, before directories are opened.
     pub fn new(alloc: Global, access: Access) -> Found {
         Found {
             storage: Storage::new(alloc),
@@ -54,8 +53,8 @@ impl Found {
         }
     }
 
-    /// Locks a directory, and adds it without its files. Those who only read share it. This fails if it is there already,
-    /// or another log has it open.
+    /// Locks a directory, and adds it without its files. Readers share the lock. Fails if the directory was already
+    /// added, or if another log has it open.
     pub fn add_directory<R: Files<File = File>>(
         &mut self,
         rt: &R,
@@ -77,7 +76,7 @@ impl Found {
         Ok(())
     }
 
-    // Adds a file with its bytes, as synced ones. Refused where its directory isn't there.
+    // Adds a file with its bytes, as synced ones. Fails if its directory doesn't exist.
     fn add_file(&mut self, path: &str, opened: File, content: Vec<u8>) -> io::Result<()> {
         if self.storage.node(path).is_some() {
             return Err(ErrorKind::AlreadyExists.into());
@@ -99,7 +98,7 @@ impl Found {
         }
     }
 
-    /// Opens the file with a path for what the directories are opened for.
+    /// Opens the file at a path for reading, or for reading and writing, as the directories are opened.
     pub fn open<R: Files<File = File>>(&self, rt: &R, path: &str) -> io::Result<File> {
         OpenOptions::new()
             .read(true)
@@ -122,8 +121,8 @@ impl Found {
     }
 }
 
-/// The bytes of files, each of which is read whole. Each of a few files has a thread of its own, so that
-/// none waits for another one while a processor is idle; of more than `READERS` a thread reads several.
+/// The bytes of files, each read whole. If there are few files, each has its own thread, so that none waits while a
+/// processor is idle. If there are more than `READERS`, a thread reads several.
 fn contents_of<R: Threads + Sync>(
     rt: &R,
     alloc: Global,
@@ -151,7 +150,7 @@ fn contents_in_turn(alloc: Global, access: Access, files: &[File]) -> io::Result
     Ok(contents)
 }
 
-/// Puts other bytes into a file that is there, as synced ones.
+/// Replaces the bytes of a file that exists, as synced ones.
 fn fill(storage: &mut Storage, file: usize, content: Vec<u8>)
     requires there { (held_of storage.old.files.items file ≡ None) → ⊥ }
     requires whole { IsStorageSound storage.old }
@@ -165,7 +164,7 @@ fn fill(storage: &mut Storage, file: usize, content: Vec<u8>)
     });
 }
 
-/// The bytes of a file, read into room for just as many. A file that may be written is synced first.
+/// The bytes of a file, read into a buffer of its size. A file that may be written is synced first.
 fn content_of(alloc: Global, access: Access, opened: &File) -> io::Result<Vec<u8>> {
     if access == Access::ReadWrite {
         opened.sync_all()?;

@@ -7,7 +7,7 @@ use std::io::ErrorKind;
 use std::rt::Files;
 use std::{fs, io};
 
-/// The name of the file that takes the bytes of a file whose padding is taken out, until it takes its name.
+/// The name of a file that is being written without padding, before it gets the name of the file that it replaces.
 const UNPADDED: &str = "unpadded";
 
 /// A file of a log, as a directory lists it.
@@ -15,13 +15,14 @@ const UNPADDED: &str = "unpadded";
 pub(crate) struct ListedFile {
     /// Its path.
     pub path: String,
-    /// Its queue and its number; none of a file that belongs to no queue, as one that is kept for later use.
+    /// Its queue and its number; none if it belongs to no queue, for example a file that is kept for recycling.
     pub id: Option<FileId>,
 }
 
-/// The files in a directory whose names are those of a log. Entries with other names are passed over. This fails with
-/// `Irregular` if an entry with a log file's name is no regular file, and with `Refused` if the operating system fails a
-/// call; both name the path.
+/// The files in a directory that have names of log files; entries with other names are skipped. Both errors name the
+/// path:
+/// - `Irregular`: an entry with a log file's name is no regular file.
+/// - `Refused`: the operating system failed a call.
 pub(crate) fn list_files<R: Files<File = File> + AllocGlobal + Clone>(
     rt: &R,
     directory: &str,
@@ -40,7 +41,7 @@ pub(crate) fn list_files<R: Files<File = File> + AllocGlobal + Clone>(
     Ok(found)
 }
 
-/// The file of a log that an entry is; none if it has another name. A name that isn't UTF-8 is no log file's.
+/// The log file that an entry is; none if it has another name. A name that isn't UTF-8 is no log file's.
 fn listed<R: Files<File = File> + AllocGlobal + Clone>(
     rt: &R,
     directory: &str,
@@ -66,15 +67,14 @@ fn listed<R: Files<File = File> + AllocGlobal + Clone>(
     }
 }
 
-/// Whether a name is one of a log's: of a file of a queue, of one that is kept for later use, or of one that is being
-/// written in the place of another one.
+/// Whether a name is a log file's: one of a queue, one kept for recycling, or one that is written to replace another.
 fn is_log_name(name: &str) -> bool {
     FileId::parse_file_name(name).is_some()
         || parse_reserved_file_name(name).is_some()
         || name == UNPADDED
 }
 
-/// The greatest number of a queue's files; none if it has no file.
+/// The greatest number of a queue's files; none if the queue has no file.
 pub(crate) fn last_number(files: &[ListedFile], queue: LogQueue) -> Option<FileSeq> {
     files
         .iter()

@@ -1,8 +1,8 @@
-//! What was found in the directories of a log is made durable before anybody is told of it.
+//! Makes what was found in a log's directories durable before any caller sees it.
 //!
-//! Linux reports a failed sync once, and takes the pages that it couldn't write for clean: a later sync of the file
-//! succeeds without them. A log stops at a failed sync, so only the last file of either queue can have such pages. Their
-//! bytes are written again, and then synced.
+//! Linux reports a failed sync once, and then marks the pages that it couldn't write as clean: a later sync of the file
+//! succeeds without them. A log stops at a failed sync, so only the last file of either queue can have such pages.
+//! Their bytes are written again, and then synced.
 ghost use Rattle.std.specs.Prelude.{◌≡◌, ◌<◌, length, OnOk};
 ghost use Rattle.raft_log_disk_storage.specs.Storage.{IsStorageSound, contents_of};
 ghost use Rattle.raft_log_disk_device.specs.Device.{held_by, settled};
@@ -17,8 +17,8 @@ use raft_log_disk_storage::Storage;
 use raft_log_record_base::{FileId, LogQueue};
 use std::alloc::Global;
 
-/// Writes back the last file of either queue of a log, the same bytes, and syncs it. This fails as the device does, and
-/// names the file.
+/// Writes back the last file of either queue of a log, with the same bytes, and syncs it. If a device call fails,
+/// returns its error, with the file's path.
 pub(crate) fn write_back_last_files<D: Device>(
     alloc: Global,
     device: &mut D,
@@ -35,7 +35,7 @@ pub(crate) fn write_back_last_files<D: Device>(
     write_back_last_of(alloc, device, storage, listed, LogQueue::Rewrite, &mut room)
 }
 
-/// Writes back the last file of a queue. Of two with its number, one in each directory, both are.
+/// Writes back the last file of a queue. If both directories have a file with its number, writes back both.
 fn write_back_last_of<D: Device>(
     alloc: Global,
     device: &mut D,
@@ -61,7 +61,7 @@ fn write_back_last_of<D: Device>(
     Ok(())
 }
 
-/// Writes back the file with a path, if one has it. This fails as the device does, and names the path.
+/// Writes back the file at a path, if there is one. If a device call fails, returns its error, with the path.
 fn write_back_file<D: Device>(
     alloc: Global,
     device: &mut D,
@@ -86,7 +86,7 @@ fn write_back_file<D: Device>(
     }
 }
 
-/// Makes the names in a log's directories durable. This fails as the device does, and names the directory.
+/// Makes the names in a log's directories durable. If a device call fails, returns its error, with the directory.
 pub(crate) fn sync_directories<D: Device>(
     alloc: Global,
     device: &mut D,

@@ -1,4 +1,4 @@
-//! The directories of a log are opened: locked, loaded, and made durable if they may be written.
+//! Opens the directories of a log: locks and loads them, and makes them durable if they may be written.
 ghost use Rattle.std.specs.Prelude.{◌≡◌, List, ℕ, None, IfOk};
 ghost use Rattle.raft_log_disk_device.specs.Directory.{calls_of};
 ghost use Rattle.raft_log_disk_device.specs.Space.{spaces_of};
@@ -18,13 +18,16 @@ use std::rt::Files;
 use std::thread::Threads;
 use std::{fs, io};
 
-/// Opens a log's main directory, and its second one where it has one, and returns the file system over them.
+/// Opens a log's main directory, and its second one if it has one, and returns the file system over them.
 ///
-/// Both directories have to be there. Each is locked until the file system is dropped. Each regular file with the name of
-/// a log file is synced and read, several side by side; entries with other names are left alone. The last file of either
-/// queue is written back, the same bytes, and synced, and then the directories are: so what the file system shows is
-/// durable, also if a sync failed before, in this boot of the machine. Paths are those of the operating system; the log's
-/// settings have to spell them the same. If this fails, no byte of a file and no name has changed.
+/// - Both directories must exist. Each is locked until the file system is dropped.
+/// - Each regular file with a log file's name is synced and read, several in parallel. Entries with other names are
+///   ignored.
+/// - The last file of either queue is written back with the same bytes and synced; then the directories are synced.
+///   What the file system shows is therefore durable, even if a sync failed earlier in this boot of the machine.
+/// - Paths are those of the operating system; the log's settings must spell them the same.
+///
+/// If it fails, no byte of a file and no name has changed.
 pub fn open_directories<
     R: Files<File = File> + Threads + Eprint + AllocGlobal + Clone + Sync + Drop,
 >(
@@ -54,11 +57,11 @@ pub fn open_directories<
     Ok(DirectoryFileSystem::new(storage, device))
 }
 
-/// Opens the directories of a log for reading alone, as a check or a copy does: files are opened for reading, and nothing
-/// is synced or written. So a log in a file system that is mounted read-only is opened too.
+/// Opens the directories of a log only for reading, for a check or a copy: nothing is synced or written. This also
+/// opens a log in a file system that is mounted read-only.
 ///
-/// Several readers may have a log open at once, but nobody who writes. A call that changes a file that was found stops the
-/// file system; new files may be made in other directories. This fails as `open_directories` does.
+/// Several readers may have a log open at once, but no writer. A call that changes a file that was found stops the file
+/// system; new files may be made in other directories. This fails as `open_directories` does.
 pub fn open_directories_for_reading<
     R: Files<File = File> + Threads + Eprint + AllocGlobal + Clone + Sync + Drop,
 >(
@@ -86,8 +89,8 @@ pub fn open_directories_for_reading<
     Ok(DirectoryFileSystem::new(storage, device))
 }
 
-/// Makes a directory where nothing has the path, and syncs the one in which it lies, so that no crash takes it away. It
-/// is synced also where the path is there: who made it may have been killed before that.
+/// Makes a directory if nothing has the path, and syncs its parent directory, so that no crash removes it. The parent
+/// is synced even if the path exists: a process that made it may have been killed before its sync.
 pub fn make_directory<R: Files<File = File> + AllocGlobal>(
     rt: &R,
     directory: &str,
@@ -99,7 +102,7 @@ pub fn make_directory<R: Files<File = File> + AllocGlobal>(
     ))
 }
 
-/// Makes a directory where nothing has the path, and syncs the one in which it lies.
+/// Makes a directory if nothing has the path, and syncs its parent directory.
 fn make_durable<R: Files<File = File>>(rt: &R, directory: &str) -> io::Result<()> {
     if let Err(error) = fs::create_dir(rt, directory) {
         if error.kind() != ErrorKind::AlreadyExists {
@@ -113,7 +116,7 @@ fn make_durable<R: Files<File = File>>(rt: &R, directory: &str) -> io::Result<()
     File::open(rt, home)?.sync_all()
 }
 
-/// Locks the directories of a log, and then loads the log files in them, which are returned.
+/// Locks the directories of a log, then loads their log files. Returns these.
 fn load_all<R: Files<File = File> + Threads + AllocGlobal + Clone + Sync + Drop>(
     rt: &R,
     found: &mut Found,
@@ -143,7 +146,7 @@ fn lock<R: Files<File = File> + AllocGlobal>(
     ))
 }
 
-/// Loads the log files in a directory, which are returned.
+/// Loads the log files in a directory. Returns them.
 fn load<R: Files<File = File> + Threads + AllocGlobal + Clone + Sync + Drop>(
     rt: &R,
     found: &mut Found,
@@ -157,7 +160,7 @@ fn load<R: Files<File = File> + Threads + AllocGlobal + Clone + Sync + Drop>(
     }
 }
 
-/// Opens files. If this fails, it names the one that isn't opened.
+/// Opens files. If one can't be opened, the error names it.
 fn open_files<R: Files<File = File> + AllocGlobal>(
     rt: &R,
     found: &Found,

@@ -6,7 +6,7 @@ ghost use Rattle.raft_log_disk_directory.specs.Noting.{call_of};
 
 use std::marker::{Model, PhantomData};
 
-/// The calls that were made, the last one first. It has no bytes, and costs nothing.
+/// The calls that were made, the last one first. The type has no bytes and costs nothing.
 #[derive(Drop)]
 pub struct Record {
     marker: PhantomData<u8>,
@@ -17,7 +17,7 @@ impl Model for Record {
     ghost also_owns = { λ _. ftrue };
 }
 
-// A record has no bytes, so that whoever holds one may be lent to another thread.
+// A record has no bytes, so a type that has one may be sent to another thread.
 unsafe impl Send for Record {}
 
 unsafe impl Sync for Record {}
@@ -37,7 +37,7 @@ impl Record {
         ensures { self.new.calls ≡ call_of _numbers.now _text.now ∷ self.old.calls }
     {}
 
-    /// Notes a renaming.
+    /// Notes a rename.
     pub(crate) fn note_rename(&mut self, _from: &[u8], _to: &[u8])
         ensures { self.new.calls ≡ Renamed _from.now _to.now ∷ self.old.calls }
     {}

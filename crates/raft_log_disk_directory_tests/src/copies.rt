@@ -1,4 +1,4 @@
-//! Directories that are saved and loaded again, as steps. Each test has directories of its own where it runs.
+//! Directories that are saved and loaded again, as steps. Each test runs in directories of its own.
 use raft_log_directory_copies::{CopyFault, load_directory, save_directory};
 use raft_log_disk::{FileSystem, Permission};
 use raft_log_disk_memory::{MemoryFileSystem, Remainder};
@@ -13,29 +13,29 @@ use std::{fs, io};
 /// A file of a directory: its name and its bytes, of which there are at most 16.
 type Row = (&'static str, &'static [u8]);
 
-/// What is done in real directories, and what is to come of it.
+/// A step in real directories, and its expected outcome.
 enum Step {
     /// There is a directory without a file.
     Fresh(&'static str),
     /// A file has these bytes.
     Write(&'static str, &'static [u8]),
-    /// A link has this path, and leads to a file beside it.
+    /// A link at this path, to a file next to it.
     Link(&'static str),
     /// These files of a file system are saved in a directory.
     Save(&'static [Row], &'static str),
-    /// They aren't: the operating system told this of this path.
+    /// Saving them fails: the operating system returns this error for this path.
     SaveRefused(&'static [Row], &'static str, &'static str, ErrorKind),
-    /// Just these files are loaded, and a crash leaves all of them.
+    /// Exactly these files are loaded, and a crash leaves all of them.
     Load(&'static str, &'static [Row]),
-    /// None is: the operating system told this of this path.
+    /// Loading fails: the operating system returns this error for this path.
     LoadRefused(&'static str, ErrorKind),
 }
 
 /// Files of a log, one of which is empty.
 const FILES: &[Row] = &[("a", b"abc"), ("empty", b""), ("zeros", b"\x00\xff\x00\n")];
 
-/// What is saved is loaded. A file that is there is written anew, also by fewer bytes, and one of another name stays;
-/// a directory and a link are no files.
+/// What is saved is loaded. A file that exists is overwritten, even by fewer bytes, and files with other names stay; a
+/// directory and a link are not loaded.
 const ROUND_TRIP: [Step; 9] = [
     Step::Fresh("saved"),
     Step::Save(FILES, "saved"),
@@ -48,7 +48,7 @@ const ROUND_TRIP: [Step; 9] = [
     Step::Load("saved", FILES),
 ];
 
-/// What is no directory, and a directory in the place of a file.
+/// A path that is no directory, and a directory at the path of a file.
 const REFUSALS: [Step; 9] = [
     Step::SaveRefused(FILES, "no such", "no such", ErrorKind::NotFound),
     Step::LoadRefused("no such", ErrorKind::NotFound),
@@ -66,7 +66,7 @@ const REFUSALS: [Step; 9] = [
     Step::SaveRefused(FILES, "around", "around/a", ErrorKind::IsADirectory),
 ];
 
-/// A file system with these files in the directory `log`, and another one beside it.
+/// A file system with these files in the directory `log`, and another file next to it.
 fn files_of(alloc: Global, rows: &[Row]) -> Result<MemoryFileSystem, CopyFault> {
     let mut files = MemoryFileSystem::new(alloc);
     match fill(alloc, rows, &mut files) {
@@ -98,7 +98,7 @@ fn save<R: Files<File = File> + AllocGlobal>(
     save_directory(rt, &files, "log", path)
 }
 
-/// Whether just these files lie in the directory `raft`.
+/// Whether the directory `raft` has exactly these files.
 fn has(alloc: Global, files: &MemoryFileSystem, rows: &[Row]) -> io::Result<bool> {
     let mut holds = files.list("raft")?.len() == rows.len();
     for (name, bytes) in rows.iter() {
@@ -111,7 +111,7 @@ fn has(alloc: Global, files: &MemoryFileSystem, rows: &[Row]) -> io::Result<bool
     Ok(holds)
 }
 
-/// Loads a directory, and what a crash leaves of it.
+/// Loads a directory, and returns what a crash leaves of it.
 fn loaded<R: Files<File = File> + AllocGlobal + Clone + Drop>(
     rt: &R,
     path: &str,
@@ -121,7 +121,7 @@ fn loaded<R: Files<File = File> + AllocGlobal + Clone + Drop>(
     Ok(files.remainder(&Remainder::LastSync)?)
 }
 
-/// Whether the operating system told this of this path.
+/// Whether the operating system returned this error for this path.
 fn is_told<T>(outcome: &Result<T, CopyFault>, wanted: &str, kind: ErrorKind) -> bool {
     match outcome {
         Err(CopyFault::System { path, error }) => (path.as_str() == wanted)
@@ -139,7 +139,7 @@ fn make_fresh<R: Files<File = File> + AllocGlobal + Clone + Drop>(
     fs::create_dir(rt, path)
 }
 
-/// Does a step, and tells whether it came out so.
+/// Makes a step, and returns whether its outcome is the expected one.
 fn play<R: Files<File = File> + AllocGlobal + Clone + Drop>(
     rt: &R,
     step: &Step,
@@ -163,7 +163,7 @@ fn play<R: Files<File = File> + AllocGlobal + Clone + Drop>(
     Ok(true)
 }
 
-/// Does each of these steps, and tells the place of the first one that didn't come out so.
+/// Makes each of these steps, and returns the index of the first one with another outcome.
 fn first_wrong<R: Files<File = File> + AllocGlobal + Clone + Drop>(
     rt: &R,
     steps: &[Step],

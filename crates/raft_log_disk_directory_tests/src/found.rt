@@ -1,4 +1,4 @@
-//! What is found in directories: a log's files alone, and each a regular one.
+//! What is found in directories: only a log's files, and each of them a regular file.
 use raft_log_disk::{FileSystem, Permission};
 use raft_log_disk_directory::{
     DirectoryFault, make_directory, open_directories, open_directories_for_reading,
@@ -11,7 +11,7 @@ use std::{fs, io};
 // The name of a log file.
 const NAME: &str = "0000000000000001.raftlog";
 
-// Makes a directory with these files, each of one byte, in place of what an earlier run left.
+// Makes a directory with these files of one byte each, after removing what an earlier run left.
 fn prepare(rt: &HostRuntime, directory: &str, names: &[&str]) -> io::Result<()> {
     let _ = fs::remove_dir_all(rt, directory);
     fs::create_dir(rt, directory)?;
@@ -22,7 +22,7 @@ fn prepare(rt: &HostRuntime, directory: &str, names: &[&str]) -> io::Result<()> 
     Ok(())
 }
 
-// Whether an opening failed as this path is that of no regular file.
+// Whether an open failed because this path is no regular file.
 fn is_irregular<T>(opened: &Result<T, DirectoryFault>, irregular: &str) -> bool {
     matches!(opened, Err(DirectoryFault::Irregular(path)) if path.as_str() == irregular)
 }

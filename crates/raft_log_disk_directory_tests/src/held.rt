@@ -1,10 +1,10 @@
-//! What is held open: one descriptor for each file that stands, and one for each directory, as long as they are open.
+//! What is held open: one descriptor for each existing file and one for each directory, as long as they are open.
 use raft_log_disk::{FileSystem, Permission};
 use raft_log_disk_directory::{make_directory, open_directories};
 use std::test::Fail;
 use std::{fs, io};
 
-// How many descriptors this process has, with the one by which they are listed.
+// How many descriptors this process has, including the one that lists them.
 fn descriptors(rt: &HostRuntime) -> io::Result<usize> {
     Ok(fs::read_dir(rt, "/proc/self/fd")?.count())
 }

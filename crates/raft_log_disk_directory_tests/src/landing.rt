@@ -1,4 +1,4 @@
-//! Where changes land: read without the file system, each real file has what was written under its name.
+//! Where changes are written: each real file, read without the file system, has what was written under its name.
 use raft_log_disk::{FileSystem, Handle};
 use raft_log_disk_directory::{DirectoryFileSystem, FileDevice, open_directories};
 use std::io::ErrorKind;
@@ -7,7 +7,7 @@ use std::{fs, io};
 
 type Files = DirectoryFileSystem<FileDevice<HostRuntime>>;
 
-// Makes a directory in place of one that an earlier run left.
+// Makes an empty directory, after removing what an earlier run left.
 fn prepare(rt: &HostRuntime, directory: &str) -> io::Result<()> {
     let _ = fs::remove_dir_all(rt, directory);
     fs::create_dir(rt, directory)
@@ -20,12 +20,12 @@ fn save(files: &mut Files, path: &str, bytes: &[u8]) -> io::Result<Handle> {
     Ok(handle)
 }
 
-// Whether the real file with this path has these bytes.
+// Whether the real file at this path has these bytes.
 fn holds(rt: &HostRuntime, path: &str, bytes: &[u8]) -> io::Result<bool> {
     Ok(fs::read(rt, path)?.as_slice() == bytes)
 }
 
-// Whether this handle's file is gone.
+// Whether this handle's file was deleted.
 fn is_gone(files: &mut Files, handle: Handle) -> bool {
     files.write_at(handle, 0, b"x") == Err(ErrorKind::NotFound)
 }

@@ -1,5 +1,5 @@
-//! Directories and files that this process has no leave for: they are refused, and nothing changes. What modes deny,
-//! root may do nevertheless; there each test asks for the other outcome.
+//! Directories and files that this process has no permission for: opening them fails, and nothing changes. Root ignores
+//! modes; if the process is root, each test expects success instead.
 use raft_log_disk::{FileSystem, Permission};
 use raft_log_disk_directory::{
     DirectoryFault, make_directory, open_directories, open_directories_for_reading,
@@ -10,15 +10,15 @@ use std::os::unix::fs::PermissionsExt;
 use std::test::Fail;
 use std::{fs, io};
 
-// The owner's leave for a directory that is as usual, and for a file.
+// The owner's full permission for a directory or a file.
 const ALL: u32 = 0o700;
 
-// Sets who may use what has a path.
+// Sets the mode of a path.
 fn set_mode(rt: &HostRuntime, path: &str, mode: u32) -> io::Result<()> {
     fs::set_permissions(rt, path, Permissions::from_mode(mode))
 }
 
-// Makes a directory with a file in it, both with all leave, in place of what an earlier run left.
+// Makes a directory with a file in it, both with full permission, after removing what an earlier run left.
 fn prepare(rt: &HostRuntime, directory: &str, file: &str) -> io::Result<()> {
     let _ = set_mode(rt, directory, ALL);
     let _ = fs::remove_dir_all(rt, directory);
@@ -26,7 +26,7 @@ fn prepare(rt: &HostRuntime, directory: &str, file: &str) -> io::Result<()> {
     fs::write(rt, file, b"abcd".as_slice())
 }
 
-// Whether modes deny this process anything. They deny root nothing.
+// Whether modes restrict this process. They don't restrict root.
 fn is_bound_by_modes(rt: &HostRuntime, file: &str) -> io::Result<bool> {
     let _ = fs::remove_file(rt, file);
     fs::write(rt, file, b"x".as_slice())?;
@@ -36,7 +36,7 @@ fn is_bound_by_modes(rt: &HostRuntime, file: &str) -> io::Result<bool> {
     Ok(is_bound)
 }
 
-// Whether a directory holds just one name, that of a file with the four bytes that it was made with.
+// Whether a directory has exactly one name, that of a file with the four bytes that it was made with.
 fn is_as_prepared(rt: &HostRuntime, directory: &str, file: &str) -> io::Result<bool> {
     Ok(
         (fs::read(rt, file)?.as_slice() == b"abcd".as_slice())
@@ -44,7 +44,7 @@ fn is_as_prepared(rt: &HostRuntime, directory: &str, file: &str) -> io::Result<b
     )
 }
 
-// Whether it is told that leave for this path is wanting.
+// Whether opening failed for lack of permission for this path.
 fn is_denied<T>(opened: &Result<T, DirectoryFault>, wanting: &str) -> bool {
     match opened {
         Err(DirectoryFault::Refused { path, error }) => {

@@ -1,5 +1,5 @@
-//! Tests of a file system over real directories: what was synced stands at the next opening, who is refused, what is
-//! found and what is held open.
+//! Tests of a file system over real directories: what was synced is there at the next open, which opens fail, what is
+//! found, and what is held open.
 #![tactic(auto)]
 
 #[cfg(test)]

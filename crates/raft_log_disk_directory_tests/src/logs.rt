@@ -16,7 +16,7 @@ const HEADER: &[u8] =
 const PAIR: &[u8] = b"\0\0\0\0\0\0\x24\0\0\0\0\0\0\0\0\x19abcde\x65\xd8\x87\x85\
 \x01\x07\x01\x02\x05\x02\x03\x9b\xf4\x83\x1c";
 
-// That record, and behind it in file 1 the one that cleans group 1.
+// That record, followed in file 1 by the one that cleans group 1.
 const PAIR_AND_CLEAN: &[u8] = b"\0\0\0\0\0\0\x24\0\0\0\0\0\0\0\0\x19abcde\x65\xd8\x87\x85\
 \x01\x07\x01\x02\x05\x02\x03\x9b\xf4\x83\x1c\
 \0\0\0\0\0\0\x18\0\0\0\0\0\0\0\0\x10\x01\x01\x02\x01\x5b\x80\x0b\xdd";
@@ -28,7 +28,7 @@ const PAIR_IN_FILE_2: &[u8] = b"\0\0\0\0\0\0\x24\0\0\0\0\0\0\0\0\x19abcde\x65\xd
 // The directory of the log.
 const DIRECTORY: &str = "log";
 
-// Settings by which a file with both records is full, and three files of zeros are kept for use.
+// Settings for which a file with both records is full, and three files of zeros are kept for recycling.
 fn settings(alloc: Global) -> Result<Config, Fail> {
     let mut config = Config::default(alloc);
     config.dir = String::from_str(alloc, DIRECTORY)?;
@@ -47,7 +47,7 @@ fn pair(alloc: Global) -> Result<LogBatch, Fail> {
     Ok(batch)
 }
 
-// That group 1 is cleaned.
+// A batch that cleans group 1.
 fn clean(alloc: Global) -> Result<LogBatch, Fail> {
     let mut batch = LogBatch::default(alloc)?;
     batch.add_command(1, Command::Clean)?;
@@ -83,13 +83,13 @@ fn append<R: Threads + Log + Sync + AllocGlobal, F: FileSystem + Sync + Drop>(
     Ok(())
 }
 
-// Whether the real file with this path is a log file with these records.
+// Whether the real file at this path is a log file with these records.
 fn holds(rt: &HostRuntime, path: &str, records: &[u8]) -> io::Result<bool> {
     let found = fs::read(rt, path)?;
     Ok(found.as_slice().strip_prefix(HEADER) == Some(records))
 }
 
-// Whether the real file with this path is one of zeros that is kept for use.
+// Whether the real file at this path is a file of zeros that is kept for recycling.
 fn is_kept(rt: &HostRuntime, path: &str) -> io::Result<bool> {
     Ok(fs::read(rt, path)?.as_slice() == [0u8; 128].as_slice())
 }

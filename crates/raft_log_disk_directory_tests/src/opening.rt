@@ -16,7 +16,7 @@ fn save(files: &mut Files, path: &str, bytes: &[u8]) -> io::Result<Handle> {
     Ok(handle)
 }
 
-// Whether a file has these bytes, of which there are four.
+// Whether a file has these four bytes.
 fn has(files: &Files, path: &str, bytes: &[u8]) -> io::Result<bool> {
     let handle = files.open(path, Permission::ReadOnly)?;
     let mut room = [0u8; 8];

@@ -2,5 +2,5 @@ pub mod Memory
 pub mod Space
 pub mod Turns
 pub mod Answers
--- a library below, passed on to who stands on this one
+-- a library below, handed on to the crates above this one
 pub use Rattle.raft_log_disk_storage

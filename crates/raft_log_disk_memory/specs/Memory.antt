@@ -25,19 +25,19 @@ disk_of system = record (contents_of system.storage) {
   kinds = system.kinds.told;
 }
 
--- one of so many places from a first one on can't be read
+-- one of the `count` bytes of the file from `start` on can't be read
 pub record HasDenied (marks : List (ℕ × ℕ)) (id start count : ℕ) : Type 0 where
   pub place : ℕ
   pub from : start ≤ place
   pub below : place < start + count
   pub denied : is_denied marks id place ≡ true
 
--- none of so many places from a first one on is one that can't be read
+-- none of the `count` bytes of the file from `start` on is unreadable
 abbrev pub HasNoDenied : List (ℕ × ℕ) → ℕ → ℕ → ℕ → Type 0
 HasNoDenied marks id start count =
     (place : ℕ) → start ≤ place → place < start + count → is_denied marks id place ≡ false
 
--- the changes of all files that aren't synced, in the order of the calls, each with its file's node number
+-- the unsynced changes of all files in the order of the calls, each with its file's node number
 abbrev pub unsynced : MemoryFileSystem → List (ℕ × Change)
 unsynced system = unsynced_of system.storage
 
@@ -50,26 +50,26 @@ pub record Kept : Type 0 where
 abbrev pub kept : MemoryFileSystem → Kept
 kept system = record { disk = disk_of system; unsynced = unsynced system }
 
--- at so many failures a file system has stopped
+-- a file system has stopped when this many failures were counted
 abbrev pub most_failures : ℕ
 most_failures = 18446744073709551615
 
--- the disk with one failure more, which was told as this kind, and where the count would reach 2^64 - 1, with a
--- stop in its place
+-- the disk with one more failure, which was reported as this kind; if the count would reach 2^64 - 1, with a stop
+-- instead
 abbrev pub failed_once : ErrorKind → Disk → Disk
 failed_once error d = cond (nat_lt (suc d.failures) most_failures) (counted error d) (at_stop d)
 
--- what such a failure is told as: its kind; and where a stop comes in its place, what a stop is told as
+-- the error that such a failure reports: its kind, or, if a stop replaces it, the error of a stop
 abbrev pub IsToldOnce : ErrorKind → ErrorKind → Disk → Type 0
 IsToldOnce kind error d = ((suc d.failures < most_failures) × (error ≡ kind))
     ⊎ ((most_failures ≤ suc d.failures) × IsToldAtStop kind error)
 
--- the changes that are left where the file with a name is deleted
+-- the changes that are left after the file at a path was deleted
 abbrev pub without_named : Option ℕ → List (ℕ × Change) → List (ℕ × Change)
 without_named None changes = changes
 without_named (Some id) changes = without_file id changes
 
--- the changes that are left where the first file gets a name that the second one had
+-- the changes that are left after the first file got the name of the second one
 abbrev pub with_moved : Option ℕ → Option ℕ → List (ℕ × Change) → List (ℕ × Change)
 with_moved None replaced changes = changes
 with_moved (Some id) replaced changes = without_replaced id replaced changes

@@ -19,9 +19,11 @@ use Rattle.raft_log_disk_memory.specs.declared.memory.MemoryFileSystem.{MemoryFi
 use Rattle.raft_log_disk_memory.specs.Memory.{disk_of, Kept, kept, failed_once, IsToldOnce}
 use Rattle.raft_log_disk_memory.specs.Space.{HasSpace, HasNoRoom}
 
--- How many changing calls there are up to each one that is refused, up to each one that is refused in part,
--- with the number of bytes that a write there writes, and up to the one at which the file system stops, or 0
--- where no stop is armed; whether that call is done; and which space is set for a directory.
+-- What is armed:
+-- - `refusals`: for each failure, the number of changing calls up to it.
+-- - `parts`: the same for each partial failure, with the number of bytes that a write writes there.
+-- - `stop`: the number of changing calls up to the stop, or 0 if none is armed; `after`: whether that call is done.
+-- - `spaces`: the space that is set for a directory, if any.
 pub record Armed : Type 0 where
   pub refusals : List ℕ
   pub parts : List (ℕ × ℕ)
@@ -39,16 +41,16 @@ armed system = record {
   spaces = get_by_text system.spaces;
 }
 
--- no refusal, no stop and no space
+-- no failure, no stop and no space
 abbrev pub nothing_armed : Armed
 nothing_armed = record { refusals = []; parts = []; stop = 0; after = false; spaces = λ directory. None }
 
--- a space for a directory, in place of what was set for it
+-- a space for a directory, replacing what was set for it
 abbrev pub with_space : List ℕ → ℕ → Armed → Armed
 with_space directory space a = record a { spaces = update bytes_eq a.spaces directory (Some space) }
 
--- one refusal more, or a stop in place of the one before; at the number 0 nothing is armed (a place that can't
--- be read is a mark on the disk)
+-- one more failure, or a stop that replaces the one before; the number 0 arms nothing (an unreadable place is a mark on
+-- the disk)
 abbrev pub armed_with : Fault → Armed → Armed
 armed_with (Refuse n) a = record a { refusals = cond (nat_eq n 0) a.refusals (a.refusals ++ n ∷ []) }
 armed_with (RefuseInPart n count) a =
@@ -58,19 +60,19 @@ armed_with (StopAt n) a = cond (nat_eq n 0) a (record a { stop = n; after = fals
 armed_with (StopAfter n) a = cond (nat_eq n 0) a (record a { stop = n; after = true })
 armed_with (Space directory space) a = with_space (string_bytes directory) space a
 
--- the refusals that don't fall at the next changing call, one call nearer
+-- the failures that don't fall at the next changing call, one call nearer
 abbrev pub nearer : List ℕ → List ℕ
 nearer refusals = map (λ n. n - 1) (filter (λ n. nat_lt 1 n) refusals)
 
--- a refusal in part, one call nearer
+-- a partial failure, one call nearer
 abbrev pub part_later : ℕ × ℕ → ℕ × ℕ
 part_later part = (part.0 - 1, part.1)
 
--- the refusals in part that don't fall at the next changing call, one call nearer
+-- the partial failures that don't fall at the next changing call, one call nearer
 abbrev pub nearer_parts : List (ℕ × ℕ) → List (ℕ × ℕ)
 nearer_parts parts = map part_later (filter (λ (part : ℕ × ℕ). nat_lt 1 part.0) parts)
 
--- how many bytes the first refusal in part writes of those that fall at the next changing call
+-- how many bytes the first partial failure writes among those that fall at the next changing call
 abbrev pub front_of : List (ℕ × ℕ) → Option ℕ
 front_of [] = None
 front_of (part ∷ parts) = cond (nat_eq part.0 1) (Some part.1) (front_of parts)
@@ -86,50 +88,50 @@ pub record IsSpared (a : Armed) : Type 0 where
   pub part : front_of a.parts ≡ None
   pub stop : a.stop ≡ 1 → ⊥
 
--- a refusal in part falls at the next changing call, and nothing that goes before it
+-- a partial failure falls at the next changing call, and nothing that has priority over it
 pub record PartFalls (count : ℕ) (a : Armed) : Type 0 where
   pub front : front_of a.parts ≡ Some count
   pub refusal : Contains a.refusals 1 → ⊥
   pub stop : a.stop ≡ 1 → ⊥
 
--- the call counts as a changing one: the file system runs, and the argument is right
+-- the call counts as a changing one: the file system runs, and the arguments are valid
 pub record IsCounted (wrong : ErrorKind → Type 0) (old new : MemoryFileSystem) : Type 0 where
   pub runs : (disk_of old).stopped ≡ false
   pub right : (error : ErrorKind) → wrong error → ⊥
   pub next : armed new ≡ call_later (armed old)
 
--- an answered call: nothing fell at it
+-- a successful call: nothing fell at it
 pub record IsAnswered (old new : MemoryFileSystem) : Type 0 where
   pub spared : IsSpared (armed old)
   pub next : armed new ≡ call_later (armed old)
 
--- the file system stops at the next changing call, and that call is done
+-- the file system stops at the next changing call, after it is done
 pub record StopsAfter (a : Armed) : Type 0 where
   pub falls : a.stop ≡ 1
   pub done : a.after ≡ true
 
--- an armed refusal fell, and nothing was done
+-- an armed failure fell, and nothing was done
 pub record ArmedRefusalFell (error : ErrorKind) (old new : MemoryFileSystem) : Type 0 where
   pub falls : Contains (armed old).refusals 1
   pub no_stop : (armed old).stop ≡ 1 → ⊥
   pub kind : error ≡ Other
   pub left : disk_of new ≡ failed_once error (disk_of old)
 
--- an armed refusal in part fell, and nothing was done
+-- an armed partial failure fell, and nothing was done
 pub record ArmedPartFell (error : ErrorKind) (old new : MemoryFileSystem) : Type 0 where
   pub count : ℕ
   pub falls : PartFalls count (armed old)
   pub kind : error ≡ Other
   pub left : disk_of new ≡ failed_once error (disk_of old)
 
--- a stop fell that was armed to come before the call, and nothing was done
+-- an armed stop fell before the call, and nothing was done
 pub record ArmedStopFell (error : ErrorKind) (old new : MemoryFileSystem) : Type 0 where
   pub falls : (armed old).stop ≡ 1
   pub undone : (armed old).after ≡ false
   pub kind : error ≡ Other
   pub left : disk_of new ≡ at_stop (disk_of old)
 
--- what holds after a failure that was told as this kind: nothing was done, and it was counted, or is a stop where
+-- what holds after a failure that was reported as this kind: nothing was done, and it was counted, or became a stop if
 -- no more can be counted
 abbrev pub after_failure : ErrorKind → Kept → Kept
 after_failure error k = record k { disk = failed_once error k.disk }
@@ -138,11 +140,14 @@ after_failure error k = record k { disk = failed_once error k.disk }
 abbrev pub after_stop : Kept → Kept
 after_stop k = record k { disk = at_stop k.disk }
 
--- Why a changing call was refused, and what it left. It doesn't count, as the file system has stopped, which
--- is told as `Other`, or the argument is wrong, and nothing changed; or the armed stop fell; or an armed
--- refusal fell; or one in part; or nothing fell, and there was no room for what was asked. A failure is
--- counted as the error that is told, and a stop comes in its place only where the count would reach 2^64 - 1;
--- it isn't told as want of memory.
+-- Why a changing call failed, and what it left:
+-- - `uncounted`: the file system has stopped, which returns `Other`, or an argument is wrong. Nothing changed.
+-- - `stop_fell`: the armed stop fell.
+-- - `refusal_fell`: an armed failure fell.
+-- - `part_fell`: an armed partial failure fell.
+-- - `room_short`: nothing fell, and there was no room for the change.
+-- A failure is counted as the error that is returned. Only if the count would reach 2^64 - 1, a stop replaces it, and
+-- the error isn't out of memory.
 pub data IsRefusedCall (left_at_stop : ErrorKind → Kept → Type 0)
     (left_in_part : ℕ → ErrorKind → Kept → Type 0) (wrong no_room : ErrorKind → Type 0) (error : ErrorKind) (old new : MemoryFileSystem) : Type 0 where
   uncounted : IsAfterStop (disk_of old) error ⊎ wrong error → armed new ≡ armed old → kept new ≡ kept old
@@ -165,14 +170,13 @@ pub data IsRefusedCall (left_at_stop : ErrorKind → Kept → Type 0)
 abbrev pub Untouched : Kept → ErrorKind → Kept → Type 0
 Untouched old error left = (error ≡ Other) × (left ≡ old)
 
--- a call was done that is done whole or not at all, and the changes of all files stand in this order
+-- a call was done that is done whole or not at all, and the changes of all files are in this order
 pub record IsCallDone (done : Disk → Type 0) (changes : List (ℕ × Change)) (left : Kept) : Type 0 where
   pub disk : done left.disk
   pub order : left.unsynced ≡ changes
 
--- What a stop leaves of a call that is done whole or not at all. At a stop before it nothing was done. At one
--- after it the call was done, which is told as `Other`; it wasn't only where memory was short, and that is
--- `ResourceBusy`.
+-- What a stop leaves of a call that is done whole or not at all. After a stop before the call, nothing was done. At a
+-- stop after it, the call was done and returns `Other`; if memory ran out, it wasn't done and returns `ResourceBusy`.
 abbrev pub LeftAtStop : Bool → (Disk → Type 0) → List (ℕ × Change) → Kept → ErrorKind → Kept → Type 0
 LeftAtStop false done order old error left = Untouched old error left
 LeftAtStop true done order old error left =
@@ -183,16 +187,16 @@ pub record IsChangeMade (id : ℕ) (change : Change) (old left : Kept) : Type 0 
   pub disk : Changes id (after_change change) old.disk left.disk
   pub order : left.unsynced ≡ old.unsynced ++ (id, change) ∷ []
 
--- What a stop, before or after it, leaves of the write, shortening or growth that it falls at: the change is
--- made, and isn't synced; it isn't made only where there is no room for it, as where there is no space, and
--- then the error says so, but of want of memory `ResourceBusy`: `Other` is told of a change that is made.
+-- What a stop, before or after the call, leaves of a write, truncation or growth. The change is made but not synced,
+-- and the call returns `Other`. If there is no room for it, it isn't made; the call returns that error, but
+-- `ResourceBusy` if memory ran out.
 abbrev pub MadeUnlessShort : Type 0 → (ErrorKind → Type 0) → ℕ → Change → Kept → ErrorKind → Kept → Type 0
 MadeUnlessShort space no_room id change old error left =
     ((error ≡ Other) × space × IsChangeMade id change old left)
     ⊎ ((kind : ErrorKind) × no_room kind × IsToldAtStop kind error × (left ≡ old))
 
--- the first bytes of a write were written, and are the last change of all; the file isn't synced with the
--- whole write
+-- the first bytes of a write were written, and are the last change of all; the whole write counts as an unsynced change
+-- of the file
 pub record IsFrontMade (id at : ℕ) (bytes : List ℕ) (count : ℕ) (old left : Kept) : Type 0 where
   pub file : File
   pub is : old.disk.files id ≡ Some file
@@ -200,9 +204,8 @@ pub record IsFrontMade (id at : ℕ) (bytes : List ℕ) (count : ℕ) (old left 
       (overwritten at (take count bytes) file.content) file)) old.disk
   pub order : left.unsynced ≡ old.unsynced ++ (id, Wrote at (take count bytes)) ∷ []
 
--- What a refusal in part leaves of the change that it falls at: of a write so many of its first bytes were
--- written; they weren't only where there was no room, as where there was no space for the whole write, and
--- then the error says so. Of another change nothing was done.
+-- What a partial failure leaves of a change. A write wrote its first `count` bytes; if there was no room, as for lack
+-- of space for the whole write, it wrote none and returns that error. Any other change wasn't made.
 abbrev pub LeftInPart : Type 0 → (ErrorKind → Type 0) → ℕ → Change → Kept → ℕ → ErrorKind → Kept → Type 0
 LeftInPart space no_room id (Wrote at bytes) old count error left =
     ((error ≡ Other) × space × IsFrontMade id at bytes count old left)
@@ -210,7 +213,7 @@ LeftInPart space no_room id (Wrote at bytes) old count error left =
 LeftInPart space no_room id (ShortenedTo size) old count error left = Untouched old error left
 LeftInPart space no_room id (GrewTo size) old count error left = Untouched old error left
 
--- a refused call that is done whole or not at all
+-- a failed call that is done whole or not at all
 abbrev pub IsRefusedWhole : (Disk → Type 0) → List (ℕ × Change) → (ErrorKind → Type 0) → ErrorKind
     → MemoryFileSystem → MemoryFileSystem → Type 0
 IsRefusedWhole done order wrong error old new =
@@ -225,7 +228,7 @@ NoRoomFor id change old error = HasNoRoom (armed old).spaces id change (disk_of 
 abbrev pub HasSpaceFor : ℕ → Change → MemoryFileSystem → Type 0
 HasSpaceFor id change old = HasSpace (armed old).spaces id change (disk_of old)
 
--- a refused write, shortening or growth
+-- a failed write, truncation or growth
 abbrev pub IsRefusedChange : ℕ → Change → (ErrorKind → Type 0) → ErrorKind
     → MemoryFileSystem → MemoryFileSystem → Type 0
 IsRefusedChange id change wrong error old new =
@@ -233,9 +236,9 @@ IsRefusedChange id change wrong error old new =
     (LeftInPart (HasSpaceFor id change old) (NoRoomFor id change old) id change (kept old)) wrong
     (NoRoomFor id change old) error old new
 
--- How a call ended, of which it is told whether the file system stops at it and whether it was done: at a
--- stop the error is `Other` where it was done, and where it wasn't says why, but of want of memory
--- `ResourceBusy`; else it wasn't done, and that is a failure.
+-- How a call ended: `stops` is whether the file system stops at it, `done` whether it was done. At a stop, the error is
+-- `Other` if the call was done. If it wasn't, the error says why, but it is `ResourceBusy` if memory ran out. Without a
+-- stop the call wasn't done, and that is a failure.
 pub data IsEnded {E : Type 0} (kind_of : E → ErrorKind) (stops : Bool) (done : Result (Unit {0}) E)
     (error : ErrorKind) (old new : Disk) : Type 0 where
   at_the_stop : stops ≡ true → MatchResult done (λ v. error ≡ Other) (λ e. IsToldAtStop (kind_of e) error)
@@ -247,6 +250,6 @@ pub data IsEnded {E : Type 0} (kind_of : E → ErrorKind) (stops : Bool) (done :
 abbrev pub IsChangeEnded : Bool → Result (Unit {0}) ErrorKind → ErrorKind → Disk → Disk → Type 0
 IsChangeEnded = IsEnded (λ kind. kind)
 
--- how a call ended that is done whole or not at all: it isn't done for want of memory alone
+-- how a call ended that is done whole or not at all: it fails only if memory runs out
 abbrev pub IsCallEnded : Bool → Result (Unit {0}) AllocError → ErrorKind → Disk → Disk → Type 0
 IsCallEnded = IsEnded (λ none. OutOfMemory)

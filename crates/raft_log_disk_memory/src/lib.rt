@@ -1,6 +1,5 @@
-//! A file system in memory, for tests and for simulated crashes: its calls can be refused, whole or in part, it can
-//! stop at any call, places of its files can be made unreadable, and it tells what a crash then leaves of its names,
-//! its files and the changes that aren't synced.
+//! A file system in memory, for tests and simulated crashes. Calls can be made to fail, whole or in part; it can stop
+//! at any call; places of its files can be made unreadable. After a stop it gives what a crash leaves.
 #![tactic(auto)]
 
 pub mod memory;

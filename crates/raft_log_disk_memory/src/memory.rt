@@ -1,4 +1,4 @@
-//! A file system in memory: its parts, how it is made, and what a crash leaves of it.
+//! The file system in memory: its parts, its constructor, and what a crash leaves of it.
 
 mod calls;
 mod reading;
@@ -12,23 +12,22 @@ use raft_log_disk_storage::{Remainder, Storage};
 use std::alloc::{AllocError, Global};
 use std::collections::BTreeMap;
 
-/// A file system in memory, for tests and for simulated crashes. It has no directory at first.
+/// A file system in memory, for tests and simulated crashes. It has no directory at first.
 #[derive(Drop)]
 pub struct MemoryFileSystem {
     storage: Storage,
     failures: u64,
     kinds: Kinds,
     stopped: bool,
-    // How many changing calls there are up to each one that is refused, up to each one that is refused in
-    // part, with the number of bytes that a write there writes, and up to the one at which it stops, or 0;
-    // and whether the call at which it stops is done.
+    // How many changing calls there are up to each failure; up to each partial failure, with the number of bytes that a
+    // write writes there; and up to the stop, or 0. `after`: whether the call at the stop is done.
     refusals: Vec<u64>,
     parts: Vec<(u64, usize)>,
     stop: u64,
     after: bool,
     // The places that can't be read, each with its file's node number.
     denied: Vec<(usize, usize)>,
-    // How many bytes the files of a directory may have in all, for those for which it is set.
+    // How many bytes the files of a directory may have in all, for each directory that has a limit.
     spaces: BTreeMap<String, u64>,
     ghost whole: { IsStorageSound storage } by { IsWhole-prop storage },
 }
@@ -41,7 +40,7 @@ impl MemoryFileSystem {
     ghost use Rattle.raft_log_disk_memory.specs.Memory.{disk_of, unsynced};
     ghost use Rattle.raft_log_disk_memory.specs.Turns.{armed, nothing_armed};
 
-    /// A file system with no directory and no file.
+    /// A file system without directories and files.
     pub fn new(alloc: Global) -> MemoryFileSystem
         ensures empty { disk_of result ≡ empty_disk }
         ensures synced { unsynced result ≡ [] }
@@ -61,17 +60,17 @@ impl MemoryFileSystem {
         }
     }
 
-    /// How many failures were counted: refused changing calls, but for an argument that was wrong.
+    /// How many failures were counted: changing calls that failed, except for a wrong argument.
     pub fn failures(&self) -> u64
         ensures { result ≡ (disk_of self.now).failures }
     {
         self.failures
     }
 
-    /// The file system that a restart finds after a crash at this moment, which leaves of the changes that
-    /// weren't synced what is said. The names are as they stand, a gap before what is left of a write is
-    /// zeros, no fault is armed, each place can be read, no space is set and no failure is counted. It is
-    /// refused for want of memory alone.
+    /// The file system that a restart finds after a crash now; `what` chooses what is left of the unsynced changes.
+    /// Fails only if memory runs out.
+    /// - The names are unchanged, and a gap before what is left of a write is zeros.
+    /// - No fault is armed, each place can be read, no space is set, and no failure is counted.
     pub fn remainder(&self, what: &Remainder) -> Result<MemoryFileSystem, AllocError>
         ensures exact { IfOk result (IsLeftOf what.now self.now) }
         ensures synced { IfOk result (λ after. unsynced after ≡ []) }

@@ -6,13 +6,13 @@ use Rattle.raft_log_disk_storage.specs.declared.change.Change.{Change}
 use Rattle.raft_log_disk_storage.specs.declared.change.Change.TheVariants.{Write, Shortening, Growth}
 use Rattle.raft_log_disk_storage.specs.declared.change.Stamped.{Stamped}
 
--- a write with more bytes behind its own; another change as it is
+-- a write with more bytes after its own; another change unchanged
 abbrev pub with_rest : disk.Change → List ℕ → disk.Change
 with_rest (Wrote at bytes) rest = Wrote at (bytes ++ rest)
 with_rest (ShortenedTo size) rest = ShortenedTo size
 with_rest (GrewTo size) rest = GrewTo size
 
--- a change as it was made, and as it was asked for: of a write that was refused the front may have landed
+-- a change as it was made, and as it was asked for: a write that failed may have written only a prefix of its bytes
 abbrev pub IsLanded : disk.Change → disk.Change → Type 0
 IsLanded landed asked = (rest : List ℕ) × (asked ≡ with_rest landed rest)
 
@@ -22,7 +22,7 @@ change_of (Write offset rest) bytes = Wrote offset bytes
 change_of (Shortening size) bytes = ShortenedTo size
 change_of (Growth size) bytes = GrewTo size
 
--- the bytes behind these that were asked for too, of a write that was refused
+-- the bytes after these that a failed write was also asked to write
 abbrev pub rest_of : Change → List ℕ
 rest_of (Write offset rest) = rest.items
 rest_of (Shortening size) = []
@@ -32,14 +32,14 @@ rest_of (Growth size) = []
 abbrev pub asked_of : Change → List ℕ → disk.Change
 asked_of change bytes = with_rest (change_of change bytes) (rest_of change)
 
--- so many bytes that a write put into a content stand there
+-- the bytes that a write of `count` bytes put into a content, read from the content after it
 abbrev pub bytes_in : Change → ℕ → List ℕ → List ℕ
 bytes_in (Write offset rest) count after = take count (drop offset after)
 bytes_in (Shortening size) count after = []
 bytes_in (Growth size) count after = []
 
--- a change as it was made, the bytes behind it that were asked for too, and how many changes of any file were
--- made before it
+-- A change as it was made. `rest` are the bytes after it that were also asked for; `stamp` is how many changes of any
+-- file were made before it.
 pub record Made : Type 0 where
   pub stamp : ℕ
   pub change : disk.Change

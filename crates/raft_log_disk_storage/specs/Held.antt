@@ -18,8 +18,8 @@ pub record Held : Type 0 where
   pub synced : List ℕ
   pub changes : List Made
 
--- the content before these changes, which stand the oldest first, from the one after them: the last one is
--- taken back first
+-- the content before these changes, from the content after them: the changes are listed oldest first, and the last one
+-- is undone first
 abbrev pub before : List Stamped → List ℕ → List ℕ
 before [] content = content
 before (u ∷ us) content = restored u.former (before us content)
@@ -42,7 +42,7 @@ made_in (u ∷ us) content = made_of u (written u us content) ∷ made_in us con
 abbrev pub items_of : List (Vec ℕ Global) → List (List ℕ)
 items_of strings = map (λ (v : Vec ℕ Global). v.items) strings
 
--- what is kept of a file: the content, and, by taking back the changes, what was synced and what they wrote
+-- what is kept of a file: its content, and, by undoing the changes, what was synced and what each change wrote
 abbrev pub held : Stored → Held
 held stored = record {
   content = stored.content;
@@ -54,33 +54,32 @@ held stored = record {
 abbrev pub resting : List ℕ → Held
 resting bytes = record { content = bytes; synced = bytes; changes = [] }
 
--- the file with a node number, where it is there
+-- the file with a node number, if it exists
 abbrev pub held_of : List (Option Stored) → ℕ → Option Held
 held_of files id = option_map held (get_or files id None)
 
--- the file with a node number, where it is there, is so
+-- if the file with this node number exists, it satisfies `P`
 abbrev pub IfHeld : List (Option Stored) → ℕ → (Held → Type 0) → Type 0
 IfHeld files id P = (file : Held) → held_of files id ≡ Some file → P file
 
--- of each node number the one files have what the others have
+-- at each node number, the new files have what the old files have
 abbrev pub SameHeld : List (Option Stored) → List (Option Stored) → Type 0
 SameHeld old new = (q : ℕ) → held_of new q ≡ held_of old q
 
--- of each node number but one the one files have what the others have; at that the file is another one, or
--- none
+-- the new files have `file` at node number `id`, a file or none, and what the old files have at all others
 abbrev pub PutsHeld : ℕ → Option Held → List (Option Stored) → List (Option Stored) → Type 0
 PutsHeld id file old new = (q : ℕ) → held_of new q ≡ update nat_eq (held_of old) id file q
 
--- of each node number but one the one files have what the others have; at that the file, if there is one, has
--- become another one
+-- the new files have what the old files have, except that the file at node number `id`, if it exists, is changed by
+-- `becomes`
 abbrev pub ChangesHeld : ℕ → (Held → Held) → List (Option Stored) → List (Option Stored) → Type 0
 ChangesHeld id becomes old new = PutsHeld id (option_map becomes (held_of old id)) old new
 
--- of each node number the one files have what the others become
+-- at each node number, the new files have the old file changed by `becomes`
 abbrev pub AllBecome : (Held → Held) → List (Option Stored) → List (Option Stored) → Type 0
 AllBecome becomes old new = (q : ℕ) → held_of new q ≡ option_map becomes (held_of old q)
 
--- the file with one more change, of which more may have been asked for
+-- the file with one more change; more bytes (`rest`) may have been asked for
 abbrev pub with_made : ℕ → Change → List ℕ → Held → Held
 with_made stamp change rest file = record {
   content = changed change file.content;
@@ -104,17 +103,17 @@ landed_in made = map (λ (m : Made). m.change) made
 abbrev pub AreShort : List Made → Type 0
 AreShort made = All (λ c. end_of c < file_limit) (changes_in made)
 
--- the file as the disk has it
+-- the file as the disk sees it
 abbrev pub file_of : Held → File
 file_of file = record { content = file.content; synced = file.synced; changes = changes_in file.changes }
 
 -- Bytes.
 
--- what is read of a file from a place on: as much as the room and the file have
+-- how many bytes a read at an offset returns: as many as fit in the room and the file has
 abbrev pub ReadsNumber : List (Option Stored) → ℕ → ℕ → ℕ → ℕ → Type 0
 ReadsNumber files id at room count = IfHeld files id (λ file. count ≡ min room (length file.content - at))
 
--- the room has so many bytes of the file at its front, and behind them what it had
+-- the room begins with `count` bytes of the file; after them it is unchanged
 abbrev pub ReadsFront : List (Option Stored) → ℕ → ℕ → ℕ → List ℕ → List ℕ → Type 0
 ReadsFront files id at count before after =
     IfHeld files id (λ file. after ≡ take count (drop at file.content) ++ drop count before)

@@ -14,13 +14,13 @@ pub record IsChild (directory path : List ℕ) (node : Node) (name : List ℕ) :
   pub plain : IsPlain name
   pub file : file_named (Some node) ≡ None → ⊥
 
--- what is told of a path is its name in the directory, if it is that of a file there
+-- the result is the name of the file at this path, if that is a file in the directory, and none otherwise
 abbrev pub TellsChild : List ℕ → List ℕ → Node → Option (Bor (List ℕ)) → Type 0
 TellsChild directory path node told =
     MatchOption told ((name : List ℕ) → IsChild directory path node name → ⊥) (λ name.
     IsChild directory path node name.now)
 
--- the names are those of the directory's files among the entries, in their order
+-- the names are those of the directory's files among the entries, in the entries' order
 abbrev pub ListsNames : List ℕ → List (String Global × Node) → List (List ℕ) → Type 0
 ListsNames directory [] names = names ≡ []
 ListsNames directory (e ∷ es) names =

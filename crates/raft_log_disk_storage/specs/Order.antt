@@ -1,4 +1,4 @@
--- The changes of all files that aren't synced, in the order of the calls, each with its file's node number.
+-- The unsynced changes of all files in the order of the calls, each with its file's node number.
 use Rattle.std.specs.Prelude.{◌≡◌, ℕ, ◌<◌, ◌≤◌, not, zero, suc, Option, Some, None, List, [], ◌∷◌, ◌++◌}
 use Rattle.std.specs.List.{filter}
 use Rattle.std.proofs.Common.{map, nat_eq}
@@ -35,7 +35,7 @@ abbrev pub Rises : ℕ → ℕ → List Made → Type 0
 Rises low next [] = Unit {0}
 Rises low next (m ∷ ms) = (low ≤ m.stamp) × (m.stamp < next) × Rises (suc m.stamp) next ms
 
--- the stamps rise in each file, and no two files have one in common
+-- the stamps rise in each file, and no two files share a stamp
 pub record AreStamped (next : ℕ) (files : ℕ → Option Held) : Type 0 where
   pub rise : (id : ℕ) (file : Held) → files id ≡ Some file → Rises 0 next file.changes
   pub alone : (a b stamp : ℕ) → (with_stamp stamp a (files a) ≡ [] → ⊥)

@@ -1,5 +1,5 @@
--- The stamps of all changes, which tell a change's place in the order of the calls, and what is left of a
--- file by them.
+-- The stamps of all changes, which give each change's place in the order of the calls, and what is left of a file by
+-- them.
 use Rattle.std.specs.Prelude.{ℕ, suc, zero, Option, Some, None, List, [], ◌∷◌, ◌++◌, length}
 use Rattle.std.specs.List.{filter}
 use Rattle.std.proofs.Common.{map, nat_lt}
@@ -11,7 +11,7 @@ use Rattle.raft_log_disk_storage.specs.declared.files.Stored.{Stored}
 use Rattle.std.specs.List.Sorted.{IsPermutation}
 use Rattle.raft_log_disk_storage.specs.Left.{left_by}
 
--- the stamps of changes, as they are kept
+-- the stamps of changes as they are stored
 abbrev pub stamps_on : List Stamped → List ℕ
 stamps_on changes = map (λ (u : Stamped). u.stamp) changes
 
@@ -19,7 +19,7 @@ stamps_on changes = map (λ (u : Stamped). u.stamp) changes
 abbrev pub stamps_in : List Made → List ℕ
 stamps_in made = map (λ (m : Made). m.stamp) made
 
--- the stamps of a file's changes, and none where the file isn't there
+-- the stamps of a file's changes; none if the file doesn't exist
 abbrev pub file_stamps : Option Held → List ℕ
 file_stamps None = []
 file_stamps (Some file) = stamps_in file.changes
@@ -29,7 +29,7 @@ abbrev pub stamps_of : (ℕ → Option Held) → ℕ → List ℕ
 stamps_of files zero = []
 stamps_of files (suc id) = stamps_of files id ++ file_stamps (files id)
 
--- how many stamps are below one
+-- how many of the stamps are below this one
 abbrev pub place_in : List ℕ → ℕ → ℕ
 place_in stamps stamp = length (filter (λ other. nat_lt other stamp) stamps)
 
@@ -37,12 +37,12 @@ place_in stamps stamp = length (filter (λ other. nat_lt other stamp) stamps)
 abbrev pub HasAllStamps : List (Option Stored) → List ℕ → Type 0
 HasAllStamps files stamps = IsPermutation (stamps_of (held_of files) (length files)) stamps
 
--- what a file's changes leave of a content, where their places are told by their stamps
+-- what a file's changes leave of a content, if each change's place follows from its stamp
 abbrev pub left_own : Remainder → (ℕ → ℕ) → List Made → List ℕ → List ℕ
 left_own what place [] old = old
 left_own what place (m ∷ ms) old = left_own what place ms (left_by what (place m.stamp) m.change old)
 
--- what is left of a file's bytes, where the stamps of all changes are these
+-- what is left of a file's bytes, if these are the stamps of all changes
 abbrev pub left_of_file : Remainder → List ℕ → Held → List ℕ
 left_of_file what stamps file = left_own what (place_in stamps) file.changes file.synced
 

@@ -2,6 +2,6 @@
 use Rattle.std.specs.Prelude.{◌≡◌, ℕ, ◌≤◌, List, length, take}
 use Rattle.raft_log_disk.specs.Disk.{grown}
 
--- behind the first so many bytes all are zeros
+-- after the first `count` bytes all are zeros
 abbrev pub HasZerosBehind : ℕ → List ℕ → Type 0
 HasZerosBehind count bytes = (count ≤ length bytes) × (bytes ≡ grown (length bytes) (take count bytes))

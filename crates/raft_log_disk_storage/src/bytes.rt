@@ -5,7 +5,7 @@ ghost use Rattle.raft_log_disk.specs.Disk.{grown, overwritten};
 
 use std::alloc::AllocError;
 
-// Fills up with zeros to a size. Without memory nothing changes.
+// Extends the bytes with zeros to a size. If memory runs out, nothing changes.
 pub(crate) fn grow_to(bytes: &mut Vec<u8>, size: usize) -> Result<(), AllocError>
     ensures { bytes.new.items ≡ (if is_ok result then grown size bytes.old.items else bytes.old.items) }
 {
@@ -16,7 +16,7 @@ pub(crate) fn grow_to(bytes: &mut Vec<u8>, size: usize) -> Result<(), AllocError
     }
 }
 
-// Puts bytes over the ones that stand from `at` on, with zeros in a gap. Without memory nothing changes.
+// Overwrites bytes from `at` on, with zeros in a gap. If memory runs out, nothing changes.
 pub(crate) fn overwrite(bytes: &mut Vec<u8>, at: usize, over: &[u8]) -> Result<(), AllocError>
     requires { at + length over.now < 2 ^ 64 }
     ensures ok { OnOk result (bytes.new.items ≡ overwritten at over.now bytes.old.items) }
@@ -34,7 +34,7 @@ pub(crate) fn overwrite(bytes: &mut Vec<u8>, at: usize, over: &[u8]) -> Result<(
     Ok(())
 }
 
-// Whether there are bytes, and all of them are zeros.
+// If this returns true, there are bytes, and all of them are zeros.
 pub(crate) fn are_zeros(bytes: &[u8]) -> bool
     ensures some { IsTrue result → 0 < length bytes.now }
     ensures zeros { IsTrue result → All (λ byte. byte ≡ 0) bytes.now }
@@ -43,14 +43,14 @@ pub(crate) fn are_zeros(bytes: &[u8]) -> bool
     !bytes.is_empty() && are_zero_chunks(chunks) && rest.iter().all(|byte| *byte == 0)
 }
 
-// Whether all bytes of these chunks are zeros: each is looked at as one number.
+// If this returns true, all bytes of these chunks are zeros: compares each chunk as one number.
 fn are_zero_chunks(chunks: &[[u8; 16]]) -> bool
     ensures { IsTrue result → All (All (λ byte. byte ≡ 0)) chunks.now }
 {
     chunks.iter().all(|chunk| u128::from_le_bytes(*chunk) == 0)
 }
 
-// Copies the bytes from `offset` on until the room is full or they end, and answers how many.
+// Copies the bytes from `offset` on until the room is full or they end. Returns how many.
 pub(crate) fn copy_out(content: &[u8], offset: usize, room: &mut [u8]) -> usize
     ensures number { result ≡ min (length room.old) (length content.now - offset) }
     ensures bytes { room.new ≡ take result (drop offset content.now) ++ drop result room.old }

@@ -7,22 +7,22 @@ use crate::content::Content;
 use crate::former::Former;
 use std::alloc::{AllocError, Global};
 
-/// A change of a file's bytes. What a write puts there isn't kept with it.
+/// A change of a file's bytes. It doesn't keep the bytes that a write puts there.
 #[derive(Debug, Drop)]
 pub enum Change {
-    /// Bytes over the ones that stand from a place on, with zeros in a gap.
+    /// Overwrites bytes from an offset on, with zeros in a gap.
     Write {
-        /// The place.
+        /// The offset in bytes.
         offset: usize,
-        /// The bytes behind these that were handed in too, of a write that was refused when these had landed.
+        /// The bytes of a failed write that were not written: the suffix of what the caller passed.
         rest: Vec<u8>,
     },
-    /// What stands past a size goes.
+    /// Truncates the file to a size.
     Shortening {
         /// The size in bytes.
         size: usize,
     },
-    /// A shorter file is filled up with zeros.
+    /// Extends a shorter file with zeros.
     Growth {
         /// The file's size then, in bytes.
         size: usize,
@@ -36,7 +36,7 @@ pub struct Stamped {
     pub stamp: u64,
     /// What is changed.
     pub change: Change,
-    /// How many bytes the change wrote. They stand in the content after it.
+    /// How many bytes the change wrote. They are in the content after it.
     pub length: usize,
     /// What the change replaced.
     pub former: Former,
@@ -47,7 +47,7 @@ impl Change {
     ghost use Rattle.raft_log_disk_storage.specs.Former.{Restores, replaced};
     ghost use Rattle.raft_log_disk_storage.specs.Left.{left_front, left_as};
 
-    // Makes the change, a write with these bytes. Without memory nothing changes.
+    // Makes the change; `bytes` are a write's. If memory runs out, nothing changes.
     pub(crate) fn carry_out(&self, bytes: &[u8], content: &mut Content) -> Result<(), AllocError>
         requires { end_of (change_of self.now bytes.now) < file_limit }
         ensures ok { OnOk result
@@ -64,7 +64,7 @@ impl Change {
         }
     }
 
-    // Makes the first bytes of a write, and nothing of another change.
+    // Makes the first `count` bytes of a write; other changes are not made.
     pub(crate) fn carry_out_front(
         &self,
         count: usize,
@@ -83,7 +83,7 @@ impl Change {
         }
     }
 
-    // Makes a write of other bytes in place of its own, or another change.
+    // Writes other bytes in place of a write's own; other changes are made whole.
     pub(crate) fn carry_out_as(
         &self,
         other: &[u8],
@@ -104,7 +104,7 @@ impl Change {
         }
     }
 
-    // What the change is about to replace in a content.
+    // What the change will replace in a content.
     pub(crate) fn former(
         &self,
         alloc: Global,
@@ -119,7 +119,7 @@ impl Change {
         Former::of(alloc, size, front, start, end)
     }
 
-    // Which places the change replaces of a content whose front has this size: from the first one up to the second.
+    // Which places the change replaces in a content whose front has this size: from the first one up to the second.
     fn replaced(&self, bytes: &[u8], size: usize) -> (usize, usize)
         requires { size < 2 ^ 63 }
         ensures { result ≡ replaced (change_of self.now bytes.now) size }
@@ -134,7 +134,7 @@ impl Change {
         }
     }
 
-    // The bytes that a write of so many left in a content.
+    // The bytes that a write of this length left in a content.
     fn bytes_in(
         &self,
         alloc: Global,
@@ -154,7 +154,7 @@ impl Stamped {
     ghost use Rattle.raft_log_disk_storage.specs.Former.{restored};
     ghost use Rattle.raft_log_disk_storage.specs.Changes.{bytes_in};
 
-    // Takes the change back, and answers which bytes it wrote.
+    // Undoes the change, and returns the bytes that it wrote.
     pub(crate) fn take_back(
         &self,
         alloc: Global,

@@ -1,4 +1,4 @@
-//! A file's bytes, of which the zeros at the end are only counted, or wait for what is put over them.
+//! A file's bytes. Zeros at the end are only counted, or allocated and waiting to be overwritten.
 ghost use Rattle.std.specs.Prelude.{◌≡◌, ◌+◌, ◌-◌, ◌++◌, ◌<◌, ◌≤◌, ◌^◌, min, take, drop, length, OnOk, OnErr, IfOk};
 ghost use Rattle.raft_log_disk.specs.Disk.{grown, overwritten};
 
@@ -9,9 +9,9 @@ use std::marker::Model;
 // Each file is shorter than this.
 const LIMIT: usize = 1 << 63;
 
-/// A file's bytes, which contracts see as a list. Behind the last one that was written are zeros. Those that
-/// were allocated stand nowhere: room is kept for them. Those that were written stand in memory, so that what
-/// is written over them later waits for none. Either way a write puts its bytes there over nothing.
+/// A file's bytes, which contracts see as a list. After the last written byte all are zeros.
+/// - Zeros from `grow` are not stored: only capacity is reserved for them.
+/// - Zeros that were written are in memory, so that a later write over them needs no allocation.
 #[derive(Debug, Drop)]
 pub struct Content {
     front: Vec<u8>,
@@ -33,7 +33,7 @@ impl Model for Content {
 }
 
 impl Content {
-    /// These bytes, without a copy.
+    /// A content with these bytes, which aren't copied.
     pub fn from_vec(bytes: Vec<u8>) -> Content
         ensures { result ≡ bytes.items }
     {
@@ -45,7 +45,7 @@ impl Content {
         }
     }
 
-    // The same bytes once more, with room for the zeros at their end.
+    // A copy of the bytes, with capacity for the zeros at their end.
     pub(crate) fn copied(&self, alloc: Global) -> Result<Content, AllocError>
         ensures { IfOk result (λ copy. copy ≡ self.now) }
     {
@@ -68,7 +68,7 @@ impl Content {
         self.size
     }
 
-    // The bytes at the front; all behind them are zeros.
+    // The bytes at the front; all bytes after them are zeros.
     pub(crate) fn front(&self) -> &[u8]
         ensures all { self.now ≡ grown (length self.now) result.now }
         ensures within { length result.now ≤ length self.now }
@@ -77,7 +77,7 @@ impl Content {
         &self.front[..self.written]
     }
 
-    // Copies the bytes from `offset` on until the room is full or they end, and answers how many.
+    // Copies the bytes from `offset` on until the room is full or they end. Returns how many.
     pub(crate) fn copy_out(&self, offset: usize, room: &mut [u8]) -> usize
         ensures number { result ≡ min (length room.old) (length self.now - offset) }
         ensures bytes { room.new ≡ take result (drop offset self.now) ++ drop result room.old }
@@ -90,7 +90,7 @@ impl Content {
         count
     }
 
-    // So many bytes from `offset` on, as far as there are any.
+    // At most `count` bytes from `offset` on; fewer if the content ends first.
     pub(crate) fn piece(
         &self,
         alloc: Global,
@@ -105,8 +105,8 @@ impl Content {
         Ok(piece)
     }
 
-    // Puts bytes over the ones that stand from `offset` on, with zeros in a gap. Without memory nothing changes.
-    // Zeros behind the bytes at the front stay behind them.
+    // Overwrites bytes from `offset` on, with zeros in a gap. If memory runs out, nothing changes. Zeros written after
+    // the front are not added to it.
     pub(crate) fn write(&mut self, offset: usize, over: &[u8]) -> Result<(), AllocError>
         requires { offset + length over.now < 2 ^ 64 }
         ensures ok { OnOk result (self.new ≡ overwritten offset over.now self.old) }
@@ -122,7 +122,7 @@ impl Content {
         Ok(())
     }
 
-    // Fills up with zeros to a size, all of which stand in memory then. Without memory nothing changes.
+    // Extends the content with zeros to a size, all of them in memory. If memory runs out, nothing changes.
     fn fill(&mut self, size: usize) -> Result<(), AllocError>
         requires { size < 2 ^ 63 }
         ensures ok { OnOk result (self.new ≡ grown size self.old) }
@@ -133,7 +133,7 @@ impl Content {
         Ok(())
     }
 
-    // Lets go what stands past a size.
+    // Truncates the content to a size.
     pub(crate) fn shorten(&mut self, size: usize)
         ensures { self.new ≡ take size self.old }
     {
@@ -142,7 +142,7 @@ impl Content {
         self.size = self.size.min(size);
     }
 
-    // Fills up with zeros to a size, for which room is made. Without memory nothing changes.
+    // Extends the content with zeros to a size, and reserves capacity for them. If memory runs out, nothing changes.
     pub(crate) fn grow(&mut self, size: usize) -> Result<(), AllocError>
         requires { size < 2 ^ 63 }
         ensures ok { OnOk result (self.new ≡ grown size self.old) }

@@ -1,4 +1,4 @@
-//! The files by their node numbers; none at a number whose file is gone.
+//! The files by their node numbers; none at a number whose file was deleted.
 ghost use Rattle.std.specs.Prelude.{◌≡◌, ◌<◌, [], IfOk, OnOk, OnErr, vec_len, length, map, reverse};
 ghost use Rattle.raft_log_disk.specs.Disk.{file_limit};
 ghost use Rattle.raft_log_disk.specs.Image.{end_of};
@@ -9,13 +9,12 @@ use crate::change::{Change, Stamped};
 use crate::content::Content;
 use std::alloc::{AllocError, Global};
 
-/// A file's bytes. Each stands here once: what was synced, and what the changes since wrote, is had from the
-/// content by taking back these changes.
+/// A file's bytes, kept once: undoing the changes gives what was synced and what each change wrote.
 #[derive(Debug, Drop)]
 pub struct Stored {
-    /// As a read gives them.
+    /// As a read returns them.
     pub content: Content,
-    /// What was changed since the last sync, the oldest first.
+    /// The changes since the last sync, the oldest first.
     pub changes: Vec<Stamped>,
 }
 
@@ -32,7 +31,7 @@ impl Stored {
         }
     }
 
-    // Makes a change, a write with these bytes. Without memory nothing changes.
+    // Makes a change; `bytes` are a write's. If memory runs out, nothing changes.
     fn make(
         &mut self,
         alloc: Global,
@@ -59,7 +58,7 @@ impl Stored {
         Ok(())
     }
 
-    // Makes what is synced the content.
+    // Syncs the content.
     fn flush(&mut self)
         ensures { held self.new ≡ all_synced (held self.old) }
     {
@@ -67,7 +66,7 @@ impl Stored {
     }
 }
 
-// Makes what is synced of one file its content.
+// Syncs the content of one file.
 pub(crate) fn flush_file(files: &mut Vec<Option<Stored>>, id: usize)
     requires there { id < vec_len files.old }
     ensures len { vec_len files.new ≡ vec_len files.old }
@@ -78,7 +77,7 @@ pub(crate) fn flush_file(files: &mut Vec<Option<Stored>>, id: usize)
     }
 }
 
-// Makes a change of one file, a write with these bytes. Without memory nothing changes.
+// Makes a change of one file; `bytes` are a write's. If memory runs out, nothing changes.
 pub(crate) fn change_file(
     files: &mut Vec<Option<Stored>>,
     alloc: Global,

@@ -4,17 +4,17 @@ ghost use Rattle.std.specs.Prelude.{◌≡◌, ◌+◌, ◌-◌, ◌<◌, ◌≤
 use crate::content::Content;
 use std::alloc::{AllocError, Global};
 
-/// What a change put other bytes over, or cut. By it the content before the change is had from the one after
-/// it, so that no byte that stands in the content is kept a second time, nor any of the zeros at its end.
+/// What a change overwrote or truncated. It gives the content before the change from the content after it. No byte that
+/// is still in the content is kept twice, and no zero at its end.
 #[derive(Debug, Drop)]
 pub struct Former {
     /// How many bytes the content had.
     pub size: usize,
-    /// How many it had in front of the zeros at its end.
+    /// How many of them come before the zeros at its end.
     pub front: usize,
-    /// The place of the first one that is kept here.
+    /// The offset of the first byte that is kept here.
     pub place: usize,
-    /// The bytes from there on that were overwritten or cut.
+    /// The bytes from there on that were overwritten or truncated.
     pub bytes: Vec<u8>,
     ghost inside: { place + vec_len bytes ≤ size },
     ghost short: { size < 2 ^ 63 },
@@ -23,7 +23,7 @@ pub struct Former {
 impl Former {
     ghost use Rattle.raft_log_disk_storage.specs.Former.{restored, Keeps};
 
-    // Keeps the bytes from `start` up to `end` of the front of a content that has so many bytes.
+    // Keeps the bytes from `start` up to `end` of a content of `size` bytes that begins with `front`.
     pub(crate) fn of(
         alloc: Global,
         size: usize,
@@ -45,7 +45,7 @@ impl Former {
         })
     }
 
-    // Makes the content the one before the change.
+    // Restores the content before the change.
     pub(crate) fn put_back(&self, content: &mut Content) -> Result<(), AllocError>
         ensures { OnOk result (content.new ≡ restored self.now content.old) }
     {

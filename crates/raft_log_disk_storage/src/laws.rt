@@ -1,8 +1,8 @@
-//! Laws of what a file system in memory holds.
+//! Laws of a storage in memory.
 ghost use Rattle.raft_log_disk_storage.specs.Storage.{OrderIsTheFiles};
 
-/// The changes of all files that aren't synced, which stand in the order of the calls, have of each file just
-/// its own ones, in its order; of a write that was refused in part, what landed.
+/// The unsynced changes of all files, in the order of the calls, have for each file exactly its own changes, in its
+/// order. If only part of a write was made, they have that part.
 pub fn order_has_each_files_changes()
     ensures { OrderIsTheFiles }
 {}

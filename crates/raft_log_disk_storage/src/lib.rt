@@ -1,5 +1,5 @@
-//! What a file system in memory holds: names, and of each file its content and the changes since its last sync, each
-//! with what it replaced. So it tells what is synced, and what a crash may leave in the order of all files' calls.
+//! The storage of the file system in memory: names, each file's content, and its changes since the last sync. Each
+//! change keeps what it replaced. The storage knows what is synced, and what a crash may leave.
 #![tactic(auto)]
 
 mod bytes;

@@ -1,4 +1,4 @@
-//! In which order the changes of all files were made.
+//! The order in which the changes of all files were made.
 ghost use Rattle.std.specs.Prelude.{◌≡◌, ◌++◌, IfOk, OnOk};
 ghost use Rattle.std.specs.List.Sorted.{IsNonDecreasing};
 ghost use Rattle.raft_log_disk_storage.specs.Stamps.{HasAllStamps, stamps_on, place_in};
@@ -22,7 +22,7 @@ pub(crate) fn sorted_stamps(alloc: Global, files: &[Option<Stored>]) -> Result<V
     Ok(stamps)
 }
 
-// Puts the stamps of a file's changes behind those that are there.
+// Appends the stamps of a file's changes.
 fn add_stamps(stamps: &mut Vec<u64>, changes: &[Stamped]) -> Result<(), AllocError>
     ensures { OnOk result (stamps.new.items ≡ stamps.old.items ++ stamps_on changes.now) }
 {
@@ -33,7 +33,7 @@ fn add_stamps(stamps: &mut Vec<u64>, changes: &[Stamped]) -> Result<(), AllocErr
     Ok(())
 }
 
-// How many of the stamps are below one.
+// How many of the stamps are below this one.
 pub(crate) fn place_of(stamps: &[u64], stamp: u64) -> usize
     requires { IsNonDecreasing stamps.now }
     ensures { result ≡ place_in stamps.now stamp }

@@ -1,14 +1,14 @@
 //! What a crash leaves, as a test chooses it.
 
-/// What a crash leaves of the changes that weren't synced. They stand in the order of the calls, over all
-/// files that still have a name.
+/// What a crash leaves of the unsynced changes. They are in the order of the calls, over all files that still have a
+/// name.
 #[derive(Debug, Drop)]
 pub enum Remainder {
-    /// No change: each file as it was synced.
+    /// No change: each file as it was last synced.
     LastSync,
     /// All changes.
     AllWritten,
-    /// The first changes whole; of the next one, where it is a write, its first bytes; the rest is lost.
+    /// The first changes whole, and of the next one, if it is a write, its first bytes. The rest is lost.
     First {
         /// How many are whole.
         pieces: usize,
@@ -26,6 +26,6 @@ pub enum Piece {
     Keep,
     /// Nothing.
     Lose,
-    /// Other bytes in its place, as many as it has at most; of a cut or an allocation, all of it.
+    /// Other bytes in place of a write's, at most as many. A truncation or an allocation is kept whole.
     Bytes(Vec<u8>),
 }

@@ -15,7 +15,7 @@ use crate::order::place_of;
 use crate::remainder::{Piece, Remainder};
 use std::alloc::{AllocError, Global};
 
-// Makes what is left of the change at a place in the order of the calls, of a write with these bytes.
+// Makes what is left of the change at this place in the order of the calls; `bytes` are a write's.
 fn carry_out(
     what: &Remainder,
     place: usize,
@@ -50,7 +50,7 @@ fn carry_out(
     }
 }
 
-// Takes back all changes, the last one first, and answers what they wrote, that of the last one first.
+// Undoes all changes, the last one first. Returns what they wrote, the last one first.
 fn take_back(
     alloc: Global,
     changes: &[Stamped],
@@ -70,7 +70,7 @@ fn take_back(
     Ok(pieces)
 }
 
-// What is left of a file's bytes, where the stamps of all changes are these.
+// What is left of a file's bytes, if these are the stamps of all changes.
 fn left_bytes(
     alloc: Global,
     what: &Remainder,
@@ -91,7 +91,7 @@ fn left_bytes(
     Ok(content)
 }
 
-// What is left of all files, where the stamps of all changes are these.
+// What is left of all files, if these are the stamps of all changes.
 pub(crate) fn left_files(
     alloc: Global,
     what: &Remainder,

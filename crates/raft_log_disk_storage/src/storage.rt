@@ -1,4 +1,4 @@
-//! What a file system in memory holds. Each change is made whole, or without memory not at all.
+//! What a file system in memory holds. Each change is made whole; if memory runs out, not at all.
 ghost use Rattle.raft_log_disk_storage.specs.Listing.{TellsChild};
 
 use crate::change::Change;
@@ -30,9 +30,9 @@ pub struct Storage {
     pub alloc: Global,
     /// What each path names.
     pub paths: BTreeMap<String, Node>,
-    /// The files by their node numbers; none at a number whose file is gone.
+    /// The files by their node numbers; none at a number whose file was deleted.
     pub files: Vec<Option<Stored>>,
-    /// How many changes of files were made so far. Each one's stamp says how many were made before it.
+    /// How many changes of files were made so far. A change's stamp is how many were made before it.
     pub made: u64,
 }
 
@@ -49,7 +49,7 @@ impl Storage {
     ghost use Rattle.raft_log_disk_storage.specs.Storage.{file_named, is_directory, node_at, SameNodes, PutsNode, contents_of, unsynced_of, IsStorageSound};
     ghost use Rattle.raft_log_disk_storage.specs.Steps.{IsSame, IsLeftBy, Makes, SyncsFile, AddsName, DropsName, MovesName, size_of, GrowsPast, IsRoomFault};
 
-    /// With no directory and no file.
+    /// A storage without directories and files.
     pub fn new(alloc: Global) -> Storage
         ensures contents { contents_of result ≡ empty_disk }
         ensures order { unsynced_of result ≡ [] }
@@ -63,14 +63,14 @@ impl Storage {
         }
     }
 
-    /// What a path names, where it names something.
+    /// What is at a path, if there is something.
     pub fn node(&self, path: &str) -> Option<Node>
         ensures { result ≡ node_at self.now path.now }
     {
         self.paths.get(path).copied()
     }
 
-    /// The node number of the file that has a name.
+    /// The node number of the file at a path.
     pub fn file(&self, path: &str) -> Option<usize>
         ensures { result ≡ file_named (node_at self.now path.now) }
     {
@@ -80,21 +80,21 @@ impl Storage {
         }
     }
 
-    /// Whether a file is there.
+    /// Whether a file exists.
     pub fn has(&self, id: usize) -> bool
         ensures { result ≡ is_some (held_of self.now.files.items id) }
     {
         id < self.files.len() && self.files[id].is_some()
     }
 
-    /// Whether a path names a directory.
+    /// Whether there is a directory at a path.
     pub fn is_directory(&self, path: &str) -> bool
         ensures { result ≡ is_directory (node_at self.now path.now) }
     {
         matches!(self.node(path), Some(Node::Directory))
     }
 
-    /// Whether a path's directory is there.
+    /// Whether a path's directory exists.
     pub fn has_directory(&self, path: &str) -> bool
         ensures { IsTrue result ↔ HasDirectory path.now (contents_of self.now) }
     {
@@ -104,8 +104,8 @@ impl Storage {
         }
     }
 
-    /// Copies the bytes of a file that is there from `offset` on, until the room is full or they end, and
-    /// answers how many. For a file that isn't there nothing is said.
+    /// Copies the bytes of a file from `offset` on, until the room is full or they end. Returns how many. The contract
+    /// covers only files that exist.
     pub fn read(&self, id: usize, offset: usize, room: &mut [u8]) -> usize
         ensures number { ReadsNumber self.now.files.items id offset (length room.old) result }
         ensures bytes { ReadsFront self.now.files.items id offset result room.old room.new }
@@ -118,7 +118,7 @@ impl Storage {
         0
     }
 
-    /// The size in bytes of a file; none where it isn't there.
+    /// The size of a file in bytes; 0 if it doesn't exist.
     pub fn size(&self, id: usize) -> usize
         ensures { result ≡ size_of ((contents_of self.now).files id) }
     {
@@ -130,7 +130,7 @@ impl Storage {
         0
     }
 
-    /// The names of the files in a directory. It is refused for want of memory alone.
+    /// The names of the files in a directory. Fails only if memory runs out.
     pub fn list(&self, directory: &str) -> Result<Vec<String>, AllocError>
         ensures names { IfOk result (λ names.
             ListsNames directory.now self.now.paths.entries (map string_bytes names.items)) }
@@ -145,7 +145,7 @@ impl Storage {
         Ok(names)
     }
 
-    /// What a crash leaves. It is refused for want of memory alone.
+    /// The storage that a crash leaves. Fails only if memory runs out.
     pub fn left(&self, what: &Remainder) -> Result<Storage, AllocError>
         requires { IsStorageSound self.now }
         ensures contents { IfOk result (IsLeftBy what.now self.now) }
@@ -164,8 +164,9 @@ impl Storage {
         })
     }
 
-    /// Writes into a file that is there, with zeros in a gap. It is refused as `StorageFull` where the file
-    /// would reach 2^63 bytes or grow by more than `free`, and as `OutOfMemory`.
+    /// Writes into a file that exists, with zeros in a gap. Nothing is written if it fails:
+    /// - `StorageFull`: the file would reach 2^63 bytes, or grow by more than `free`.
+    /// - `OutOfMemory`: memory ran out.
     pub fn write(
         &mut self,
         id: usize,
@@ -197,9 +198,10 @@ impl Storage {
             .map_err(|_| ErrorKind::OutOfMemory)
     }
 
-    /// Writes the first bytes of a write that is refused into a file that is there; the others count as asked
-    /// for. Nothing is written, as `StorageFull`, where the whole write would make the file reach 2^63
-    /// bytes or grow by more than `free`, and as `OutOfMemory`.
+    /// Writes the first `count` bytes of a write that fails, into a file that exists; the others count as asked for. If
+    /// it fails, nothing is written:
+    /// - `StorageFull`: the whole write would make the file reach 2^63 bytes, or grow by more than `free`.
+    /// - `OutOfMemory`: memory ran out.
     pub fn write_front(
         &mut self,
         id: usize,
@@ -233,7 +235,7 @@ impl Storage {
             .map_err(|_| ErrorKind::OutOfMemory)
     }
 
-    /// Shortens a file that is there to a size in bytes. It is refused as `OutOfMemory` alone.
+    /// Truncates a file that exists to a size in bytes. Fails only with `OutOfMemory`.
     pub fn shorten(&mut self, id: usize, size: usize) -> Result<(), ErrorKind>
         requires there { (held_of self.old.files.items id ≡ None) → ⊥ }
         requires whole { IsStorageSound self.old }
@@ -246,8 +248,9 @@ impl Storage {
             .map_err(|_| ErrorKind::OutOfMemory)
     }
 
-    /// Fills a file that is there up with zeros to `offset + size` bytes. It is refused as `StorageFull`
-    /// where these are 2^63 or more or the file would grow by more than `free`, and as `OutOfMemory`.
+    /// Extends a file that exists with zeros to `offset + size` bytes. If it fails, nothing changes:
+    /// - `StorageFull`: that is 2^63 bytes or more, or the file would grow by more than `free`.
+    /// - `OutOfMemory`: memory ran out.
     pub fn grow(
         &mut self,
         id: usize,
@@ -276,15 +279,15 @@ impl Storage {
             .map_err(|_| ErrorKind::OutOfMemory)
     }
 
-    // Whether a file would grow by more than `free` bytes, if it were to have so many.
+    // Whether a file would grow by more than `free` bytes if it got this size.
     fn grows_past(&self, id: usize, size: usize, free: u64) -> bool
         ensures { IsTrue result ↔ (size_of ((contents_of self.now).files id) + free < size) }
     {
         free < size.saturating_sub(self.size(id)) as u64
     }
 
-    // Makes a change of a file that is there, a write with these bytes. The 2^64-th one finds no stamp, and
-    // is refused as for want of memory.
+    // Makes a change of a file that exists; `bytes` are a write's. The change number 2^64 gets no stamp, and fails as
+    // if memory ran out.
     fn change(&mut self, id: usize, change: Change, bytes: &[u8]) -> Result<(), AllocError>
         requires there { (held_of self.old.files.items id ≡ None) → ⊥ }
         requires short { end_of (asked_of change bytes.now) < file_limit }
@@ -301,8 +304,8 @@ impl Storage {
         Ok(())
     }
 
-    /// Makes a file's bytes durable, at the cost of the number of its changes. It may be refused for want of
-    /// memory alone, though nothing is asked for now.
+    /// Makes a file's bytes durable, in time linear in the number of its changes. It may fail for lack of memory,
+    /// though the code asks for none now.
     pub fn flush(&mut self, id: usize) -> Result<(), AllocError>
         requires there { (held_of self.old.files.items id ≡ None) → ⊥ }
         requires whole { IsStorageSound self.old }
@@ -314,8 +317,8 @@ impl Storage {
         Ok(())
     }
 
-    /// Adds an empty file under a new name in a directory that is there; its node number is that of files
-    /// that were ever made. It is refused for want of memory alone.
+    /// Adds an empty file under a new name in a directory that exists. Its node number is the number of files ever
+    /// created. Fails only if memory runs out.
     pub fn add_file(&mut self, path: &str) -> Result<(), AllocError>
         requires free { node_at self.old path.now ≡ None }
         requires home { HasDirectory path.now (contents_of self.old) }
@@ -332,7 +335,7 @@ impl Storage {
         Ok(())
     }
 
-    /// Adds a directory under a new name. It is refused for want of memory alone.
+    /// Adds a directory under a new name. Fails only if memory runs out.
     pub fn add_directory(&mut self, path: &str) -> Result<(), AllocError>
         requires free { node_at self.old path.now ≡ None }
         requires whole { IsStorageSound self.old }
@@ -344,7 +347,7 @@ impl Storage {
         Ok(())
     }
 
-    /// Takes away a name and its file.
+    /// Deletes a name and its file.
     pub fn remove_file(&mut self, path: &str, id: usize)
         requires is { node_at self.old path.now ≡ Some (Node.File id) }
         requires whole { IsStorageSound self.old }
@@ -355,8 +358,8 @@ impl Storage {
         self.drop_file(id);
     }
 
-    /// Puts a file under another name, in a directory that is there; a file that had that name is gone. It is
-    /// refused for want of memory alone.
+    /// Renames a file to a path whose directory exists. Another file at that path is deleted. Fails only if memory runs
+    /// out.
     pub fn rename_file(&mut self, from: &str, to: &str, id: usize) -> Result<(), AllocError>
         requires is { node_at self.old from.now ≡ Some (Node.File id) }
         requires apart { node_at self.old to.now ≡ Some Node.Directory → ⊥ }
@@ -381,7 +384,7 @@ impl Storage {
         }
     }
 
-    // Takes away a file.
+    // Deletes a file.
     fn drop_file(&mut self, id: usize)
         ensures nodes { SameNodes self.old self.new }
         ensures len { vec_len self.new.files ≡ vec_len self.old.files }
@@ -393,7 +396,7 @@ impl Storage {
         }
     }
 
-    // Takes away a name.
+    // Deletes a name.
     fn unname(&mut self, path: &str)
         ensures files { self.new.files ≡ self.old.files }
         ensures made { self.new.made ≡ self.old.made }
@@ -402,7 +405,7 @@ impl Storage {
         self.paths.remove(path);
     }
 
-    // Puts a name.
+    // Adds a name, or replaces what it names.
     fn name(&mut self, path: &str, node: Node) -> Result<(), AllocError>
         ensures files { self.new.files ≡ self.old.files }
         ensures made { self.new.made ≡ self.old.made }
@@ -417,7 +420,7 @@ impl Storage {
     }
 }
 
-/// The name in a directory, where the path is that of a file there.
+/// The file's name in a directory, if the path is that of a file there.
 pub fn child<'a>(directory: &str, path: &'a str, node: Node) -> Option<&'a str>
     ensures { TellsChild directory.now path.now node result }
 {

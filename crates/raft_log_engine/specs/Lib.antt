@@ -1,4 +1,4 @@
--- libraries below, passed on to who stands on this one
+-- libraries below, re-exported to crates above
 pub use Rattle.raft_log_model_laws
 pub use Rattle.raft_log_directory_laws
 pub use Rattle.raft_log_record_base

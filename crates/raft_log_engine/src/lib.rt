@@ -1,8 +1,8 @@
-//! The log store, in one name: a program that keeps a log names this crate and no other of the log's.
+//! The log store under one name: a program that keeps a log names this crate and no other of the log's.
 //!
-//! [`Engine`] is opened over a file system with settings, written by batches, read, compacted, purged and closed;
-//! a log that no engine has open is forked, dumped and checked. This crate only hands on; the page of each part
-//! says what its calls promise.
+//! [`Engine`] is opened over a file system with settings. It writes batches, reads, compacts, purges and closes. A log
+//! that no engine has open can be forked, dumped and checked. This crate only re-exports; the page of each part says
+//! what its calls guarantee.
 #![tactic(auto)]
 
 pub use raft_log_closed::{

@@ -1,4 +1,4 @@
--- What a caller knows of the marks that a log owes to Rewrite, so that their record isn't too long.
+-- What a caller knows of the tombstones that a log owes to Rewrite, so that their record isn't too long.
 use Rattle.std.specs.Prelude.{◌≡◌, ℕ, true, List}
 use Rattle.std.specs.List.{Contains}
 use Rattle.raft_log_model_laws.specs.Item.{Item}
@@ -13,8 +13,10 @@ use Rattle.raft_log_table_lists.specs.Shown.{Shown}
 abbrev pub said_in : List LogItem → ℕ → List (Item EntryIndex (List ℕ))
 said_in items g = of_group g (tagged_items (λ e. e) items)
 
--- The marks that the groups owe came of these items: each Clean that is owed is among what they say of its group,
--- a Compact of some index where one is owed, and the deletion of each key where that is owed.
+-- The owed tombstones came from these items. They have, in the group that owes it:
+-- - a Clean for each owed Clean
+-- - a Compact of some index for each owed Compact
+-- - the deletion of each key whose deletion is owed
 pub record CameOf (items : List LogItem) (v : ℕ → Shown) : Type 0 where
   pub cleans : (g : ℕ) → (v g).cleaned ≡ true → Contains (said_in items g) Clean
   pub compacts : (g : ℕ) → (v g).compacted ≡ true → (index : ℕ) × Contains (said_in items g) (Compact index)

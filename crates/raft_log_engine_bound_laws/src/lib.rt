@@ -1,4 +1,4 @@
-//! When an engine refuses nothing as `Full`: laws alone, no code that runs.
+//! When an engine never fails with `Full`: laws alone, no code that runs.
 #![tactic(auto)]
 
 ghost use Rattle.raft_log_engine_bound_laws.specs.Laws.{
@@ -12,17 +12,17 @@ ghost use Rattle.raft_log_engine_bound_laws.specs.Laws.{
   OneValueIsModest,
 };
 
-/// A batch whose record has fewer than 2^56 bytes by its bound isn't refused as `Full`.
+/// A batch whose record has fewer than 2^56 bytes by its bound never fails with `Full`.
 pub fn bounded_batches_are_not_full()
     ensures { BoundedBatchesAreNotFull }
 {}
 
-/// Of what one group of a log has whose groups are modest, no record is too long.
+/// If a log's groups are modest, no record of what one group has is too long.
 pub fn modest_logs_make_records()
     ensures { ModestLogsMakeRecords }
 {}
 
-/// The groups of a log are modest whose values are known, and few.
+/// A log's groups are modest if their values are known, and few.
 pub fn known_logs_are_modest()
     ensures { KnownLogsAreModest }
 {}
@@ -32,23 +32,23 @@ pub fn known_pairs_grow()
     ensures { KnownPairsGrow }
 {}
 
-/// The groups are modest of a log with one value, which is short, and nothing else.
+/// A log with one short value and nothing else has modest groups.
 pub fn one_value_is_modest()
     ensures { OneValueIsModest }
 {}
 
-/// The record of the marks that are owed takes no more than one of the items that they came of may take.
+/// The record of the owed tombstones takes at most the bound of a record of the items that they came from.
 pub fn marks_take_no_more()
     ensures { MarksTakeNoMore }
 {}
 
-/// The marks that are owed came of the batches that were written since none was owed: what is refused adds none.
+/// The owed tombstones came from the batches that were written since none was owed; a batch that fails adds none.
 pub fn marks_come_of_batches()
     ensures { MarksComeOfBatches }
 {}
 
-/// A purge of a log whose groups are modest isn't refused as `Full`, where the marks that are owed came of items
-/// that are short enough for a record.
+/// A purge of a log with modest groups never fails with `Full`, if the owed tombstones came from items that fit a
+/// record.
 pub fn modest_logs_are_purged()
     ensures { ModestLogsArePurged }
 {}

@@ -1,4 +1,4 @@
--- The entries of a group below an index go.
+-- Log compaction: deletes a group's entries below an index.
 use Rattle.std.specs.Prelude.{◌≡◌, ◌⊎◌, ◌-◌, ℕ, false, min, [], ◌∷◌, length, Option, None, Some, if◌then◌else◌, nat_lt}
 use Rattle.raft_log_record_base.specs.declared.errors.Error.{Error}
 use Rattle.raft_log_record_base.specs.declared.errors.Error.TheVariants as errors
@@ -12,38 +12,38 @@ use Rattle.raft_log_purge.specs.raft_log_engine_laws.specs.Shows.{Shows, has_fai
 use Rattle.raft_log_purge.specs.raft_log_engine_laws.specs.Writing.{NotWritten, Writes}
 use Rattle.raft_log_engine_core.specs.Touching.{LeavesRecord, WritesRecord}
 
--- how many of a group's entries stand below an index, if it has entries
+-- how many of a group's entries are below an index, if it has entries
 abbrev pub entries_below : Shown → ℕ → Option ℕ
 entries_below v index =
     if nat_lt 0 (length v.places) then Some (min (index - v.first) (length v.places)) else None
 
--- the batch says that a group's entries below an index go, and nothing else, and its record isn't made yet
+-- the batch deletes a group's entries below an index and does nothing else, and its record isn't made yet
 pub record SaysCompact (g index : ℕ) (b : Batch) : Type 0 where
   pub items : b.items ≡ command_item g (commands.Compact index) ∷ []
   pub entries : b.entries ≡ []
   pub fills : b.state ≡ Filling
 
--- a batch was written that says that a group's entries below an index go; to the files nothing was done but that
--- its record was, before which Append may have gone on in its next file: it isn't synced
+-- A batch that deletes a group's entries below an index was written, and not synced. Nothing else was done to the
+-- files, except that Append may have rotated before the record.
 abbrev pub WritesCompact : ℕ → ℕ → Shows → Shows → Type 0
 WritesCompact g index s t = (b : Batch) × SaysCompact g index b × Writes b false s t
     × WritesRecord b s.pipes t.pipes
 
--- so many entries of a group go: those below the index, by a batch that says so. Of a group without entries
--- none do, and nothing is written.
+-- A batch deleted so many entries of a group: those below the index. If the group has no entries, none are deleted and
+-- nothing is written.
 abbrev pub CompactsTo : ℕ → ℕ → ℕ → Shows → Shows → Type 0
 CompactsTo g index count s t =
     ((entries_below (s.tables g) index ≡ None) × (count ≡ 0) × (has_failed s ≡ false) × (t ≡ s))
     ⊎ ((entries_below (s.tables g) index ≡ Some count) × WritesCompact g index s t)
 
--- a batch that says that a group's entries below an index go wasn't written: memory ran out before the write;
--- or the write was refused, and to the files nothing was done but what that tells of its record
+-- Writing the batch that deletes a group's entries failed: out of memory before the write; or the write failed, and
+-- left what `LeavesRecord` says in the files.
 abbrev pub FailsToWriteCompact : ℕ → ℕ → Error → Shows → Shows → Type 0
 FailsToWriteCompact g index error s t =
     ((error ≡ errors.Memory) × (has_failed s ≡ false) × (t ≡ s))
     ⊎ ((b : Batch) × SaysCompact g index b × NotWritten b error s t × LeavesRecord b error s.pipes t.pipes)
 
--- why none go: the engine had failed; or the group has entries, and the batch that says so wasn't written
+-- why the call fails: the engine had failed; or the group has entries, and writing the batch failed
 abbrev pub FailsToCompact : ℕ → ℕ → Error → Shows → Shows → Type 0
 FailsToCompact g index error s t = HadFailed s t error
     ⊎ ((entries_below (s.tables g) index ≡ None → ⊥) × FailsToWriteCompact g index error s t)

@@ -6,6 +6,6 @@ pub mod Reads
 pub mod Room
 pub mod Touching
 pub mod Whole
--- libraries below, passed on to who stands on this one
+-- libraries below, re-exported to crates above
 pub use Rattle.raft_log_purge.specs.raft_log_engine_laws
 pub use Rattle.raft_log_open_directory

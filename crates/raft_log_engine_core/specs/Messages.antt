@@ -8,20 +8,20 @@ use Rattle.raft_log_table_lists.specs.Listing.{in_direction}
 use Rattle.raft_log_purge.specs.raft_log_engine_laws.specs.Reading.{ReadsKeys}
 use Rattle.raft_log_purge.specs.raft_log_engine_laws.specs.Shows.{Shows}
 
--- bytes were refused as no message
+-- the bytes aren't a message
 abbrev pub IsNoMessage : Error → Type 0
 IsNoMessage (errors.Message text) = Unit {0}
 IsNoMessage _ = ⊥
 
--- a call at a reference to a key, and at a message
+-- a call with a reference to a key and with a message
 pub record CalledAtKey {F M : Type 0} (g : Mut F (Bor (List ℕ) × (M × Unit {0})) Bool) (f : F) (key : List ℕ)
     (message : M) (more : Bool) (next : F) : Type 0 where
   pub shown : Bor (List ℕ)
   pub shows : shown.now ≡ key
   pub called : Called g f (shown, (message, tt)) more next
 
--- Calls at the pairs whose value is read as a message, one after another, up to the first that answers false: a
--- value that is none is passed over.
+-- Calls with the pairs whose value reads as a message, in order, up to the first that returns false. Other values are
+-- skipped.
 abbrev pub VisitsMessages : {F M : Type 0} → (List ℕ → Option M) → (F → List ℕ → M → Bool → F → Type 0) → F
     → List (List ℕ × List ℕ) → Type 0
 VisitsMessages reading called f [] = Unit {0}
@@ -30,8 +30,8 @@ VisitsMessages {F} {M} reading called f (e ∷ es) =
     ⊎ ((message : M) × (reading e.1 ≡ Some message) × (more : Bool) × (next : F)
     × called f e.0 message more next × (more ≡ true → VisitsMessages reading called next es))
 
--- Calls at all keys of a group that are asked for and whose value is read as a message, in their order or
--- backwards, up to the first that answers false.
+-- Calls with all requested keys of a group whose value reads as a message, in their order or backwards, up to the first
+-- that returns false.
 abbrev pub ScansMessages : {F M : Type 0} → (List ℕ → Option M) → (F → List ℕ → M → Bool → F → Type 0) → F
     → Shows → ℕ → Option (List ℕ) → Option (List ℕ) → Bool → Type 0
 ScansMessages reading called callback s g start end backwards = (es : List (List ℕ × List ℕ))

@@ -1,4 +1,4 @@
--- What an engine tells of its tables, and that a failed one tells nothing.
+-- What an engine reads from its tables. A failed engine reads nothing.
 use Rattle.std.specs.Prelude.{◌≡◌, ◌⊎◌, ◌+◌, ◌-◌, ◌<◌, ◌≤◌, ℕ, Bool, false, true, List, None, Option, Some, drop, length, take}
 use Rattle.std.specs.declared.io.ErrorKind.TheVariants.{Other}
 use Rattle.raft_log_record_base.specs.declared.errors.Error.{Error}
@@ -16,19 +16,19 @@ use Rattle.raft_log_purge.specs.raft_log_engine_laws.specs.Reading.{ReadsKeys}
 use Rattle.raft_log_purge.specs.raft_log_engine_laws.specs.Shows.{Shows, has_failed, shows}
 use Rattle.raft_log_engine_core.specs.declared.engine.LogEngine.{LogEngine}
 
--- what an engine shows, of which its pipes show this
+-- what an engine shows, given what its pipes show
 abbrev pub shows_of : {P : Type 0} → (P → LogPipes) → LogEngine P → Shows
 shows_of shown e = shows (shown e.pipes) e.tables e.cache
 
--- the engine hasn't failed: only then a read is answered
+-- the engine hasn't failed: reads succeed only then
 abbrev pub Lives : Shows → Type 0
 Lives s = has_failed s ≡ false
 
--- the engine has failed: a read is refused as `Failed` then, and only then
+-- the engine has failed: reads fail with `Failed` then, and only then
 abbrev pub IsFailed : Shows → Error → Type 0
 IsFailed s error = (error ≡ errors.Failed) × (has_failed s ≡ true)
 
--- why nothing is copied: the engine has failed; or memory ran out of one that hasn't
+-- why copying fails: the engine has failed; or it hasn't, and is out of memory
 abbrev pub IsUncopied : Shows → Error → Type 0
 IsUncopied s error = IsFailed s error ⊎ ((error ≡ errors.Memory) × Lives s)
 
@@ -36,24 +36,24 @@ IsUncopied s error = IsFailed s error ⊎ ((error ≡ errors.Memory) × Lives s)
 abbrev pub Runs : Shows → Type 0
 Runs s = s.pipes.disk.stopped ≡ false
 
--- A refusal of a read is told as it is, but for want of memory where the file system has stopped: that is told as
--- the stop.
+-- The error that a read returns is its own error, with one exception. Out of memory on a stopped file system is
+-- returned as `Io(Other)`.
 abbrev pub IsToldAs : Bool → Error → Error → Type 0
 IsToldAs stopped error told = ((told ≡ error) × (error ≡ errors.Memory → stopped ≡ false))
     ⊎ ((error ≡ errors.Memory) × (stopped ≡ true) × (told ≡ errors.Io Other))
 
--- a table has an entry at the first of the indexes that are asked for
+-- the table has an entry at the first requested index
 pub record HasFirst (v : Shown) (begin end : ℕ) : Type 0 where
   pub some : begin < end
   pub low : v.first ≤ begin
   pub high : begin < v.first + length v.places
 
--- so many entries of a table, from an index on
+-- `count` entries of a table, from an index on
 abbrev pub entries_on : Shown → ℕ → ℕ → List EntryIndex
 entries_on v index count =
     entries_from v (index - v.first) (take count (drop (index - v.first) v.places))
 
--- where entries of a table lie from an index on: some, at most so many, in this block, one behind another
+-- the places of consecutive entries of a table from an index on: at least one, at most `left`, all in this block
 pub record LieNext (v : Shown) (index left : ℕ) (block : FileBlockHandle) (bounds : Bounds) : Type 0 where
   pub count : ℕ
   pub len : length (bounds_of bounds) ≡ count + 1
@@ -62,7 +62,7 @@ pub record LieNext (v : Shown) (index left : ℕ) (block : FileBlockHandle) (bou
   pub are : entries_between block index (bounds_of bounds) ≡ entries_on v index count
   pub short : AreShort bounds
 
--- where the next entries lie, of so many that are left; or that none is left
+-- the places of the next entries, if any are left; none if none is left
 abbrev pub AreNext : Shown → ℕ → ℕ → Option (FileBlockHandle × Bounds) → Type 0
 AreNext v index left None = left ≡ 0
 AreNext v index left (Some (block, bounds)) = LieNext v index left block bounds
@@ -71,8 +71,8 @@ AreNext v index left (Some (block, bounds)) = LieNext v index left block bounds
 abbrev pub NoneCounts : (ℕ → Bool) → Type 0
 NoneCounts counts = (g : ℕ) → counts g ≡ false
 
--- calls at all keys of a group that are asked for, in the order of their bytes or backwards, up to the first
--- that answers false
+-- calls with all requested keys of a group, in the order of their bytes or backwards, up to the first that returns
+-- false
 abbrev pub ScansKeys : {F : Type 0} → (F → List ℕ → List ℕ → Bool → F → Type 0) → F → Shows → ℕ
     → Option (List ℕ) → Option (List ℕ) → Bool → Type 0
 ScansKeys called callback s g start end backwards = (es : List (List ℕ × List ℕ))

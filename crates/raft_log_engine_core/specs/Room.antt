@@ -1,4 +1,4 @@
--- What is wanted of memory before a batch is written.
+-- The memory that is needed before a batch is written.
 use Rattle.std.specs.Prelude.{◌≡◌, ◌⊎◌, ◌≤◌, ◌+◌, [], length, vec_capacity, vec_len}
 use Rattle.raft_log_record_base.specs.declared.errors.Error.{Error}
 use Rattle.raft_log_record_base.specs.declared.errors.Error.TheVariants as errors
@@ -8,34 +8,34 @@ use Rattle.raft_log_purge.specs.raft_log_engine_laws.specs.Shows.{IsWellMarked, 
 use Rattle.raft_log_purge.specs.raft_log_engine_laws.specs.Writing.{IsUnfit, PipesRefused}
 use Rattle.raft_log_engine_core.specs.declared.writing.Room.{Room}
 
--- there is a list for the batch's items, which has none yet
+-- the room has an empty list with capacity for the batch's items
 pub record HasListFor (b : Batch) (room : Room) : Type 0 where
   pub none : room.items.items ≡ []
   pub fits : vec_len room.items + length b.items ≤ vec_capacity room.items
 
--- why a batch isn't taken by any tables: it was written already, or its marks are broken; or memory was short
--- for saying so
+-- why a batch is rejected whatever the tables are: it was written already, or its marks are broken; or there was no
+-- memory to report it
 abbrev pub IsUnfitItself : Batch → Error → Type 0
 IsUnfitItself b (errors.InvalidArgument text) = IsWritable b.state → IsWellMarked b → ⊥
 IsUnfitItself b errors.Memory = Unit {0}
 IsUnfitItself b _ = ⊥
 
--- why a batch wasn't put, and what is so then: it isn't taken, and nothing was done; or the pipes refused
+-- why writing a batch fails, and what is true then: the batch was rejected, and nothing was done; or the pipes failed
 abbrev pub PutFails : Batch → Error → Shows → Shows → Type 0
 PutFails b error s t = (IsUnfit b s.tables error × (t ≡ s)) ⊎ PipesRefused b error s t
 
--- a batch that was written keeps at most so much of its buffer; an empty one stays
+-- a batch that was written keeps at most `max_kept_len` bytes of its buffer; an empty one stays unchanged
 abbrev pub KeepsLittle : Batch → Batch → Type 0
 KeepsLittle old new = (old.items ≡ []) ⊎ (new.buffer ≤ max_kept_len)
 
--- a batch that may be written may be so afterwards: its record isn't signed for a file
+-- a batch that may be written may be written afterwards too: its record isn't signed for a file
 abbrev pub StaysWritable : Batch → Batch → Type 0
 StaysWritable old new = IsWritable old.state → IsWritable new.state
 
--- what is so of a batch that wasn't put: it isn't taken, and nothing was done; or its record is made
+-- if writing a batch fails: it was rejected, and nothing was done; or its record is made
 abbrev pub IsMadeIfTried : Error → Batch → Batch → Shows → Shows → Type 0
 IsMadeIfTried error old new s t = (IsUnfit old s.tables error × (t ≡ s)) ⊎ (new.state ≡ Populated)
 
--- what is so of a batch that wasn't written: this, or the engine has failed
+-- if writing a batch fails: as above, or the engine has failed
 abbrev pub IsMadeUnlessFailed : Error → Batch → Batch → Shows → Shows → Type 0
 IsMadeUnlessFailed error old new s t = IsMadeIfTried error old new s t ⊎ (error ≡ errors.Failed)

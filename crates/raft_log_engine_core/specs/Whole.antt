@@ -1,4 +1,4 @@
--- What is told of an engine as a whole, and of a key as a message.
+-- What an engine returns about the whole log, and a key's value as a message.
 use Rattle.std.specs.Prelude.{◌≡◌, ◌⊎◌, ◌+◌, ◌-◌, ◌^◌, min, ℕ, List, Option, Some, None, Err}
 use Rattle.raft_log_record_base.specs.declared.errors.Error.{Error}
 use Rattle.raft_log_record_base.specs.declared.pipe_log.LogQueue.{LogQueue}
@@ -12,7 +12,7 @@ use Rattle.raft_log_purge.specs.raft_log_engine_laws.specs.Shows.{Shows}
 use Rattle.raft_log_purge.specs.raft_log_engine_laws.specs.Reading.{ReadsValue}
 use Rattle.raft_log_engine_core.specs.Reads.{IsUncopied, Lives}
 
--- a fault is armed: the disk may have the place marked that it makes unreadable, and all else is as it was
+-- a fault is armed: the disk may have a place marked as unreadable, and all else is unchanged
 pub record ArmsEngine (fault : Fault) (s t : Shows) : Type 0 where
   pub pipes : ArmsPipes fault s.pipes t.pipes
   pub others : t ≡ record s { pipes = t.pipes }
@@ -23,23 +23,23 @@ pub record TellsSpan (queue : LogQueue) (v : LogPipes) (first last : ℕ) : Type
   pub last_is : last ≡ (pipe_at (which_of queue) (files_of v)).active.seq
   pub exact : IsSpanOf (which_of queue) v first last
 
--- the size of all files of both queues, each counted as long as it is to be; at most the greatest number
+-- the summed sizes of both queues' files, each with the length it is meant to have, at most 2^64 - 1
 abbrev pub used_size : LogPipes → ℕ
 used_size v = min (size_at InAppend v + size_at InRewrite v) (2 ^ 64 - 1)
 
--- the message is read of these bytes; there is none where there are none
+-- the message that these bytes read as; none if there are no bytes
 abbrev pub IsMessageOf : {M : Type 0} → (List ℕ → Option M) → Option (List ℕ) → Option M → Type 0
 IsMessageOf reading None None = Unit {0}
 IsMessageOf reading (Some bytes) (Some message) = reading bytes ≡ Some message
 IsMessageOf reading _ _ = ⊥
 
--- the value of a key is told as a message, if it has one
+-- the value of a key is returned as a message, if it has one
 abbrev pub TellsMessage : {M : Type 0} → (List ℕ → Option M) → Shows → ℕ → List ℕ → Option M → Type 0
 TellsMessage reading s g key message =
     (value : Option (List ℕ)) × ReadsValue s g key value × IsMessageOf reading value message
 
--- why a value isn't told as a message: the engine has failed; or it hasn't, and memory ran out, or the value
--- is no message
+-- why returning a value as a message fails: the engine has failed; or it hasn't, and is out of memory, or the value
+-- isn't a message
 abbrev pub IsMessageUntold : {M : Type 0} → (List ℕ → Option M) → Shows → ℕ → List ℕ → Error → Type 0
 IsMessageUntold {M} reading s g key error = IsUncopied s error
     ⊎ (Lives s × ((value : List ℕ) × ReadsValue s g key (Some value)

@@ -25,8 +25,8 @@ use raft_log_record_batches::LogBatch;
 use raft_log_table_all::MemTables;
 use std::alloc::Global;
 
-/// The engine of a log: its pipes, the tables of all groups, and the entry block that was read last; from which
-/// sizes on it is purged, and what is counted from one purge to the next.
+/// The engine of a log. It has the log's pipes, the tables of all groups, the entry block that was read last, the
+/// thresholds of its purge, and what is counted between purges.
 #[derive(Drop)]
 pub struct LogEngine<P> {
     alloc: Global,
@@ -56,8 +56,8 @@ impl<P: PipeLog> LogEngine<P> {
     ghost use Rattle.raft_log_file_pair.specs.Pipes.{is_failed};
     ghost use Rattle.raft_log_file_pair.specs.Telling.{Hears, files_begun};
 
-    /// An engine over these pipes, whose tables these are, with these thresholds. So many entries and values
-    /// were written to Rewrite before. No block is kept, and no group was asked to be compacted yet.
+    /// An engine over these pipes, tables and thresholds. `written` is how many entries and values were written to
+    /// Rewrite before. The engine has no block cached, and has asked no group to compact yet.
     pub fn new(
         alloc: Global,
         thresholds: Thresholds,
@@ -83,14 +83,14 @@ impl<P: PipeLog> LogEngine<P> {
         }
     }
 
-    /// Whether a call was refused that couldn't be mended.
+    /// Whether the engine has failed: an earlier call failed in a way that couldn't be repaired.
     pub fn is_failed(&self) -> bool
         ensures { result ≡ is_failed (P.shown self.now.pipes) }
     {
         self.pipes.is_failed()
     }
 
-    /// Makes all batches durable. Refused, it is `Failed`, and nothing is taken any more.
+    /// Makes all batches durable. If it fails, the error is `Failed`, and so is that of every later read or write.
     pub fn sync<L: Log>(&mut self, rt: &L) -> Result<()>
         ensures ok { OnOk result (SyncsAppend (shows_of P.shown self.old) (shows_of P.shown self.new)) }
         ensures err { IfErr result (λ error.
@@ -104,21 +104,29 @@ impl<P: PipeLog> LogEngine<P> {
         self.pipes.sync(rt, LogQueue::Append)
     }
 
-    /// Writes a batch, and answers how many bytes its record has; then, if asked, makes all batches durable.
-    /// The batch is emptied, and keeps at most 8 MiB of its buffer. An empty one isn't written, and stays.
+    /// Writes a batch, and returns the length of its record in bytes. With `sync`, then makes all batches durable. The
+    /// batch is emptied, and keeps at most 8 MiB of its buffer. An empty batch isn't written, and stays unchanged.
     ///
-    /// Before anything is done: `InvalidArgument` for a batch that was written already, or whose marks of
-    /// atomic groups are broken; `Full` for a record of 2^56 bytes or more; `Hole` where a group's entries
-    /// would start past the index after the last; `Memory`. Then `Io`, of the kind that the file system refused
-    /// the write with: it was cut off, and all batches before are durable; `TryAgain`: the same for want of
-    /// space, in two files, one after the other. `Memory`, `NumberRange`: for want of memory, or of a number,
-    /// Append didn't go on in its next file. In each of these cases the batch is kept, and its record made.
-    /// `Failed`: nothing is taken any more, and the batch may be in the log or not.
+    /// # Errors
     ///
-    /// Whoever listens is told of each file that Append went on in, and twice of a batch that is written: of the
-    /// place of its record, in Append's last file, and that what it says is in the tables. Nothing is told of the
-    /// sync. So behind an answered write, and one whose sync was refused, the engine's own hook holds back what it
-    /// held back before, and besides only a file that it couldn't list (`laws::batches_hold_nothing_back`).
+    /// Before anything is done:
+    /// - `InvalidArgument` if the batch was written already, or its marks of atomic groups are broken.
+    /// - `Full` if the record would have 2^56 bytes or more.
+    /// - `Hole` if a group's entries would start past the index after its last one.
+    /// - `Memory`.
+    ///
+    /// From the write; the batch is kept and its record is made:
+    /// - `Io` with the kind of the failed file system call. What was written is truncated, and all earlier batches are
+    ///   durable.
+    /// - `TryAgain`: the same for lack of space, in two files, one after the other.
+    /// - `Memory`, `NumberRange`: Append couldn't rotate, for lack of memory or of a file number.
+    ///
+    /// `Failed`: the engine has failed, as every later read or write reports; the batch may be in the log or not.
+    ///
+    /// Listeners hear of each file that Append rotated to. For a batch that is written they hear of the place of its
+    /// record, in Append's active file, and then that it was applied to the tables. They hear nothing of the sync.
+    /// After a write, even one whose sync failed, the engine's own hook pins the files it pinned before,
+    /// unless there was a file that it couldn't list (`laws::batches_hold_nothing_back`).
     pub fn write<L: Log>(&mut self, rt: &L, batch: &mut LogBatch, sync: bool) -> Result<usize>
         ensures ok { IfOk result (λ len. WritesBytes batch.old sync len
             (shows_of P.shown self.old) (shows_of P.shown self.new)) }
@@ -167,7 +175,7 @@ impl<P: PipeLog> LogEngine<P> {
         }
     }
 
-    /// Writes a batch that isn't empty, and answers how many bytes its record has.
+    /// Writes a batch that isn't empty, and returns the length of its record in bytes.
     fn put<L: Log>(&mut self, rt: &L, batch: &mut LogBatch) -> Result<usize>
         requires lives { is_failed (P.shown self.old.pipes) ≡ false }
         requires some { batch.old.items ≡ [] → ⊥ }
@@ -207,14 +215,13 @@ impl<P: PipeLog> LogEngine<P> {
         }
     }
 
-    /// Closes the log, and gives the file system back, whatever happened. It truncates the active file of each
-    /// queue behind its last record, syncs both, and names the files that are kept for later use.
+    /// Closes the log, and returns the file system in any case. Truncates the active file of each queue after its last
+    /// record, syncs both, and names the files that are kept for later use.
     ///
-    /// If the result is `Ok`, every batch that `write` accepted is durable, also those written without a sync.
-    /// It fails with `Io` if the file system refused to truncate or to sync an active file, with the kind of
-    /// that refusal: Append's if both queues met one. Batches since the last sync may not be durable then. It
-    /// fails with `Failed` if the engine had failed before; then it touches nothing. A name that is refused is
-    /// only logged.
+    /// If the result is `Ok`, every batch that `write` accepted is durable, also those written without a sync. It
+    /// fails with `Io` if truncating or syncing an active file failed, with the kind of that error; with Append's if
+    /// both queues failed. Batches since the last sync may not be durable then. It fails with `Failed` if the engine
+    /// had failed before; then it touches nothing. A naming that fails is only logged.
     pub fn close<L: Log>(self, rt: &L) -> Closed<P::Files>
         ensures held { is_failed (P.shown self.pipes) ≡ false
             → ClosesLog (P.shown self.pipes) (P.disk_of result.files) }

@@ -1,8 +1,8 @@
-//! The log store: batches are written and synced, and what they say is read back.
+//! The log store: writes batches, syncs them, and reads back what they say.
 //!
-//! [`LogEngine`] is generic in the pipes that its log is kept in ([`PipeLog`]), so its contracts speak of
-//! whatever log these run over: each clause is told of any map and any pending batches that were true of the
-//! engine before the call (`Holds`), and asks nothing of the caller.
+//! [`LogEngine`] is generic in the pipes that keep its log ([`PipeLog`]), so its contracts hold for any such pipes.
+//! Each clause is about any map and any pending batches that were true of the engine before the call (`Holds`), and
+//! requires nothing of the caller.
 //!
 //! [`PipeLog`]: raft_log_file_pair::PipeLog
 #![tactic(auto)]

@@ -1,5 +1,4 @@
-//! How a batch is written: room for it is made before, in memory, so that what comes after the write can't be
-//! refused.
+//! Writes a batch. All memory that the call needs is reserved first, so nothing after the write can fail.
 
 ghost use Rattle.std.specs.Prelude.{◌≡◌, ◌+◌, ◌++◌, ◌≤◌, ◌<◌, ◌^◌, ◌↔◌, ℕ, [], ◌∷◌, length, vec_capacity, vec_len, false, IfErr, IfOk, OnErr, OnOk, IsTrue};
 ghost use Rattle.raft_log_record_marks.specs.declared.marking.Marking.TheVariants.{Broken};
@@ -38,15 +37,15 @@ use raft_log_table_all::MemTables;
 use std::alloc::Global;
 use std::mem;
 
-/// What is wanted of memory to write a batch: one that stands for it on its way, and a list for its items.
+/// The memory that is needed to write a batch: a second batch for the time of the write, and a list for the items.
 #[derive(Drop)]
 pub struct Room {
     stand_in: LogBatch,
     items: Vec<LogItem>,
 }
 
-/// Makes all that a batch may want memory for: its record, room in the tables, and the rest. A refusal
-/// changes nothing, but that the batch's record may be made.
+/// Reserves all memory that a batch may need: its record, room in the tables, and the rest. If it fails, nothing
+/// changed, except that the batch's record may be made.
 pub fn make_room(alloc: Global, tables: &mut MemTables, batch: &mut LogBatch) -> Result<Room>
     requires { IsAtRest tables.old }
     ensures shows { ShowsSame tables.old tables.new }
@@ -69,7 +68,7 @@ pub fn make_room(alloc: Global, tables: &mut MemTables, batch: &mut LogBatch) ->
     }
 }
 
-/// Makes the record of a batch, unless it is made already. A refusal leaves the batch.
+/// Makes the record of a batch, unless it is made already. If it fails, the batch is unchanged.
 fn populate(batch: &mut LogBatch) -> Result<()>
     requires { IsWritable batch.old.state }
     ensures kept { IsBatchKept batch.old batch.new }
@@ -83,8 +82,8 @@ fn populate(batch: &mut LogBatch) -> Result<()>
     Ok(())
 }
 
-/// Writes a batch that room was made for, and answers how many bytes its record has: what it says stands in
-/// the tables then, and it is emptied. Refused by the pipes, it is kept, and the room is taken back.
+/// Writes a batch that room was made for, and returns the length of its record in bytes. Then the tables have what it
+/// says, and it is emptied. If the pipes fail, it is kept, and the room is freed.
 pub fn append<P: PipeLog, L: Log>(
     alloc: Global,
     rt: &L,
@@ -138,8 +137,8 @@ pub fn append<P: PipeLog, L: Log>(
     }
 }
 
-/// Writes the record of a batch to Append. Where there is no space for it, Append has gone on in its next
-/// file, and it is tried there once more.
+/// Writes the record of a batch to Append. If there is no space for it, Append has rotated, and it is tried there once
+/// more.
 fn append_or_again<P: PipeLog, L: Log>(
     alloc: Global,
     rt: &L,
@@ -175,7 +174,7 @@ fn append_or_again<P: PipeLog, L: Log>(
     Err(error)
 }
 
-/// Whether there was no space for a record.
+/// Whether the error says that there was no space for a record.
 fn is_no_space(error: &Error) -> bool
     ensures { IsTrue result ↔ SaysTryAgain error.now }
 {
@@ -185,7 +184,7 @@ fn is_no_space(error: &Error) -> bool
     }
 }
 
-/// A batch was written at this place: what it says stands in the tables, and it is emptied.
+/// Commits a batch that was written at this place: applies it to the tables, and empties it.
 fn commit(tables: &mut MemTables, batch: &mut LogBatch, block: FileBlockHandle, items: Vec<LogItem>)
     requires place { block.offset < 2 ^ 63 }
     requires signed { IsSigned batch.old.state }
@@ -206,7 +205,7 @@ fn commit(tables: &mut MemTables, batch: &mut LogBatch, block: FileBlockHandle, 
     tables.apply_append_writes(items, block.id.seq);
 }
 
-/// Refuses a batch that was signed or written already, or whose marks are broken.
+/// Rejects a batch that was signed or written already, or whose marks are broken.
 fn check(alloc: Global, batch: &LogBatch) -> Result<()>
     ensures writable { OnOk result (IsWritable batch.now.state) }
     ensures marked { OnOk result (IsWellMarked batch.now) }
@@ -241,7 +240,7 @@ fn is_writable(batch: &LogBatch) -> bool
     }
 }
 
-/// Whether a batch has two marks of atomic groups, or one that is none.
+/// Whether a batch has two marks of atomic groups, or an invalid one.
 fn is_broken(batch: &LogBatch) -> bool
     ensures { IsTrue result ↔ (marking_of_items batch.now.items ≡ Broken) }
 {

@@ -1,4 +1,4 @@
--- The record that ends an atomic group is written to Rewrite, or refused there. The map stays at every exit.
+-- The record that ends an atomic group is written to Rewrite, or its write fails. The map is kept at every exit.
 use Rattle.std.specs.Prelude.{◌≡◌, ℕ, Bool, true, false, List, [], ◌∷◌, ◌++◌, Option}
 use Rattle.raft_log_model_laws.specs.Item.{Tagged}
 use Rattle.raft_log_model_laws.specs.Groups.{of_group}
@@ -24,15 +24,15 @@ use Rattle.raft_log_engine_laws.specs.Parts.{FilesGoUp, HoldsInGroup, IsGroupPar
 use Rattle.raft_log_engine_laws.specs.GroupWriting.{LeavesRecords}
 use Rattle.raft_log_engine_laws.specs.Whole.{HasWhole, IsWholeCopy, batches_of, filed_copies, filed_items, parts_moved, whole_moves}
 
--- How the tables take a whole group: which groups' tables it is about, and below which file nothing of
--- Rewrite lies in each of them then.
+-- How the tables take a whole group: which groups' tables change, and below which file each of them then has nothing
+-- in Rewrite.
 pub record TakesWhole (gate : Option ℕ) (ps : List WrittenPart) (v : ℕ → Shown) : Type 0 where
   pub about : ℕ → Bool
   pub least : ℕ → ℕ
   pub lowest : (g : ℕ) → about g ≡ true → IsLeastInRewrite (parts_moved gate g ps (v g)) (least g)
   pub others : (g : ℕ) → about g ≡ false → filed_items g ps ≡ []
 
--- the end of a group of copies that the tables take as a whole, in these files
+-- the end of a group of copies in these files, which the tables take as a whole
 abbrev pub whole_end : {E : Type 0} {at : Located → E} {gate : Option ℕ} {ps : List WrittenPart}
     {v : ℕ → Shown} → GroupFiles → TakesWhole gate ps v
     → ((g : ℕ) → IsWholeCopy at gate (v g) (filed_items g ps))
@@ -40,7 +40,7 @@ abbrev pub whole_end : {E : Type 0} {at : Located → E} {gate : Option ℕ} {ps
 whole_end files k w =
     record { files = files; about = k.about; moves = λ g. whole_moves (w g); least = k.least }
 
--- Parts in files up to the group's last one may end it, where they say the items.
+-- A whole group may end if its parts are in files up to its last one, and say the items.
 abbrev pub WholeGroupsMayEnd : Type 0 → Type 0
 WholeGroupsMayEnd E = (at : Located → E) (gate : Option ℕ) (ps : List WrittenPart) (v : ℕ → Shown)
     (files : GroupFiles) (items : List (Tagged E (List ℕ))) (k : TakesWhole gate ps v)
@@ -49,14 +49,13 @@ WholeGroupsMayEnd E = (at : Located → E) (gate : Option ℕ) (ps : List Writte
     → ((g : ℕ) → of_group g items ≡ filed_copies at (filed_items g ps))
     → MayEnd at (whole_end files k w) v items
 
--- A table that notes the files of a group does so by a file below which nothing of Rewrite lies in it, where
--- its files don't fall.
+-- A table whose file numbers never fall notes a group's files with a file below which it has nothing in Rewrite.
 abbrev pub WholeGroupsAreNoted : Type 0
 WholeGroupsAreNoted = (t : Raw) (files : GroupFiles) (a r : ℕ) → IsOrderly (shown t) → FilesRise a r (shown t)
     → (least : ℕ) × IsLeastInRewrite (shown t) least × (with_group t files ≡ with_note (shown t) least files)
 
--- What the tables show once they took a whole group: the places moved of each group that it is about, and its
--- files are noted there.
+-- What the tables show after they took a whole group: in each group that changes the places moved, and the files are
+-- noted.
 pub record ShowsWhole (gate : Option ℕ) (ps : List WrittenPart) (files : GroupFiles) (v u : ℕ → Shown)
     : Type 0 where
   pub took : TakesWhole gate ps v
@@ -68,7 +67,7 @@ pub record ShowsWhole (gate : Option ℕ) (ps : List WrittenPart) (files : Group
 abbrev pub files_of_group : UnendedGroup → FileBlockHandle → GroupFiles
 files_of_group o block = record { from = o.first.block.id.seq; to = block.id.seq }
 
--- The record with the end was written, and the tables took the whole group.
+-- The record with the end was written, and the tables took the whole group: the map is kept.
 abbrev pub WrittenEndsKeepTheMap : Type 0
 WrittenEndsKeepTheMap = (home : Home) (e t : Shows) (gate : Option ℕ) (o : UnendedGroup) (b : Batch)
     (block : FileBlockHandle) (m : LogMap) → HoldsInGroup home e m o → IsGroupPart o.number End b
@@ -77,8 +76,8 @@ WrittenEndsKeepTheMap = (home : Home) (e t : Shows) (gate : Option ℕ) (o : Une
     → ShowsWhole gate (parts_of o ++ record { block = block; batch = b } ∷ []) (files_of_group o block)
     e.tables t.tables → KeepsOrForgets e t → Holds home t m []
 
--- Rewrite refused a part that ends a group: all stands where it stood, and the group is given up, or may go
--- on where nothing was done to its records.
+-- Rewrite failed to write the part that ends a group, and the tables are unchanged. The group is given up; or it may
+-- continue, if nothing was done to its records.
 pub record RefusedEndsKeepTheMap : Type 0 where
   pub given_up : (home : Home) (e t : Shows) (gate : Option ℕ) (o : UnendedGroup) (b : Batch) (m : LogMap)
       (error : Error) → HoldsInGroup home e m o → IsGroupPart o.number End b

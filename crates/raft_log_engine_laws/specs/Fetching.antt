@@ -1,4 +1,4 @@
--- What is read of entries through their blocks is the map's, an entry's bytes included.
+-- Entries that are read through their blocks are the map's, with their bytes.
 use Rattle.std.specs.Prelude.{◌≡◌, ◌⊎◌, ◌+◌, ◌-◌, ◌≤◌, ◌<◌, ℕ, true, false, List, [], ◌∷◌, ◌++◌, length, Option, Some, None, Err, if◌then◌else◌}
 use Rattle.raft_log_model_laws.specs.Groups.{taken}
 use Rattle.raft_log_model_laws.specs.Meaning.Slot.{Index}
@@ -16,28 +16,28 @@ use Rattle.raft_log_file_blocks.specs.Blocks.{IsFileUnread}
 use Rattle.raft_log_engine_laws.specs.Shows.{Home, LogMap, Shows, has_failed}
 use Rattle.raft_log_engine_laws.specs.Holding.{Holds}
 
--- a read changes the kept block alone, and what was true of the engine stays true
+-- a read changes only the cached block, and what was true of the engine stays true
 pub record StaysButBlock (s t : Shows) : Type 0 where
   pub same : t ≡ record s { cache = t.cache }
   pub holds : (home : Home) (m : LogMap) (pending : List Said) → Holds home s m pending
       → Holds home t m pending
 
--- the message is read of the bytes of a group's entry at an index
+-- the message is what the bytes of a group's entry at an index parse as
 abbrev pub IsEntryOf : {M : Type 0} → (List ℕ → Option M) → LogMap → ℕ → ℕ → M → Type 0
 IsEntryOf reading m g i message =
     (bytes : List ℕ) × (m g (Index i) ≡ Some (Entry bytes)) × (reading bytes ≡ Some message)
 
--- what is told of an index of a group: the message that its entry is read as, or none where there is no entry
+-- what is returned for an index of a group: the message that its entry parses as, or none if there is no entry
 abbrev pub IsEntryTold : {M : Type 0} → (List ℕ → Option M) → LogMap → ℕ → ℕ → Option M → Type 0
 IsEntryTold reading m g i None = m g (Index i) ≡ None
 IsEntryTold reading m g i (Some message) = IsEntryOf reading m g i message
 
--- the messages are those that a group's entries are read as, from an index on, one after another
+-- the messages are what a group's entries parse as, one after another from an index on
 abbrev pub AreEntriesOf : {M : Type 0} → (List ℕ → Option M) → LogMap → ℕ → ℕ → List M → Type 0
 AreEntriesOf reading m g i [] = Unit {0}
 AreEntriesOf reading m g i (x ∷ xs) = IsEntryOf reading m g i x × AreEntriesOf reading m g (i + 1) xs
 
--- An entry is told: the map's, once the pending batches are taken.
+-- An entry was returned: the map's after the pending batches.
 pub record TellsEntry {M : Type 0} (reading : List ℕ → Option M) (g i : ℕ) (s t : Shows) (message : Option M)
     : Type 0 where
   pub lived : has_failed s ≡ false
@@ -45,8 +45,8 @@ pub record TellsEntry {M : Type 0} (reading : List ℕ → Option M) (g i : ℕ)
   pub exact : (home : Home) (m : LogMap) (pending : List Said) → Holds home s m pending
       → IsEntryTold reading (taken m pending) g i message
 
--- Why a group's entry isn't told, though it stands in the map: the file that it lies in isn't read, or memory ran
--- out; or its bytes in the map are no message. It is never told as damaged.
+-- Why a group's entry isn't returned, though the map has it: its file isn't read, memory ran out, or its bytes don't
+-- parse as a message. It is never reported as damaged.
 pub record IsUntold {M : Type 0} (reading : List ℕ → Option M) (g i : ℕ) (s : Shows) (m : LogMap) (error : Error)
     : Type 0 where
   pub entry : EntryIndex
@@ -61,7 +61,7 @@ pub record IsUntold {M : Type 0} (reading : List ℕ → Option M) (g i : ℕ) (
 abbrev pub HadFailed : Shows → Shows → Error → Type 0
 HadFailed s t error = (error ≡ errors.Failed) × (has_failed s ≡ true) × (t ≡ s)
 
--- why no entry is told, and what is so then
+-- why no entry is returned, and what is true then
 pub record FailsToTell {M : Type 0} (reading : List ℕ → Option M) (g i : ℕ) (s t : Shows) (error : Error)
     : Type 0 where
   pub lived : has_failed s ≡ false
@@ -69,13 +69,13 @@ pub record FailsToTell {M : Type 0} (reading : List ℕ → Option M) (g i : ℕ
   pub why : (home : Home) (m : LogMap) (pending : List Said) → Holds home s m pending
       → IsUntold reading g i s (taken m pending) error
 
--- the entries that a fetch reads: none of a group that doesn't count
+-- the entries that a fetch reads; none if the group doesn't count
 abbrev pub AreToRead : Shows → ℕ → ℕ → ℕ → Option ℕ → List EntryIndex → Type 0
 AreToRead s g begin end max es = ((s.counts g ≡ false) × (es ≡ []))
     ⊎ ((s.counts g ≡ true) × AreIn (s.tables g) begin end × (es ≡ fetched (s.tables g) begin end max))
 
--- Entries are fetched: they are the map's from begin on, once the pending batches are taken, as many as the
--- greatest size lets come, and stand behind the old ones.
+-- Entries were fetched: the map's after the pending batches, from `begin` on, as many as the greatest size allows.
+-- They were appended to the old ones.
 pub record FetchesTo {M : Type 0} (reading : List ℕ → Option M) (g begin end : ℕ) (max : Option ℕ) (s t : Shows)
     (old new : List M) (count : ℕ) : Type 0 where
   pub lived : has_failed s ≡ false
@@ -88,13 +88,13 @@ pub record FetchesTo {M : Type 0} (reading : List ℕ → Option M) (g begin end
   pub exact : (home : Home) (m : LogMap) (pending : List Said) → Holds home s m pending
       → AreEntriesOf reading (taken m pending) g begin messages
 
--- why entries aren't fetched, though all are there: memory ran out, or one of them isn't told
+-- why entries aren't fetched, though all are there: memory ran out, or one of them isn't returned
 abbrev pub IsOneUntold : {M : Type 0} → (List ℕ → Option M) → ℕ → ℕ → ℕ → Shows → LogMap → Error → Type 0
 IsOneUntold reading g begin end s m error = (error ≡ errors.Memory)
     ⊎ ((i : ℕ) × (begin ≤ i) × (i < end) × IsUntold reading g i s m error)
 
--- why no entries are fetched, and what is so then: the table of a group that counts hasn't got them all, or
--- one isn't told
+-- why no entries are fetched, and what is true then: the group counts and its table doesn't have them all, or one
+-- isn't returned
 pub record FailsToFetch {M : Type 0} (reading : List ℕ → Option M) (g begin end : ℕ) (s t : Shows) (error : Error)
     : Type 0 where
   pub lived : has_failed s ≡ false

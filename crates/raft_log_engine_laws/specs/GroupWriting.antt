@@ -1,5 +1,5 @@
--- A part of an atomic group that doesn't end it is written to Rewrite, or refused there. The map stays at
--- every exit.
+-- A part of an atomic group that doesn't end it is written to Rewrite, or its write fails. The map is kept at every
+-- exit.
 use Rattle.std.specs.Prelude.{ℕ, []}
 use Rattle.raft_log_record_base.specs.declared.errors.Error.{Error}
 use Rattle.raft_log_record_base.specs.declared.errors.Error.TheVariants as errors
@@ -15,8 +15,7 @@ use Rattle.raft_log_engine_laws.specs.Rewriting.{RewriteLeaves}
 use Rattle.raft_log_engine_laws.specs.Settled.{SameTables}
 use Rattle.raft_log_engine_laws.specs.Parts.{HoldsInGroup, IsGroupPart, UnendedGroup, begun_by, gone_on_by}
 
--- The record that begins a group was written, or one that goes on with it: the group stands open with that
--- part. What the tables show stays.
+-- A record that begins or continues a group was written: the group is open with that part. The tables are unchanged.
 pub record WrittenPartsKeepTheMap : Type 0 where
   pub begins : (home : Home) (e t : Shows) (number : ℕ) (b : Batch) (block : FileBlockHandle) (m : LogMap)
       → Holds home e m [] → IsGroupPart number Begin b
@@ -27,15 +26,14 @@ pub record WrittenPartsKeepTheMap : Type 0 where
       → AppendsTo InRewrite (signed_for b) block e.pipes t.pipes → SameTables e t
       → HoldsInGroup home t m (gone_on_by o (record { block = block; batch = b }))
 
--- the errors behind which nothing was done to the records of the queue
+-- the errors after which nothing was done to the records of the queue
 abbrev pub LeavesRecords : Error → Type 0
 LeavesRecords errors.NumberRange = Unit {0}
 LeavesRecords errors.Memory = Unit {0}
 LeavesRecords _ = ⊥
 
--- Rewrite refused a part that begins a group or goes on with one. The group may be given up: then the log is
--- left as any record that Rewrite refuses leaves it. One that had begun may go on as well, where nothing was
--- done to its records.
+-- Rewrite failed to write a part that begins or continues a group. The group may be given up: then the log is left as
+-- by any failed write to Rewrite. A group that had begun may also continue, if nothing was done to its records.
 pub record RefusedPartsKeepTheMap : Type 0 where
   pub begins : (home : Home) (e t : Shows) (number : ℕ) (b : Batch) (m : LogMap) (error : Error)
       → Holds home e m [] → IsGroupPart number Begin b → SameTables e t

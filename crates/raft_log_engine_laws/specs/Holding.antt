@@ -1,5 +1,5 @@
--- What is true of an engine: which map its log is, and which batches are pending behind it. No code holds
--- either: each clause on a call is told of whatever map and batches were true of the engine before.
+-- What is true of an engine: which map its log means, and which batches are pending after it. No code stores either;
+-- each clause on a call holds for every map and batches that were true of the engine before.
 use Rattle.std.specs.Prelude.{◌≡◌, ◌≤◌, ℕ, List, ◌++◌, Some}
 use Rattle.raft_log_model_laws.specs.Groups.{taken}
 use Rattle.raft_log_disk.specs.Disk.{Disk}
@@ -16,19 +16,22 @@ use Rattle.raft_log_file_blocks.specs.raft_log_file_pair.specs.Pipes.{LogPipes, 
 use Rattle.raft_log_file_blocks.specs.Blocks.{IsOfLog}
 use Rattle.raft_log_engine_laws.specs.Shows.{Home, LogMap, Shows, log_in, sense}
 
--- along each group's entries in either queue the files don't fall, up to the last file of the queue
+-- along each group's entries the file numbers never fall, in either queue, up to the last file of the queue
 abbrev pub FilesRiseIn : State → (ℕ → Shown) → Type 0
 FilesRiseIn s v = (g : ℕ) → FilesRise s.append.files.last s.rewrite.files.last (v g)
 
--- what is noted of atomic groups ends no later than in the last file of Rewrite
+-- the files noted of atomic groups end no later than the last file of Rewrite
 abbrev pub NotesEndIn : State → (ℕ → Shown) → Type 0
 NotesEndIn s v =
     (g : ℕ) (files : GroupFiles) → (v g).noted ≡ Some files → files.to ≤ s.rewrite.files.last
 
--- The engine's log, in these directories, is the map m with the batches pending behind it: its pipes run over
--- a log that is so, each place that its tables show lies there, along a group's entries in files that don't
--- fall, no file is noted past the last one, what is read at these places is the map after the batches, and
--- the block that is kept is what was written at its place.
+-- The engine's log, in these directories, is the map m with the batches pending after it:
+-- - its pipes run over such a log
+-- - each place that its tables show is in it
+-- - along a group's entries the file numbers never fall
+-- - no file is noted past the last one
+-- - the bytes at these places are the map after the batches
+-- - the cached block is what was written at its place
 pub record Holds (home : Home) (e : Shows) (m : LogMap) (pending : List Said) : Type 0 where
   pub state : State
   pub map : LogMap
@@ -40,29 +43,29 @@ pub record Holds (home : Home) (e : Shows) (m : LogMap) (pending : List Said) : 
   pub cached : IsOfLog state e.cache
   pub at : IsAt (Ties (log_in home) state) (view_of e.tables map) m pending
 
--- the pipes run over a log in these directories that is the map m with the batches pending behind it,
--- whatever an engine's tables show of it
+-- the pipes run over a log in these directories that is the map m with these batches pending, whatever any tables
+-- show
 pub record RunsAs (home : Home) (v : LogPipes) (m : LogMap) (pending : List Said) : Type 0 where
   pub state : State
   pub view : View (List ℕ) (List ℕ)
   pub runs : RunsOn (sense home) v state
   pub at : IsAt (Ties (log_in home) state) view m pending
 
--- pipes run over this map and these batches, of which some first ones are synced, the others pending
+-- the pipes run over this map and these batches; some first batches are synced, the others pending
 pub record RunsEnding (home : Home) (v : LogPipes) (m : LogMap) (pending : List Said) : Type 0 where
   pub done : List Said
   pub rest : List Said
   pub splits : done ++ rest ≡ pending
   pub runs : RunsAs home v (taken m done) rest
 
--- an engine holds this map and these batches, of which some first ones are synced, the others pending
+-- an engine holds this map and these batches; some first batches are synced, the others pending
 pub record EndsAt (home : Home) (e : Shows) (m : LogMap) (pending : List Said) : Type 0 where
   pub done : List Said
   pub rest : List Said
   pub splits : done ++ rest ≡ pending
   pub holds : Holds home e (taken m done) rest
 
--- what a failed engine leaves on its disk: its log lies there, from which it may be opened, of the batches
--- some first ones are synced, the others pending
+-- what a failed engine leaves on its disk: a log that can be opened; some first batches are synced, the others
+-- pending
 abbrev pub IsLeftAt : Home → Disk → LogMap → List Said → Type 0
 IsLeftAt home d m pending = (open_ones : OpenPipes) × LogEndsLying (log_in home) open_ones d m pending

@@ -19,7 +19,7 @@ use Rattle.raft_log_engine_laws.specs.Shows.{Home, IsLaidOut, IsWellMarked, Keep
 use Rattle.raft_log_engine_laws.specs.Holding.{EndsAt, Holds, IsLeftAt, RunsAs}
 use Rattle.raft_log_engine_laws.specs.Writing.{Leaves, items_at}
 
--- what is known of a batch once it may be written
+-- what is known of a batch that may be written
 pub record MayBeWritten (e : Shows) (b : Batch) : Type 0 where
   pub some : b.items ≡ [] → ⊥
   pub marked : IsWellMarked b
@@ -27,7 +27,7 @@ pub record MayBeWritten (e : Shows) (b : Batch) : Type 0 where
   pub says : SaysItself (signed_for b) b
   pub laid : IsLaidOut b
 
--- a batch that the pipes wrote, and that the tables took in the file of its place
+-- a batch that the pipes wrote, and that the tables applied in the file of its place
 abbrev pub BatchesAreWritten : Type 0
 BatchesAreWritten = (home : Home) (e t : Shows) (b : Batch) (block : FileBlockHandle) (m : LogMap)
     (pending : List Said) → Holds home e m pending → MayBeWritten e b
@@ -35,26 +35,25 @@ BatchesAreWritten = (home : Home) (e t : Shows) (b : Batch) (block : FileBlockHa
     → t.tables ≡ all_shown block.id.seq e.tables (items_at block b) → KeepsOrForgets e t
     → EndsAt home t m (pending ++ said_of b ∷ [])
 
--- a batch that the pipes refused
+-- a batch that the pipes failed to write
 abbrev pub RefusalsLeaveNoTrace : Type 0
 RefusalsLeaveNoTrace = (home : Home) (e t : Shows) (b : Batch) (m : LogMap) (pending : List Said)
     (error : Error) → Holds home e m pending → MayBeWritten e b → t.tables ≡ e.tables → KeepsOrForgets e t
     → FailsToAppendTo InAppend (signed_for b) error e.pipes t.pipes → Leaves home b m pending e t error
 
--- a sync
+-- a sync puts all batches into the map
 abbrev pub SyncsAreHeld : Type 0
 SyncsAreHeld = (home : Home) (e t : Shows) (m : LogMap) (pending : List Said) → Holds home e m pending
     → t.tables ≡ e.tables → KeepsOrForgets e t → SyncsQueue InAppend e.pipes t.pipes
     → Holds home t (taken m pending) []
 
--- a sync that failed
+-- a sync that failed leaves the log on the disk, with its map and pending batches
 abbrev pub FailuresLeaveLogs : Type 0
 FailuresLeaveLogs = (home : Home) (v w : LogPipes) (m : LogMap) (pending : List Said)
     → RunsAs home v m pending → FailsToSyncQueue InAppend v w
     → Fails v.disk w.disk × IsLeftAt home w.disk m pending
 
--- A close of an engine leaves its log on the disk, with its map, and its batches pending, whatever was refused
--- meanwhile.
+-- A close leaves an engine's log on the disk, with its map and its pending batches, whatever failed meanwhile.
 abbrev pub ClosedEnginesAreLeft : Type 0
 ClosedEnginesAreLeft = (home : Home) (e : Shows) (m : LogMap) (pending : List Said) (d : Disk)
     → Holds home e m pending → ClosesLog e.pipes d → IsLeftAt home d m pending
@@ -64,7 +63,7 @@ abbrev pub ClosedEnginesAreDurable : Type 0
 ClosedEnginesAreDurable = (home : Home) (e : Shows) (m : LogMap) (pending : List Said) (d : Disk)
     → Holds home e m pending → ClosesSettled e.pipes d → IsLeftAt home d (taken m pending) []
 
--- the log of an engine lies on its disk, while both pipes run
+-- the log of an engine is on its disk, while both pipes run
 abbrev pub EnginesLieOnDisks : Type 0
 EnginesLieOnDisks = (home : Home) (e : Shows) (m : LogMap) (pending : List Said) → Holds home e m pending
     → LogLiesOn (log_in home) (both_open (files_of e.pipes)) e.pipes.disk m pending

@@ -1,4 +1,4 @@
--- Atomic groups that are left open: none of them counts, whatever comes behind it.
+-- Atomic groups that are left open: none of them counts, whatever records follow it.
 use Rattle.std.specs.Prelude.{◌≡◌, ℕ, ◌<◌, ◌≤◌, List, [], ◌∷◌, ◌++◌, None}
 use Rattle.raft_log_model_laws.specs.Item.{Record, Tagged}
 use Rattle.raft_log_model_laws.specs.Item.Mark.{Begin, End, Middle}
@@ -9,13 +9,12 @@ use Rattle.raft_log_engine_laws.specs.Shows.{Home, LogMap, Shows}
 use Rattle.raft_log_engine_laws.specs.Holding.{Holds}
 use Rattle.raft_log_engine_laws.specs.Parts.{HoldsInGroup, UnendedGroup}
 
--- a group may be given up at any time: the log is what it was
+-- a group may be given up at any time: the log stays as it was
 abbrev pub GroupsMayBeGivenUp : Type 0
 GroupsMayBeGivenUp = (home : Home) (e : Shows) (m : LogMap) (o : UnendedGroup) → HoldsInGroup home e m o
     → Holds home e m []
 
--- what stands behind a group that is left open, and doesn't go on with it, counts as if nothing of the group
--- were there
+-- records after a group that is left open, which don't continue it, count as if nothing of the group were there
 abbrev pub GroupsLeftOpenCountNot : Type 0 → Type 0 → Type 0
 GroupsLeftOpenCountNot E V = (front back : List (Record E V)) (n : ℕ) (first : List (Tagged E V))
     (more : List (List (Tagged E V))) → UnbrokenFrom None back
@@ -25,7 +24,7 @@ GroupsLeftOpenCountNot E V = (front back : List (Record E V)) (n : ℕ) (first :
 abbrev pub AreOpenBelow : {E V : Type 0} → ℕ → Open E V → Type 0
 AreOpenBelow n o = (k : ℕ) → n ≤ k → o k ≡ None
 
--- the records are parts of groups from that number on, or of none
+-- each record is part of a group from that number on, or of none
 abbrev pub AreNumberedFrom : {E V : Type 0} → ℕ → List (Record E V) → Type 0
 AreNumberedFrom n [] = Unit {0}
 AreNumberedFrom n (Plain xs ∷ rs) = AreNumberedFrom n rs
@@ -33,8 +32,7 @@ AreNumberedFrom n (Part (Begin k) xs ∷ rs) = (n ≤ k) × AreNumberedFrom n rs
 AreNumberedFrom n (Part (Middle k) xs ∷ rs) = (n ≤ k) × AreNumberedFrom n rs
 AreNumberedFrom n (Part (End k) xs ∷ rs) = (n ≤ k) × AreNumberedFrom n rs
 
--- Groups whose numbers are above those left open count as if none had been left open, and leave those as
--- they were.
+-- Groups whose numbers are above those left open count as if none had been left open, and leave those unchanged.
 abbrev pub NewGroupsEndNoOldOnes : Type 0 → Type 0 → Type 0
 NewGroupsEndNoOldOnes E V = (old new : List (Record E V)) (n : ℕ) → AreOpenBelow n (opened none_open old)
     → AreNumberedFrom n new

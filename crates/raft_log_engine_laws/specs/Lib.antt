@@ -17,7 +17,7 @@ pub mod Settled
 pub mod Quiet
 pub mod Raising
 pub mod Rewriting
--- libraries below, passed on to who stands on this one
+-- libraries below, passed on to the crates above
 pub use Rattle.raft_log_table_one
 pub use Rattle.raft_log_file_blocks.specs.raft_log_table_all
 pub use Rattle.raft_log_file_layout

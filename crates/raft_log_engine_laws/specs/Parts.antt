@@ -1,4 +1,4 @@
--- An engine's log while an atomic group of copies stands open in Rewrite.
+-- An engine's log while an atomic group of copies is open in Rewrite.
 use Rattle.std.specs.Prelude.{◌≡◌, ℕ, ◌≤◌, List, [], ◌∷◌, ◌++◌, map}
 use Rattle.raft_log_model_laws.specs.Item.{Item, Tagged}
 use Rattle.raft_log_model_laws.specs.Item.Item.{Run}
@@ -28,7 +28,7 @@ pub record WrittenPart : Type 0 where
   pub block : FileBlockHandle
   pub batch : Batch
 
--- an atomic group that has begun and not ended: its number, the part that began it, and those behind it
+-- an atomic group that has begun and not ended: its number, its first part, and those after it
 pub record UnendedGroup : Type 0 where
   pub number : ℕ
   pub first : WrittenPart
@@ -46,12 +46,11 @@ begun_by number p = record { number = number; first = p; more = [] }
 abbrev pub gone_on_by : UnendedGroup → WrittenPart → UnendedGroup
 gone_on_by o p = record { number = o.number; first = o.first; more = o.more ++ p ∷ [] }
 
--- what a batch says, each entry told by its bytes
+-- what a batch says, with the bytes of each entry
 abbrev pub said_items : Batch → List (Tagged (List ℕ) (List ℕ))
 said_items b = tagged_items (entry_bytes b.entries) b.items
 
--- the batch is this part of the atomic group of that number, its record says it, and no run of it ends at an
--- index that is too great
+-- the batch is this part of the atomic group; its record says it, and no run of it ends at too great an index
 pub record IsGroupPart (number : ℕ) (status : AtomicGroupStatus) (b : Batch) : Type 0 where
   pub some : b.items ≡ [] → ⊥
   pub part : marking_of_items b.items ≡ Part number status
@@ -59,30 +58,31 @@ pub record IsGroupPart (number : ℕ) (status : AtomicGroupStatus) (b : Batch) :
   pub laid : IsLaidOut b
   pub fits : AllFit (said_items b)
 
--- this holds of the place of each entry of the item
+-- the place of each entry of the item satisfies this
 abbrev pub OfEntries : (Place → Type 0) → Item Place (List ℕ) → Type 0
 OfEntries P (Run f ps) = Each P ps
 OfEntries P x = Unit {0}
 
--- what stands at the places of the part's entries in Rewrite is what its batch says, group by group
+-- the bytes in Rewrite at the places of the part's entries are those that its batch says, group by group
 abbrev pub SaysPart : (Located → List ℕ) → WrittenPart → Type 0
 SaysPart at p =
     (g : ℕ) → copied_items at (of_group g (items_at p.block p.batch)) ≡ of_group g (said_items p.batch)
 
--- the part's entries lie in Rewrite, and what stands there is what its batch says
+-- the part's entries are in Rewrite, and the bytes there are those that its batch says
 pub record LiesInRewrite (s : State) (p : WrittenPart) : Type 0 where
   pub entries : (g : ℕ) → Each (OfEntries (EntryLiesIn s.rewrite)) (of_group g (items_at p.block p.batch))
   pub says : SaysPart (entries_at s) p
 
--- the files of the parts don't fall, and lie from the one number to the other
+-- the file numbers of the parts never fall, and are from the one number to the other
 abbrev pub FilesGoUp : ℕ → ℕ → List WrittenPart → Type 0
 FilesGoUp low high [] = low ≤ high
 FilesGoUp low high (p ∷ ps) = (low ≤ p.block.id.seq) × FilesGoUp p.block.id.seq high ps
 
--- An engine's log while an atomic group of copies stands open in Rewrite: it is the map, and the tables show
--- it, as if nothing of the group were there. The records of the group are the last ones of Rewrite, from the
--- file of its begin on, and its parts lie in these files; no entry that the tables show in Rewrite lies in a
--- later file than the one with the begin.
+-- An engine's log while an atomic group of copies is open in Rewrite. It is the map, and the tables show it, as if
+-- nothing of the group were there.
+-- - The records of the group are the last ones of Rewrite, from the file of its begin on.
+-- - Its parts are in these files.
+-- - No entry that the tables show in Rewrite is in a later file than the begin.
 pub record HoldsInGroup (home : Home) (e : Shows) (m : LogMap) (o : UnendedGroup) : Type 0 where
   pub holds : Holds home e m []
   pub unended : GoesOnFrom holds.at.files.rewrite o.first.block.id.seq o.number (said_items o.first.batch)

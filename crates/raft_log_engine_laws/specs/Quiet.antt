@@ -1,5 +1,5 @@
--- The parts of a purge that write nothing and take no file: syncs and rotations of either queue. The map
--- stays at every exit.
+-- The parts of a purge that write nothing and delete no file: syncs and rotations of either queue. The map is kept at
+-- every exit.
 use Rattle.std.specs.Prelude.{◌≡◌, List, []}
 use Rattle.raft_log_model_laws.specs.Groups.{taken}
 use Rattle.raft_log_disk.specs.Causes.{Fails}
@@ -13,26 +13,26 @@ use Rattle.raft_log_engine_laws.specs.Shows.{Home, LogMap, Shows}
 use Rattle.raft_log_engine_laws.specs.Holding.{Holds, IsLeftAt, RunsAs}
 use Rattle.raft_log_engine_laws.specs.Settled.{HoldsSettled, SameTables}
 
--- what is settled is held, and nothing is pending
+-- a settled log is held with nothing pending
 abbrev pub SettledLogsAreHeld : Type 0
 SettledLogsAreHeld = (home : Home) (e : Shows) (m : LogMap) → HoldsSettled home e m → Holds home e m []
 
--- A sync of Rewrite changes nothing of what is held; and where nothing is pending in Append, nothing is in
--- either queue.
+-- A sync of Rewrite changes nothing of what is held. If nothing is pending in Append, nothing is pending in either
+-- queue after it.
 pub record RewriteSyncsKeepTheMap : Type 0 where
   pub keeps : (home : Home) (e t : Shows) (m : LogMap) (pending : List Said) → Holds home e m pending
       → SameTables e t → SyncsQueue InRewrite e.pipes t.pipes → Holds home t m pending
   pub settles : (home : Home) (e t : Shows) (m : LogMap) → Holds home e m []
       → SameTables e t → SyncsQueue InRewrite e.pipes t.pipes → HoldsSettled home t m
 
--- a sync of either queue that failed leaves the log as it was
+-- a failed sync of either queue leaves the log on the disk, with its map and pending batches
 abbrev pub FailedSyncsLeaveLogs : Type 0
 FailedSyncsLeaveLogs = (which : Which) (home : Home) (v w : LogPipes) (m : LogMap) (pending : List Said)
     → RunsAs home v m pending → FailsToSyncQueue which v w
     → Fails v.disk w.disk × IsLeftAt home w.disk m pending
 
--- A rotation of Append puts all batches on the map; one of Rewrite changes nothing of it; and where nothing
--- is pending in Append behind it, nothing is in the queue that rotated.
+-- A rotation of Append puts all batches into the map, and keeps a settled log settled. A rotation of Rewrite settles
+-- a log without pending batches.
 pub record RotationsKeepTheMap : Type 0 where
   pub append : (home : Home) (e t : Shows) (m : LogMap) (pending : List Said) → Holds home e m pending
       → SameTables e t → RotatesQueue InAppend e.pipes t.pipes → Holds home t (taken m pending) []
@@ -41,15 +41,14 @@ pub record RotationsKeepTheMap : Type 0 where
   pub rewrite : (home : Home) (e t : Shows) (m : LogMap) → Holds home e m []
       → SameTables e t → RotatesQueue InRewrite e.pipes t.pipes → HoldsSettled home t m
 
--- what is true where a rotation was refused: nothing was done; or the engine has failed, and its log is held
+-- what is true after a failed rotation: the log is held as before; or the engine has failed, and left it on the disk
 abbrev pub TurnLeavesHeld : Home → LogMap → List Said → Shows → Error → Type 0
 TurnLeavesHeld home m pending t errors.Memory = Holds home t m pending
 TurnLeavesHeld home m pending t errors.NumberRange = Holds home t m pending
 TurnLeavesHeld home m pending t errors.Failed = IsLeftAt home t.pipes.disk m pending
 TurnLeavesHeld home m pending t _ = ⊥
 
--- a refused rotation of either queue keeps the map: nothing was done, or the engine has failed and its log is
--- held
+-- a failed rotation keeps the map: the log is held as before, or the engine has failed and left it on the disk
 abbrev pub RefusedRotationsKeepTheMap : Type 0
 RefusedRotationsKeepTheMap = (which : Which) (home : Home) (e t : Shows) (m : LogMap) (pending : List Said)
     (error : Error) → Holds home e m pending → SameTables e t

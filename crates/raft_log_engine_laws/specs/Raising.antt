@@ -1,5 +1,5 @@
--- Files that are no longer needed leave a queue's span: where nothing that the tables show lies in them, and,
--- of Append, no mark is owed to Rewrite, the map stays.
+-- Files that are no longer needed leave a queue's live range. The map is kept if nothing that the tables show is in
+-- them and, for Append, no tombstone is owed to Rewrite.
 use Rattle.std.specs.Prelude.{◌≡◌, ℕ, ◌≤◌, None, List, []}
 use Rattle.raft_log_record_base.specs.declared.errors.Error.{Error}
 use Rattle.raft_log_record_base.specs.declared.errors.Error.TheVariants as errors
@@ -14,12 +14,12 @@ use Rattle.raft_log_engine_laws.specs.Shows.{Home, LogMap, Shows}
 use Rattle.raft_log_engine_laws.specs.Holding.{IsLeftAt}
 use Rattle.raft_log_engine_laws.specs.Settled.{HoldsSettled}
 
--- Append may begin at this file: no group owes a mark, and nothing of Append lies in a file below
+-- Append may begin at this file: no group owes a tombstone, and nothing of Append is in a file below
 abbrev pub AppendMayBegin : ℕ → (ℕ → Shown) → Type 0
 AppendMayBegin n v = (g : ℕ) → OwesNothing (whereabouts (v g)) × IsLeastInAppend (v g) n
 
--- Rewrite may begin at this file: of each group nothing of Rewrite lies in a file below, where the files of
--- atomic groups count from the first of them on
+-- Rewrite may begin at this file: no group has anything of Rewrite in a file below. An atomic group's files count
+-- from the first of them on.
 abbrev pub RewriteMayBegin : ℕ → (ℕ → Shown) → Type 0
 RewriteMayBegin n v =
     (g : ℕ) → (least : ℕ) × IsLeastInRewrite (v g) least × (n ≤ start_of least (v g).noted)
@@ -29,13 +29,14 @@ abbrev pub MayBegin : Which → ℕ → (ℕ → Shown) → Type 0
 MayBegin InAppend n v = AppendMayBegin n v
 MayBegin InRewrite n v = RewriteMayBegin n v
 
--- A purge of files below one at which the queue may begin keeps the map. No block is kept behind it.
+-- A purge of files below one at which the queue may begin keeps the map. It forgets the cached block.
 abbrev pub PurgesKeepTheMap : Type 0
 PurgesKeepTheMap = (which : Which) (home : Home) (e t : Shows) (m : LogMap) (n : ℕ) → HoldsSettled home e m
     → MayBegin which n e.tables → t.tables ≡ e.tables → t.cache.place ≡ None → PurgesQueue which n e.pipes t.pipes
     → HoldsSettled home t m
 
--- what is true where it was refused: nothing was done; or the engine has failed, and its log is held
+-- what is true after it failed: the map is kept, with nothing pending; or the engine has failed, and left it on the
+-- disk
 abbrev pub PurgeLeavesHeld : Home → LogMap → Shows → Error → Type 0
 PurgeLeavesHeld home m t errors.Memory = HoldsSettled home t m
 PurgeLeavesHeld home m t (errors.Other fault) = HoldsSettled home t m
@@ -43,8 +44,8 @@ PurgeLeavesHeld home m t errors.NumberRange = HoldsSettled home t m
 PurgeLeavesHeld home m t errors.Failed = IsLeftAt home t.pipes.disk m []
 PurgeLeavesHeld home m t _ = ⊥
 
--- a refused purge of either queue keeps the map: nothing was done, or the engine has failed and its log is
--- held
+-- a failed purge of either queue keeps the map: nothing is pending, or the engine has failed and left its log on the
+-- disk
 abbrev pub RefusedPurgesKeepTheMap : Type 0
 RefusedPurgesKeepTheMap = (which : Which) (home : Home) (e t : Shows) (m : LogMap) (n : ℕ) (error : Error)
     → HoldsSettled home e m → MayBegin which n e.tables → t.tables ≡ e.tables → t.cache.place ≡ None

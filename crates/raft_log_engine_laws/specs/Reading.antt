@@ -1,4 +1,4 @@
--- What is read of an engine's tables alone is the map's.
+-- What is read from an engine's tables alone is the map's.
 use Rattle.std.specs.Prelude.{◌≡◌, ◌<◌, ◌&&◌, ℕ, Bool, true, false, List, Option, None, Some, option_map, bytes_eq}
 use Rattle.std.specs.Cmp.Lexicographic.{slice_cmp}
 use Rattle.std.specs.List.Sorted.{IsStrictlySortedBy}
@@ -15,61 +15,58 @@ use Rattle.raft_log_file_blocks.specs.raft_log_file_pair.specs.Pipes.{Said}
 use Rattle.raft_log_engine_laws.specs.Shows.{Home, LogMap, Shows}
 use Rattle.raft_log_engine_laws.specs.Holding.{Holds}
 
--- the first index of a group at which an entry stands, if there is one
+-- the first index of a group that has an entry, if there is one
 abbrev pub IsFirstIn : LogMap → ℕ → Option ℕ → Type 0
 IsFirstIn m g None = (i : ℕ) → m g (Index i) ≡ None
 IsFirstIn m g (Some i) = (m g (Index i) ≡ None → ⊥) × ((j : ℕ) → j < i → m g (Index j) ≡ None)
 
--- the last one
+-- the last index of a group that has an entry, if there is one
 abbrev pub IsLastIn : LogMap → ℕ → Option ℕ → Type 0
 IsLastIn m g None = (i : ℕ) → m g (Index i) ≡ None
 IsLastIn m g (Some i) = (m g (Index i) ≡ None → ⊥) × ((j : ℕ) → i < j → m g (Index j) ≡ None)
 
--- the value that stands under a key, if there is one
+-- the value of a key, if there is one
 abbrev pub StandsUnder : LogMap → ℕ → List ℕ → Option (List ℕ) → Type 0
 StandsUnder m g k value = m g (Key k) ≡ option_map Value value
 
--- A group's first index is told: what the tables show, which is the map's, once the pending batches are
--- taken.
+-- A group's first index was returned: the tables', which is the map's after the pending batches.
 pub record ReadsFirst (e : Shows) (g : ℕ) (index : Option ℕ) : Type 0 where
   pub shown : index ≡ first_of (e.tables g)
   pub exact : (home : Home) (m : LogMap) (pending : List Said) → Holds home e m pending
       → IsFirstIn (taken m pending) g index
 
--- A group's last index is told: what the tables show, which is the map's, once the pending batches are taken.
+-- A group's last index was returned: the tables', which is the map's after the pending batches.
 pub record ReadsLast (e : Shows) (g : ℕ) (index : Option ℕ) : Type 0 where
   pub shown : index ≡ last_of (e.tables g)
   pub exact : (home : Home) (m : LogMap) (pending : List Said) → Holds home e m pending
       → IsLastIn (taken m pending) g index
 
--- The value of a group's key is told: what the tables show, which is the map's, once the pending batches are
--- taken.
+-- The value of a group's key was returned: the tables', which is the map's after the pending batches.
 pub record ReadsValue (e : Shows) (g : ℕ) (key : List ℕ) (value : Option (List ℕ)) : Type 0 where
   pub shown : value ≡ bytes_held ((e.tables g).held key)
   pub exact : (home : Home) (m : LogMap) (pending : List Said) → Holds home e m pending
       → StandsUnder (taken m pending) g key value
 
--- whether a key is asked for: it isn't below the start, and is below the end
+-- whether a key is in the range: not below the start, and below the end
 abbrev pub is_within : Option (List ℕ) → Option (List ℕ) → List ℕ → Bool
 is_within start end k = is_from start k && is_below end k
 
--- the pairs are the keys of a group that are asked for, each once, in the order of their bytes, with their
--- values
+-- the pairs are the keys of a group in the range, each once, in the order of their bytes, with their values
 pub record AreKeysOf (m : LogMap) (g : ℕ) (start end : Option (List ℕ)) (es : List (List ℕ × List ℕ))
     : Type 0 where
   pub rising : IsStrictlySortedBy (slice_cmp nat_cmp) (keys_of es)
   pub inside : (k : List ℕ) → is_within start end k ≡ true → StandsUnder m g k (lookup (bytes_eq k) es)
   pub outside : (k : List ℕ) → is_within start end k ≡ false → lookup (bytes_eq k) es ≡ None
 
--- All keys of a group that are asked for are told with their values: those that the tables show, which are
--- the map's, once the pending batches are taken.
+-- All keys of a group in the range were returned with their values: the tables', which are the map's after the
+-- pending batches.
 pub record ReadsKeys (e : Shows) (g : ℕ) (start end : Option (List ℕ)) (es : List (List ℕ × List ℕ))
     : Type 0 where
   pub shown : ListsAll (values_within start end (e.tables g)) es
   pub exact : (home : Home) (m : LogMap) (pending : List Said) → Holds home e m pending
       → AreKeysOf (taken m pending) g start end es
 
--- what tables show may be told of an engine
+-- what may be returned from an engine's tables
 pub record TablesTell : Type 0 where
   pub first : (e : Shows) (g : ℕ) → ReadsFirst e g (first_of (e.tables g))
   pub last : (e : Shows) (g : ℕ) → ReadsLast e g (last_of (e.tables g))

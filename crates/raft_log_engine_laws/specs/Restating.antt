@@ -1,5 +1,5 @@
--- What a purge writes of a group to rewrite it: its rewritten entries, from an index on, in pieces, and
--- rewritten keys with their values.
+-- What a purge writes to rewrite a group: its rewritten entries, from an index on, in pieces, and rewritten keys with
+-- their values.
 use Rattle.std.specs.Prelude.{◌≡◌, ℕ, ◌+◌, ◌≤◌, false, List, [], ◌∷◌, ◌++◌, length, Option, Some}
 use Rattle.raft_log_model_laws.specs.Item.{Item}
 use Rattle.raft_log_model_laws.specs.Item.Item.{Put, Run}
@@ -38,15 +38,16 @@ abbrev pub puts : List KeyBytes → List (Item (List ℕ) (List ℕ))
 puts [] = []
 puts (k ∷ ks) = Put k.key k.value ∷ puts ks
 
--- the key has the value, and stands in Rewrite
+-- the key has the value, and is in Rewrite
 pub record HoldsRewritten (v : Shown) (k : KeyBytes) : Type 0 where
   pub held : KeyValue
   pub is : v.held k.key ≡ Some held
   pub bytes : held.bytes ≡ k.value
   pub rewritten : held.appended ≡ false
 
--- The batches say of a group what stands of it in Rewrite: the entries from an index on, up to the last
--- rewritten one, with their bytes, and rewritten keys with their values.
+-- The batches say what Rewrite has of a group:
+-- - the entries from an index on, up to the last rewritten one, with their bytes
+-- - rewritten keys with their values
 pub record RestatesGroup (g : ℕ) (bs : List Batch) (v : Shown) (m : Slot → Option (Content (List ℕ) (List ℕ)))
     : Type 0 where
   pub first : ℕ
@@ -58,7 +59,7 @@ pub record RestatesGroup (g : ℕ) (bs : List Batch) (v : Shown) (m : Slot → O
   pub entries : RunStands m first (entries_of_pieces pieces)
   pub held : Each (HoldsRewritten v) keys
 
--- Batches that say so of each group have a whole group of copies, whatever the gate.
+-- Batches that restate each group so are a whole group of copies, whatever the gate.
 abbrev pub RestatedGroupsAreWhole : Type 0
 RestatedGroupsAreWhole = (gate : Option ℕ) (bs : List Batch) (v : ℕ → Shown) (m : LogMap)
     → ((g : ℕ) → RestatesGroup g bs (v g) (m g)) → HasWhole gate bs v m

@@ -1,4 +1,4 @@
--- Records that are written to Rewrite: the marks that are owed, and copies. The map stays at every exit.
+-- Records that are written to Rewrite: owed tombstones, and copies. The map is kept at every exit.
 use Rattle.std.specs.Prelude.{◌≡◌, ℕ, false, Option, List, [], map}
 use Rattle.raft_log_model_laws.specs.Item.{Tagged}
 use Rattle.raft_log_model_laws.specs.Groups.{of_group}
@@ -24,16 +24,17 @@ use Rattle.raft_log_engine_laws.specs.Shows.{Home, IsLaidOut, KeepsOrForgets, Lo
 use Rattle.raft_log_engine_laws.specs.Holding.{Holds, IsLeftAt}
 use Rattle.raft_log_engine_laws.specs.Settled.{HoldsSettled, SameTables}
 
--- what is known of a batch that counts by itself once it is in Rewrite: it is no part of an atomic group
+-- what is known of a batch that counts by itself in Rewrite: it is no part of an atomic group
 pub record CountsAlone (b : Batch) : Type 0 where
   pub some : b.items ≡ [] → ⊥
   pub plain : marking_of_items b.items ≡ Unmarked
   pub says : SaysItself (signed_for b) b
   pub laid : IsLaidOut b
 
--- What is true where Rewrite refused a record, by the error: cut back, all that was written there before is
--- synced; left out, the log is as it was; and where the engine has failed, its log is held, and the record
--- may be there.
+-- What is true after Rewrite failed to write a record, by the error:
+-- - `Io`, `TryAgain`: the record was truncated away, and all that was written before is synced
+-- - `NumberRange`, `Memory`: the record was left out, and the log is as it was
+-- - `Failed`: the engine has failed and left its log on the disk; the record may be there
 abbrev pub RewriteLeaves : Home → LogMap → Shows → Error → Type 0
 RewriteLeaves home m t (errors.Io kind) = HoldsSettled home t m
 RewriteLeaves home m t (errors.TryAgain text) = HoldsSettled home t m
@@ -42,20 +43,20 @@ RewriteLeaves home m t errors.Memory = Holds home t m []
 RewriteLeaves home m t errors.Failed = IsLeftAt home t.pipes.disk m []
 RewriteLeaves home m t _ = ⊥
 
--- Marks.
+-- Tombstones.
 
--- the batch says the marks that the groups owe, each of them once and none left out
+-- the batch says the tombstones that the groups owe, each of them once and none left out
 pub record SaysOwed (b : Batch) (v : ℕ → Shown) : Type 0 where
   pub alone : CountsAlone b
   pub owed : (g : ℕ) → AreOwedAt (v g) (of_group g (tagged_items (λ e. e) b.items))
 
--- The marks that are owed were written to Rewrite: the log is so with tables that owe none.
+-- The owed tombstones were written to Rewrite: the log is the map with tables that owe none.
 abbrev pub WrittenMarksKeepTheMap : Type 0
 WrittenMarksKeepTheMap = (home : Home) (e t : Shows) (b : Batch) (block : FileBlockHandle) (m : LogMap)
     → Holds home e m [] → SaysOwed b e.tables → AppendsTo InRewrite (signed_for b) block e.pipes t.pipes
     → t.tables ≡ (λ g. unmarked (e.tables g)) → KeepsOrForgets e t → Holds home t m []
 
--- Rewrite refused the marks that are owed: the tables owe them still.
+-- Rewrite failed to write the owed tombstones: the tables still owe them.
 abbrev pub RefusedMarksKeepTheMap : Type 0
 RefusedMarksKeepTheMap = (home : Home) (e t : Shows) (b : Batch) (m : LogMap) (error : Error)
     → Holds home e m [] → SaysOwed b e.tables → SameTables e t
@@ -63,29 +64,29 @@ RefusedMarksKeepTheMap = (home : Home) (e t : Shows) (b : Batch) (m : LogMap) (e
 
 -- Copies.
 
--- what stands at the places of the batch's entries in Rewrite is what the batch says
+-- the bytes in Rewrite at the places of the batch's entries are those that the batch says
 abbrev pub SaysAt : (Located → List ℕ) → FileBlockHandle → Batch → Type 0
 SaysAt at block b = map (renamed_tagged (λ p. at (in_queue false p))) (items_at block b)
     ≡ tagged_items (entry_bytes b.entries) b.items
 
--- The batch has copies that the gate lets move, of what the tables show of the map: so they are wherever it
--- is written and whatever else stands anywhere.
+-- The batch has copies of what the tables show of the map, and the gate lets them move. This holds wherever the batch
+-- is written, and whatever bytes are anywhere else.
 abbrev pub HasCopies : Option ℕ → Batch → (ℕ → Shown) → LogMap → Type 0
 HasCopies gate b v m = (block : FileBlockHandle) (at : Located → List ℕ) → AreMeant at v m → SaysAt at block b
     → (g : ℕ) → AreCopies at gate block.id.seq (v g) (of_group g (items_at block b))
 
--- what the tables show once the copies were written at this place
+-- what the tables show after the copies were written at this place
 abbrev pub moved_to : Option ℕ → FileBlockHandle → Batch → (ℕ → Shown) → ℕ → Shown
 moved_to gate block b v g = all_rewritten gate block.id.seq (v g) (of_group g (items_at block b))
 
--- Copies were written to Rewrite, and the tables took them in the file of their place.
+-- Copies were written to Rewrite, and the tables applied them in the file of their place.
 abbrev pub WrittenCopiesKeepTheMap : Type 0
 WrittenCopiesKeepTheMap = (home : Home) (e t : Shows) (gate : Option ℕ) (b : Batch) (block : FileBlockHandle)
     (m : LogMap) → Holds home e m [] → CountsAlone b → HasCopies gate b e.tables m
     → AppendsTo InRewrite (signed_for b) block e.pipes t.pipes → t.tables ≡ moved_to gate block b e.tables
     → KeepsOrForgets e t → Holds home t m []
 
--- Rewrite refused copies: all stands where it stood.
+-- Rewrite failed to write copies: the tables are unchanged.
 abbrev pub RefusedCopiesKeepTheMap : Type 0
 RefusedCopiesKeepTheMap = (home : Home) (e t : Shows) (gate : Option ℕ) (b : Batch) (m : LogMap)
     (error : Error) → Holds home e m [] → CountsAlone b → HasCopies gate b e.tables m → SameTables e t

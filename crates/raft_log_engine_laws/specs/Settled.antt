@@ -1,4 +1,4 @@
--- An engine of whose log nothing is pending: what a purge makes before files go.
+-- An engine with nothing pending in its log: a purge needs this before files go.
 use Rattle.std.specs.Prelude.{◌≡◌, List}
 use Rattle.raft_log_directory_laws.specs.Log.{IsSettled}
 use Rattle.raft_log_file_blocks.specs.raft_log_file_pair.specs.State.{Ties}
@@ -9,10 +9,13 @@ use Rattle.raft_log_file_blocks.specs.Blocks.{IsOfLog}
 use Rattle.raft_log_engine_laws.specs.Shows.{Home, KeepsOrForgets, LogMap, Shows, log_in, sense}
 use Rattle.raft_log_engine_laws.specs.Holding.{FilesRiseIn, NotesEndIn}
 
--- The engine's log, in these directories, is the map m, and nothing is pending, in Append or in Rewrite: its
--- pipes run over a log that is so, each place that its tables show lies there, along a group's entries in
--- files that don't fall, no file is noted past the last one, what is read at these places is the map, and the
--- block that is kept is what was written at its place.
+-- The engine's log, in these directories, is the map m, and nothing is pending, in Append or in Rewrite:
+-- - its pipes run over such a log
+-- - each place that its tables show is in it
+-- - along a group's entries the file numbers never fall
+-- - no file is noted past the last one
+-- - the bytes at these places are the map
+-- - the cached block is what was written at its place
 pub record HoldsSettled (home : Home) (e : Shows) (m : LogMap) : Type 0 where
   pub state : State
   pub map : LogMap
@@ -24,7 +27,7 @@ pub record HoldsSettled (home : Home) (e : Shows) (m : LogMap) : Type 0 where
   pub cached : IsOfLog state e.cache
   pub at : IsSettled (Ties (log_in home) state) (view_of e.tables map) m
 
--- The tables show what they showed, and the block that was kept stays kept, or none is any more.
+-- The tables are unchanged, and the cached block stays cached, or none is any more.
 pub record SameTables (e t : Shows) : Type 0 where
   pub tables : t.tables ≡ e.tables
   pub cache : KeepsOrForgets e t

@@ -27,8 +27,7 @@ use Rattle.raft_log_record_base.specs.Files.{no_block}
 abbrev pub LogMap : Type 0
 LogMap = Map (List ℕ) (List ℕ)
 
--- what an engine shows: what its tables say of each group, which groups count, its pipes, and the block that
--- it read last
+-- what an engine shows: what its tables say of each group, which groups count, its pipes, and its cached block
 pub record Shows : Type 0 where
   pub tables : ℕ → Shown
   pub counts : ℕ → Bool
@@ -39,34 +38,34 @@ pub record Shows : Type 0 where
 abbrev pub shows : LogPipes → MemTables → BlockCache → Shows
 shows v tables cache = record { tables = shown_of tables; counts = counts tables; pipes = v; cache = cache }
 
--- the block that was kept stays kept, or none is any more
+-- the cached block stays cached, or none is any more
 abbrev pub KeepsOrForgets : Shows → Shows → Type 0
 KeepsOrForgets s t = (t.cache ≡ s.cache) ⊎ (t.cache.place ≡ None)
 
--- whether a call was refused that couldn't be mended
+-- whether the engine has failed: a failed call couldn't be undone
 abbrev pub has_failed : Shows → Bool
 has_failed e = is_failed e.pipes
 
--- the directories in which the files of either queue lie
+-- the directories that have the files of either queue
 pub record Home : Type 0 where
   pub append : List (List ℕ)
   pub rewrite : List (List ℕ)
 
--- What a record says once it is read: of each entry its bytes. One whose marks are broken says what its items
--- say, as it is read of Append; no engine writes it.
+-- What a record says when it is read, with the bytes of each entry. If its marks are broken, it says what its items
+-- say, as Append reads it; no engine writes such a record.
 abbrev pub said_by : LogRecord → Said
 said_by r = unwrap_or (record_of (entry_bytes (block_bytes r.entries)) (placed no_block r.items))
     (Plain (tagged_items (entry_bytes (block_bytes r.entries)) (placed no_block r.items)))
 
--- the log that lies in these directories
+-- the log in these directories
 abbrev pub sense : Home → LogSense
 sense home = record { says = said_by; append = home.append; rewrite = home.rewrite }
 
--- the two queues of the log that lies in these directories
+-- the two queues of the log in these directories
 abbrev pub log_in : Home → TwoQueues LogRecord (List ℕ) (List ℕ)
 log_in home = queues (sense home)
 
--- what a batch says: of each entry the bytes that were added
+-- what a batch says, with the bytes that were added for each entry
 abbrev pub said_of : Batch → Said
 said_of b = unwrap_or (record_of (entry_bytes b.entries) b.items) (Plain [])
 

@@ -1,4 +1,4 @@
--- A sync: what an engine shows then, and what is true of it, answered and refused.
+-- A sync: what an engine shows after it, and what is true of it, whether it succeeds or fails.
 use Rattle.std.specs.Prelude.{◌≡◌, ◌⊎◌, ℕ, Bool, false, true, List, []}
 use Rattle.raft_log_model_laws.specs.Groups.{taken}
 use Rattle.raft_log_disk.specs.Causes.{Fails, IsLater}
@@ -8,13 +8,13 @@ use Rattle.raft_log_file_blocks.specs.raft_log_file_pair.specs.Pipes.{Said}
 use Rattle.raft_log_engine_laws.specs.Shows.{Home, LogMap, Shows, has_failed}
 use Rattle.raft_log_engine_laws.specs.Holding.{Holds, IsLeftAt, RunsAs}
 
--- the engine runs on, and its tables show what they showed
+-- the engine hasn't failed, and its tables are unchanged
 pub record RunsOnSame (s t : Shows) : Type 0 where
   pub alive : has_failed t ≡ false
   pub tables : t.tables ≡ s.tables
   pub counts : t.counts ≡ s.counts
 
--- Append was synced: all batches are in the map, and none is pending. The block that was read last stays.
+-- Append was synced: all batches are in the map, and none is pending. The cached block stays.
 pub record SyncsAppend (s t : Shows) : Type 0 where
   pub lived : has_failed s ≡ false
   pub same : RunsOnSame s t
@@ -25,7 +25,7 @@ pub record SyncsAppend (s t : Shows) : Type 0 where
   pub log : (home : Home) (m : LogMap) (pending : List Said) → RunsAs home s.pipes m pending
       → RunsAs home t.pipes (taken m pending) []
 
--- a sync failed: a file call did, and the log is held as it was
+-- a sync failed because a file call did: the engine has failed, and left its log on the disk with its pending batches
 pub record FailsToSyncAppend (s t : Shows) : Type 0 where
   pub lived : has_failed s ≡ false
   pub failed : has_failed t ≡ true
@@ -33,8 +33,7 @@ pub record FailsToSyncAppend (s t : Shows) : Type 0 where
   pub leaves : (home : Home) (m : LogMap) (pending : List Said) → RunsAs home s.pipes m pending
       → Fails s.pipes.disk t.pipes.disk × IsLeftAt home t.pipes.disk m pending
 
--- What a refused sync tells and leaves: the engine had failed before, and nothing was done; or it has failed
--- now.
+-- The error of a failed sync is `Failed`: the engine had failed before, and nothing was done; or it has failed now.
 abbrev pub NotSynced : Error → Shows → Shows → Type 0
 NotSynced error s t = (error ≡ errors.Failed)
     × (((has_failed s ≡ true) × (t ≡ s)) ⊎ FailsToSyncAppend s t)

@@ -24,7 +24,7 @@ use Rattle.raft_log_engine_laws.specs.Whole.{IsWholeCopy, batches_of, filed_item
 use Rattle.raft_log_engine_laws.specs.Restating.{RestatesGroup, said_of_group}
 use Rattle.raft_log_engine_laws.specs.Ending.{ShowsWhole, files_of_group}
 
--- the tables show what they showed before these parts, but that the parts moved
+-- the tables changed only in that these parts moved
 abbrev pub MovedParts : Option ℕ → List WrittenPart → MemTables → MemTables → Type 0
 MovedParts gate ps old new = (g : ℕ) → shown_of new g ≡ parts_moved gate g ps (shown_of old g)
 
@@ -40,8 +40,8 @@ pub record NotesFiles (group : ℕ) (files : GroupFiles) (old new : MemTables) :
   pub noted : replayed_of new group ≡ noted_in files (raw_of old group)
   pub others : (g : ℕ) → (group == g) ≡ false → replayed_of new g ≡ replayed_of old g
 
--- All parts moved, which have items of one group alone, and that has a table; and then the group's files were
--- noted there: the tables show the whole group.
+-- The tables show a whole group after these steps: all its parts moved, and then its files were noted. The parts have
+-- items of one group alone, which has a table.
 abbrev pub TablesTakeWholeGroups : Type 0 → Type 0
 TablesTakeWholeGroups E = (at : Located → E) (gate : Option ℕ) (a : ℕ) (ps : List WrittenPart)
     (files : GroupFiles) (group : ℕ) (old m new : MemTables) → ((g : ℕ) → IsOrderly (shown_of old g))
@@ -51,9 +51,9 @@ TablesTakeWholeGroups E = (at : Located → E) (gate : Option ℕ) (a : ℕ) (ps
     → MovedParts gate ps old m → NotesFiles group files m new
     → ShowsWhole gate ps files (shown_of old) (shown_of new)
 
--- A purge ends the group in which it rewrites one raft group: the record with the end was written, the tables
--- took all parts, and noted the files there; and the batches say what stands of it in Rewrite, and of no
--- other. So the engine's log is what it was.
+-- A purge ends the atomic group that rewrites one raft group. The record with the end was written; the tables took
+-- all parts, and noted the files. The batches say what Rewrite has of that group, and nothing of others. Then the map
+-- is kept.
 abbrev pub EndsOverTables : Type 0
 EndsOverTables = (home : Home) (v w : LogPipes) (old m new : MemTables) (cache after : BlockCache)
     (gate : Option ℕ) (o : UnendedGroup) (b : Batch) (block : FileBlockHandle) (map : LogMap) (group : ℕ)

@@ -1,5 +1,5 @@
--- The two tries that a write has: where there was no space for a record at the first one, Append has gone on
--- in its next file, and the record is tried there.
+-- A write tries at most twice. If the first try had no space for the record, Append has rotated, and the record is
+-- tried in the next file.
 use Rattle.std.specs.Prelude.{◌≡◌, ◌⊎◌, ℕ, List}
 use Rattle.raft_log_record_base.specs.declared.errors.Error.{Error}
 use Rattle.raft_log_record_base.specs.declared.errors.Error.TheVariants as errors
@@ -22,12 +22,12 @@ abbrev pub WritesAt : (LogFileContext → List ℕ) → FileBlockHandle → LogP
 WritesAt signed block v w = AppendsTo InAppend signed block v w
     ⊎ ((mid : LogPipes) × TriesInVain signed v mid × AppendsTo InAppend signed block mid w)
 
--- the pipes refuse a record: for want of a number only behind the last one
+-- the pipes fail to write a record, for lack of a file number only after the last number
 abbrev pub RefusesRecord : (LogFileContext → List ℕ) → Error → LogPipes → LogPipes → Type 0
 RefusesRecord signed error v w =
     FailsToAppendTo InAppend signed error v w × EndsNumbersAt InAppend signed error v w
 
--- a record is refused: at the first try, and not for want of space; or at the second
+-- a record isn't written: the first try failed for another reason than space, or the second one failed
 abbrev pub RefusesAt : (LogFileContext → List ℕ) → Error → LogPipes → LogPipes → Type 0
 RefusesAt signed error v w = ((SaysTryAgain error → ⊥) × RefusesRecord signed error v w)
     ⊎ ((mid : LogPipes) × TriesInVain signed v mid × IsLater mid.disk w.disk

@@ -1,5 +1,5 @@
--- What a whole atomic group moves at its end: its parts' items, of which several runs, each at the end of the
--- one before and each in the file of its record, may be one copy.
+-- What a whole atomic group moves at its end: its parts' items. Several runs may be one copy, each starting at the
+-- end of the one before, and each in the file of its record.
 use Rattle.std.specs.Prelude.{◌≡◌, ℕ, ◌+◌, false, List, [], ◌∷◌, ◌++◌, length, map, Option}
 use Rattle.raft_log_model_laws.specs.Item.{Item}
 use Rattle.raft_log_model_laws.specs.Item.Item.{Run}
@@ -28,23 +28,23 @@ abbrev pub filed_in : ℕ → List (Item Place (List ℕ)) → List Filed
 filed_in n [] = []
 filed_in n (x ∷ xs) = record { file = n; item = x } ∷ filed_in n xs
 
--- the items that the parts have of a group
+-- the items of a group in the parts
 abbrev pub filed_items : ℕ → List WrittenPart → List Filed
 filed_items g [] = []
 filed_items g (p ∷ ps) = filed_in p.block.id.seq (of_group g (items_at p.block p.batch)) ++ filed_items g ps
 
--- what shows of a group once its items moved, part after part
+-- what a table shows of a group after its items moved, part after part
 abbrev pub parts_moved : Option ℕ → ℕ → List WrittenPart → Shown → Shown
 parts_moved gate g [] v = v
 parts_moved gate g (p ∷ ps) v =
     parts_moved gate g ps (all_rewritten gate p.block.id.seq v (of_group g (items_at p.block p.batch)))
 
--- what filed items say in Rewrite, where these are the bytes at each place
+-- what filed items say in Rewrite, if these are the bytes at each place
 abbrev pub filed_copies : {E : Type 0} → (Located → E) → List Filed → List (Item E (List ℕ))
 filed_copies at [] = []
 filed_copies at (x ∷ xs) = renamed (λ p. at (in_queue false p)) x.item ∷ filed_copies at xs
 
--- the copies that filed items are
+-- the filed items as copies
 abbrev pub filed_moves : List Filed → List Move
 filed_moves [] = []
 filed_moves (x ∷ xs) = moves_of x.file (x.item ∷ []) ++ filed_moves xs
@@ -55,7 +55,7 @@ AreFiledCopies at gate v [] = Unit {0}
 AreFiledCopies at gate v (x ∷ xs) =
     IsCopy at gate v x.item × AreFiledCopies at gate (rewritten_item gate x.file v x.item) xs
 
--- places of entries one behind another, in a record in this file
+-- places of consecutive entries, in a record in this file
 pub record RunPiece : Type 0 where
   pub file : ℕ
   pub places : List Place
@@ -76,8 +76,8 @@ abbrev pub in_one : ℕ → List RunPiece → List Filed
 in_one f [] = []
 in_one f (p ∷ ps) = record { file = p.file; item = Run f (all_places (p ∷ ps)) } ∷ []
 
--- The items are a run in pieces, none of which need reach to the end of what stands in Rewrite, and others
--- behind it; with the pieces as one run they are copies that the gate lets move.
+-- The items are a run in pieces, and others after it. No piece needs to reach the end of what is in Rewrite. With the
+-- pieces as one run, the items are copies that the gate lets move.
 pub record IsWholeCopy {E : Type 0} (at : Located → E) (gate : Option ℕ) (v : Shown) (xs : List Filed)
     : Type 0 where
   pub first : ℕ
@@ -86,21 +86,21 @@ pub record IsWholeCopy {E : Type 0} (at : Located → E) (gate : Option ℕ) (v 
   pub items : xs ≡ in_pieces first pieces ++ rest
   pub copies : AreFiledCopies at gate v (in_one first pieces ++ rest)
 
--- the copies that such items are
+-- such items as copies
 abbrev pub whole_moves : {E : Type 0} {at : Located → E} {gate : Option ℕ} {v : Shown} {xs : List Filed}
     → IsWholeCopy at gate v xs → List Move
 whole_moves w = filed_moves (in_one w.first w.pieces ++ w.rest)
 
--- Moved part after part they are these copies, which may be made, and as which what the parts say may be
--- taken.
+-- Moved part after part, they are these copies. The copies may be made, and what the parts say joins to what they
+-- say.
 abbrev pub WholeGroupsAreMoved : Type 0 → Type 0
 WholeGroupsAreMoved E = (at : Located → E) (gate : Option ℕ) (v : Shown) (g : ℕ) (ps : List WrittenPart)
     → IsOrderly v → (w : IsWholeCopy at gate v (filed_items g ps))
     → (parts_moved gate g ps v ≡ all_moved v (whole_moves w)) × CanAllMove at v (whole_moves w)
     × IsJoined (filed_copies at (filed_items g ps)) (copies_of at v (whole_moves w))
 
--- Along a group's entries the files don't fall once they moved, up to the last file of the parts, where they
--- didn't up to one that is no later than the first of them.
+-- After a move the file numbers along a group's entries don't fall, up to the parts' last file. Before it, they
+-- didn't fall up to a file no later than the first part's.
 abbrev pub MovedFilesRise : Type 0 → Type 0
 MovedFilesRise E = (at : Located → E) (gate : Option ℕ) (a r n : ℕ) (v : Shown) (g : ℕ)
     (ps : List WrittenPart) → IsOrderly v → FilesRise a r v → FilesGoUp r n ps
@@ -110,8 +110,8 @@ MovedFilesRise E = (at : Located → E) (gate : Option ℕ) (a r n : ℕ) (v : S
 abbrev pub batches_of : List WrittenPart → List Batch
 batches_of ps = map (λ p. p.batch) ps
 
--- The batches have a whole group of copies that the gate lets move, of what the tables show of the map: so it
--- is wherever they are written and whatever else stands anywhere.
+-- The batches are a whole group of copies of what the tables show of the map, and the gate lets them move. This holds
+-- wherever they are written, and whatever bytes are anywhere else.
 abbrev pub HasWhole : Option ℕ → List Batch → (ℕ → Shown) → LogMap → Type 0
 HasWhole gate bs v m = (ps : List WrittenPart) (at : Located → List ℕ) → batches_of ps ≡ bs → AreMeant at v m
     → Each (SaysPart at) ps → (g : ℕ) → IsWholeCopy at gate (v g) (filed_items g ps)

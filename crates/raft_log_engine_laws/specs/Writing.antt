@@ -1,4 +1,4 @@
--- A batch is written: what an engine shows then, and what is true of it, answered and refused.
+-- A write of a batch: what an engine shows after it, and what is true of it, whether it succeeds or fails.
 use Rattle.std.specs.Prelude.{◌≡◌, ◌⊎◌, ◌^◌, ◌≤◌, ◌↔◌, IsTrue, ℕ, Bool, true, false, None, List, [], ◌∷◌, ◌++◌}
 use Rattle.raft_log_model_laws.specs.Item.{Tagged}
 use Rattle.raft_log_model_laws.specs.Groups.{of_group, taken}
@@ -27,9 +27,8 @@ use Rattle.raft_log_engine_laws.specs.Holding.{EndsAt, Holds, IsLeftAt, RunsEndi
 abbrev pub items_at : FileBlockHandle → Batch → List (Tagged Place (List ℕ))
 items_at block b = placed_items block b.items b.entries
 
--- A batch that isn't empty was written at this place: the tables took it in the file of its place, and it is
--- pending behind the others, of which a rotation may have synced some first ones. With a sync none is
--- pending.
+-- A batch that isn't empty was written at this place. The tables applied it in the file of its place. It is pending
+-- after the others; a rotation may have synced some first ones. With a sync none is pending.
 pub record Writes (b : Batch) (sync : Bool) (s t : Shows) : Type 0 where
   pub block : FileBlockHandle
   pub some : b.items ≡ [] → ⊥
@@ -46,7 +45,7 @@ pub record Writes (b : Batch) (sync : Bool) (s t : Shows) : Type 0 where
   pub synced : sync ≡ true → (home : Home) (m : LogMap) (pending : List Said) → Holds home s m pending
       → Holds home t (taken m (pending ++ said_of b ∷ [])) []
 
--- An empty batch: nothing is written, and Append is synced if it was asked for.
+-- An empty batch: nothing is written, and Append is synced if a sync was asked for.
 abbrev pub WritesNothing : Bool → Shows → Shows → Type 0
 WritesNothing true s t = SyncsAppend s t
 WritesNothing false s t = (t ≡ s) × (has_failed s ≡ false)
@@ -56,7 +55,7 @@ abbrev pub WritesBytes : Batch → Bool → ℕ → Shows → Shows → Type 0
 WritesBytes b sync len s t = ((b.items ≡ []) × (len ≡ 0) × WritesNothing sync s t)
     ⊎ (IsReadyForEach len b.items b.entries × Writes b sync s t)
 
--- why a batch isn't taken by tables that show this, before anything is done
+-- why tables that show this reject a batch, before anything is done
 abbrev pub IsUnfit : Batch → (ℕ → Shown) → Error → Type 0
 IsUnfit b v errors.Hole = MayFollowAll v (tagged_items (λ e. e) b.items) → ⊥
 IsUnfit b v errors.Full = 2 ^ 56 ≤ record_len b.items b.entries
@@ -64,9 +63,11 @@ IsUnfit b v (errors.InvalidArgument text) = IsWritable b.state → IsWellMarked 
 IsUnfit b v errors.Memory = Unit {0}
 IsUnfit b v _ = ⊥
 
--- What is true where the pipes refused, by the error: cut back, all batches before are synced; left out, some
--- first ones may be; and where the engine has failed, its log is held, with the batch or without it. Behind
--- `Io`, `TryAgain` and `Failed` a file call has failed.
+-- What is true after the pipes failed to write the batch, by the error:
+-- - `Io`, `TryAgain`: a file call failed, the record was truncated away, and all batches before it are synced
+-- - `NumberRange`, `Memory`: the record was left out, and some first batches may be synced
+-- - `Failed`: a file call failed, and the engine has failed; it left its log on the disk, with the batch or without
+--   it
 abbrev pub Leaves : Home → Batch → LogMap → List Said → Shows → Shows → Error → Type 0
 Leaves home b m pending s t (errors.Io kind) =
     Fails s.pipes.disk t.pipes.disk × Holds home t (taken m pending) []
@@ -78,8 +79,8 @@ Leaves home b m pending s t errors.Failed = Fails s.pipes.disk t.pipes.disk
     × (IsLeftAt home t.pipes.disk m pending ⊎ IsLeftAt home t.pipes.disk m (pending ++ said_of b ∷ []))
 Leaves home b m pending s t _ = ⊥
 
--- The pipes refused: an engine that hasn't failed shows what it showed, and keeps no block. That there is no
--- space is told after two tries, that there is no number only where Append's last file has the last one.
+-- The pipes failed to write the batch. Unless the engine has failed, its tables are unchanged, and no block is
+-- cached. `TryAgain` is returned only after two tries, `NumberRange` only if Append's last file has the last number.
 pub record PipesRefused (b : Batch) (error : Error) (s t : Shows) : Type 0 where
   pub lived : has_failed s ≡ false
   pub tells : IsTrue (has_failed t) ↔ (error ≡ errors.Failed)
@@ -92,21 +93,21 @@ pub record PipesRefused (b : Batch) (error : Error) (s t : Shows) : Type 0 where
   pub leaves : (home : Home) (m : LogMap) (pending : List Said) → Holds home s m pending
       → Leaves home b m pending s t error
 
--- A batch wasn't written: it isn't taken, or the engine had failed before, and nothing was done; or the pipes
--- refused.
+-- A batch wasn't written: it was rejected, or the engine had failed before, and nothing was done; or the pipes failed
+-- to write it.
 abbrev pub NotWritten : Batch → Error → Shows → Shows → Type 0
 NotWritten b error s t = (IsUnfit b s.tables error × (t ≡ s))
     ⊎ ((error ≡ errors.Failed) × (has_failed s ≡ true) × (t ≡ s))
     ⊎ PipesRefused b error s t
 
--- What becomes of a batch that is written: an empty one stays, another one is emptied.
+-- What happens to a batch that is written: an empty one stays, another one is emptied.
 abbrev pub IsEmptied : Batch → Batch → Type 0
 IsEmptied old new = ((old.items ≡ []) × (new ≡ old)) ⊎ IsButBuffer (emptied old) new
 
--- a batch that wasn't written is as it was, but that its record may have been made
+-- a batch that wasn't written is unchanged, but its record may have been made
 abbrev pub IsBatchKept : Batch → Batch → Type 0
 IsBatchKept old new = new ≡ record old { state = new.state; buffer = new.buffer }
 
--- of a batch that was refused: it is kept, unless the engine failed behind it
+-- a batch that wasn't written is kept, or the engine failed and emptied it
 abbrev pub IsKeptUnlessFailed : Error → Batch → Batch → Type 0
 IsKeptUnlessFailed error old new = IsBatchKept old new ⊎ ((error ≡ errors.Failed) × IsButBuffer (emptied old) new)

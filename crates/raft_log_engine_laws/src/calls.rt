@@ -1,4 +1,4 @@
-//! Why the exits of an engine's calls are what they are.
+//! Laws of an engine's calls: what each exit leaves.
 
 ghost use Rattle.raft_log_engine_laws.specs.Reading.{TablesTell};
 ghost use Rattle.raft_log_engine_laws.specs.Laws.{
@@ -11,22 +11,22 @@ ghost use Rattle.raft_log_engine_laws.specs.Laws.{
   SyncsAreHeld,
 };
 
-/// A batch that the pipes wrote, and that the tables took where they wrote it, is pending behind the others.
+/// A batch that the pipes wrote, and that the tables applied where they wrote it, is pending after the others.
 pub fn batches_are_written()
     ensures { BatchesAreWritten }
 {}
 
-/// What the pipes refused leaves the log that it tells of.
+/// If the pipes fail to write a batch, the log is left as the error says.
 pub fn refusals_leave_no_trace()
     ensures { RefusalsLeaveNoTrace }
 {}
 
-/// A sync puts all batches on the map.
+/// A sync puts all batches into the map.
 pub fn syncs_are_held()
     ensures { SyncsAreHeld }
 {}
 
-/// A sync that failed leaves the log as it was.
+/// A failed sync leaves the log on the disk, with its map and pending batches.
 pub fn failures_leave_logs()
     ensures { FailuresLeaveLogs }
 {}
@@ -36,19 +36,18 @@ pub fn tables_tell()
     ensures { TablesTell }
 {}
 
-/// A close of an engine leaves its log on the disk, with its map and its batches pending, whatever was refused
-/// meanwhile.
+/// A close leaves an engine's log on the disk, with its map and its pending batches, whatever failed meanwhile.
 pub fn closed_engines_are_left()
     ensures { ClosedEnginesAreLeft }
 {}
 
-/// A close of an engine that doesn't fail leaves its log on the disk with all its batches in the map: whatever a
-/// crash leaves then, none of them is lost.
+/// A close that doesn't fail leaves an engine's log on the disk with all batches in the map. Whatever a crash leaves
+/// then, none of them is lost.
 pub fn closed_engines_are_durable()
     ensures { ClosedEnginesAreDurable }
 {}
 
-/// The log of an engine lies on its disk: what a crash leaves of it, any law on such logs says.
+/// The log of an engine is on its disk: every law on such logs says what a crash leaves of it.
 pub fn engines_lie_on_disks()
     ensures { EnginesLieOnDisks }
 {}

@@ -1,4 +1,4 @@
-//! Why the exits of each record of an atomic group are what they are.
+//! Laws of each record of an atomic group: what each exit leaves.
 
 ghost use Rattle.raft_log_engine_laws.specs.Ending.{
   RefusedEndsKeepTheMap,
@@ -20,12 +20,12 @@ ghost use Rattle.raft_log_engine_laws.specs.GroupWriting.{
   WrittenPartsKeepTheMap,
 };
 
-/// A part that begins a group, or goes on with it, keeps the map: nothing of it counts yet.
+/// A part that begins or continues a group keeps the map: nothing of it counts yet.
 pub fn written_parts_keep_the_map()
     ensures { WrittenPartsKeepTheMap }
 {}
 
-/// A part that Rewrite refuses keeps the map: its group is given up, or goes on where nothing was done to the
+/// If Rewrite fails to write a part, the map is kept: its group is given up, or continues if nothing was done to the
 /// records.
 pub fn refused_parts_keep_the_map()
     ensures { RefusedPartsKeepTheMap }
@@ -36,19 +36,19 @@ pub fn synced_groups_stay_open()
     ensures { SyncsLeaveGroupsOpen }
 {}
 
-/// The part that ends a group keeps the map, and what the tables show lies where the whole group was written.
+/// The part that ends a group keeps the map. What the tables show then is where the whole group was written.
 pub fn written_ends_keep_the_map()
     ensures { WrittenEndsKeepTheMap }
 {}
 
-/// A part that ends a group keeps the map where Rewrite refuses it, be it there or not: all stands where it
-/// stood.
+/// If Rewrite fails to write the part that ends a group, the map is kept, whether the part is there or not. The
+/// tables are unchanged.
 pub fn refused_ends_keep_the_map()
     ensures { RefusedEndsKeepTheMap }
 {}
 
-/// A group that is left open counts for nothing for ever: the log is what it was, and whatever comes behind
-/// it counts as if nothing of it were there.
+/// A group that is left open never counts. The log is as it was, and later records count as if nothing of the group
+/// were there.
 pub fn groups_stay_open<E, V>()
     ensures engine { GroupsMayBeGivenUp }
     ensures records { GroupsLeftOpenCountNot E V }
@@ -59,39 +59,38 @@ pub fn open_groups_count_not<E, V>()
     ensures { NewGroupsEndNoOldOnes E V }
 {}
 
-/// Files don't fall along a group's entries once they moved into the files of a whole atomic group.
+/// The file numbers along a group's entries don't fall after they moved into the files of a whole atomic group.
 pub fn moved_files_rise<E>()
     ensures { MovedFilesRise E }
 {}
 
-/// What a whole group moves, part after part and each in its own file, are copies that may be made, and as
-/// which what the parts say may be taken.
+/// What a whole group moves, part after part and each in its own file, are copies that may be made. What the parts
+/// say joins to what the copies say.
 pub fn whole_groups_are_moved<E>()
     ensures { WholeGroupsAreMoved E }
 {}
 
-/// The tables may take a whole group at its end; and a table that notes the group's files does so by the
-/// least file in which something of Rewrite lies.
+/// The tables may take a whole group at its end. A table notes the group's files with a file below which it has
+/// nothing in Rewrite.
 pub fn whole_groups_may_end<E>()
     ensures ends { WholeGroupsMayEnd E }
     ensures noted { WholeGroupsAreNoted }
 {}
 
-/// Batches that say of each group what stands of it in Rewrite, its rewritten entries in pieces and rewritten
-/// keys with their values, are such a whole group, wherever they are written.
+/// Batches are a whole group, wherever they are written, if they say what Rewrite has of each group. That is its
+/// rewritten entries in pieces, and rewritten keys with their values.
 pub fn restated_groups_are_whole()
     ensures { RestatedGroupsAreWhole }
 {}
 
-/// Tables that take the parts of a whole group, one after another, and then note its files, show the whole
-/// group.
+/// Tables that take the parts of a whole group, one after another, and then note its files, show the whole group.
 pub fn tables_take_whole_groups<E>()
     ensures part { MovesOnePart }
     ensures whole { TablesTakeWholeGroups E }
 {}
 
-/// The end of a group in which a purge rewrites one raft group keeps the map, once the tables took it:
-/// nothing is asked but what was written and what the tables did.
+/// The end of a group in which a purge rewrites one raft group keeps the map, if the tables took it. The law asks
+/// only for what was written and what the tables did.
 pub fn rewritten_groups_keep_the_map()
     ensures { EndsOverTables }
 {}

@@ -1,4 +1,4 @@
-//! Why the exits of each part of a purge are what they are.
+//! Laws of each part of a purge: what each exit leaves.
 
 ghost use Rattle.raft_log_engine_laws.specs.Quiet.{
   FailedSyncsLeaveLogs,
@@ -15,17 +15,17 @@ ghost use Rattle.raft_log_engine_laws.specs.Rewriting.{
   WrittenMarksKeepTheMap,
 };
 
-/// What is settled is held, and nothing is pending.
+/// A settled log is held with nothing pending.
 pub fn settled_logs_are_held()
     ensures { SettledLogsAreHeld }
 {}
 
-/// A sync of Rewrite changes nothing of what is held, and settles a log of which no batch is pending.
+/// A sync of Rewrite changes nothing of what is held, and settles a log without pending batches.
 pub fn rewrite_syncs_keep_the_map()
     ensures { RewriteSyncsKeepTheMap }
 {}
 
-/// A sync of either queue that failed leaves the log as it was.
+/// A failed sync of either queue leaves the log on the disk, with its map and pending batches.
 pub fn failed_syncs_leave_logs()
     ensures { FailedSyncsLeaveLogs }
 {}
@@ -35,39 +35,39 @@ pub fn rotations_keep_the_map()
     ensures { RotationsKeepTheMap }
 {}
 
-/// A rotation that is refused leaves the log as it was.
+/// A failed rotation keeps the log as it was, or fails the engine and leaves it on the disk.
 pub fn refused_rotations_keep_the_map()
     ensures { RefusedRotationsKeepTheMap }
 {}
 
-/// Where nothing is pending, files in which nothing lies that is in use may go, of Append once no mark is owed:
-/// the map stays.
+/// If nothing is pending, a purge of files that have nothing in use keeps the map. Append's may go if no tombstone is
+/// owed.
 pub fn purges_keep_the_map()
     ensures { PurgesKeepTheMap }
 {}
 
-/// A purge that is refused keeps the map, where nothing is pending and its files may go: be they gone or not.
+/// If nothing is pending and the files may go, a failed purge keeps the map, whether they are gone or not.
 pub fn refused_purges_keep_the_map()
     ensures { RefusedPurgesKeepTheMap }
 {}
 
-/// Marks that are owed, written to Rewrite, keep the map: the log is so with tables that owe none.
+/// Owed tombstones, written to Rewrite, keep the map: the log is the map with tables that owe none.
 pub fn written_marks_keep_the_map()
     ensures { WrittenMarksKeepTheMap }
 {}
 
-/// Marks that are owed keep the map where Rewrite refuses them, be they there or not: the tables owe them
-/// still.
+/// If Rewrite fails to write the owed tombstones, the map is kept, whether they are there or not. The tables still
+/// owe them.
 pub fn refused_marks_keep_the_map()
     ensures { RefusedMarksKeepTheMap }
 {}
 
-/// Copies that are written to Rewrite keep the map, and what the tables show lies where they were written.
+/// Copies that are written to Rewrite keep the map. What the tables show then is where they were written.
 pub fn written_copies_keep_the_map()
     ensures { WrittenCopiesKeepTheMap }
 {}
 
-/// Copies that Rewrite refuses keep the map, be they there or not: all stands where it stood.
+/// If Rewrite fails to write copies, the map is kept, whether they are there or not. The tables are unchanged.
 pub fn refused_copies_keep_the_map()
     ensures { RefusedCopiesKeepTheMap }
 {}

@@ -1,4 +1,4 @@
--- What the record of a batch says, whichever file it is signed for.
+-- What the record of a batch contains, whichever file it is signed for.
 use Rattle.std.specs.Prelude.{◌≡◌, ℕ, List, [], map}
 use Rattle.raft_log_model_laws.specs.Item.{Record}
 use Rattle.raft_log_record_base.specs.Files.{signature_of}
@@ -14,7 +14,7 @@ use Rattle.raft_log_file_pair.specs.Own.{log_layout}
 abbrev pub signed_for : Batch → LogFileContext → List ℕ
 signed_for b context = batch_bytes (signature_of context) b.items b.entries
 
--- what a batch's record says: the items without their places, and the bytes of their entries
+-- what a batch's record contains: the items without their places, and the bytes of their entries
 abbrev pub record_said : Batch → LogRecord
 record_said b = record { items = map plain_item b.items; entries = b.entries }
 

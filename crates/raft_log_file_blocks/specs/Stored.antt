@@ -1,4 +1,4 @@
--- What bytes stand at each place of a log on a disk, told by the records of its files.
+-- Which bytes a log on a disk has at each place, by the records of its files.
 use Rattle.std.specs.Prelude.{◌≡◌, ℕ, ◌+◌, ◌-◌, ◌≤◌, Bool, true, false, cond, List, [], ◌∷◌, ◌++◌, length, take, drop, IsOk}
 use Rattle.std.proofs.Common.{nat_eq}
 use Rattle.raft_log_model_laws.specs.Groups.{Map}
@@ -29,11 +29,11 @@ Each P (x ∷ xs) = P x × Each P xs
 abbrev pub file_bytes : {R : Type 0} → LogFiles R → ℕ → List ℕ
 file_bytes q n = cond (nat_eq n q.last) (whole q) (past_bytes (q.older n))
 
--- the bytes from one place on, so many of them
+-- so many bytes, from an offset on
 abbrev pub part : ℕ → ℕ → List ℕ → List ℕ
 part offset len bytes = take len (drop offset bytes)
 
--- a block lies in what was written to a file of the queue's span
+-- the block is inside what was written to a file of the queue's live range
 pub record BlockLiesIn {R : Type 0} (q : Spanned R) (n offset len : ℕ) : Type 0 where
   pub first : q.first ≤ n
   pub last : n ≤ q.files.last
@@ -43,12 +43,12 @@ pub record BlockLiesIn {R : Type 0} (q : Spanned R) (n offset len : ℕ) : Type 
 abbrev pub block_at : {R : Type 0} → LogFiles R → ℕ → ℕ → ℕ → List ℕ
 block_at q n offset len = part offset len (file_bytes q n)
 
--- the bytes of an entry: those of its place in its block
+-- the bytes of an entry, by its offset and length in its block
 abbrev pub entry_at : {R : Type 0} → LogFiles R → Place → List ℕ
 entry_at q p = part p.entry_offset p.entry_len (block_at q p.file p.offset p.len)
 
--- the entry lies in its block, in front of the four bytes of the checksum; and the block is whole, and lies in
--- what was written to a file of the queue's span
+-- the entry ends before its block's checksum; the block is whole, and inside what was written to a file of the live
+-- range
 pub record EntryLiesIn {R : Type 0} (q : Spanned R) (p : Place) : Type 0 where
   pub block : BlockLiesIn q p.file p.offset p.len
   pub whole : IsOk (block_of (block_at q.files p.file p.offset p.len))
@@ -63,21 +63,20 @@ queue_in s false = s.rewrite
 abbrev pub entries_at : {R : Type 0} → LogOnDisk R → Located → List ℕ
 entries_at s l = entry_at (queue_in s l.appended).files l.place
 
--- the entry lies in the log
+-- the entry is in the log
 abbrev pub IsStored : {R : Type 0} → LogOnDisk R → Located → Type 0
 IsStored s l = EntryLiesIn (queue_in s l.appended) l.place
 
--- each entry of which a place shows lies in the log
+-- each entry with a place in the tables is in the log
 abbrev pub AreStored : {R : Type 0} → LogOnDisk R → (ℕ → Shown) → Type 0
 AreStored s v = (g : ℕ) → Each (IsStored s) (located (v g).rewritten (v g).places)
 
--- What was written to the one queue's files stands in the other's, and more may stand behind it.
+-- Each file of the first queue starts with the same bytes in the second, which may have appended more.
 pub record KeepsBytes {R : Type 0} (q p : LogFiles R) : Type 0 where
   pub last : q.last ≤ p.last
   pub files : (n : ℕ) → n ≤ q.last → (more : List ℕ) × (file_bytes p n ≡ file_bytes q n ++ more)
 
--- Every call of a pipe, answered or refused, keeps what was written to the queue's files, but for what it
--- hands out of the span: a record that is taken, one that is cut back, a rotation, a sync.
+-- An append, the truncation of a failed one, a rotation and a sync keep what was written to a queue's files.
 pub record CallsKeepBytes (R : Type 0) : Type 0 where
   pub same : (q : LogFiles R) → KeepsBytes q q
   pub later : (q p r : LogFiles R) → KeepsBytes q p → KeepsBytes p r → KeepsBytes q r
@@ -90,24 +89,24 @@ pub record CallsKeepBytes (R : Type 0) : Type 0 where
   pub synced : (q : LogFiles R) → KeepsBytes q (synced q)
   pub settled : (q : LogFiles R) → KeepsBytes q (settled q)
 
--- the log's files keep their bytes, and neither span begins later
+-- the log's files keep their bytes, and neither live range begins later
 pub record KeepsLog {R : Type 0} (s t : LogOnDisk R) : Type 0 where
   pub append : KeepsBytes s.append.files t.append.files
   pub rewrite : KeepsBytes s.rewrite.files t.rewrite.files
   pub append_first : t.append.first ≤ s.append.first
   pub rewrite_first : t.rewrite.first ≤ s.rewrite.first
 
--- a call on one queue that keeps the bytes of its files keeps those of the log, and neither span begins later
+-- a call on one queue that keeps the bytes of its files keeps those of the log, and neither live range begins later
 abbrev pub CallsKeepLog : Type 0 → Type 0
 CallsKeepLog R = (which : Which) (s : LogOnDisk R) (files : LogFiles R) (d : Disk)
     → KeepsBytes (spanned_at which s).files files → KeepsLog s (next_log which s files d)
 
--- Where the log keeps its bytes, entries that lie in it still do, and what the tables show means the same.
+-- If the log keeps its bytes, its entries stay in it, and the tables mean the same map.
 abbrev pub StoredEntriesStay : Type 0 → Type 0
 StoredEntriesStay R = (s t : LogOnDisk R) → KeepsLog s t → (v : ℕ → Shown) → AreStored s v
     → AreStored t v × ((m : Map (List ℕ) (List ℕ)) → AreMeant (entries_at s) v m → AreMeant (entries_at t) v m)
 
--- What a running pipe reads of a block that lies in its queue is what was written there.
+-- A running pipe reads from a block of its queue the bytes that were written there.
 abbrev pub StoredBlockIsRead : {R : Type 0} → QueueLayout R → Type 0
 StoredBlockIsRead {R} layout = IsQueueLayout layout → (files : PipeFiles) (q : Spanned R) (d : Disk)
     → RunsQueue layout files q d → (block : FileBlockHandle)

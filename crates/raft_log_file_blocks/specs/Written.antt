@@ -1,4 +1,4 @@
--- What a batch that was written says of its entries is what stands at their places.
+-- The entries of a written batch are in the log, at the places in its items.
 use Rattle.std.specs.Prelude.{◌≡◌, ℕ, ◌≤◌, true, List, [], length, IsOk}
 use Rattle.raft_log_model_laws.specs.Item.{Item, Tagged, Record, items_of}
 use Rattle.raft_log_model_laws.specs.Item.Item.{Run}
@@ -23,33 +23,33 @@ use Rattle.raft_log_file_pair.specs.Turning.{HasLast}
 use Rattle.raft_log_table_all.specs.Views.{AreMeant, view_of}
 use Rattle.raft_log_file_blocks.specs.Stored.{AreStored, Each, IsStored, entries_at}
 
--- the entries of an item lie in Append
+-- the entries of an item are in Append
 abbrev pub RunIsStored : {R : Type 0} → LogOnDisk R → Item Place (List ℕ) → Type 0
 RunIsStored s (Run f ps) = Each (λ p. IsStored s (in_queue true p)) ps
 RunIsStored s x = Unit {0}
 
--- the entries of the items do
+-- the entries of all the items are in Append
 abbrev pub RunsAreStored : {R : Type 0} → LogOnDisk R → List (Tagged Place (List ℕ)) → Type 0
 RunsAreStored s xs = (g : ℕ) → Each (RunIsStored s) (of_group g xs)
 
--- Where the tables take a batch whose entries lie in the log, all entries of which places show do.
+-- If the tables apply a batch whose entries are in the log, every entry with a place in them is in the log.
 abbrev pub TakenEntriesAreStored : Type 0 → Type 0
 TakenEntriesAreStored R = (s : LogOnDisk R) (n : ℕ) (v : ℕ → Shown) (xs : List (Tagged Place (List ℕ)))
     → ((g : ℕ) → IsOrderly (v g)) → MayFollowAll v xs → AreStored s v → RunsAreStored s xs
     → AreStored s (all_shown n v xs)
 
--- a batch's items, whose entries lie one behind another in so many bytes
+-- a batch's items, whose entries fill these bytes one after another
 pub record IsLaidOver (items : List LogItem) (entries : List ℕ) : Type 0 where
   pub some : items ≡ [] → ⊥
   pub laid : laid_out 0 items ≡ items
   pub adds : entries_len items ≡ length entries
 
--- The items with the places of a batch's written entries
+-- the items with the places of a batch's written entries
 abbrev pub placed_items : FileBlockHandle → List LogItem → List ℕ → List (Tagged Place (List ℕ))
 placed_items block items entries = tagged_items place_of (written (block_place block entries) items)
 
--- The last record of Append is that of a batch, whose block is whole: the places of its entries lie in the log,
--- and what stands there are the bytes that were added.
+-- If the last record of Append is a batch's, and its block is whole, its entries are in the log at their places. The
+-- bytes there are those that the batch was given.
 abbrev pub WrittenEntriesAreStored : Type 0 → Type 0
 WrittenEntriesAreStored R = (s : LogOnDisk R) (said : R) (block : FileBlockHandle) (items : List LogItem)
     (entries : List ℕ)
@@ -58,8 +58,8 @@ WrittenEntriesAreStored R = (s : LogOnDisk R) (said : R) (block : FileBlockHandl
     → RunsAreStored s (placed_items block items entries)
     × (all_written (entries_at s) (placed_items block items entries) ≡ tagged_items (entry_bytes entries) items)
 
--- Before a batch is written, the view can go on by it in whichever file: so it may be there or not where its
--- write is refused.
+-- Before a batch is written, the view can grow by it in whichever file the write picks. If the write fails, the
+-- record may be there or not.
 abbrev pub AnyFileMayTakeIt : Type 0 → Type 0
 AnyFileMayTakeIt R = (s : LogOnDisk R) (v : ℕ → Shown) (m : Map (List ℕ) (List ℕ)) (items : List LogItem)
     (entries : List ℕ) (y : Record (List ℕ) (List ℕ)) → AreMeant (entries_at s) v m → AreStored s v

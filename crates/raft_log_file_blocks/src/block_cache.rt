@@ -1,4 +1,4 @@
-//! The entry block that was read last.
+//! A cache of one entry block, the last one read.
 
 ghost use Rattle.std.specs.Prelude.{◌≡◌, ◌↔◌, IsTrue, ℕ, ◌+◌, ◌-◌, ◌<◌, ◌≤◌, None, Some, IfErr, IfOk, IfSome, OnErr, OnOk, length, take, vec_capacity, vec_len};
 ghost use Rattle.raft_log_file_blocks.specs.Blocks.{IsOutside};
@@ -11,11 +11,10 @@ use raft_log_record_items::{CompressionType, EntryIndex, Message};
 use raft_log_table_runs::Bounds;
 use std::alloc::Global;
 
-/// The entry block that was read last, with its checksum, and its place; or none.
+/// The last entry block that was read, with its checksum and its location; or none.
 ///
-/// It is emptied where what stands at a place may no longer be what was read there: where a write was cut
-/// back, and where a file left the span. A block is read over the bytes of the one before, so that the cache
-/// has the room of the longest that it read.
+/// It must be cleared after a write was truncated away, and after a file left the live range: the bytes there may
+/// have changed. Each block is read over the bytes of the one before, so the cache keeps the capacity of the longest.
 #[derive(Drop)]
 pub struct BlockCache {
     place: Option<FileBlockHandle>,
@@ -44,10 +43,10 @@ impl BlockCache {
         self.place = None;
     }
 
-    /// Keeps the block at a place: where it is the one that is kept, nothing is read, and nothing refused.
+    /// Caches a block. If it is cached already, nothing is read, and the call succeeds.
     ///
-    /// Refuses what the pipes refuse to read, and as a corruption a block whose checksum is wrong; no block is
-    /// kept then.
+    /// Fails as the pipes' read does, and with `Corruption` if the block's checksum is wrong. If it fails, no block
+    /// is cached.
     pub fn read<P: PipeLog>(
         &mut self,
         alloc: Global,
@@ -67,9 +66,9 @@ impl BlockCache {
         Ok(())
     }
 
-    /// The bytes of an entry of the block that is kept, by its place in the block: nothing is copied.
+    /// The bytes of an entry of the cached block, by its offset and length in the block. Nothing is copied.
     ///
-    /// Refuses as a corruption an entry that doesn't lie in the block, in front of its checksum.
+    /// Fails with `Corruption` if the entry reaches past the block's entries, which end before the checksum.
     pub fn entry(&self, alloc: Global, offset: u32, len: u32) -> Result<&[u8]>
         ensures ok { IfOk result (λ bytes. (offset + len ≤ entries_in self.now)
             × (bytes.now ≡ part offset len self.now.bytes.items)) }
@@ -83,7 +82,7 @@ impl BlockCache {
         }
     }
 
-    /// The bytes of all entries of the block that is kept, one behind the other: nothing is copied.
+    /// The bytes of all entries of the cached block, one after another. Nothing is copied.
     fn entries(&self) -> &[u8]
         ensures bytes { result.now ≡ take (entries_in self.now) self.now.bytes.items }
         ensures len { length result.now ≡ entries_in self.now }
@@ -93,9 +92,9 @@ impl BlockCache {
         entries
     }
 
-    /// The entry that lies at a place, as a message. Its block is kept then.
+    /// Reads the entry at a place as a message. Afterwards its block is cached.
     ///
-    /// Refuses what `read` and `entry` refuse, an entry that is in no file, and bytes that are no message.
+    /// Fails as `read` and `entry` do, if the entry is in no file, and if its bytes don't parse as a message.
     pub fn read_entry<M: Message, P: PipeLog>(
         &mut self,
         alloc: Global,
@@ -113,10 +112,9 @@ impl BlockCache {
         M::parse(alloc, bytes)
     }
 
-    /// The entries that lie at these places, as messages: a block is read once for all that lie in it, one
-    /// behind another.
+    /// Reads the entries at these places as messages. Consecutive entries of one block need a single read.
     ///
-    /// Refuses what `read_entry` refuses of the first entry that isn't read, or `Memory`.
+    /// Fails as `read_entry` does for the first entry that isn't read, or with `Memory`.
     pub fn read_entries<M: Message, P: PipeLog>(
         &mut self,
         alloc: Global,
@@ -133,10 +131,10 @@ impl BlockCache {
         Ok(messages)
     }
 
-    /// Adds the entries of a block that start and end there, as messages, for which there is room: the block is
-    /// read once. A refusal keeps what was there, and may leave some of these behind it.
+    /// Appends the entries of a block between these bounds, as messages. The caller reserved the capacity. The block
+    /// is read once. If it fails, the old messages stay, and some new ones may follow them.
     ///
-    /// Refuses what `read_entry` refuses of the first entry that isn't read.
+    /// Fails as `read_entry` does for the first entry that isn't read.
     pub fn read_between<M: Message, P: PipeLog>(
         &mut self,
         alloc: Global,
@@ -171,8 +169,7 @@ impl BlockCache {
         Ok(())
     }
 
-    /// Adds the entries that lie at these places, as messages, and refuses what `read_entries` refuses. A
-    /// refusal adds nothing.
+    /// Appends the entries at these places, as messages. Fails as `read_entries` does; then nothing is added.
     pub fn read_entries_to<M: Message, P: PipeLog>(
         &mut self,
         alloc: Global,
@@ -197,8 +194,8 @@ impl BlockCache {
         }
     }
 
-    /// Adds the entries that lie at these places, as messages, for which there is room. A refusal keeps what
-    /// was there, and may leave some of these behind it.
+    /// Appends the entries at these places, as messages. The caller reserved the capacity. If it fails, the old
+    /// messages stay, and some new ones may follow them.
     fn push_entries<M: Message, P: PipeLog>(
         &mut self,
         alloc: Global,
@@ -222,9 +219,9 @@ impl BlockCache {
         Ok(())
     }
 
-    /// Adds the first of these entries, as messages, up to the first that lies in another block, and answers
-    /// how many. There are some, and there is room. A refusal keeps what was there, and may leave some of these
-    /// behind it.
+    /// Appends the first of these entries, as messages, up to the first one of another block, and returns how many.
+    /// There is at least one entry, and the caller reserved the capacity. If it fails, the old messages stay, and
+    /// some new ones may follow them.
     fn push_piece<M: Message, P: PipeLog>(
         &mut self,
         alloc: Global,
@@ -260,15 +257,15 @@ impl BlockCache {
     }
 }
 
-/// Whether an entry lies in this block.
+/// Whether an entry is in this block.
 fn lies_in(entry: &EntryIndex, block: FileBlockHandle) -> bool
     ensures { IsTrue result ↔ (entry.now.entries ≡ Some block) }
 {
     entry.entries == Some(block)
 }
 
-/// The bytes of a block's entries from one bound up to another, or where that is lower no bytes from the first
-/// bound on: nothing is copied. None where they aren't all there.
+/// The bytes of a block's entries from one bound up to another; none from `start` on if `end` is lower. `None` if
+/// they aren't all there. Nothing is copied.
 fn between(entries: &[u8], start: u64, end: u64) -> Option<&[u8]>
     ensures some { IfSome result (λ bytes. (start + (end - start) ≤ length entries.now)
         × (bytes.now ≡ part start (end - start) entries.now)) }
@@ -281,8 +278,8 @@ fn between(entries: &[u8], start: u64, end: u64) -> Option<&[u8]>
     Some(&entries[start as usize..end as usize])
 }
 
-/// Why no entry is answered that lies between these bounds, past the last of its block, in front of the checksum; or
-/// `Memory`.
+/// Why the entry between these bounds isn't returned: it reaches past the block's entries, which end before the
+/// checksum. `Memory` if there is none for the message.
 #[cold]
 fn past_the_end(alloc: Global, start: u64, end: u64) -> Error
     ensures { (room : ℕ) → room < start + (end - start) → IsOutside start (end - start) room result }
@@ -294,5 +291,5 @@ fn past_the_end(alloc: Global, start: u64, end: u64) -> Error
     }
 }
 
-/// How many bytes the checksum behind the entries has.
+/// How many bytes the checksum after the entries has.
 const LOG_BATCH_CHECKSUM_LEN: usize = 4;

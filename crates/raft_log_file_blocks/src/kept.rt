@@ -1,21 +1,20 @@
-//! The block that is kept is what was written at its place.
+//! A cached block holds what was written at its place.
 
 ghost use Rattle.raft_log_file_blocks.specs.Blocks.{KeptBlocksAreWritten, KeptBlocksStay, WholeBlocksAreRead};
 
-/// Of a block that lies in the log that the pipes run over, what is kept is what was written there.
+/// If the cache keeps a block that is in the log, it holds the bytes that were written there.
 pub fn kept_blocks_are_written()
     ensures { KeptBlocksAreWritten }
 {}
 
-/// A block that lies in the log that the pipes run over, and is whole, is unread for want of memory, or as the file
-/// system refused to read its file: it is never told as damaged, nor its file as missing.
+/// Reading a whole block of the log fails only for lack of memory, or if the file system fails to read its file. It
+/// is never reported as damaged, nor its file as missing.
 pub fn whole_blocks_are_read()
     ensures { WholeBlocksAreRead }
 {}
 
-/// A kept block goes on to be what was written at its place through every call that keeps what was written:
-/// appends, answered and refused, syncs and rotations. Where a file leaves the span, the cache is to be
-/// emptied.
+/// A cached block keeps matching what was written, through every call that keeps the log's bytes: appends, syncs and
+/// rotations, whether they succeed or fail. The cache must be cleared after a file leaves the live range.
 pub fn kept_blocks_stay()
     ensures { KeptBlocksStay }
 {}

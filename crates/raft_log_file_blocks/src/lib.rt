@@ -1,6 +1,5 @@
-//! What is written of a batch, and what is read of it again: a batch that is signed for the file that the pipe
-//! picks (`SignedBatch`), what bytes then stand at each place of the log (`stored`), and the entry block that was
-//! read last (`BlockCache`): entries that lie beside each other are read by one call.
+//! Signs batches for the file that the pipe picks (`SignedBatch`). Reads entries back through the last block
+//! (`BlockCache`), so that entries of one block need one read. The laws (`stored`) say which bytes the log then has.
 #![tactic(auto)]
 
 pub mod block_cache;

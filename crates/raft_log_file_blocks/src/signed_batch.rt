@@ -10,7 +10,7 @@ use raft_log_file_pipe::ReactiveBytes;
 use raft_log_record_base::{FileId, LogFileContext, LogQueue, Version};
 use raft_log_record_batches::LogBatch;
 
-/// A batch whose record is made and signed, for no file at first.
+/// A batch whose record is made and signed, at first for no file.
 #[derive(Drop)]
 pub struct SignedBatch {
     batch: LogBatch,
@@ -21,7 +21,7 @@ pub struct SignedBatch {
 impl SignedBatch {
     ghost use Rattle.raft_log_file_blocks.specs.Signing.{SaysItself, signed_for};
 
-    /// The batch, whose record is made, signed for no file yet.
+    /// Takes a batch whose record is made; it is signed for no file yet.
     pub fn new(batch: LogBatch) -> SignedBatch
         requires { batch.state ≡ Populated }
         ensures { result.batch ≡ signed_as None batch }
@@ -35,7 +35,7 @@ impl SignedBatch {
         }
     }
 
-    /// The batch, as it is signed.
+    /// Returns the batch, as it is signed.
     pub fn into_batch(self) -> LogBatch
         ensures batch { result ≡ self.batch }
         ensures signed { result.state ≡ Signed self.signature }
@@ -43,8 +43,8 @@ impl SignedBatch {
         self.batch
     }
 
-    /// How many bytes its record has, in whatever file. Unless the batch is empty, the record says its items
-    /// and their entries' bytes, which lie one behind another.
+    /// How many bytes its record has, in whatever file. Unless the batch is empty, the record contains its items and
+    /// the bytes of their entries, one after another.
     pub fn encoded_len(&self) -> usize
         ensures len { (context : LogFileContext) → length (signed_for self.now.batch context) ≡ result }
         ensures says { SaysItself (signed_for self.now.batch) self.now.batch }

@@ -1,4 +1,4 @@
-//! What was written stays where it was written, and is what is read there.
+//! What was written stays where it was written, and is read back from there.
 
 ghost use Rattle.raft_log_file_pair.specs.Queues.{layout_at};
 ghost use Rattle.raft_log_directory_laws.specs.Calls.{Which};
@@ -7,8 +7,8 @@ ghost use Rattle.raft_log_file_blocks.specs.Written.{AnyFileMayTakeIt, TakenEntr
 
 use raft_log_file_pair::queues::LogQueues;
 
-/// Each call of a pipe, answered or refused, keeps what was written to the files of its queue, but for those
-/// that it hands out of the span.
+/// Each call of a pipe keeps what was written to its queue's files, whether it succeeds or fails. Files that leave
+/// the live range are excepted.
 pub fn calls_keep_bytes<R>()
     ensures { CallsKeepBytes R }
 {}
@@ -18,30 +18,28 @@ pub fn calls_keep_log<R>()
     ensures { CallsKeepLog R }
 {}
 
-/// Where the log's bytes are kept, an entry that lies in it stays there with its bytes, and what the tables
-/// show means the same map.
+/// If the log's bytes are kept, its entries stay in it with their bytes, and the tables mean the same map.
 pub fn stored_entries_stay<R>()
     ensures { StoredEntriesStay R }
 {}
 
-/// What a running pipe reads of a block that lies in its queue is what was written there.
+/// A running pipe reads from a block of its queue the bytes that were written there.
 pub fn stored_block_is_read<G: LogQueues>()
     ensures { (log : G) (which : Which) → StoredBlockIsRead (layout_at which (G.queues log)) }
 {}
 
-/// The last record of Append is that of a batch: the places of its entries lie in the log, and what stands there
-/// are the bytes that were added.
+/// If the last record of Append is a batch's, its entries are in the log at their places, with the batch's bytes.
 pub fn written_entries_are_stored<R>()
     ensures { WrittenEntriesAreStored R }
 {}
 
-/// Where the tables take a batch whose entries lie in the log, all entries of which places show do.
+/// If the tables apply a batch whose entries are in the log, every entry with a place in them is in the log.
 pub fn taken_entries_are_stored<R>()
     ensures { TakenEntriesAreStored R }
 {}
 
-/// Before a batch is written, the view can go on by it in whichever file: so it may be there or not where its
-/// write is refused.
+/// Before a batch is written, the view can grow by it in whichever file the write picks. If the write fails, the
+/// record may be there or not.
 pub fn any_file_may_take_it<R>()
     ensures { AnyFileMayTakeIt R }
 {}

@@ -1,5 +1,4 @@
--- The header of a log file: its magic bytes, the version of its format, and for the second version the
--- alignment.
+-- The header of a log file: its magic bytes, the version of its format, and, in version 2, the alignment.
 use Rattle.std.specs.Prelude.{◌≡◌, ◌≢◌, ℕ, List, [], ◌++◌, length, take, drop, Result, Ok, Err, nat_eq, nat_lt, ◌==◌, if◌then◌else◌, codes}
 use Rattle.std.specs.List.{starts_with}
 use Rattle.std.specs.String.{string_bytes}
@@ -16,7 +15,7 @@ use Rattle.raft_log_record_base.specs.declared.pipe_log.Version.{Version}
 use Rattle.raft_log_record_base.specs.declared.pipe_log.Version.TheVariants.{V1, V2}
 use Rattle.raft_log_file_format.specs.declared.header.LogFileFormat.{LogFileFormat}
 
--- the bytes at the front of every log file
+-- the first bytes of every log file
 unfoldable pub magic : List ℕ
 magic = codes "RAFT-LOG-FILE-HEADER-9986AB3E47F320B394C8E84916EB0ED5"
 
@@ -28,18 +27,18 @@ IsMagic bytes _ = bytes ≡ magic
 pub record IsVersion (bytes : List ℕ) (version : Version) : Type 0 where
   pub spelled : IsU64 bytes (version_number version)
 
--- a format of the first version has no alignment, one of the second has it in eight bytes
+-- a format of version 1 has no alignment; one of version 2 has it in eight bytes
 abbrev pub IsPayload : Version → List ℕ → LogFileFormat → Type 0
 IsPayload V1 = IsKnown (record { version = V1; alignment = 0 })
 IsPayload V2 = Mapped (λ n. record { version = V2; alignment = n }) IsU64
 
--- the magic bytes, a version, and what a format of that version has behind it
+-- the magic bytes, a version, and what a format of that version has after it
 abbrev pub IsFileHeader : List ℕ → LogFileFormat → Type 0
 IsFileHeader = Then IsMagic (λ _. Then IsVersion IsPayload)
 
--- Reading, fault by fault.
+-- Reading, error by error.
 
--- the text for other bytes in front
+-- the text for a file that begins with other bytes
 abbrev pub magic_mismatch : List ℕ
 magic_mismatch = codes "log file magic header mismatch"
 
@@ -47,11 +46,11 @@ magic_mismatch = codes "log file magic header mismatch"
 abbrev pub unknown_version : ℕ → List ℕ
 unknown_version n = codes "unrecognized log file version: " ++ decimal n
 
--- the text for an alignment that is cut short
+-- the text for a truncated alignment
 abbrev pub missing_payload : List ℕ
 missing_payload = codes "missing header payload"
 
--- the magic bytes are taken off
+-- reads the magic bytes
 unfoldable pub magic_at : Reader (Unit {0}) Fault
 magic_at bytes = if starts_with nat_eq bytes magic then Ok (tt, drop (length magic) bytes)
     else Err (corrupt magic_mismatch)
@@ -60,32 +59,32 @@ magic_at bytes = if starts_with nat_eq bytes magic then Ok (tt, drop (length mag
 abbrev pub version_of : ℕ → Result Version Fault
 version_of n = if n == 1 then Ok V1 else (if n == 2 then Ok V2 else Err (corrupt (unknown_version n)))
 
--- a number that is cut short is a number's fault, one that is no version's is a corruption
+-- reads a version; a truncated number fails as numbers do, and an unknown one is a corruption
 unfoldable pub version_at : Reader Version Fault
 version_at bytes = do
   number ← lifted (high_first_at w64 bytes)
   version ← version_of number.0
   Ok (version, number.1)
 
--- for the second version eight bytes
+-- reads what follows the version: eight bytes in version 2
 unfoldable pub payload_at : Version → Reader LogFileFormat Fault
 payload_at V1 bytes = Ok (record { version = V1; alignment = 0 }, bytes)
 payload_at V2 bytes =
     if nat_lt (length bytes) 8 then Err (corrupt missing_payload)
     else Ok (record { version = V2; alignment = from_be_bytes w64 (take 8 bytes) }, drop 8 bytes)
 
--- the magic bytes, the version and the rest, in this order; the first fault is told
+-- reads the magic bytes, the version and the rest, in this order; the first error is returned
 unfoldable pub header_at : Reader LogFileFormat Fault
 header_at bytes = magic_at bytes >>= λ x. version_at x.1 >>= λ y. payload_at y.0 y.1
 
 -- Writing.
 
--- what stands behind the version: for the second one the alignment
+-- what follows the version: in version 2 the alignment
 abbrev pub payload_bytes : Version → ℕ → List ℕ
 payload_bytes V1 alignment = []
 payload_bytes V2 alignment = u64_bytes alignment
 
--- the bytes of a header, where the format has one
+-- the bytes of a header, if the format has one
 unfoldable pub header_bytes : LogFileFormat → List ℕ
 header_bytes format =
     magic ++ (u64_bytes (version_number format.version) ++ payload_bytes format.version format.alignment)
@@ -94,17 +93,17 @@ header_bytes format =
 abbrev pub no_alignment : List ℕ
 no_alignment = codes "a log file of the first version has no alignment"
 
--- the refusal of an alignment in a file of the first version
+-- the error for an alignment in a file of version 1
 abbrev pub SaysNoAlignment : Error → Type 0
 SaysNoAlignment (errors.InvalidArgument text) = string_bytes text ≡ no_alignment
 SaysNoAlignment errors.Memory = Unit {0}
 SaysNoAlignment _ = ⊥
 
--- a format of the first version with an alignment has no header
+-- the format has a header: it isn't version 1 with an alignment
 abbrev pub HasWrittenHeader : LogFileFormat → Type 0
 HasWrittenHeader format = format.version ≡ V1 → format.alignment ≡ 0
 
--- why no header is written: there is none, and this is the text, or memory ran out
+-- why no header is written: version 1 with an alignment, with this text; or out of memory
 abbrev pub IsHeaderRefusal : LogFileFormat → Error → Type 0
 IsHeaderRefusal format (errors.InvalidArgument text) =
     (format.version ≡ V1) × (format.alignment ≢ 0) × (string_bytes text ≡ no_alignment)

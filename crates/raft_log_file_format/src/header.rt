@@ -7,14 +7,14 @@ use raft_log_record_base::codec::{self, BytesSlice};
 use raft_log_record_base::{Error, Result, Version};
 use std::alloc::{AllocError, Global};
 
-/// The bytes at the front of every log file.
+/// The first bytes of every log file.
 const LOG_FILE_MAGIC_HEADER: &[u8] = b"RAFT-LOG-FILE-HEADER-9986AB3E47F320B394C8E84916EB0ED5";
 
-/// The format of a log file, which its header tells.
+/// The format of a log file, as its header states it.
 #[derive(Clone, Copy, Debug, PartialEq, Eq)]
 pub struct LogFileFormat {
     pub version: Version,
-    /// Of which number of bytes the places of records are multiples; 0 where they follow one another.
+    /// Offsets of records are multiples of this number of bytes; 0 if records follow one another without gaps.
     pub alignment: u64,
 }
 
@@ -56,10 +56,10 @@ impl LogFileFormat {
         }
     }
 
-    /// Reads a header from the front of a file's bytes, and takes just its bytes, or none where it refuses.
+    /// Reads a header from the front of a file's bytes, and consumes its bytes, or none if it fails.
     ///
-    /// Refuses, in this order: other magic bytes, a version's number that is cut short (a codec's error), one
-    /// that no version has, an alignment that is cut short. Only the text of a refusal takes memory.
+    /// Fails on the first of these: other magic bytes, a truncated version number (a codec error), an unknown version,
+    /// a truncated alignment. Only the text of an error allocates.
     pub fn decode(alloc: Global, source: &mut BytesSlice<'_>) -> Result<LogFileFormat>
         ensures decodes { DecodesOrMemory IsFileHeader result source.old.now source.new.now }
         ensures exact { ReadsOrMemory result source.old.now source.new.now (header_at source.old.now) }
@@ -67,8 +67,8 @@ impl LogFileFormat {
         read_format(alloc, source)
     }
 
-    /// Appends the header. An alignment of a file of the first version is refused as an invalid argument.
-    /// A refusal leaves the buffer as it was.
+    /// Appends the header. Fails with an invalid argument if a format of version 1 has an alignment. If it fails, the
+    /// buffer is unchanged.
     pub fn encode(&self, alloc: Global, out: &mut Vec<u8>) -> Result<()>
         ensures ok { OnOk result (HasWrittenHeader self.now
             × (out.new.items ≡ out.old.items ++ header_bytes self.now)) }
@@ -103,7 +103,7 @@ fn read_format(alloc: Global, source: &mut BytesSlice<'_>) -> Result<LogFileForm
     Ok(format)
 }
 
-/// Takes the magic bytes off.
+/// Reads the magic bytes.
 #[tactic(auto, unfolding(crate::specs::Header::magic_at))]
 fn read_magic(alloc: Global, source: &mut BytesSlice<'_>) -> Result<()>
     ensures exact { ReadsOrMemory result source.old.now source.new.now (magic_at source.old.now) }
@@ -140,7 +140,7 @@ fn version_of(alloc: Global, number: u64) -> Result<Version>
     }
 }
 
-/// Reads what stands behind the version, and makes the format of both.
+/// Reads what follows the version, and returns the format of both.
 #[tactic(auto, unfolding(crate::specs::Header::payload_at))]
 fn read_payload(
     alloc: Global,
@@ -167,7 +167,7 @@ fn magic_bytes() -> &'static [u8]
     LOG_FILE_MAGIC_HEADER
 }
 
-/// Why a header can't be written.
+/// The error of a header that can't be written.
 fn no_alignment(alloc: Global) -> Error
     ensures { SaysNoAlignment result }
 {
@@ -177,7 +177,7 @@ fn no_alignment(alloc: Global) -> Error
     }
 }
 
-/// Appends the bytes of a header; a refusal may leave a part of them.
+/// Appends the bytes of a header; if it fails, a part of them may be appended.
 #[tactic(auto, unfolding(crate::specs::Header::header_bytes))]
 fn append_header(format: &LogFileFormat, out: &mut Vec<u8>) -> std::result::Result<(), AllocError>
     ensures ok { OnOk result (out.new.items ≡ out.old.items ++ header_bytes format.now) }

@@ -1,4 +1,4 @@
-//! Names of log files: the number in sixteen digits, and an end that says the queue.
+//! Names of log files: the number in sixteen digits, and a suffix for the queue.
 ghost use Rattle.std.specs.Prelude.{◌≡◌, ◌↔◌, ◌≤◌, ◌<◌, ◌^◌, ◌∷◌, ◌++◌, ℕ, true, length, IsTrue, IfOk, IfErr, Some, Err};
 ghost use Rattle.std.specs.String.{string_bytes};
 ghost use Rattle.raft_log_record_base.specs.declared.errors.Error.TheVariants.{NumberRange, Memory};
@@ -13,14 +13,14 @@ const LOG_SEQ_WIDTH: usize = 16;
 const LOG_SEQ_LIMIT: FileSeq = 10_000_000_000_000_000;
 /// The least number that leaves no room for a sign in a name.
 const LOG_SIGNED_SEQ_LIMIT: FileSeq = 1_000_000_000_000_000;
-/// The end of an Append file's name.
+/// The suffix of an Append file's name.
 const LOG_APPEND_SUFFIX: &str = ".raftlog";
-/// The end of a Rewrite file's name.
+/// The suffix of a Rewrite file's name.
 const LOG_REWRITE_SUFFIX: &str = ".rewrite";
-/// The end of the name of a file that is kept to be used.
+/// The suffix of the name of a file that is kept for recycling.
 const LOG_APPEND_RESERVED_SUFFIX: &str = ".raftlog.reserved";
 
-/// What log files are called.
+/// Names of log files.
 pub trait FileNameExt: Sized {
     ghost use Rattle.std.specs.Prelude.{ℕ, List, ◌≡◌, ◌↔◌, IfOk, IfErr, Some};
     ghost use Rattle.std.specs.String.{string_bytes};
@@ -31,24 +31,24 @@ pub trait FileNameExt: Sized {
     /// The file's number.
     ghost number: { Self → ℕ };
 
-    /// The file with this name, if the name is a log file's: more than sixteen bytes, of which the first
-    /// sixteen are a number (a leading `+` passes), and the end of one of the two queues.
+    /// The file with this name. The name must be longer than sixteen bytes: the first sixteen are a number (a leading
+    /// `+` is allowed), and the suffix is that of one of the two queues.
     fn parse_file_name(file_name: &str) -> Option<Self>
         ensures { (id : Self) → (result ≡ Some id) ↔ named file_name.now id };
 
-    /// The file's name. A number of more than sixteen digits is refused as `NumberRange`.
+    /// The file's name. Fails with `NumberRange` if the number has more than sixteen digits.
     fn build_file_name(&self, alloc: Global) -> Result<String>
         ensures ok { IfOk result (λ name. named (string_bytes name) self.now) }
         ensures err { IfErr result (λ error. IsNameRefusal (number self.now) error) };
 
-    /// The path of the file in a directory: the directory, a slash and the name. Refused as the name is.
+    /// The path of the file in a directory: the directory, a slash and the name. Fails as `build_file_name` does.
     fn build_file_path(&self, alloc: Global, dir: &str) -> Result<String>
         ensures ok { IfOk result (λ path.
             IsPathTo (λ name. named name self.now) dir.now (string_bytes path)) }
         ensures err { IfErr result (λ error. IsNameRefusal (number self.now) error) };
 }
 
-/// Whether a name ends so.
+/// Whether a name has this suffix.
 fn has_suffix(name: &str, suffix: &str) -> bool
     ensures { IsTrue result ↔ EndsWith suffix.now name.now }
 {
@@ -68,7 +68,7 @@ fn parse_seq(name: &str) -> Option<FileSeq>
     front.parse::<u64>().ok()
 }
 
-/// The number of a name with this end.
+/// The number of a name with this suffix.
 fn parse_seq_before(name: &str, suffix: &str) -> Option<FileSeq>
     ensures { (n : ℕ) → (result ≡ Some n) ↔ IsNamed suffix.now name.now n }
 {
@@ -78,7 +78,7 @@ fn parse_seq_before(name: &str, suffix: &str) -> Option<FileSeq>
     None
 }
 
-/// The name with this number and this end.
+/// The name with this number and this suffix.
 fn name_with(alloc: Global, seq: FileSeq, suffix: &str) -> Result<String>
     ensures ok { IfOk result (λ name. string_bytes name ≡ sixteen_digits seq ++ suffix.now) }
     ensures parsed { 0 < length suffix.now
@@ -92,7 +92,7 @@ fn name_with(alloc: Global, seq: FileSeq, suffix: &str) -> Result<String>
     Ok(format!(in alloc; "{seq:016}{suffix}")?)
 }
 
-/// The name with this number and this end, and a sign in front, where the number leaves room for one.
+/// The name with this number and this suffix, and a plus sign in front if the number leaves room for one.
 fn signed_name_with(alloc: Global, seq: FileSeq, suffix: &str) -> Result<String>
     ensures ok { IfOk result (λ name. string_bytes name ≡ number_text true seq ++ suffix.now) }
     ensures err { IfErr result (λ error. IsNameRefusal seq error) }
@@ -104,7 +104,7 @@ fn signed_name_with(alloc: Global, seq: FileSeq, suffix: &str) -> Result<String>
     name_with(alloc, seq, suffix)
 }
 
-/// What stands at the end of the names of a queue's files.
+/// The suffix of the names of a queue's files.
 fn suffix(queue: LogQueue) -> &'static str
     ensures value { result.now ≡ suffix_of queue }
     ensures some { 0 < length result.now }
@@ -155,9 +155,8 @@ impl FileNameExt for FileId {
     }
 }
 
-/// The name of a file with a sign in front of the number, which is read as the name without one. A number of
-/// sixteen digits leaves no room for a sign, and has the name without one; one of more is refused as
-/// `NumberRange`.
+/// The name of a file with a plus sign in front of the number; it is read as the name without one. A number of sixteen
+/// digits leaves no room for the sign and has the name without one. Fails with `NumberRange` if the number is longer.
 pub fn build_signed_file_name(alloc: Global, id: FileId) -> Result<String>
     ensures ok { IfOk result (λ name.
         string_bytes name ≡ number_text true id.seq ++ suffix_of id.queue) }
@@ -167,7 +166,7 @@ pub fn build_signed_file_name(alloc: Global, id: FileId) -> Result<String>
     signed_name_with(alloc, id.seq, suffix(id.queue))
 }
 
-/// The path in a directory of the file that has the name with a sign in front. Refused as the name is.
+/// The path in a directory of the file whose name has a plus sign. Fails as `build_signed_file_name` does.
 pub fn build_signed_file_path(alloc: Global, id: FileId, dir: &str) -> Result<String>
     ensures ok { IfOk result (λ path.
         string_bytes path ≡ dir.now ++ 47 ∷ (number_text true id.seq ++ suffix_of id.queue)) }
@@ -191,15 +190,14 @@ fn path_to(alloc: Global, dir: &str, name: &str) -> Result<String>
     }
 }
 
-/// The number of the file with this name, if the name is that of a file that is kept to be used.
+/// The number of the file with this name, if the name is that of a file that is kept for recycling.
 pub fn parse_reserved_file_name(file_name: &str) -> Option<FileSeq>
     ensures { (n : ℕ) → (result ≡ Some n) ↔ IsNamed reserved_suffix file_name.now n }
 {
     parse_seq_before(file_name, LOG_APPEND_RESERVED_SUFFIX)
 }
 
-/// The name of a file that is kept to be used. A number of more than sixteen digits is refused as
-/// `NumberRange`.
+/// The name of a file that is kept for recycling. Fails with `NumberRange` if the number has more than sixteen digits.
 pub fn build_reserved_file_name(alloc: Global, seq: FileSeq) -> Result<String>
     ensures ok { IfOk result (λ name. IsNamed reserved_suffix (string_bytes name) seq) }
     ensures exact { IfOk result (λ name. string_bytes name ≡ sixteen_digits seq ++ reserved_suffix) }
@@ -209,8 +207,8 @@ pub fn build_reserved_file_name(alloc: Global, seq: FileSeq) -> Result<String>
     name_with(alloc, seq, LOG_APPEND_RESERVED_SUFFIX)
 }
 
-/// The name of a file that is kept to be used, with a sign in front of the number, where that leaves room for
-/// one. A number of more than sixteen digits is refused as `NumberRange`.
+/// The name of a file that is kept for recycling, with a plus sign in front of the number if that leaves room for one.
+/// Fails with `NumberRange` if the number has more than sixteen digits.
 pub fn build_signed_reserved_file_name(alloc: Global, seq: FileSeq) -> Result<String>
     ensures ok { IfOk result (λ name. string_bytes name ≡ number_text true seq ++ reserved_suffix) }
     ensures err { IfErr result (λ error. IsNameRefusal seq error) }

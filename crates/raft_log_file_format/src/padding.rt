@@ -1,4 +1,4 @@
-//! Zeros that stand between records.
+//! Zeros between records.
 ghost use Rattle.std.specs.Prelude.{◌↔◌, IsTrue};
 ghost use Rattle.raft_log_file_format.specs.Padding.{IsZeroPadded};
 

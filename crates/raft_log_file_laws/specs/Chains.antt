@@ -1,24 +1,24 @@
--- Chains of records in a file: one record behind the other from a place on, and what reads back of them. A
--- frame relation says which bytes spell which record; everything here holds of any one in which no spelling
--- begins another.
+-- Chains of records in a file: records that follow one another from an offset on, and what is read of them. A frame
+-- relation (`IsFrame`) says which bytes encode which record. Everything here holds for any frame relation in which no
+-- encoding is a prefix of another.
 use Rattle.std.specs.Prelude.{◌≡◌, ℕ, ◌+◌, ◌⊎◌, List, [], ◌∷◌, ◌++◌, length, take, drop}
 
--- a record as it was written: its bytes, and what they say
+-- a record as it was written: its bytes, and their value
 pub record Written (R : Type 0) : Type 0 where
   pub bytes : List ℕ
   pub value : R
 
--- no spelling begins another one or another record's, and none is empty
+-- no encoding is a prefix of another one or of another record's, and none is empty
 pub record IsSelfDelimiting {R : Type 0} (IsFrame : List ℕ → R → Type 0) : Type 0 where
   pub apart : (a b x y : List ℕ) (r s : R) → IsFrame a r → IsFrame b s → a ++ x ≡ b ++ y → (a ≡ b) × (r ≡ s)
   pub filled : (r : R) → IsFrame [] r → ⊥
 
--- the bytes of these records, one behind the other
+-- the bytes of these records, one after the other
 abbrev pub spelled : {R : Type 0} → List (Written R) → List ℕ
 spelled [] = []
 spelled (w ∷ ws) = w.bytes ++ spelled ws
 
--- each one's bytes are a spelling of it
+-- each record's bytes encode it
 abbrev pub AreFrames : {R : Type 0} → (List ℕ → R → Type 0) → List (Written R) → Type 0
 AreFrames IsFrame [] = Unit {0}
 AreFrames IsFrame (w ∷ ws) = IsFrame w.bytes w.value × AreFrames IsFrame ws
@@ -33,14 +33,14 @@ abbrev pub HoldsNoFrame : {R : Type 0} → (List ℕ → R → Type 0) → List 
 HoldsNoFrame {R} IsFrame bytes = (ahead inside behind : List ℕ) (r : R)
     → bytes ≡ ahead ++ (inside ++ behind) → IsFrame inside r → ⊥
 
--- from `start` on the bytes begin with these records
+-- the bytes from `start` on begin with these records
 pub record BeginsWith {R : Type 0} (IsFrame : List ℕ → R → Type 0)
     (start : ℕ) (ws : List (Written R)) (bytes : List ℕ) : Type 0 where
   pub rest : List ℕ
   pub splits : drop start bytes ≡ spelled ws ++ rest
   pub frames : AreFrames IsFrame ws
 
--- from `start` on these records are read, and then none
+-- from `start` on exactly these records are read
 pub record Reads {R : Type 0} (IsFrame : List ℕ → R → Type 0)
     (start : ℕ) (ws : List (Written R)) (bytes : List ℕ) : Type 0 where
   pub rest : List ℕ
@@ -48,36 +48,36 @@ pub record Reads {R : Type 0} (IsFrame : List ℕ → R → Type 0)
   pub frames : AreFrames IsFrame ws
   pub ends : Refuses IsFrame rest
 
--- whoever reads from `start` on meets this record at this place
+-- reading from `start` on reaches this record at this offset
 pub record Meets {R : Type 0} (IsFrame : List ℕ → R → Type 0)
     (start at : ℕ) (w : Written R) (bytes : List ℕ) : Type 0 where
   pub before : List (Written R)
   pub begins : BeginsWith IsFrame start (before ++ w ∷ []) bytes
   pub place : at ≡ start + length (spelled before)
 
--- bytes that stand from one place on have these among them, at this place
+-- the bytes `all`, which begin at the offset `from`, contain `bytes` at the offset `at`
 pub record LiesIn (from : ℕ) (all : List ℕ) (at : ℕ) (bytes : List ℕ) : Type 0 where
   pub ahead : List ℕ
   pub behind : List ℕ
   pub splits : all ≡ ahead ++ (bytes ++ behind)
   pub place : at ≡ from + length ahead
 
--- of any bytes it can be told whether they begin with a record
+-- it is decidable whether bytes begin with a record
 abbrev pub CanTell : {R : Type 0} → (List ℕ → R → Type 0) → Type 0
 CanTell {R} IsFrame = (bytes : List ℕ) → ((w : Written R) × (rest : List ℕ) × IsFrame w.bytes w.value
     × (bytes ≡ w.bytes ++ rest)) ⊎ Refuses IsFrame bytes
 
--- bytes are read in one way
+-- bytes are read in only one way
 abbrev pub ReadsOneWay : {R : Type 0} → (List ℕ → R → Type 0) → Type 0
 ReadsOneWay {R} IsFrame = (start : ℕ) (bytes : List ℕ) (vs ws : List (Written R))
     → Reads IsFrame start vs bytes → Reads IsFrame start ws bytes → ws ≡ vs
 
--- where it can be told whether a record begins, all bytes have a reading
+-- if it is decidable whether a record begins, all bytes can be read
 abbrev pub ReadsSome : {R : Type 0} → (List ℕ → R → Type 0) → Type 0
 ReadsSome {R} IsFrame = CanTell IsFrame → (start : ℕ) (bytes : List ℕ) → (ws : List (Written R))
     × Reads IsFrame start ws bytes
 
--- files that agree up to the end of a chain both begin with it
+-- if two files agree up to the end of a chain, and one begins with the chain, the other does too
 abbrev pub AgreesUpToEnd : {R : Type 0} → (List ℕ → R → Type 0) → Type 0
 AgreesUpToEnd {R} IsFrame = (start : ℕ) (ws : List (Written R)) (c d : List ℕ)
     → take (start + length (spelled ws)) d ≡ take (start + length (spelled ws)) c

@@ -1,19 +1,19 @@
--- The premise that no checksum is met by chance is neither empty nor always true: a stop that loses a record
--- which isn't synced satisfies it, one that leaves another record in its place doesn't. So it is with what a
--- chain asks of a file: one with another record synced behind it doesn't hold it.
+-- The premise "no CRC collision" is neither empty nor always true. A stop that loses an unsynced record satisfies it; a
+-- stop that leaves another record in its place doesn't. A file in which another record is synced after the chain
+-- doesn't hold the chain.
 use Rattle.std.specs.Prelude.{◌≡◌, ℕ, ◌+◌, ◌<◌, ◌≤◌, List, [], ◌∷◌, ◌++◌, length, take, drop}
 use Rattle.raft_log_disk.specs.Disk.{Wrote, File, at_rest}
 use Rattle.raft_log_disk.specs.Image.{IsLeft}
 use Rattle.raft_log_file_laws.specs.Chains.{Written, IsSelfDelimiting, spelled, AreFrames, Refuses, Reads}
 use Rattle.raft_log_file_laws.specs.KeepsSynced.{IsStale, NoChanceMatch, HoldsChain}
 
--- a file with these bytes synced, and a record written behind them since
+-- a file with these bytes synced, and a record written after them since
 abbrev pub one_unsynced : {R : Type 0} → List ℕ → Written R → File
 one_unsynced synced w =
     record { content = synced ++ w.bytes; synced = synced; changes = Wrote (length synced) w.bytes ∷ [] }
 
--- Synced records, and one that isn't: a stop may leave just a beginning of the last one. Then the premise
--- holds, and the synced ones are read and no more: the last record is lost.
+-- Some records are synced, and the last one isn't: a stop may leave only a prefix of that one. Then there is no CRC
+-- collision, and exactly the synced records are read: the last one is lost.
 abbrev pub TornRecordIsLost : {R : Type 0} → (List ℕ → R → Type 0) → Type 0
 TornRecordIsLost {R} IsFrame = IsSelfDelimiting IsFrame
     → (front stale : List ℕ) (durable : List (Written R)) (w : Written R) (landed : ℕ)
@@ -24,8 +24,8 @@ TornRecordIsLost {R} IsFrame = IsSelfDelimiting IsFrame
     IsLeft file bytes × NoChanceMatch IsFrame (length front) stale (spelled (durable ++ w ∷ [])) file bytes
     × Reads IsFrame (length front) durable bytes)
 
--- A file whose last record isn't synced, and another record, no longer than that one: a stop may leave the
--- other one in its place, and the premise says that this doesn't happen.
+-- The last record of a file isn't synced, and another record is no longer than it. A stop may leave the other record in
+-- its place, and the premise excludes that.
 abbrev pub ForeignRecordIsChance : {R : Type 0} → (List ℕ → R → Type 0) → Type 0
 ForeignRecordIsChance {R} IsFrame = IsSelfDelimiting IsFrame
     → (front stale : List ℕ) (durable : List (Written R)) (w foreign : Written R)
@@ -37,8 +37,7 @@ ForeignRecordIsChance {R} IsFrame = IsSelfDelimiting IsFrame
     IsLeft file bytes
     × (NoChanceMatch IsFrame (length front) stale (spelled (durable ++ w ∷ [])) file bytes → ⊥))
 
--- A record that stands synced behind the durable ones, and isn't what stood there before, is refused: such a
--- file doesn't hold the chain.
+-- If another record is synced after the durable ones, and it isn't stale, the file doesn't hold the chain.
 abbrev pub ForeignRecordBehindIsRefused : {R : Type 0} → (List ℕ → R → Type 0) → Type 0
 ForeignRecordBehindIsRefused {R} IsFrame = IsSelfDelimiting IsFrame
     → (front stale behind : List ℕ) (durable pending : List (Written R)) (foreign : Written R)
@@ -47,8 +46,8 @@ ForeignRecordBehindIsRefused {R} IsFrame = IsSelfDelimiting IsFrame
     → HoldsChain IsFrame (length front) stale durable pending
     (at_rest ((front ++ spelled durable) ++ (foreign.bytes ++ behind))) → ⊥
 
--- A file that is used again, with its new records synced over the bytes that stood there, of which none is
--- read behind them: the premise holds in what a stop leaves of it, and the new records are read and no more.
+-- A recycled file has its new records synced over its stale bytes, and no record begins after them. Then the premise
+-- holds for what a stop leaves, and exactly the new records are read.
 abbrev pub RecycledFileMeetsIt : {R : Type 0} → (List ℕ → R → Type 0) → Type 0
 RecycledFileMeetsIt {R} IsFrame = (front stale : List ℕ) (durable : List (Written R))
     → IsSelfDelimiting IsFrame → AreFrames IsFrame durable
@@ -58,8 +57,8 @@ RecycledFileMeetsIt {R} IsFrame = (front stale : List ℕ) (durable : List (Writ
     × NoChanceMatch IsFrame (length front) stale (spelled durable) (at_rest bytes) bytes
     × Reads IsFrame (length front) durable bytes)
 
--- Whatever a stop leaves of a file whose bytes are all synced, and that held nothing when it got its number,
--- the premise holds of it.
+-- If all bytes of a file are synced, and it was empty when it got its number, the premise holds for whatever a stop
+-- leaves.
 abbrev pub SyncedFileHasNoChance : {R : Type 0} → (List ℕ → R → Type 0) → Type 0
 SyncedFileHasNoChance IsFrame = IsSelfDelimiting IsFrame → (start : ℕ) (file : File) (bytes : List ℕ)
     → file.changes ≡ [] → IsLeft file bytes

@@ -1,13 +1,12 @@
--- Shortening a file behind some of its records: what holds of it before, between and after the two calls that
--- do it, the shortening and the sync. Each may be refused, and the file may have been shortened though it
--- was.
+-- Truncating a file after some of its records: what holds before, between and after the two calls, the truncation and
+-- the sync. Each may fail, and a failed truncation may have been made.
 use Rattle.std.specs.Prelude.{◌≡◌, ℕ, ◌+◌, ◌≤◌, List, ◌++◌, length, take, drop}
 use Rattle.raft_log_disk.specs.Disk.{ShortenedTo, File}
 use Rattle.raft_log_disk.specs.Calls.{after_change, with_change, flushed}
 use Rattle.raft_log_file_laws.specs.Chains.{Written, IsSelfDelimiting, AreFrames, spelled}
 use Rattle.raft_log_file_laws.specs.KeepsSynced.{HoldsChain, HoldsAtLeast, kept_records}
 
--- The file holds these records, and up to `size` it has the durable ones and the first `count` pending ones.
+-- The file holds these records, and up to `size` it has exactly the durable ones and the first `count` pending ones.
 pub record CanShorten {R : Type 0} (IsFrame : List ℕ → R → Type 0)
     (start : ℕ) (stale : List ℕ) (size count : ℕ)
     (durable pending : List (Written R)) (file : File) : Type 0 where
@@ -16,14 +15,14 @@ pub record CanShorten {R : Type 0} (IsFrame : List ℕ → R → Type 0)
   pub front : drop start (take size file.content) ≡ spelled (kept_records durable pending count)
   pub end : size ≡ start + length (spelled (kept_records durable pending count))
 
--- The file holds these records still, and has just those that it was shortened behind.
+-- The file still holds these records, and has exactly those after which it was truncated.
 pub record IsShortened {R : Type 0} (IsFrame : List ℕ → R → Type 0) (start : ℕ) (stale : List ℕ) (count : ℕ)
     (durable pending : List (Written R)) (file : File) : Type 0 where
   pub holds : HoldsChain IsFrame start stale durable pending file
   pub all : drop start file.content ≡ spelled (kept_records durable pending count)
 
--- The file holds these records, and up to `size` it has those that are read of it, of which the durable ones
--- are the first.
+-- The file holds these records, and up to `size` it has exactly those that are read of it, which begin with the durable
+-- ones.
 pub record CanShortenRead {R : Type 0} (IsFrame : List ℕ → R → Type 0) (start : ℕ) (stale : List ℕ) (size : ℕ)
     (durable pending ws : List (Written R)) (file : File) : Type 0 where
   pub holds : HoldsChain IsFrame start stale durable pending file
@@ -33,8 +32,7 @@ pub record CanShortenRead {R : Type 0} (IsFrame : List ℕ → R → Type 0) (st
   pub front : drop start (take size file.content) ≡ spelled ws
   pub end : size ≡ start + length (spelled ws)
 
--- The file holds these records still, and has just those that were read of it, of which the durable ones are
--- the first.
+-- The file still holds these records, and has exactly those that were read of it, which begin with the durable ones.
 pub record IsShortenedRead {R : Type 0} (IsFrame : List ℕ → R → Type 0) (start : ℕ) (stale : List ℕ)
     (durable pending ws : List (Written R)) (file : File) : Type 0 where
   pub holds : HoldsChain IsFrame start stale durable pending file
@@ -43,13 +41,13 @@ pub record IsShortenedRead {R : Type 0} (IsFrame : List ℕ → R → Type 0) (s
   pub frames : AreFrames IsFrame ws
   pub all : drop start file.content ≡ spelled ws
 
--- the file holds at least the durable records, and others behind them
+-- the file holds at least the durable records, and others after them
 abbrev pub KeepsDurable : {R : Type 0} → (List ℕ → R → Type 0) → ℕ → List ℕ → List (Written R) → File → Type 0
 KeepsDurable {R} IsFrame start stale durable file =
     (later : List (Written R)) × HoldsAtLeast IsFrame start stale durable later file
 
--- Before, between and after the two calls the file holds at least these records: by the shortening, made or
--- not, and by the sync behind it, after which what is left is durable.
+-- Before, between and after the two calls the file holds at least these records: through the truncation, made or not,
+-- and through the sync after it, after which the remaining ones are durable.
 pub record ShorteningKeeps {R : Type 0} (IsFrame : List ℕ → R → Type 0)
     (start : ℕ) (stale : List ℕ) (size count : ℕ)
     (durable pending : List (Written R)) (file : File) : Type 0 where
@@ -60,7 +58,7 @@ pub record ShorteningKeeps {R : Type 0} (IsFrame : List ℕ → R → Type 0)
   pub synced : HoldsAtLeast IsFrame start stale durable pending
       (flushed (after_change (ShortenedTo size) file))
 
--- of a file that can be shortened so
+-- this holds for a file that can be truncated so
 abbrev pub ShortenedIsKept : {R : Type 0} → (List ℕ → R → Type 0) → Type 0
 ShortenedIsKept {R} IsFrame = IsSelfDelimiting IsFrame
     → (start : ℕ) (stale : List ℕ) (size count : ℕ) (durable pending : List (Written R)) (file : File)

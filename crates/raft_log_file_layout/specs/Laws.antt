@@ -1,4 +1,4 @@
--- What holds of the log's own files.
+-- What holds for the log's own files.
 use Rattle.std.specs.Prelude.{◌≡◌, ℕ, true, false, None, List, Contains}
 use Rattle.raft_log_record_base.specs.declared.pipe_log.LogQueue.{LogQueue}
 use Rattle.raft_log_record_base.specs.declared.pipe_log.LogQueue.TheVariants.{Append, Rewrite}
@@ -11,25 +11,25 @@ use Rattle.raft_log_file_format.specs.Name.{reserved_suffix, suffix_of}
 use Rattle.raft_log_file_layout.specs.Paths.{IsPathWith, IsOwnPath, reserved_suffix_of}
 use Rattle.raft_log_file_layout.specs.Layout.{IsRecordIn, log_format}
 
--- of any bytes it can be told whether they begin with a header of a log file, or with a record of one
+-- it is decidable whether bytes begin with a header of a log file, or with a record of one
 abbrev pub LogFilesAreTold : Type 0
 LogFilesAreTold = (queue : LogQueue) (directories : List (List ℕ))
     → CanTellFormat (log_format queue directories)
 
--- no path is own to both queues, whatever their directories
+-- no path belongs to both queues, whatever their directories
 abbrev pub QueuesAreApart : Type 0
 QueuesAreApart = (append rewrite : List (List ℕ)) (path : List ℕ) → IsOwnPath Append append path
     → IsOwnPath Rewrite rewrite path → ⊥
 
--- no record lies in zeros
+-- zeros contain no record
 abbrev pub ZerosHoldNoRecord : Type 0
 ZerosHoldNoRecord = (n size : ℕ) (header : List ℕ) → HoldsNoFrame (IsRecordIn n header) (zeros size)
 
--- the names of the files that Append keeps to use them are those that the log's reader of names takes for it
+-- the names of files that Append keeps for recycling have the suffix that the log's reader of names expects
 abbrev pub ReservedNamesAreTheLogs : Type 0
 ReservedNamesAreTheLogs = reserved_suffix_of Append ≡ reserved_suffix
 
--- where the directories are there, and no file and no directory has the path of a number, a queue may begin
+-- a queue may begin if its directories exist, and no file and no directory is at the path of a number
 abbrev pub PlacesAreFresh : Type 0
 PlacesAreFresh = (queue : LogQueue) (directories : List (List ℕ)) (base d : Disk)
     → ((directory : List ℕ) → Contains directories directory → d.directories directory ≡ true)

@@ -1,4 +1,4 @@
--- How the files of a queue of the log are written, and where they lie.
+-- How the files of a log's queue are written, and where they are.
 use Rattle.std.specs.Prelude.{◌≡◌, ℕ, ◌^◌, List, ◌++◌, drop}
 use Rattle.raft_log_record_base.specs.Files.{signature}
 use Rattle.raft_log_record_base.specs.declared.pipe_log.LogQueue.{LogQueue}
@@ -11,20 +11,20 @@ use Rattle.raft_log_file_queue.specs.Layout.{FilePaths, IsUnaligned}
 use Rattle.raft_log_file_layout.specs.Paths.{IsPathWith, numbered_path, reserved_path}
 use Rattle.raft_log_file_layout.specs.declared.record.LogRecord.{LogRecord}
 
--- The bytes are a record of this in the file with a number and a header: its entry block is whole, and it is
--- signed for the file, where the header's version has signatures.
+-- The bytes are this record in the file with a number and a header. Its entry block is whole, and it is signed for the
+-- file if the header's version has signatures.
 pub record IsRecordIn (n : ℕ) (header bytes : List ℕ) (said : LogRecord) : Type 0 where
   pub format : LogFileFormat
   pub says : IsFileHeader header format
   pub is : IsRecord (signature format.version n) bytes said.items said.entries
 
--- The header of some format without an alignment: no pipe writes another one, so that what a torn write left of
--- a header isn't one for its last eight bytes' sake.
+-- The header of some format without an alignment. Pipes write no other one, so a torn header isn't read as a header
+-- because of its last eight bytes.
 abbrev pub IsAHeader : List ℕ → Type 0
 IsAHeader bytes = (format : LogFileFormat) × IsFileHeader bytes format × IsUnaligned format
 
--- Bytes that begin with the header of a format with an alignment, and somewhere in which a record stands of the
--- file with a number: an open takes them for a file of another program, with padding between its records.
+-- Bytes that begin with the header of a format with an alignment, and contain a record of the file with this number. An
+-- open takes them for a file of another program, with padding between its records.
 pub record IsAlignedFile (n : ℕ) (bytes : List ℕ) : Type 0 where
   pub header : List ℕ
   pub rest : List ℕ
@@ -39,7 +39,7 @@ pub record IsAlignedFile (n : ℕ) (bytes : List ℕ) : Type 0 where
   pub said : LogRecord
   pub is : IsRecord (signature format.version n) written said.items said.entries
 
--- how the files of a queue are written, and lie in these directories
+-- how the files of a queue are written, in these directories
 abbrev pub log_format : LogQueue → List (List ℕ) → Format LogRecord
 log_format queue directories = record {
   IsFrame = IsRecordIn;

@@ -1,4 +1,4 @@
--- The log's own files are a layout of files: their records, headers and paths.
+-- The log's own files satisfy `IsLayout`: their records, headers and paths.
 use Rattle.std.specs.Prelude.{codes, min, Result, Ok, Err, Option, replicate}
 use Rattle.std.proofs.Common.{◌≡◌, ◌⊎◌, ℕ, zero, suc, ◌+◌, ◌-◌, ◌^◌, ◌<◌, ◌≤◌, List, [], ◌∷◌, ◌++◌, length, get_or, take, drop, refl, sym, ◌∙◌, ap, subst, inl, inr, arith, length-append}
 use Rattle.std.proofs.lemmas.List.{append-nil, take_at, drop_at, take-append-drop, take-append-le, drop-replicate, length-replicate}
@@ -26,15 +26,15 @@ use Rattle.raft_log_file_layout.specs.Laws.{LogFilesAreTold, QueuesAreApart, Zer
 use Rattle.raft_log_file_layout.specs.declared.record.LogRecord.{LogRecord}
 use Rattle.raft_log_file_layout.specs.PathLaws.{one_name, one_number, numbered_is, numbered_lies, reserved_is, other_end}
 
--- taking and dropping at a seam
+-- dropping the first of two joined lists
 drop_front : (a b : List ℕ) → drop (length a) (a ++ b) ≡ b
 drop_front a b = drop_at a b (length a) refl
 
--- what is taken from within the front is the front's
+-- a prefix of the first of two joined lists
 take_front : (k : ℕ) (a b : List ℕ) → k ≤ length a → take k (a ++ b) ≡ take k a
 take_front k a b fits = take-append-le k a b fits
 
--- zeros that are taken from zeros
+-- a prefix of zeros is zeros
 take_zeros : (k n : ℕ) → k ≤ n → take k (zeros n) ≡ replicate k 0
 take_zeros zero n fits = refl
 take_zeros (suc k) zero fits = absurd (omega (arith, fits))
@@ -42,12 +42,12 @@ take_zeros (suc k) (suc n) fits = ap (λ (b : List ℕ). 0 ∷ b) (take_zeros k 
 
 -- Headers.
 
--- bytes begin with one header at most, which says one format
+-- bytes begin with one header at most, of one format
 one_header : (a b x y : List ℕ) (f g : LogFileFormat) → IsFileHeader a f → IsFileHeader b g → a ++ x ≡ b ++ y
     → (a ≡ b) × (f ≡ g)
 one_header = prefix_free is_header
 
--- the header of the second version
+-- the header of version 2
 second_header : IsFileHeader (header_bytes (record { version = V2; alignment = 0 }))
     (record { version = V2; alignment = 0 })
 unfolding header_bytes u64_bytes
@@ -67,7 +67,7 @@ second_header = (
   refl,
 )
 
--- the header of the first version
+-- the header of version 1
 first_header : IsFileHeader (header_bytes (record { version = V1; alignment = 0 }))
     (record { version = V1; alignment = 0 })
 unfolding header_bytes u64_bytes
@@ -80,7 +80,7 @@ first_header = (
   refl,
 )
 
--- what is written as a header without an alignment is one
+-- the header that is written for a format without an alignment is a header
 headed : (format : LogFileFormat) → IsUnaligned format → IsAHeader (header_bytes format)
 headed format none = of_version format.version format.alignment none
   where
@@ -93,11 +93,11 @@ headed format none = of_version format.version format.alignment none
         subst (λ (n : ℕ). IsAHeader (header_bytes (record { version = V2; alignment = n }))) (sym none)
         (record { version = V2; alignment = 0 }, second_header, refl)
 
--- the header of some format, of whatever alignment
+-- the header of some format, with any alignment
 abbrev IsOfSomeFormat : List ℕ → Type 0
 IsOfSomeFormat bytes = (format : LogFileFormat) × IsFileHeader bytes format
 
--- some bytes begin with a header, or not
+-- it is decidable whether bytes begin with a header
 front_told : (bytes : List ℕ)
     → ((header rest : List ℕ) × (format : LogFileFormat) × IsFileHeader header format × (bytes ≡ header ++ rest))
     ⊎ ((header rest : List ℕ) (format : LogFileFormat) → IsFileHeader header format
@@ -116,7 +116,7 @@ front_told bytes = told (header_at bytes) refl
         let here : header_at (header ++ rest) ≡ Err fault = ap header_at (sym splits) ∙ read in
         cc (back, here)))
 
--- these bytes are a header, or not
+-- it is decidable whether bytes are a header
 whole_told : (bytes : List ℕ) → IsOfSomeFormat bytes ⊎ (IsOfSomeFormat bytes → ⊥)
 whole_told bytes = elim (front_told bytes) [
   | inr none ↦ inr (λ (format, says). none bytes [] format says (sym (append-nil bytes)))
@@ -142,7 +142,7 @@ record_filled : (signature : Option ℕ) (bytes : List ℕ) (said : LogRecord)
 record_filled signature bytes said is = (let long = frames_take_bytes signature bytes is.block said.items
     is.frame in omega (arith, long))
 
--- a record says by itself where it ends
+-- the end of a record follows from its bytes
 self_delimiting : (n : ℕ) (header : List ℕ) → IsSelfDelimiting (IsRecordIn n header)
 self_delimiting n header = record {
   apart = λ a b x y r s first next same.
@@ -153,7 +153,7 @@ self_delimiting n header = record {
       omega (arith, long));
 }
 
--- the record of these bytes in the file, where its format is known
+-- the bytes are a record of the file in its known format
 in_format : (n : ℕ) (header bytes : List ℕ) (format : LogFileFormat) (said : LogRecord)
     → IsFileHeader header format → IsRecordIn n header bytes said
     → IsRecord (signature format.version n) bytes said.items said.entries
@@ -161,7 +161,7 @@ in_format n header bytes format said says is =
     let same : is.format ≡ format = (one_header header header [] [] is.format format is.says says refl).1 in
     subst (λ (f : LogFileFormat). IsRecord (signature f.version n) bytes said.items said.entries) same is.is
 
--- whether bytes begin with a record can be told
+-- it is decidable whether bytes begin with a record
 records_told : (n : ℕ) (header : List ℕ) → CanTell (IsRecordIn n header)
 records_told n header bytes = elim (whole_told header) [
   | inr none ↦ inr (λ w rest is splits. none (is.format, is.says))
@@ -184,7 +184,7 @@ records_told n header bytes = elim (whole_told header) [
   ]
 ]
 
--- whether a log's bytes begin with a header or a record can be told
+-- it is decidable whether a log's bytes begin with a header or a record
 pub files_are_told : LogFilesAreTold
 files_are_told queue directories = record {
   headers = λ bytes. elim (front_told bytes) [
@@ -211,7 +211,7 @@ files_are_told queue directories = record {
 
 -- Zeros.
 
--- there is no record within zeros
+-- zeros contain no record
 pub zeros_hold_none : ZerosHoldNoRecord
 zeros_hold_none n size header ahead inside behind said splits is =
     let long = record_filled (signature is.format.version n) inside said is.is in
@@ -233,7 +233,7 @@ zeros_hold_none n size header ahead inside behind said splits is =
 
 -- The layout.
 
--- a header has bytes
+-- a header isn't empty
 magic_filled : length magic ≡ 53
 unfolding magic
 magic_filled = refl
@@ -256,7 +256,7 @@ log_is_format queue directories = record {
   paths = λ m n path less bound at there. one_number (suffix_of queue) directories m n path at there;
 }
 
--- a reserved path is no number's: its last byte is another one
+-- a reserved path is no number's: its last byte differs
 reserved_apart : (queue : LogQueue) (directories : List (List ℕ)) (m n : ℕ) (path : List ℕ)
     → IsPathWith (suffix_of queue) directories m path → IsPathWith (reserved_suffix_of queue) directories n
     path → ⊥
@@ -273,7 +273,7 @@ reserved_apart Rewrite directories m n path at kept =
     (λ e. omega (arith, e)) (subst (λ (b : List ℕ). EndsWith (codes ".rewrite") b) same at.named.1)
     kept.named.1
 
--- the files of a queue, as they are written and lie in its directories, are laid out lawfully
+-- the files of a queue, as written in its directories, satisfy `IsLayout`
 pub is_layout : (queue : LogQueue) (directories : List (List ℕ)) → 0 < length directories
     → IsLayout (log_format queue directories) (IsOwnPath queue directories) (log_paths queue directories)
 is_layout queue directories some = record {
@@ -290,7 +290,7 @@ is_layout queue directories some = record {
 
 -- The queues.
 
--- the names of paths with these ends differ
+-- a path can't have two suffixes that differ in a byte at the same distance from the end
 ends_apart : (s t : List ℕ) (ds es : List (List ℕ)) (i k j m n : ℕ) (path : List ℕ) → i + suc j ≡ length s
     → k + suc j ≡ length t → (get_or s i 0 ≡ get_or t k 0 → ⊥) → IsPathWith s ds m path
     → IsPathWith t es n path → ⊥
@@ -298,7 +298,7 @@ ends_apart s t ds es i k j m n path here there differ a b =
     let same = one_name a.directory b.directory a.name b.name a.plain b.plain (sym a.joined ∙ b.joined) in
     other_end s t b.name i k j here there differ (subst (EndsWith s) same a.named.1) b.named.1
 
--- no path is a file of both queues
+-- no path belongs to a file of both queues
 pub queues_are_apart : QueuesAreApart
 queues_are_apart append rewrite path (m, inl a) (n, inl b) =
     ends_apart (codes ".raftlog") (codes ".rewrite") append rewrite 7 7 0 m n path refl refl
@@ -313,7 +313,7 @@ queues_are_apart append rewrite path (m, inr a) (n, inr b) =
     ends_apart (reserved_suffix_of Append) (reserved_suffix_of Rewrite) append rewrite 7 7 9 m n path refl
     refl (λ e. omega (arith, e)) a b
 
--- what a file is called that is kept to be used
+-- the suffix of files that are kept for recycling
 pub reserved_names : ReservedNamesAreTheLogs
 reserved_names = refl
 

@@ -1,5 +1,5 @@
--- Paths of files: what stands behind the last slash is the name, and its end says the queue. (These lemmas
--- stand here as the law of an impl cites them.)
+-- Paths of files: the part after the last slash is the name, and its suffix names the queue. (These lemmas are in
+-- `specs` because the law of an impl cites them.)
 use Rattle.std.specs.Prelude.{codes, min}
 use Rattle.std.specs.Fmt.{decimal}
 use Rattle.std.specs.Str.Parse.{AllDigits}
@@ -20,9 +20,9 @@ use Rattle.raft_log_file_queue.specs.Layout.{has_sign, plain_place}
 use Rattle.raft_log_file_queue.proofs.Places.{plain_first}
 use Rattle.raft_log_file_layout.specs.Paths.{IsPathWith, reserved_suffix_of, directory_at, numbered_path, reserved_path}
 
--- The name behind the last slash.
+-- The name after the last slash.
 
--- the slash of a longer directory stands in the name behind the shorter one
+-- if one directory is longer, its slash is in the name after the shorter one
 no_longer : (d e x y : List ℕ) → IsPlain x → d ++ 47 ∷ x ≡ e ++ 47 ∷ y → length d < length e → ⊥
 no_longer d e x y plain same longer =
     let k = length e - suc (length d) in
@@ -35,7 +35,7 @@ no_longer d e x y plain same longer =
     let inside : get_or x k 0 ≡ 47 = sym (get_or-append-add d (47 ∷ x) (suc k) 0) ∙ slash in
     plain k (omega (arith, at, ap length same, length-append d (47 ∷ x), length-append e (47 ∷ y))) inside
 
--- two names without a slash that end one path are one
+-- two names without a slash that end the same path are equal
 pub one_name : (d e x y : List ℕ) → IsPlain x → IsPlain y → d ++ 47 ∷ x ≡ e ++ 47 ∷ y → x ≡ y
 one_name d e x y plain also same = elim (cases_lt (length d) (length e)) [
   | inl shorter ↦ absurd (no_longer d e x y plain same shorter)
@@ -60,7 +60,7 @@ one_number suffix directories m n path a b =
 
 -- Names that are written have no slash.
 
--- whether some bytes have none
+-- whether bytes have no slash
 has_no_slash : List ℕ → Bool
 has_no_slash [] = true
 has_no_slash (b ∷ bs) = cond (nat_eq b 47) false (has_no_slash bs)
@@ -78,7 +78,7 @@ no_slash (b ∷ bs) none (suc k) less is = elim (cases_Bool (nat_eq b 47)) [
       (omega (arith, less)) is
 ]
 
--- names without a slash have none when joined
+-- joining two names without a slash gives one without a slash
 pub plain_append : (a b : List ℕ) → IsPlain a → IsPlain b → IsPlain (a ++ b)
 plain_append a b first next k less is = elim (cases_lt k (length a)) [
   | inl here ↦ first k here (sym (get_or_append_left a b 0 k here) ∙ is)
@@ -86,17 +86,17 @@ plain_append a b first next k less is = elim (cases_lt k (length a)) [
       (sym (get_or-append_right a b (length a) k 0 refl beyond) ∙ is))
 ]
 
--- zeros in front of a number are digits too
+-- a number with leading zeros has only digits
 padded_digits : (k n : ℕ) → n < 2 ^ 64 → AllDigits 10 (replicate k 48 ++ decimal n)
 padded_digits zero n fit = (decimal_is_IsNumeral n fit).0.1
 padded_digits (suc k) n fit = (omega arith, padded_digits k n fit)
 
--- a file's number is written without a slash
+-- a file's number in digits has no slash
 digits_plain : (n : ℕ) → n < 10 ^ 16 → IsPlain (sixteen_digits n)
 digits_plain n fit k less is = (let digit = digit_at (sixteen_digits n) k
     (padded_digits (16 - length (decimal n)) n (omega (arith, fit))) less in omega (arith, digit, is))
 
--- nor with a plus in front
+-- nor has one with a leading plus sign
 signed_plain : (n : ℕ) → n < 10 ^ 16 → IsPlain (signed_digits n)
 signed_plain n fit zero less is = omega (arith, is)
 signed_plain n fit (suc k) less is =
@@ -112,7 +112,7 @@ pub text_plain : (signed : Bool) (n : ℕ) → n < 10 ^ 16 → IsPlain (number_t
 text_plain true n fit = either_plain (nat_lt n (10 ^ 15)) n fit
 text_plain false n fit = digits_plain n fit
 
--- nor are the ends of names
+-- nor have the suffixes of names
 pub suffix_plain : (queue : LogQueue) → IsPlain (suffix_of queue)
 unfolding has_no_slash
 suffix_plain Append = no_slash (codes ".raftlog") refl
@@ -133,7 +133,7 @@ no_plus suffix n fit plus =
 
 -- The paths that are built.
 
--- there is a directory in each place, where there are some at all
+-- each place has a directory, if there are directories at all
 has_directory : (directories : List (List ℕ)) (place : ℕ) → 0 < length directories
     → Contains directories (get_or directories place (get_or directories 0 []))
 has_directory directories place some = elim (cases_lt place (length directories)) [
@@ -142,7 +142,7 @@ has_directory directories place some = elim (cases_lt place (length directories)
       (get_or directories 0 []) beyond)) (Contains-get_or directories 0 [] some)
 ]
 
--- a number's digits and a suffix behind a directory are that number's path
+-- a directory, a slash, a number's digits and a suffix are that number's path
 written_path : (suffix : List ℕ) (directories : List (List ℕ)) (place n : ℕ) → 0 < length directories
     → n < 10 ^ 16 → 0 < length suffix → has_no_slash suffix ≡ true
     → IsPathWith suffix directories n (directory_at directories place
@@ -175,7 +175,7 @@ directory_first directories place inside =
     (plain_first (length directories) place inside)
     ∙ get_or_default directories place (get_or directories 0 []) [] inside
 
--- the path of a number in a directory lies there
+-- the path of a number in a directory is in that directory
 pub numbered_lies : (queue : LogQueue) (directories : List (List ℕ)) (place n : ℕ) → 0 < length directories
     → place < length directories → n < 10 ^ 16
     → IsPathIn (get_or directories place []) (numbered_path queue directories place n)
@@ -211,8 +211,8 @@ reserved_written queue directories place n some fit ended slashless =
     subst (IsPathWith (reserved_suffix_of queue) directories n) (sym joined)
     (written_path (reserved_suffix_of queue) directories place n some fit ended slashless)
 
--- the reserved path of a file of either queue is that of one with the reserved suffix, whose number is the
--- greatest one where the file's has over sixteen digits
+-- the reserved path of a file of either queue is that of one with the reserved suffix; if the file's number has over
+-- sixteen digits, it has the greatest number instead
 pub reserved_is : (queue : LogQueue) (directories : List (List ℕ)) (place n : ℕ) → 0 < length directories
     → IsPathWith (reserved_suffix_of queue) directories (min n (10 ^ 16 - 1))
     (reserved_path queue directories place n)
@@ -222,9 +222,9 @@ reserved_is Append directories place n some = reserved_written Append directorie
 reserved_is Rewrite directories place n some = reserved_written Rewrite directories place
     (min n (10 ^ 16 - 1)) some (omega arith) (omega arith) refl
 
--- The end of a name says the queue, and whether it is reserved.
+-- The suffix of a name gives the queue, and whether the name is reserved.
 
--- a byte of the end, counted from behind
+-- a byte of the suffix, counted from the end
 from_behind : (suffix name : List ℕ) (i j : ℕ) → EndsWith suffix name → i + suc j ≡ length suffix
     → get_or name (length name - suc j) 0 ≡ get_or suffix i 0
 from_behind suffix name i j (front, is) all =
@@ -233,7 +233,7 @@ from_behind suffix name i j (front, is) all =
     ap (λ (k : ℕ). get_or name k 0) at ∙ ap (λ (l : List ℕ). get_or l (length front + i) 0) is
     ∙ get_or-append-add front suffix i 0
 
--- names whose ends differ in a byte are two
+-- a name can't have two suffixes that differ in a byte at the same distance from the end
 pub other_end : (s t name : List ℕ) (i k j : ℕ) → i + suc j ≡ length s → k + suc j ≡ length t
     → (get_or s i 0 ≡ get_or t k 0 → ⊥) → EndsWith s name → EndsWith t name → ⊥
 other_end s t name i k j here there differ a b =

@@ -1,11 +1,11 @@
--- Under which paths the files of a queue lie: in the log's directories, by their names.
+-- At which paths the files of a queue are: in the log's directories, under their names.
 use Rattle.std.specs.Prelude.{◌≡◌, ℕ, ◌-◌, ◌^◌, ◌⊎◌, List, [], ◌∷◌, ◌++◌, codes, min, length, slice_index_or, Contains}
 use Rattle.raft_log_record_base.specs.declared.pipe_log.LogQueue.{LogQueue}
 use Rattle.raft_log_disk.specs.Disk.{IsPlain}
 use Rattle.raft_log_file_format.specs.Name.{IsNamed, number_text, suffix_of}
 use Rattle.raft_log_file_queue.specs.Layout.{has_sign, plain_place}
 
--- in one of these directories, under a name with this end and this number
+-- a path in one of these directories, with a name with this suffix and this number
 pub record IsPathWith (suffix : List ℕ) (directories : List (List ℕ)) (n : ℕ) (path : List ℕ) : Type 0 where
   pub directory : List ℕ
   pub listed : Contains directories directory
@@ -14,16 +14,16 @@ pub record IsPathWith (suffix : List ℕ) (directories : List (List ℕ)) (n : �
   pub plain : IsPlain name
   pub joined : path ≡ directory ++ 47 ∷ name
 
--- the end of the names of a queue's files that are kept to be used
+-- the suffix of the names of a queue's files that are kept for recycling
 abbrev pub reserved_suffix_of : LogQueue → List ℕ
 reserved_suffix_of queue = suffix_of queue ++ codes ".reserved"
 
--- a queue's own paths: those of its files, and of the files that it keeps to use them
+-- a queue's own paths: those of its files, and of the files that it keeps for recycling
 abbrev pub IsOwnPath : LogQueue → List (List ℕ) → List ℕ → Type 0
 IsOwnPath queue directories path = (n : ℕ) × (IsPathWith (suffix_of queue) directories n path
     ⊎ IsPathWith (reserved_suffix_of queue) directories n path)
 
--- the directory that has this place, or the main one, where none has
+-- the directory with this place, or the main one if there is none
 abbrev pub directory_at : List (List ℕ) → ℕ → List ℕ
 directory_at directories place =
     slice_index_or directories (plain_place (length directories) place) (slice_index_or directories 0 [])
@@ -33,7 +33,7 @@ abbrev pub numbered_path : LogQueue → List (List ℕ) → ℕ → ℕ → List
 numbered_path queue directories place n = directory_at directories place
     ++ 47 ∷ (number_text (has_sign (length directories) place) n ++ suffix_of queue)
 
--- the path of a file that a queue keeps to use it (a number above the greatest has the greatest one's)
+-- the path of a file that a queue keeps for recycling; a number above the greatest one has the path of the greatest one
 abbrev pub reserved_path : LogQueue → List (List ℕ) → ℕ → ℕ → List ℕ
 reserved_path queue directories place n =
     numbered_path queue directories place (min n (10 ^ 16 - 1)) ++ codes ".reserved"

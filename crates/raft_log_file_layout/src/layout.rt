@@ -1,4 +1,4 @@
-//! Where the files of a queue lie.
+//! Where the files of a queue are.
 
 ghost use Rattle.std.specs.Prelude.{◌≡◌, ◌<◌, ◌^◌, ℕ, length, map, IfOk, IfErr, OnOk};
 ghost use Rattle.std.specs.String.{string_bytes};
@@ -13,11 +13,11 @@ use raft_log_file_queue::{
 use raft_log_record_base::{FileId, FileSeq, LogQueue, Result};
 use std::alloc::Global;
 
-/// What stands behind the name of a file that is kept to be used.
+/// The suffix after the name of a file that is kept for recycling.
 const RESERVED_SUFFIX: &str = ".reserved";
 
-/// Where the files of a queue of the log lie, and how they are written: in the log's directories, by their
-/// numbers, with records that are signed where the file's format has signatures.
+/// Where the files of a log's queue are, and how they are written: in the log's directories, by their numbers, with
+/// signed records if the file's format has signatures.
 #[derive(Drop)]
 pub struct LogLayout {
     queue: LogQueue,
@@ -35,14 +35,14 @@ impl LogLayout {
         LogLayout { queue, paths }
     }
 
-    /// Which queue it is of.
+    /// The queue of this layout.
     pub fn queue(&self) -> LogQueue
         ensures { result ≡ self.now.queue }
     {
         self.queue
     }
 
-    /// The directory that has this place, or the main one, where none has.
+    /// The directory with this place, or the main one if there is none.
     pub fn directory(&self, path_id: PathId) -> &str
         ensures { result.now ≡ directory_at (map string_bytes self.now.paths.items) path_id }
     {

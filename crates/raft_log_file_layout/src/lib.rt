@@ -1,4 +1,4 @@
-//! How the log's own files are written, and where they lie: the layout of a queue that its pipe goes by.
+//! How the log's own files are written, and where they are: the layout that a queue's pipe uses.
 #![tactic(auto)]
 
 pub mod laws;

@@ -1,9 +1,9 @@
-//! What a record of the log says.
+//! The value of a record of the log.
 
 use raft_lists::{Bytes, Items};
 use raft_log_record_items::LogItem;
 
-/// What a record of the log says: its items, and the bytes of their entries, one behind the other.
+/// The value of a record of the log: its items, and the bytes of their entries, one after the other.
 #[derive(Drop)]
 pub struct LogRecord {
     /// The items, in their order.

@@ -1,4 +1,4 @@
-//! A listener, as an engine tells it.
+//! The trait of listeners that an engine notifies.
 
 ghost use Rattle.std.specs.Prelude.{◌≡◌, ℕ, Option, None};
 ghost use Rattle.raft_log_record_base.specs.declared.pipe_log.LogQueue.{LogQueue};
@@ -7,14 +7,16 @@ ghost use Rattle.raft_log_file_pair.specs.Telling.Told.{FileBegun, FilesPurged, 
 
 use raft_log_record_base::{FileBlockHandle, FileId, FileSeq, LogQueue};
 
-/// Is told what happens to a log's files. A listener may hold back a purge, and changes nothing else: it has
-/// neither the pipes nor the tables. It has to say what it does when it is told, and what it holds back; by
-/// default nothing is asked of either.
+/// Is notified of what happens to a log's files. A listener may pin files against a purge, and changes nothing else:
+/// it has neither the pipes nor the tables.
+///
+/// It declares how events change it, and what it pins. By default events may change it in any way, and it pins
+/// nothing.
 pub trait EventListener: Send + Drop {
-    /// What the listener holds back of a queue: nothing, or the files from a number on.
+    /// What the listener pins of a queue: nothing, or the files from a number on. By default nothing.
     ghost holds_back: { Self → LogQueue → Option ℕ → Type 0 } = { λ listener queue held. held ≡ None };
 
-    /// What each thing that is told makes of the listener: by default anything.
+    /// How each event changes the listener: by default in any way.
     ghost hears: { Told → Self → Self → Type 0 } = { λ one old new. Unit {0} };
 
     /// A file was begun, or found at an open.
@@ -25,7 +27,7 @@ pub trait EventListener: Send + Drop {
     fn on_append_log_file(&mut self, handle: FileBlockHandle)
         ensures { hears (RecordWritten handle) self.old self.new };
 
-    /// What the last record of this file says is in the tables.
+    /// The last record of this file was applied to the tables.
     fn post_apply_memtables(&mut self, file_id: FileId)
         ensures { hears (RecordApplied file_id) self.old self.new };
 
@@ -38,7 +40,7 @@ pub trait EventListener: Send + Drop {
         ensures { hears (FilesPurged file_id) self.old self.new };
 }
 
-/// Nobody listens: nothing is done, and nothing held back.
+/// A listener that does nothing and pins nothing.
 #[derive(Drop)]
 pub struct Nobody;
 

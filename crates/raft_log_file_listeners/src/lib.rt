@@ -1,4 +1,4 @@
-//! Who is told what happens to a log's files, and pipes that tell them.
+//! Listeners that are notified of what happens to a log's files, and pipes that notify them.
 #![tactic(auto)]
 
 pub mod event_listener;

@@ -1,4 +1,4 @@
-//! Several listeners, told in their order.
+//! Several listeners, notified in their order.
 
 ghost use Rattle.std.specs.Prelude.{◌≡◌};
 ghost use Rattle.raft_log_file_listeners.specs.Least.{AllHoldBack, BothHoldBack, lesser};
@@ -6,7 +6,7 @@ ghost use Rattle.raft_log_file_listeners.specs.Least.{AllHoldBack, BothHoldBack,
 use crate::event_listener::EventListener;
 use raft_log_record_base::{FileBlockHandle, FileId, FileSeq, LogQueue};
 
-/// Listeners, which are told in their order, and behind them the engine's own hook.
+/// Listeners, which are notified in their order, and after them the engine's own hook.
 #[derive(Drop)]
 pub struct Listeners<H> {
     listeners: Vec<Box<dyn EventListener>>,
@@ -58,7 +58,7 @@ impl<H: EventListener> EventListener for Listeners<H> {
         self.hook.post_apply_memtables(file_id);
     }
 
-    /// The least number that one of them says.
+    /// The least number that one of them returns.
     fn first_file_not_ready_for_purge(&self, queue: LogQueue) -> Option<FileSeq> {
         let least = least_of(self.listeners.as_slice(), queue);
         lesser(least, self.hook.first_file_not_ready_for_purge(queue))
@@ -72,7 +72,7 @@ impl<H: EventListener> EventListener for Listeners<H> {
     }
 }
 
-/// The least number that one of these listeners says.
+/// The least number that one of these listeners returns.
 fn least_of(listeners: &[Box<dyn EventListener>], queue: LogQueue) -> Option<FileSeq>
     ensures { AllHoldBack (λ one. holds_back one queue) listeners.now result }
 {
@@ -83,14 +83,14 @@ fn least_of(listeners: &[Box<dyn EventListener>], queue: LogQueue) -> Option<Fil
     least
 }
 
-/// What a listener says.
+/// What a listener returns.
 fn held_by(listener: &Box<dyn EventListener>, queue: LogQueue) -> Option<FileSeq>
     ensures { holds_back listener.now queue result }
 {
     listener.first_file_not_ready_for_purge(queue)
 }
 
-/// The lesser one of two numbers, where both are there; else the one that is.
+/// The lesser of two numbers if both are there, else the one that is.
 pub fn lesser(one: Option<FileSeq>, other: Option<FileSeq>) -> Option<FileSeq>
     ensures { result ≡ lesser one other }
 {

@@ -10,8 +10,8 @@ use std::alloc::Global;
 use std::collections::VecDeque;
 use std::marker::Model;
 
-/// Counts of each active file of Append the records that were written and aren't in the tables yet: no purge
-/// may take such a file, though no table names it. Rewrite isn't counted, since only a purge writes to it.
+/// Counts, for each active file of Append, the records that were written and aren't in the tables yet. No purge may
+/// delete such a file, though no table names it. Rewrite isn't counted, since only a purge writes to it.
 #[derive(Drop)]
 pub struct PurgeHook {
     first: FileSeq,
@@ -43,10 +43,10 @@ impl PurgeHook {
         }
     }
 
-    /// A file was begun, or found at an open: one of Append is listed behind the others.
+    /// A file was begun, or found at an open: one of Append is listed after the others.
     ///
-    /// `Hole` where its number isn't that behind the last one, `NumberRange` for the greatest number that there
-    /// is, `Memory`: nothing is done.
+    /// Fails with `Hole` if its number isn't the next one, with `NumberRange` for the greatest number that there is,
+    /// or with `Memory`. If it fails, nothing changes.
     pub fn post_new_log_file(&mut self, file_id: FileId) -> Result<()>
         ensures ok { OnOk result (ListsFile file_id.queue file_id.seq self.old self.new) }
         ensures errors { IfErr result (IsListingRefusal file_id.queue file_id.seq self.old) }
@@ -70,7 +70,7 @@ impl PurgeHook {
         Ok(())
     }
 
-    /// The place of a file among those that are listed.
+    /// The place of a file in the list.
     fn place_of(&self, file_id: FileId) -> Option<usize>
         ensures value { result ≡ place_of file_id.queue file_id.seq self.now }
         ensures within { IfSome result (λ place. place < length self.now.waiting) }
@@ -90,7 +90,7 @@ impl PurgeHook {
         }
     }
 
-    /// A record was written at this place: it waits, where its file is listed.
+    /// A record was written at this place: it waits, if its file is listed.
     pub fn on_append_log_file(&mut self, handle: FileBlockHandle)
         ensures { self.new ≡ counted one_more handle.id.queue handle.id.seq self.old }
     {
@@ -99,7 +99,7 @@ impl PurgeHook {
         }
     }
 
-    /// What a record of this file says is in the tables: one record less waits, where the file is listed.
+    /// A record of this file was applied to the tables: one record fewer waits, if the file is listed.
     pub fn post_apply_memtables(&mut self, file_id: FileId)
         ensures { self.new ≡ counted one_less file_id.queue file_id.seq self.old }
     {
@@ -108,7 +108,7 @@ impl PurgeHook {
         }
     }
 
-    /// The number of the first file of which a record waits.
+    /// The number of the first file with a waiting record.
     fn first_waiting(&self) -> Option<FileSeq>
         ensures { result ≡ first_waiting self.now.first self.now.waiting }
     {
@@ -132,7 +132,7 @@ impl PurgeHook {
 
     /// The files of a queue up to this one were purged: those of Append aren't listed any more.
     ///
-    /// `Hole` where the number is behind all that are listed: nothing is done.
+    /// Fails with `Hole` if the number is past the end of the list; then nothing changes.
     pub fn post_purge(&mut self, file_id: FileId) -> Result<()>
         ensures ok { OnOk result (DropsFiles file_id.queue file_id.seq self.old self.new) }
         ensures errors { IfErr result (IsDropRefusal file_id.queue file_id.seq self.old) }
@@ -162,7 +162,7 @@ impl EventListener for PurgeHook {
 
     ghost hears = { HookHears };
 
-    /// A file that can't be listed holds back a purge from its number on.
+    /// A file that can't be listed pins its number and all after it.
     fn post_new_log_file(&mut self, file_id: FileId)
         ensures { ListsOrMisses file_id.queue file_id.seq self.old self.new }
     {
@@ -189,7 +189,7 @@ impl EventListener for PurgeHook {
         PurgeHook::first_file_not_ready_for_purge(self, queue)
     }
 
-    /// Where the number is behind all that are listed, those stay.
+    /// If the number is past the end of the list, nothing changes.
     fn post_purge(&mut self, file_id: FileId)
         ensures { DropsListed file_id.queue file_id.seq self.old self.new }
     {

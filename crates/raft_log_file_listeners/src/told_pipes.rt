@@ -1,4 +1,4 @@
-//! A log's pipes, and who listens.
+//! A log's pipes, with a listener.
 
 ghost use Rattle.std.specs.Prelude.{◌≡◌, ◌++◌, ◌-◌};
 ghost use Rattle.raft_log_record_base.specs.declared.pipe_log.LogQueue.TheVariants.{Append, Rewrite};
@@ -12,8 +12,8 @@ use raft_log_file_pipe::ReactiveBytes;
 use raft_log_record_base::{FileBlockHandle, FileId, FileSeq, LogQueue, Result};
 use std::alloc::Global;
 
-/// A log's pipes, and a listener who is told what happens to their files. Several listen as one, in their order
-/// and the hook last, as `Listeners`.
+/// A log's pipes, and a listener that is notified of what happens to their files. Several listeners act as one,
+/// `Listeners`: in their order, and the hook last.
 #[derive(Drop)]
 pub struct ToldPipes<P, E> {
     pipes: P,
@@ -21,8 +21,8 @@ pub struct ToldPipes<P, E> {
 }
 
 impl<P: PipeLog, E: EventListener> ToldPipes<P, E> {
-    /// These pipes. The listener is told of the files of both spans, Append's first, in the order of their
-    /// numbers.
+    /// Wraps these pipes. Notifies the listener of the files in both live ranges, Append's first, in the order of
+    /// their numbers.
     pub fn new(pipes: P, listener: E) -> ToldPipes<P, E>
         ensures pipes { result.pipes ≡ pipes }
         ensures shown { ⟦<ToldPipes<P, E> as PipeLog>⟧.shown result ≡ P.shown pipes }
@@ -50,7 +50,7 @@ impl<P: PipeLog, E: EventListener> ToldPipes<P, E> {
     }
 }
 
-/// Tells a listener of all files of a queue, in their order.
+/// Notifies a listener of all files of a queue, in their order.
 fn tell_files<P: PipeLog, E: EventListener>(listener: &mut E, pipes: &P, queue: LogQueue)
     ensures { Hears E.hears (files_found queue (P.shown pipes.now)) listener.old listener.new }
 {
@@ -59,7 +59,7 @@ fn tell_files<P: PipeLog, E: EventListener>(listener: &mut E, pipes: &P, queue: 
     tell_new_files(listener, queue, first, last);
 }
 
-/// Tells a listener of the files of a queue behind this one, up to the last one, in their order.
+/// Notifies a listener of the files of a queue after `before`, up to the last one, in their order.
 fn tell_new_files<E: EventListener>(
     listener: &mut E,
     queue: LogQueue,
@@ -132,8 +132,8 @@ impl<P: PipeLog, E: EventListener> PipeLog for ToldPipes<P, E> {
         self.pipes.read_over(alloc, block, bytes)
     }
 
-    /// The listener is told of each file that the queue went on in, also where the record is refused, and then
-    /// of the record.
+    /// Notifies the listener of each file that the queue rotated to, even if the append fails, and then of the
+    /// record.
     fn append<L: Log, B: ReactiveBytes>(
         &mut self,
         alloc: Global,
@@ -156,7 +156,7 @@ impl<P: PipeLog, E: EventListener> PipeLog for ToldPipes<P, E> {
         self.pipes.sync(rt, queue)
     }
 
-    /// The listener is told of the file that the queue went on in.
+    /// Notifies the listener of the file that the queue rotated to.
     fn rotate<L: Log>(&mut self, alloc: Global, rt: &L, queue: LogQueue) -> Result<()> {
         let before = self.pipes.file_span(queue).1;
         let answer = self.pipes.rotate(alloc, rt, queue);
@@ -166,7 +166,7 @@ impl<P: PipeLog, E: EventListener> PipeLog for ToldPipes<P, E> {
         answer
     }
 
-    /// The listener is told of the last file that left the span, if there is one.
+    /// Notifies the listener of the last file that left the live range, if one did.
     fn purge_to<L: Log>(&mut self, alloc: Global, rt: &L, file_id: FileId) -> Result<usize> {
         let answer = self.pipes.purge_to(alloc, rt, file_id);
         if let Ok(count) = &answer {
@@ -183,7 +183,7 @@ impl<P: PipeLog, E: EventListener> PipeLog for ToldPipes<P, E> {
         self.listener.post_apply_memtables(file_id);
     }
 
-    /// The lesser number of those that the pipes and the listener say.
+    /// The lesser of the numbers that the pipes and the listener return.
     fn first_file_not_ready_for_purge(&self, queue: LogQueue) -> Option<FileSeq> {
         lesser(
             self.pipes.first_file_not_ready_for_purge(queue),

@@ -1,5 +1,5 @@
--- Each call of a pipe that runs, answered or refused, whatever stands of the other queue: whether its pipe
--- runs too, has failed, or isn't opened.
+-- Each call of a running pipe, whether it succeeds or fails, in any state of the other queue: its pipe may run too, may
+-- have failed, or may not be open.
 use Rattle.std.specs.Prelude.{◌≡◌, ℕ, ◌⊎◌, Option, Some, None, List}
 use Rattle.raft_log_model_laws.specs.Item.{Record}
 use Rattle.raft_log_disk.specs.Disk.{Disk}
@@ -23,7 +23,7 @@ use Rattle.raft_log_file_pair.specs.Turning.{GoesOnInNext, IsOrGoesOn, HasTaken,
 use Rattle.raft_log_file_pair.specs.Syncing.{FailsMoved, raised_log}
 use Rattle.raft_log_file_pair.specs.Lying.{OpenPipes, with_open, RunOrLie, LeavesQueue}
 
--- A record that is written: its pipe runs on, and the numbered files take it, in the file of its place.
+-- If a record is written, its pipe still runs, and the numbered files get the record, in the file of its location.
 abbrev pub AppendsBeside : {R E V : Type 0} → TwoQueues R E V → Type 0
 AppendsBeside {R} {E} {V} log = AreTwoQueues log → (which : Which) (o : OpenPipes) (before : PipeFiles)
     (s : LogOnDisk R) → RunOrLie log (with_open which o (Some before)) s
@@ -37,8 +37,8 @@ AppendsBeside {R} {E} {V} log = AreTwoQueues log → (which : Which) (o : OpenPi
     (HasTaken (header_bytes begin.format) before.recycled.items s.disk (spanned_at which s).files)
     (Appends (Ties log) which y block.id.seq)
 
--- What a refused record leaves, by its error: cut back, all that was written before is synced; left out, no
--- record was added; and where the pipe has failed, the new one may be there or not.
+-- What a failed append leaves, by its error. `Io`, `TryAgain`: all that was written before is synced. `NumberRange`,
+-- `Memory`: no record was added. `Failed`: the pipe has failed, and the new record may be there or not.
 abbrev pub LeavesRefused : {R E V : Type 0} → TwoQueues R E V → Which → OpenPipes → PipeFiles → LogOnDisk R
     → List ℕ → Record E V → PipeFiles → Error → Disk → Type 0
 LeavesRefused log which o before s header y after (errors.Io kind) new =
@@ -65,7 +65,7 @@ LeavesRefused log which o before s header y after errors.Failed new =
     (MayAppend (Ties log) (Ties log) which y)
 LeavesRefused log which o before s header y after _ new = ⊥
 
--- a record that a pipe refuses leaves what its error says, however the other queue stands
+-- a failed append leaves what its error says, in any state of the other queue
 abbrev pub FailsToAppendBeside : {R E V : Type 0} → TwoQueues R E V → Type 0
 FailsToAppendBeside {R} {E} {V} log = AreTwoQueues log → (which : Which) (o : OpenPipes) (before : PipeFiles)
     (s : LogOnDisk R) → RunOrLie log (with_open which o (Some before)) s
@@ -77,7 +77,8 @@ FailsToAppendBeside {R} {E} {V} log = AreTwoQueues log → (which : Which) (o : 
     → after.first_seq ≡ before.first_seq
     → LeavesRefused log which o before s (header_bytes begin.format) y after error new
 
--- A sync that is answered, and one that is refused: then the pipe has failed, and what was there may be there.
+-- A sync that succeeds, and one that fails: then the pipe has failed, and a crash leaves what it might have left
+-- before.
 pub record SyncsBeside {R E V : Type 0} (log : TwoQueues R E V) (which : Which) (o : OpenPipes)
     (files : PipeFiles) (s : LogOnDisk R) : Type 0 where
   pub answered : (new : Disk)
@@ -91,8 +92,8 @@ pub record SyncsBeside {R E V : Type 0} (log : TwoQueues R E V) (which : Which) 
       → LeavesQueue log which o None s new (λ next. next ≡ (spanned_at which s).files)
       (FailsWhole (Ties log) (Ties log))
 
--- what a refused rotation leaves, by its error: the same log on the same disk; or the pipe has failed, and
--- the queue may have gone on or not
+-- what a failed rotation leaves, by its error: the same log on the same disk; or the pipe has failed, and the queue may
+-- have rotated or not
 abbrev pub LeavesUnrotated : {R E V : Type 0} → TwoQueues R E V → Which → OpenPipes → PipeFiles → LogOnDisk R
     → List ℕ → PipeFiles → Error → Disk → Type 0
 LeavesUnrotated log which o before s header after errors.Memory new =
@@ -105,7 +106,7 @@ LeavesUnrotated log which o before s header after errors.Failed new =
     (FailsMoved (Ties log) (Ties log) which)
 LeavesUnrotated log which o before s header after _ new = ⊥
 
--- A rotation that is answered: all that was written to the queue is synced. And one that is refused.
+-- A rotation that succeeds: all that was written to the queue is synced. And one that fails.
 pub record RotatesBeside {R E V : Type 0} (log : TwoQueues R E V) (which : Which) (o : OpenPipes)
     (before : PipeFiles) (s : LogOnDisk R) : Type 0 where
   pub answered : (header : List ℕ) (format : LogFileFormat) (after : PipeFiles) (new : Disk)
@@ -120,14 +121,15 @@ pub record RotatesBeside {R E V : Type 0} (log : TwoQueues R E V) (which : Which
       header before after error s.disk new
       → LeavesUnrotated log which o before s header after error new
 
--- the span of one queue begins at a number, its pipe runs so, and the numbered files are raised
+-- the live range of one queue begins at this number, and the numbered files are raised; its pipe runs with these files,
+-- or doesn't run
 abbrev pub LeavesRaised : {R E V : Type 0} → TwoQueues R E V → Which → OpenPipes → Option PipeFiles
     → LogOnDisk R → ℕ → Disk → Type 0
 LeavesRaised log which o now s seq new = RunOrLie log (with_open which o now) (raised_log which s seq new)
     × Raises (Ties log) (Ties log) which seq s (raised_log which s seq new)
 
--- what a refused purge leaves, by its error: the same log on the same disk; or the pipe has failed, and the
--- files have left the span all the same
+-- what a failed purge leaves, by its error: the same log on the same disk; or the pipe has failed, and the files have
+-- left the live range anyway
 abbrev pub LeavesUnpurged : {R E V : Type 0} → TwoQueues R E V → Which → OpenPipes → LogOnDisk R → ℕ
     → PipeFiles → Error → Disk → Type 0
 LeavesUnpurged log which o s seq after errors.Memory new =
@@ -139,7 +141,7 @@ LeavesUnpurged log which o s seq after errors.NumberRange new =
 LeavesUnpurged log which o s seq after errors.Failed new = LeavesRaised log which o None s seq new
 LeavesUnpurged log which o s seq after _ new = ⊥
 
--- A purge that is answered, and one that is refused.
+-- A purge that succeeds, and one that fails.
 pub record PurgesBeside {R E V : Type 0} (log : TwoQueues R E V) (which : Which) (o : OpenPipes)
     (before : PipeFiles) (s : LogOnDisk R) : Type 0 where
   pub answered : (capacity seq : ℕ) (after : PipeFiles) (new : Disk)
@@ -151,7 +153,7 @@ pub record PurgesBeside {R E V : Type 0} (log : TwoQueues R E V) (which : Which)
       capacity seq before after error s.disk new
       → LeavesUnpurged log which o s seq after error new
 
--- a sync, a rotation and a purge of one queue do what is said of each, however the other queue stands
+-- a sync, a rotation and a purge of one queue have these effects, in any state of the other queue
 abbrev pub QuietCallsBeside : {R E V : Type 0} → TwoQueues R E V → Type 0
 QuietCallsBeside {R} log = AreTwoQueues log → (which : Which) (o : OpenPipes) (files : PipeFiles)
     (s : LogOnDisk R) → RunOrLie log (with_open which o (Some files)) s

@@ -1,4 +1,4 @@
--- What each call on a log's pipes makes of the log that they run over.
+-- What each call on a log's pipes does to the log over which they run.
 use Rattle.std.specs.Prelude.{◌≡◌, ◌⊎◌, ◌↔◌, IsTrue, ℕ, ◌+◌, ◌-◌, ◌*◌, ◌/◌, ◌^◌, min, suc, true, None, Err, Result, List, length}
 use Rattle.raft_log_disk.specs.Causes.{Fails}
 use Rattle.raft_log_disk.specs.Exits.{IsUnarmed}
@@ -21,8 +21,8 @@ use Rattle.raft_log_file_pair.specs.Beside.{LeavesRaised}
 use Rattle.raft_log_file_pair.specs.Failing.{failed_pipe}
 use Rattle.raft_log_file_pair.specs.Pipes.{LogPipes, LogSense, RunsOn, Said, State, files_of, header_at, is_failed, one_at, queue_of, queues, spares_at}
 
--- A record is written: both pipes run on, and the numbered files of the queue take it, in the file that its
--- place names.
+-- A record is written: both pipes still run, and the queue's numbered files get the record, in the file of its
+-- location.
 abbrev pub AppendsTo : Which → (LogFileContext → List ℕ) → FileBlockHandle → LogPipes → LogPipes → Type 0
 AppendsTo which signed block v w = (log : LogSense) (s : State) (y : Said) → RunsOn log v s
     → (said : SaysRecord log.says (layout_at which (queues log)) (queue_of which) signed y)
@@ -31,14 +31,15 @@ AppendsTo which signed block v w = (log : LogSense) (s : State) (y : Said) → R
     × HasLast signed said.value block files × RunsOn log w (next_log which s files w.disk)
     × Appends (Ties (queues log)) which y block.id.seq s (next_log which s files w.disk))
 
--- a record was cut back: both pipes run on, and all that was written to the queue before is synced
+-- a record's write failed and was truncated away: both pipes still run, and all that was written to the queue before is
+-- synced
 abbrev pub CutsBackOn : LogSense → Which → State → LogPipes → LogPipes → Type 0
 CutsBackOn log which s v w = (files : LogFiles LogRecord)
     × IsCutBack (header_at which v) (spares_at which v) s.disk (spanned_at which s).files files
     × RunsOn log w (next_log which s files w.disk)
     × CutsBack (Ties (queues log)) which s (next_log which s files w.disk)
 
--- a record was left out: both pipes run on
+-- no record was added: both pipes still run
 abbrev pub LeavesOutOn : LogSense → Which → State → LogPipes → LogPipes → Type 0
 LeavesOutOn log which s v w = (files : LogFiles LogRecord)
     × ((files ≡ (spanned_at which s).files)
@@ -46,8 +47,7 @@ LeavesOutOn log which s v w = (files : LogFiles LogRecord)
     × RunsOn log w (next_log which s files w.disk)
     × LeavesOut (Ties (queues log)) which s (next_log which s files w.disk)
 
--- the pipe has failed: the log lies on the disk, from which it may be opened, and the record may be there or
--- not
+-- the pipe has failed: the log is on the disk, from which it may be opened, and the record may be there or not
 abbrev pub MayTakeOn : LogSense → Which → State → Said → LogPipes → LogPipes → Type 0
 MayTakeOn log which s y v w = LeavesQueue (queues log) which (both_open (files_of v)) None s w.disk
     (λ files. IsOrGoesOn (header_at which v) (spares_at which v) s.disk (spanned_at which s).files files
@@ -55,7 +55,7 @@ MayTakeOn log which s y v w = LeavesQueue (queues log) which (both_open (files_o
     ⊎ HasTaken (header_at which v) (spares_at which v) s.disk (spanned_at which s).files files))
     (MayAppend (Ties (queues log)) (Ties (queues log)) which y)
 
--- What a refused record leaves, by its error. Behind `Io`, `TryAgain` and `Failed` a file call has failed.
+-- What a failed append leaves, by its error. After `Io`, `TryAgain` and `Failed` a file call has failed.
 abbrev pub RefusalLeaves : LogSense → Which → State → Said → LogPipes → LogPipes → Error → Type 0
 RefusalLeaves log which s y v w (errors.Io kind) = Fails v.disk w.disk × CutsBackOn log which s v w
 RefusalLeaves log which s y v w (errors.TryAgain text) = Fails v.disk w.disk × CutsBackOn log which s v w
@@ -64,19 +64,19 @@ RefusalLeaves log which s y v w errors.Memory = LeavesOutOn log which s v w
 RefusalLeaves log which s y v w errors.Failed = Fails v.disk w.disk × MayTakeOn log which s y v w
 RefusalLeaves log which s y v w _ = ⊥
 
--- a record is refused: any log that the pipes ran over is left as the error says
+-- an append fails: any log over which the pipes ran is left as the error says
 abbrev pub FailsToAppendTo : Which → (LogFileContext → List ℕ) → Error → LogPipes → LogPipes → Type 0
 FailsToAppendTo which signed error v w = (log : LogSense) (s : State) (y : Said) → RunsOn log v s
     → SaysRecord log.says (layout_at which (queues log)) (queue_of which) signed y
     → RefusalLeaves log which s y v w error
 
--- a sync: both pipes run on, and all of the queue is synced
+-- a sync: both pipes still run, and all of the queue is synced
 abbrev pub SyncsQueue : Which → LogPipes → LogPipes → Type 0
 SyncsQueue which v w = (log : LogSense) (s : State) → RunsOn log v s
     → RunsOn log w (next_log which s (synced (spanned_at which s).files) w.disk)
     × Syncs (Ties (queues log)) which s (next_log which s (synced (spanned_at which s).files) w.disk)
 
--- a sync that is refused, as a file call failed: the log lies on the disk as it was, and may be opened
+-- a sync fails, as a file call failed: the log is on the disk, unchanged, and may be opened
 abbrev pub FailsToSyncQueue : Which → LogPipes → LogPipes → Type 0
 FailsToSyncQueue which v w = (log : LogSense) (s : State) → RunsOn log v s
     → Fails v.disk w.disk
@@ -85,19 +85,19 @@ FailsToSyncQueue which v w = (log : LogSense) (s : State) → RunsOn log v s
     × FailsWhole (Ties (queues log)) (Ties (queues log)) s
     (next_log which s (spanned_at which s).files w.disk)
 
--- a rotation: both pipes run on, and all that was written to the queue is synced
+-- a rotation: both pipes still run, and all that was written to the queue is synced
 abbrev pub RotatesQueue : Which → LogPipes → LogPipes → Type 0
 RotatesQueue which v w = (log : LogSense) (s : State) → RunsOn log v s → (files : LogFiles LogRecord)
     × GoesOnInNext (header_at which v) (spares_at which v) s.disk (spanned_at which s).files files
     × RunsOn log w (next_log which s files w.disk)
     × Settles (Ties (queues log)) which s (next_log which s files w.disk)
 
--- nothing was done: both pipes run on over the same log, on the same disk
+-- nothing was done: both pipes still run over the same log, on the same disk
 abbrev pub LeavesSame : LogSense → State → LogPipes → LogPipes → Type 0
 LeavesSame log s v w = RunsOn log w s × (w.disk ≡ v.disk)
 
--- What a refused rotation leaves, by its error: the same log; or a file call has failed, and with it the pipe,
--- the queue may have gone on or not, and the log lies on the disk and may be opened.
+-- What a failed rotation leaves, by its error. `Memory`, `NumberRange`: the same log. `Failed`: a file call and the
+-- pipe have failed, and the queue may have rotated or not. The log is on the disk and may be opened.
 abbrev pub TurnLeaves : LogSense → Which → State → LogPipes → LogPipes → Error → Type 0
 TurnLeaves log which s v w errors.Memory = LeavesSame log s v w
 TurnLeaves log which s v w errors.NumberRange = LeavesSame log s v w
@@ -107,19 +107,19 @@ TurnLeaves log which s v w errors.Failed = Fails v.disk w.disk
     (FailsMoved (Ties (queues log)) (Ties (queues log)) which)
 TurnLeaves log which s v w _ = ⊥
 
--- a rotation is refused: any log that the pipes ran over is left as the error says
+-- a rotation fails: any log over which the pipes ran is left as the error says
 abbrev pub FailsToRotateQueue : Which → Error → LogPipes → LogPipes → Type 0
 FailsToRotateQueue which error v w = (log : LogSense) (s : State) → RunsOn log v s
     → TurnLeaves log which s v w error
 
--- a purge: both pipes run on, and the files below the number have left the queue's span
+-- a purge: both pipes still run, and the files below the number have left the queue's live range
 abbrev pub PurgesQueue : Which → ℕ → LogPipes → LogPipes → Type 0
 PurgesQueue which seq v w = (log : LogSense) (s : State) → RunsOn log v s
     → RunsOn log w (raised_log which s seq w.disk)
     × Raises (Ties (queues log)) (Ties (queues log)) which seq s (raised_log which s seq w.disk)
 
--- What a refused purge leaves, by its error: the same log; or the pipe has failed, the files have left the span
--- all the same, and the log lies on the disk and may be opened.
+-- What a failed purge leaves, by its error: the same log; or the pipe has failed, the files have left the live range
+-- anyway, and the log is on the disk and may be opened.
 abbrev pub PurgeLeavesOn : LogSense → Which → ℕ → State → LogPipes → LogPipes → Error → Type 0
 PurgeLeavesOn log which seq s v w errors.Memory = LeavesSame log s v w
 PurgeLeavesOn log which seq s v w (errors.Other fault) =
@@ -129,7 +129,7 @@ PurgeLeavesOn log which seq s v w errors.Failed = Fails v.disk w.disk
     × LeavesRaised (queues log) which (both_open (files_of v)) None s seq w.disk
 PurgeLeavesOn log which seq s v w _ = ⊥
 
--- a purge is refused: any log that the pipes ran over is left as the error says
+-- a purge fails: any log over which the pipes ran is left as the error says
 abbrev pub FailsToPurgeQueue : Which → ℕ → Error → LogPipes → LogPipes → Type 0
 FailsToPurgeQueue which seq error v w = (log : LogSense) (s : State) → RunsOn log v s
     → PurgeLeavesOn log which seq s v w error
@@ -139,28 +139,28 @@ abbrev pub IsSpanOf : Which → LogPipes → ℕ → ℕ → Type 0
 IsSpanOf which v first last = (log : LogSense) (s : State) → RunsOn log v s
     → (first ≡ (spanned_at which s).first) × (last ≡ (spanned_at which s).files.last)
 
--- how many files the span of a queue has
+-- how many files the live range of a queue has
 abbrev pub count_at : Which → LogPipes → ℕ
 count_at which v = suc (length (pipe_at which (files_of v)).earlier.items)
 
--- the number of the file at a fraction of the span, the one behind the last for the whole
+-- the number of the file at a fraction of the live range; for the whole range, the number after the last one
 abbrev pub seq_at : Which → LogPipes → ℕ → ℕ → ℕ
 seq_at which v num den =
     min ((pipe_at which (files_of v)).first_seq + count_at which v * num / den) (2 ^ 64 - 1)
 
--- the size of all files of the span, each counted as long as it is to be
+-- the total size of the live range's files, where each counts as the target size
 abbrev pub size_at : Which → LogPipes → ℕ
 size_at which v = min (count_at which v * (one_at which v).settings.new_files.target_size) (2 ^ 64 - 1)
 
--- once a call was refused that couldn't be mended, every later one is, and changes nothing
+-- after the pipes have failed, every later call returns `Failed`, and changes nothing
 abbrev pub StaysFailed : {A : Type 0} → Result A Error → LogPipes → LogPipes → Type 0
 StaysFailed result v w = is_failed v ≡ true → (result ≡ Err errors.Failed) × (w ≡ v)
 
--- the pipes have failed where, and only where, the call says so
+-- the pipes have failed after the call if and only if it returns `Failed`
 abbrev pub TellsFailure : {A : Type 0} → Result A Error → LogPipes → Type 0
 TellsFailure result w = IsTrue (is_failed w) ↔ (result ≡ Err errors.Failed)
 
--- no fault is armed: the file system had stopped, or memory ran out
+-- no fault was armed: the file system had stopped, or memory ran out
 abbrev pub ArmsNoPipes : LogPipes → Error → Type 0
 ArmsNoPipes v (errors.Io kind) = IsUnarmed v.disk kind
 ArmsNoPipes v _ = ⊥

@@ -1,4 +1,4 @@
--- The pipes of a log are closed: each last file is finished, then the files kept for use get reserved names.
+-- Closing the pipes of a log: each active file is finished, then the files kept for recycling get reserved names.
 use Rattle.std.specs.Prelude.{◌≡◌, ◌⊎◌, Some, None, List}
 use Rattle.raft_log_model_laws.specs.Item.{Record}
 use Rattle.raft_log_model_laws.specs.Groups.{Map}
@@ -19,16 +19,16 @@ use Rattle.raft_log_file_pair.specs.Turning.{in_span}
 use Rattle.raft_log_file_pair.specs.Steps.{next_log}
 use Rattle.raft_log_file_pair.specs.Lying.{OpenPipes, none_open, with_open, RunOrLie, LeavesQueue}
 
--- the last file's records are held
+-- the queue's last file holds its records
 abbrev pub LeftAt : {R E V : Type 0} → TwoQueues R E V → Which → Disk → LogFiles R → Type 0
 LeftAt log which d files = StandsWithRecords (layout_at which log).format (layout_at which log).own d files d
 
--- the queue as it was, or with all of it synced
+-- the queue unchanged, or with all of it synced
 abbrev pub IsOrIsSettled : {R : Type 0} → LogFiles R → LogFiles R → Type 0
 IsOrIsSettled q files = (files ≡ q) ⊎ (files ≡ settled q)
 
--- One pipe is closed, whatever stands of the other queue: what was there is held, and maybe all of it synced;
--- where its last file was finished, it is. That the files kept for use get reserved names changes nothing.
+-- Closing one pipe, in any state of the other queue: its records are held, and all of them may be synced. If its active
+-- file was finished, they are synced. Giving reserved names to the files kept for recycling changes nothing.
 pub record ClosesBeside {R E V : Type 0} (log : TwoQueues R E V) (which : Which) (o : OpenPipes)
     (files : PipeFiles) (s : LogOnDisk R) : Type 0 where
   pub closes : (new : Disk)
@@ -46,12 +46,12 @@ pub record ClosesBeside {R E V : Type 0} (log : TwoQueues R E V) (which : Which)
   pub below : AreBelow (spanned_at which s).files.last files.recycled.items
   pub below_first : AreBelow (spanned_at which s).first files.recycled.items
 
--- a pipe that is closed holds what there was, maybe all of it synced, however the other queue stands
+-- closing a pipe keeps its records, all of which may be synced, in any state of the other queue
 abbrev pub CloseIsAStep : {R E V : Type 0} → TwoQueues R E V → Type 0
 CloseIsAStep {R} log = AreTwoQueues log → (which : Which) (o : OpenPipes) (files : PipeFiles)
     (s : LogOnDisk R) → RunOrLie log (with_open which o (Some files)) s → ClosesBeside log which o files s
 
--- that files kept for use get reserved names takes nothing away of a queue whose pipe is closed
+-- giving reserved names to files kept for recycling removes nothing from a queue whose pipe is closed
 abbrev pub NamesAreReserved : {R E V : Type 0} → TwoQueues R E V → Type 0
 NamesAreReserved {R} log = AreTwoQueues log → (which : Which) (o : OpenPipes) (kept : List Listed)
     (s : LogOnDisk R) (new : Disk) → RunOrLie log (with_open which o None) s
@@ -62,7 +62,7 @@ NamesAreReserved {R} log = AreTwoQueues log → (which : Which) (o : OpenPipes) 
     × RunOrLie log (with_open which o None) (next_log which s (spanned_at which s).files new)
     × FailsWhole (Ties log) (Ties log) s (next_log which s (spanned_at which s).files new)
 
--- the disks that a close of both pipes goes through: both last files are finished first
+-- the disks that closing both pipes goes through: both active files are finished first
 pub record ClosesBoth {R E V : Type 0} (log : TwoQueues R E V) (p : Pipes) (old new : Disk) : Type 0 where
   pub one : Disk
   pub two : Disk
@@ -72,13 +72,13 @@ pub record ClosesBoth {R E V : Type 0} (log : TwoQueues R E V) (p : Pipes) (old 
   pub append_names : StaysLeft log.append.format log.append.own p.append.recycled.items two three
   pub rewrite_names : StaysLeft log.rewrite.format log.rewrite.own p.rewrite.recycled.items three new
 
--- the log with these files of either queue, on this disk
+-- the log with these files of the two queues, on this disk
 abbrev pub closed_log : {R : Type 0} → LogOnDisk R → LogFiles R → LogFiles R → Disk → LogOnDisk R
 closed_log s append rewrite d =
     record { append = in_span s.append append; rewrite = in_span s.rewrite rewrite; disk = d }
 
--- A log lies closed: the files of both queues are what they were, maybe all synced; the numbered files were
--- taken along; and what an engine said of it is true still, of the batches some first ones being synced now.
+-- A closed log on the disk: the files of both queues are unchanged, or all synced, and the numbered files follow. What
+-- an engine's contracts stated of the log is still true, with some first pending batches synced now.
 pub record LiesClosed {R E V : Type 0} (log : TwoQueues R E V) (s : LogOnDisk R) (new : Disk) : Type 0 where
   pub append : LogFiles R
   pub rewrite : LogFiles R
@@ -91,18 +91,18 @@ pub record LiesClosed {R E V : Type 0} (log : TwoQueues R E V) (s : LogOnDisk R)
   pub ends : (v : View E V) (m : Map E V) (pending : List (Record E V)) → IsAt (Ties log s) v m pending
       → ViewEndsAt (Ties log (closed_log s append rewrite new)) v m pending
 
--- a log lies closed, and all of both queues is synced
+-- a closed log on the disk, with all of both queues synced
 pub record LiesSettled {R E V : Type 0} (log : TwoQueues R E V) (s : LogOnDisk R) (new : Disk) : Type 0 where
   pub closed : LiesClosed log s new
   pub append_is : closed.append ≡ settled s.append.files
   pub rewrite_is : closed.rewrite ≡ settled s.rewrite.files
 
--- a log whose two pipes are closed lies closed, whatever was refused meanwhile
+-- a log whose two pipes were closed is a closed log on the disk, even if calls failed meanwhile
 abbrev pub ClosedLogIsALog : {R E V : Type 0} → TwoQueues R E V → Type 0
 ClosedLogIsALog {R} log = AreTwoQueues log → (p : Pipes) (s : LogOnDisk R) (new : Disk) → Run log p s
     → ClosesBoth log p s.disk new → LiesClosed log s new
 
--- the disks that a close of both pipes goes through where both last files are finished
+-- the disks that closing both pipes goes through, if both active files are finished
 pub record SettlesBoth {R E V : Type 0} (log : TwoQueues R E V) (p : Pipes) (old new : Disk) : Type 0 where
   pub one : Disk
   pub two : Disk
@@ -112,7 +112,7 @@ pub record SettlesBoth {R E V : Type 0} (log : TwoQueues R E V) (p : Pipes) (old
   pub append_names : StaysLeft log.append.format log.append.own p.append.recycled.items two three
   pub rewrite_names : StaysLeft log.rewrite.format log.rewrite.own p.rewrite.recycled.items three new
 
--- a log whose two last files were finished lies closed, and all of it is synced
+-- a log whose two active files were finished is a closed log on the disk, and all of it is synced
 abbrev pub SettledLogIsALog : {R E V : Type 0} → TwoQueues R E V → Type 0
 SettledLogIsALog {R} log = AreTwoQueues log → (p : Pipes) (s : LogOnDisk R) (new : Disk) → Run log p s
     → SettlesBoth log p s.disk new → LiesSettled log s new

@@ -1,4 +1,4 @@
--- Both pipes of a log are closed.
+-- Closing both pipes of a log.
 use Rattle.std.specs.Prelude.{◌≡◌, Result, reverse}
 use Rattle.std.specs.Result.{result_and}
 use Rattle.raft_log_disk.specs.Disk.{Disk}
@@ -8,21 +8,21 @@ use Rattle.raft_log_file_pipe.specs.Closing.{FinishesAs, FinishesOrNot, Reserves
 use Rattle.raft_log_file_pair.specs.Closing.{LiesClosed, LiesSettled}
 use Rattle.raft_log_file_pair.specs.Pipes.{LogPipes, LogSense, OnePipe, RunsOn, State, queues}
 
--- A close, whatever is refused meanwhile: the log lies closed on the disk, from which it may be opened.
+-- A close, even if calls fail meanwhile: the closed log is on the disk, from which it may be opened.
 abbrev pub ClosesLog : LogPipes → Disk → Type 0
 ClosesLog v d = (log : LogSense) (s : State) → RunsOn log v s → LiesClosed (queues log) s d
 
--- A close that is answered: the log lies closed on the disk, and all of both queues is synced.
+-- A close that succeeds: the closed log is on the disk, and all of both queues is synced.
 abbrev pub ClosesSettled : LogPipes → Disk → Type 0
 ClosesSettled v d = (log : LogSense) (s : State) → RunsOn log v s → LiesSettled (queues log) s d
 
--- the files that a pipe keeps for use get reserved names, from the newest down, or are refused them
+-- the files that a pipe keeps for recycling get reserved names, from the newest down, or fail to get them
 abbrev pub NamesSpares : OnePipe → Disk → Disk → Type 0
 NamesSpares pipe old new = ReservesAll (log_paths pipe.queue pipe.directories)
     (reverse pipe.files.recycled.items) (greatest_reserved pipe.files.recycled.items) old new
 
--- The calls of a close, in their order: both last files are finished, Append's first, or that is refused; then
--- the files that are kept for use get their names.
+-- The calls of a close, in their order. Both active files are finished, Append's first, or that fails; then the files
+-- that are kept for recycling get their names.
 pub record ClosesInOrder (v : LogPipes) (new : Disk) : Type 0 where
   pub one : Disk
   pub two : Disk

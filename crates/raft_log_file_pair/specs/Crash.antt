@@ -12,8 +12,8 @@ use Rattle.raft_log_directory_laws.specs.Images.{Readings, Allows, empty_file}
 use Rattle.raft_log_file_pair.specs.Queues.{TwoQueues, AreTwoQueues}
 use Rattle.raft_log_file_pair.specs.State.{LogOnDisk, HoldsBoth, Ties}
 
--- A crash may leave the other log: an image of the disk in which no checksum is met by chance, in the last
--- file of neither queue; and either span begins where it began.
+-- A crash may leave the other log: its disk is an image without a CRC collision in the last file of either queue, and
+-- both live ranges begin at the same numbers.
 pub record IsLeftByCrash {R E V : Type 0} (log : TwoQueues R E V) (s image : LogOnDisk R) : Type 0 where
   pub disk : IsImage s.disk image.disk
   pub append : NoChanceInLast log.append.format s.append.files s.disk image.disk
@@ -21,12 +21,12 @@ pub record IsLeftByCrash {R E V : Type 0} (log : TwoQueues R E V) (s image : Log
   pub append_first : image.append.first ≡ s.append.first
   pub rewrite_first : image.rewrite.first ≡ s.rewrite.first
 
--- what is found of the files from a number on, as numbered files: where none is there, file 1, empty
+-- what is found of the files from a number on, as numbered files; if none is there, an empty file 1
 abbrev pub IsReadAs : {R E V : Type 0} → (R → Record E V) → ℕ → List (Found R) → List (LogFile E V) → Type 0
 IsReadAs says s [] files = (s ≡ 1) × (files ≡ empty_file ∷ [])
 IsReadAs says s (f ∷ fs) files = files ≡ map (logged says) (f ∷ fs)
 
--- a recovery may read these files of a queue: from a number on, up to the span's first file, all to the last
+-- a recovery may read these files of a queue: from a number on, up to the live range's first file, all to the last
 abbrev pub MayRead : {R E V : Type 0} → (R → Record E V) → Format R → ℕ → Disk → ℕ → List (LogFile E V)
     → Type 0
 MayRead {R} says F first d s files =
@@ -44,7 +44,7 @@ readings_of log = record {
 abbrev pub AllowsIn : {R E V : Type 0} → TwoQueues R E V → LogOnDisk R → Files E V → Type 0
 AllowsIn log s f = Allows (readings_of log) s f
 
--- where the records of both queues are held, their numbered files allow each image
+-- if the records of both queues are held, their numbered files allow each image
 abbrev pub HeldIsAllowed : {R E V : Type 0} → TwoQueues R E V → Type 0
 HeldIsAllowed {R} {E} {V} log = AreTwoQueues log → (s : LogOnDisk R) (f : Files E V)
     → IsSound s.disk → HoldsBoth log s → Ties log s f → AllowsIn log s f

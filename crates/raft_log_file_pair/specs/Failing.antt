@@ -1,4 +1,4 @@
--- A pipe fails while an engine runs over both: the log lies on the disk, and may be opened again.
+-- A pipe fails while an engine runs over both: the log is on the disk, and may be opened again.
 use Rattle.std.specs.Prelude.{◌≡◌, ℕ, ◌⊎◌, None, List, [], ◌∷◌, ◌++◌}
 use Rattle.raft_log_model_laws.specs.Item.{Record}
 use Rattle.raft_log_model_laws.specs.Groups.{Map, taken}
@@ -20,7 +20,7 @@ use Rattle.raft_log_file_pair.specs.Lying.{OpenPipes, both_open, with_open}
 use Rattle.raft_log_file_pair.specs.OnDisk.{LogLiesOn}
 use Rattle.raft_log_file_pair.specs.Writing.{IsAtOn}
 
--- in a log that lies so, of the batches some first ones are synced, the others pending
+-- in a log that is on the disk, some first batches are synced, and the others are pending
 pub record LogEndsLying {R E V : Type 0} (log : TwoQueues R E V) (o : OpenPipes) (d : Disk) (m : Map E V)
     (pending : List (Record E V)) : Type 0 where
   pub done : List (Record E V)
@@ -28,12 +28,12 @@ pub record LogEndsLying {R E V : Type 0} (log : TwoQueues R E V) (o : OpenPipes)
   pub splits : done ++ rest ≡ pending
   pub lies : LogLiesOn log o d (taken m done) rest
 
--- the pipes once that of one queue has failed
+-- the pipes after that of one queue has failed
 abbrev pub failed_pipe : Which → Pipes → OpenPipes
 failed_pipe which p = with_open which (both_open p) None
 
--- What lies on the disk where a pipe fails: at a sync what was there, and at a rotation the same, of which
--- some first batches may be synced now; at a batch the log with it, or without it.
+-- What is on the disk after a pipe fails. At a sync, the log is unchanged. At a rotation, it is the same, but some
+-- first batches may be synced now. At a batch, it is the log with the batch, or without it.
 pub record FailedPipeLeavesALog {R E V : Type 0} (log : TwoQueues R E V) (p : Pipes) (old : Disk)
     (v : View E V) (m : Map E V) (pending : List (Record E V)) : Type 0 where
   pub sync : (which : Which) (new : Disk)
@@ -52,7 +52,7 @@ pub record FailedPipeLeavesALog {R E V : Type 0} (log : TwoQueues R E V) (p : Pi
       → LogEndsLying log (failed_pipe InAppend p) new m pending
       ⊎ LogEndsLying log (failed_pipe InAppend p) new m (pending ++ y ∷ [])
 
--- where a pipe of an engine's log fails, that log lies on the disk
+-- after a pipe of an engine's log fails, that log is on the disk
 abbrev pub FailedPipesLeaveLogs : {R E V : Type 0} → TwoQueues R E V → Type 0
 FailedPipesLeaveLogs {R} {E} {V} log = AreTwoQueues log → (p : Pipes) (old : Disk) (v : View E V)
     (m : Map E V) (pending : List (Record E V)) → IsAtOn log p old v m pending

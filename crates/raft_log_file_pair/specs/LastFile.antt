@@ -1,5 +1,5 @@
--- Which file of a queue is its last one, once a record was written or refused, and which are listed once files
--- were purged.
+-- Which file of a queue is its active one after an append succeeded or failed, and which files are listed after a
+-- purge.
 use Rattle.std.specs.Prelude.{◌≡◌, ◌⊎◌, ℕ, suc}
 use Rattle.raft_log_record_base.specs.declared.errors.Error.{Error}
 use Rattle.raft_log_record_base.specs.declared.errors.Error.TheVariants as errors
@@ -9,24 +9,23 @@ use Rattle.raft_log_file_pair.specs.State.{pipe_at}
 use Rattle.raft_log_file_pair.specs.Numbers.{IsFull}
 use Rattle.raft_log_file_pair.specs.Pipes.{LogPipes, files_of, one_at}
 
--- the number of a queue's last file
+-- the number of a queue's active file
 abbrev pub last_of : Which → LogPipes → ℕ
 last_of which v = (pipe_at which (files_of v)).active.seq
 
--- the number of the file that a record goes into: that of the next one where, and only where, the last one is
--- full
+-- the number of the file that a record goes into: the next one if the active file is full, otherwise the active file
 abbrev pub IsNextIfFull : Which → LogPipes → ℕ → Type 0
 IsNextIfFull which v n = (IsFull which v × (n ≡ suc (last_of which v)))
     ⊎ ((IsFull which v → ⊥) × (n ≡ last_of which v))
 
--- Behind `Io` the queue stands in the file that the record was to go into, and behind `TryAgain` in the next one.
+-- After `Io` the active file is the one that the record was to go into, and after `TryAgain` the next one.
 abbrev pub TurnsBehind : Which → Error → LogPipes → LogPipes → Type 0
 TurnsBehind which (errors.Io kind) v w = IsNextIfFull which v (last_of which w)
 TurnsBehind which (errors.TryAgain text) v w =
     (n : ℕ) × IsNextIfFull which v n × (last_of which w ≡ suc n)
 TurnsBehind which _ v w = Unit {0}
 
--- the files below a number have left the span, and those stay for use that the capacity lets
+-- the files below a number have left the live range, and as many as the capacity allows are kept for recycling
 abbrev pub RaisesPipe : Which → ℕ → LogPipes → LogPipes → Type 0
 RaisesPipe which seq v w = IsRaised (one_at which v).settings.capacity seq (pipe_at which (files_of v))
     (pipe_at which (files_of w))

@@ -1,5 +1,5 @@
--- How each queue of a log stands, for itself: its pipe runs; or it has failed, was closed, or isn't opened,
--- and the queue's files lie on the disk.
+-- The state of each queue of a log by itself: its pipe runs; or the pipe has failed, was closed or isn't open, and the
+-- queue's files are on the disk.
 use Rattle.std.specs.Prelude.{◌≡◌, ℕ, ◌⊎◌, Option, Some, None, List}
 use Rattle.raft_log_model_laws.specs.Item.{Record}
 use Rattle.raft_log_disk.specs.Disk.{Disk}
@@ -18,30 +18,30 @@ use Rattle.raft_log_file_pair.specs.Crash.{readings_of, AllowsIn}
 use Rattle.raft_log_file_pair.specs.Beginning.{begun_queue}
 use Rattle.raft_log_file_pair.specs.Steps.{next_log}
 
--- no file of the queue was made yet, and there is a place for it: it is the one that is to begin
+-- no file of the queue was created yet, and there is a place for it: it is a queue that is about to begin
 pub record IsUnbegun {R : Type 0} (layout : QueueLayout R) (q : Spanned R) (d : Disk) : Type 0 where
   pub fresh : IsFresh layout.format layout.own d d
   pub is : (older : ℕ → Past R) × (header : List ℕ) × (room : ℕ) × (q ≡ begun_queue older header room)
 
--- the queue's files lie on the disk, as a pipe or a stop left them, each of its span; or none was made yet
+-- the queue's files are on the disk, as a pipe or a stop left them, each of its live range; or none was created yet
 abbrev pub LiesQueue : {R : Type 0} → QueueLayout R → Spanned R → Disk → Type 0
 LiesQueue layout q d = (HoldsQueue layout q.files d × HasSpan layout.format q d) ⊎ IsUnbegun layout q d
 
--- the queue's pipe runs with these files; or none runs, and its files lie there
+-- the queue's pipe runs with these files; or none runs, and its files are on the disk
 abbrev pub RunsOrLies : {R : Type 0} → QueueLayout R → Option PipeFiles → Spanned R → Disk → Type 0
 RunsOrLies layout (Some files) q d = RunsQueue layout files q d
 RunsOrLies layout None q d = LiesQueue layout q d
 
--- the files that each pipe has open: none where it has failed, was closed, or isn't opened
+-- the files that each pipe has open: none if the pipe has failed, was closed, or isn't open
 pub record OpenPipes : Type 0 where
   pub append : Option PipeFiles
   pub rewrite : Option PipeFiles
 
--- where no pipe runs
+-- no pipe runs
 abbrev pub none_open : OpenPipes
 none_open = record { append = None; rewrite = None }
 
--- where both run
+-- both pipes run
 abbrev pub both_open : Pipes → OpenPipes
 both_open p = record { append = Some p.append; rewrite = Some p.rewrite }
 
@@ -50,22 +50,25 @@ abbrev pub with_open : Which → OpenPipes → Option PipeFiles → OpenPipes
 with_open InAppend o now = record { append = now; rewrite = o.rewrite }
 with_open InRewrite o now = record { append = o.append; rewrite = now }
 
--- of each queue the pipe runs with its files, or none runs and the files lie there, over one disk
+-- each queue's pipe runs with its files, or doesn't run and its files are on the disk; both are on the same disk
 pub record RunOrLie {R E V : Type 0} (log : TwoQueues R E V) (o : OpenPipes) (s : LogOnDisk R) : Type 0 where
   pub append : RunsOrLies log.append o.append s.append s.disk
   pub rewrite : RunsOrLies log.rewrite o.rewrite s.rewrite s.disk
 
--- One queue has come to files of which this is said; its pipe runs with these, or none runs, and the other
--- stands as it did. And so were the log's numbered files taken along.
+-- One queue now has files that satisfy `becomes`. Its pipe runs with the files in `now`, or doesn't run; the other
+-- queue's state is unchanged. The log's numbered files follow as `takes` says.
 abbrev pub LeavesQueue : {R E V : Type 0} → TwoQueues R E V → Which → OpenPipes → Option PipeFiles
     → LogOnDisk R → Disk → (LogFiles R → Type 0) → (LogOnDisk R → LogOnDisk R → Type 0) → Type 0
 LeavesQueue {R} log which o now s new becomes takes = (files : LogFiles R) × becomes files
     × RunOrLie log (with_open which o now) (next_log which s files new)
     × takes s (next_log which s files new)
 
--- However each queue stands, the numbered files allow each image that a crash may leave; so what is said of
--- them is true of the log. While both pipes run that is so, and where the records of both are held and the
--- files of both spans are there; and whatever pipe is dropped, its queue lies there.
+-- In any state of the two queues, the numbered files allow each image that a crash may leave; so what they mean is true
+-- of the log.
+-- - `running`: this is a state in which both pipes run.
+-- - `held`: so is one in which no pipe runs, the records of both queues are held, and the files of both live ranges
+--   exist.
+-- - `dropped`: dropping a pipe leaves its queue's files on the disk.
 pub record LyingLogIsALog {R E V : Type 0} (log : TwoQueues R E V) : Type 0 where
   pub allowed : (o : OpenPipes) (s : LogOnDisk R) (f : Files E V) → IsSound s.disk → RunOrLie log o s
       → Ties log s f → AllowsIn log s f
@@ -77,6 +80,6 @@ pub record LyingLogIsALog {R E V : Type 0} (log : TwoQueues R E V) : Type 0 wher
       → HasSpan log.rewrite.format s.rewrite s.disk → RunOrLie log none_open s
   pub dropped : (o : OpenPipes) (s : LogOnDisk R) → RunOrLie log o s → RunOrLie log none_open s
 
--- two queues that run or lie there are a log: what is said of their numbered files is true of it
+-- two queues, each running or on the disk, are a log: what their numbered files mean is true of it
 abbrev pub LyingLogsAreLogs : {R E V : Type 0} → TwoQueues R E V → Type 0
 LyingLogsAreLogs log = AreTwoQueues log → LyingLogIsALog log

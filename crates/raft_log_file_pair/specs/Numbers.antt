@@ -1,4 +1,4 @@
--- When a call is refused for want of a number: those that a file's name can have have run out.
+-- When a call fails with `NumberRange`: the numbers that a file's name can have have run out.
 use Rattle.std.specs.Prelude.{◌≡◌, ◌⊎◌, ℕ, ◌≤◌, ◌^◌, List, suc}
 use Rattle.raft_log_disk.specs.Causes.{Fails}
 use Rattle.raft_log_record_base.specs.declared.errors.Error.{Error}
@@ -10,28 +10,28 @@ use Rattle.raft_log_file_pair.specs.Queues.{layout_at, SaysRecord}
 use Rattle.raft_log_file_pair.specs.State.{pipe_at}
 use Rattle.raft_log_file_pair.specs.Pipes.{LogPipes, LogSense, RunsOn, Said, State, files_of, one_at, queue_of, queues}
 
--- no file's name has the number behind that of a queue's last file
+-- no file's name has the number after that of a queue's active file
 abbrev pub HasLastNumber : Which → LogPipes → Type 0
 HasLastNumber which v = 10 ^ 16 ≤ suc (pipe_at which (files_of v)).active.seq
 
--- a rotation of a log's queue is refused so behind the last number only
+-- a rotation of a log's queue fails with it only after the last number
 abbrev pub EndsNumbers : Which → Error → LogPipes → Type 0
 EndsNumbers which error v = error ≡ errors.NumberRange
     → (log : LogSense) (s : State) → RunsOn log v s → HasLastNumber which v
 
--- a queue's last file is as long as it is to be, or longer
+-- a queue's active file has reached the target size
 abbrev pub IsFull : Which → LogPipes → Type 0
 IsFull which v = (one_at which v).settings.new_files.target_size ≤ (pipe_at which (files_of v)).writer.written
 
--- A record is refused so where the queue was to go on in the next file, as the last one is full or, behind a
--- failed file call, for want of space; and stands at the last number.
+-- An append fails with it only if the queue had to rotate and has the last number. It had to rotate as the active file
+-- was full, or for lack of space after a failed file call.
 abbrev pub EndsNumbersAt : Which → (LogFileContext → List ℕ) → Error → LogPipes → LogPipes → Type 0
 EndsNumbersAt which signed error v w = error ≡ errors.NumberRange
     → (log : LogSense) (s : State) (y : Said) → RunsOn log v s
     → SaysRecord log.says (layout_at which (queues log)) (queue_of which) signed y
     → HasLastNumber which w × (IsFull which v ⊎ Fails v.disk w.disk)
 
--- a purge is refused so where a file of the span has a number that no name has: of no log's queue
+-- a purge fails with it only if a file of the live range has a number that no name has; no log's queue has such a file
 abbrev pub EndsNumbersBelow : Which → Error → LogPipes → Type 0
 EndsNumbersBelow which error v = error ≡ errors.NumberRange
     → HasFarFile (pipe_at which (files_of v)).earlier.items

@@ -1,4 +1,4 @@
--- What is said of a log on a disk, through calls, crashes, opens and closes.
+-- What holds for a log on a disk, through calls, crashes, opens and closes.
 use Rattle.std.specs.Prelude.{◌≡◌, ℕ, ◌≤◌, Some, None, List, [], length, take}
 use Rattle.raft_log_model_laws.specs.Item.{Record}
 use Rattle.raft_log_model_laws.specs.Groups.{Map, taken}
@@ -20,7 +20,7 @@ use Rattle.raft_log_file_pair.specs.Lying.{OpenPipes, none_open, both_open, RunO
 use Rattle.raft_log_file_pair.specs.Reopening.{GoesOnFound, ReadsBothAgain, RestBoth, IsFoundOf}
 use Rattle.raft_log_file_pair.specs.Writing.{IsAtOn}
 
--- Some log lies on the disk, whose pipes stand so: it is this map, with these batches pending behind it.
+-- Some log is on the disk, with these pipes open: its contents are this map, with these pending batches after it.
 pub record LogLiesOn {R E V : Type 0} (log : TwoQueues R E V) (o : OpenPipes) (d : Disk) (m : Map E V)
     (pending : List (Record E V)) : Type 0 where
   pub state : LogOnDisk R
@@ -28,7 +28,7 @@ pub record LogLiesOn {R E V : Type 0} (log : TwoQueues R E V) (o : OpenPipes) (d
   pub stands : RunOrLie log o state
   pub holds : IsLog (Ties log state) m pending
 
--- Some log lies on the disk at rest, as a stop leaves it: it is this map, and nothing of it is unsynced.
+-- Some log is on the disk at rest, as a stop leaves it: its contents are this map, and nothing of it is unsynced.
 pub record LogRestsOn {R E V : Type 0} (log : TwoQueues R E V) (d : Disk) (m : Map E V) : Type 0 where
   pub state : LogOnDisk R
   pub disk : state.disk ≡ d
@@ -37,9 +37,12 @@ pub record LogRestsOn {R E V : Type 0} (log : TwoQueues R E V) (d : Disk) (m : M
   pub rewrite_synced : state.rewrite.files.pending ≡ []
   pub holds : IsLog (Ties log state) m []
 
--- A directory without log files is at rest, and nothing stands in it; where no file is found, that is what was
--- left of it, so both queues may begin. What an engine has open lies on the disk, and so does what rests;
--- each image that a crash may leave means the map after some first pending batches, and is at rest with it.
+-- How logs continue:
+-- - `nothing`: a directory without log files is at rest, and is empty.
+-- - `none_found`: no files found is what was left of it, so both queues may begin.
+-- - `engine`, `rest`: what an engine has open is a log on the disk, and so is a log at rest.
+-- - `means`, `crashes`: each image that a crash may leave has the map after some first pending batches, and is at rest
+--   with it.
 pub record LogsGoOn {R E V : Type 0} (log : TwoQueues R E V) : Type 0 where
   pub nothing : (d : Disk) → IsFresh log.append.format log.append.own d d
       → IsFresh log.rewrite.format log.rewrite.own d d → LogRestsOn log d nothing_stands
@@ -59,11 +62,11 @@ pub record LogsGoOn {R E V : Type 0} (log : TwoQueues R E V) : Type 0 where
       → NoChanceInLast log.rewrite.format h.state.rewrite.files d image
       → (k : ℕ) × (k ≤ length pending) × LogRestsOn log image (taken m (take k pending))
 
--- a log of any two queues goes on: on the disk while an engine has it, at rest behind a crash
+-- a log of any two queues continues: on the disk while an engine has it open, and at rest after a crash
 abbrev pub LogsGoOnDisks : {R E V : Type 0} → TwoQueues R E V → Type 0
 LogsGoOnDisks log = AreTwoQueues log → LogsGoOn log
 
--- both pipes run over a log that was read again of this one: the same map, and nothing is unsynced
+-- both pipes run over a log that was read again from this one: the same map, and nothing is unsynced
 pub record LogOpenedOn {R E V : Type 0} (log : TwoQueues R E V) (p : Pipes) (was : LogOnDisk R) (d : Disk)
     (m : Map E V) : Type 0 where
   pub state : LogOnDisk R
@@ -76,8 +79,8 @@ pub record LogOpenedOn {R E V : Type 0} (log : TwoQueues R E V) (p : Pipes) (was
   pub reads : ReadsBothAgain (Ties log) was state
   pub holds : IsLog (Ties log state) m []
 
--- Of a log at rest both pipes are opened, that of Append first, over what was found of either queue. Wherever
--- an open is refused, the log lies there still.
+-- Both pipes of a log at rest are opened, Append's first, over what was found of the queues. Wherever an open fails,
+-- the log is still on the disk.
 pub record OpensBoth {R E V : Type 0} (log : TwoQueues R E V) (d : Disk) (m : Map E V)
     (h : LogRestsOn log d m) (append rewrite : FoundFiles) (begin next : NewFiles) : Type 0 where
   pub first_refused : (error : Error) (mid : Disk)
@@ -92,7 +95,8 @@ pub record OpensBoth {R E V : Type 0} (log : TwoQueues R E V) (d : Disk) (m : Ma
       → OpensPipe log.rewrite.format log.rewrite.own log.rewrite.paths next rewrite other mid new
       → LogOpenedOn log (record { append = one; rewrite = other }) h.state new m
 
--- a log at rest is opened by both pipes, over what was found of its queues; refused, it lies there still
+-- both pipes of a log at rest may be opened, over what was found of its queues; if that fails, the log is still on the
+-- disk
 abbrev pub RestingLogsOpen : {R E V : Type 0} → TwoQueues R E V → Type 0
 RestingLogsOpen {R} {E} {V} log = AreTwoQueues log → (d : Disk) (m : Map E V) (h : LogRestsOn log d m)
     → IsSound d → (append rewrite : FoundFiles) (begin next : NewFiles)

@@ -1,4 +1,4 @@
--- Both pipes of a log are opened, over what was found of its queues.
+-- Opening both pipes of a log, over what was found of its queues.
 use Rattle.std.specs.Prelude.{◌≡◌, ◌⊎◌, List, [], ℕ, map, false}
 use Rattle.std.specs.String.{string_bytes}
 use Rattle.raft_log_disk.specs.Disk.{Disk}
@@ -19,16 +19,16 @@ use Rattle.raft_log_file_pair.specs.OnDisk.{LogLiesOn, LogRestsOn}
 use Rattle.raft_log_file_pair.specs.Pipes.{LogPipes, LogSense, OnePipe, RunsOn, State, queues}
 use Rattle.raft_log_file_pair.specs.declared.opening.FoundPipe.{FoundPipe}
 
--- how the files of a queue that was found are written, and where they lie
+-- how the files of a queue that was found are written, and where they are
 abbrev pub layout_found : FoundPipe → QueueLayout LogRecord
 layout_found p = log_layout p.layout.queue (map string_bytes p.layout.paths.items)
 
--- the pipe of a queue that was found is opened
+-- the pipe of a queue that was found was opened
 abbrev pub OpensFound : FoundPipe → PipeFiles → Disk → Disk → Type 0
 OpensFound p files old new = OpensPipe (layout_found p).format (layout_found p).own (layout_found p).paths
     p.settings.new_files p.found files old new
 
--- the pipe of a queue that was found isn't opened, and why
+-- the pipe of a queue that was found wasn't opened, for this error
 abbrev pub FailsToOpenFound : FoundPipe → Error → Disk → Disk → Type 0
 FailsToOpenFound p error old new = OpenLeaves (layout_found p).format (layout_found p).own (layout_found p).paths
     p.settings.new_files p.found error old new
@@ -39,7 +39,7 @@ pub record IsFoundAs (queue : LogQueue) (directories : List (List ℕ)) (p : Fou
   pub told : p.settings.queue ≡ queue
   pub lies : map string_bytes p.layout.paths.items ≡ directories
 
--- A log lies at rest on the disk, as a stop or a close left it, and means this map; and that is what was found.
+-- A log is at rest on the disk, as a stop or a close left it, with this map as its contents; and it is what was found.
 pub record RestsAsFound (log : LogSense) (m : Map (List ℕ) (List ℕ)) (append rewrite : FoundPipe)
     (d : Disk) : Type 0 where
   pub append_as : IsFoundAs Append log.append append
@@ -48,7 +48,7 @@ pub record RestsAsFound (log : LogSense) (m : Map (List ℕ) (List ℕ)) (append
   pub append_found : IsFoundOf (queues log).append append.found rests.state.append d
   pub rewrite_found : IsFoundOf (queues log).rewrite rewrite.found rests.state.rewrite d
 
--- Both pipes run over the log as it was read again: it means the same map, and nothing of it is unsynced.
+-- Both pipes run over the log as it was read again: it has the same map, and nothing of it is unsynced.
 pub record RunsAsFound (log : LogSense) (m : Map (List ℕ) (List ℕ)) (was : State) (v : LogPipes) : Type 0 where
   pub state : State
   pub runs : RunsOn log v state
@@ -59,15 +59,14 @@ pub record RunsAsFound (log : LogSense) (m : Map (List ℕ) (List ℕ)) (was : S
   pub reads : ReadsBothAgain (Ties (queues log)) was state
   pub holds : IsLog (Ties (queues log) state) m []
 
--- the pipe is of the queue that was found, in its directories, goes on by its rules, and hasn't failed
+-- the pipe is of the queue that was found, with its directories and settings, and hasn't failed
 pub record IsOpenedOf (p : FoundPipe) (o : OnePipe) : Type 0 where
   pub queue : o.queue ≡ p.layout.queue
   pub directories : o.directories ≡ map string_bytes p.layout.paths.items
   pub settings : o.settings ≡ p.settings
   pub alive : o.failed ≡ false
 
--- Both pipes of a log were opened, that of Append first; of one that was found at rest they run over what was
--- read.
+-- Both pipes of a log were opened, Append's first. If the log was found at rest, they run over what was read of it.
 pub record OpensLog (append rewrite : FoundPipe) (old : Disk) (v : LogPipes) : Type 0 where
   pub mid : Disk
   pub append_is : IsOpenedOf append v.append
@@ -77,8 +76,8 @@ pub record OpensLog (append rewrite : FoundPipe) (old : Disk) (v : LogPipes) : T
   pub log : (log : LogSense) (m : Map (List ℕ) (List ℕ)) → (h : RestsAsFound log m append rewrite old)
       → RunsAsFound log m h.rests.state v
 
--- Both pipes of a log weren't opened, as one of them wasn't, and why; and one that was found at rest lies on
--- the disk still, with its map.
+-- Opening a log failed: one of its pipes wasn't opened, for this error. If the log was found at rest, it is still on
+-- the disk, with its map.
 pub record FailsToOpenLog (append rewrite : FoundPipe) (error : Error) (old new : Disk) : Type 0 where
   pub call : FailsToOpenFound append error old new ⊎ ((files : PipeFiles) × (mid : Disk)
       × OpensFound append files old mid × FailsToOpenFound rewrite error mid new)

@@ -8,7 +8,7 @@ use Rattle.raft_log_file_layout.specs.Paths.{IsOwnPath}
 use Rattle.raft_log_file_layout.specs.declared.record.LogRecord.{LogRecord}
 use Rattle.raft_log_file_pair.specs.Queues.{QueueLayout, TwoQueues, AreTwoQueues}
 
--- how the files of a queue of the log are written, and lie in these directories
+-- how the files of a queue of the log are written, in these directories
 abbrev pub log_layout : LogQueue → List (List ℕ) → QueueLayout LogRecord
 log_layout queue directories = record {
   format = log_format queue directories;
@@ -22,7 +22,7 @@ abbrev pub log_queues : {E V : Type 0} → (LogRecord → Record E V) → List (
 log_queues says append rewrite =
     record { append = log_layout Append append; rewrite = log_layout Rewrite rewrite; says = says }
 
--- where each has a directory, they are two queues, also in the same directories
+-- if each has a directory, they are two queues, even if the directories are the same
 abbrev pub LogHasTwoQueues : {E V : Type 0} → (LogRecord → Record E V) → Type 0
 LogHasTwoQueues says = (append rewrite : List (List ℕ)) → 0 < length append → 0 < length rewrite
     → AreTwoQueues (log_queues says append rewrite)

@@ -1,5 +1,5 @@
--- What a call says of the pipe of its queue, as that tells it: by which file calls it was made, in their order,
--- and which of them was refused; and by which rules both pipes go on.
+-- What a call does to the pipe of its queue: its file calls, in their order, and which of them failed. Also: both pipes
+-- keep their settings.
 use Rattle.std.specs.Prelude.{◌≡◌, ℕ, false, List}
 use Rattle.raft_log_disk.specs.Disk.{Disk}
 use Rattle.raft_log_disk.specs.Exits.{Syncs}
@@ -19,36 +19,36 @@ use Rattle.raft_log_directory_laws.specs.Calls.{Which}
 use Rattle.raft_log_file_pair.specs.Queues.{QueueLayout}
 use Rattle.raft_log_file_pair.specs.Pipes.{LogPipes, OnePipe, is_failed, layout_of, one_at}
 
--- what a call does to the files of a pipe and to the disk, by how the files are written and the pipe's rules
+-- what a call does to the files of a pipe and to the disk, depending on the layout of the files and the pipe's settings
 abbrev pub PipeCall : Type 1
 PipeCall = QueueLayout LogRecord → PipeSettings → PipeFiles → PipeFiles → Disk → Disk → Type 0
 
--- the call did so to the pipe of this queue
+-- the call did this to the pipe of this queue
 abbrev pub DoesToPipe : Which → PipeCall → LogPipes → LogPipes → Type 0
 DoesToPipe which call v w = call (layout_of (one_at which v)) (one_at which v).settings
     (one_at which v).files (one_at which w).files v.disk w.disk
 
--- a refused call did so, if the pipes hadn't failed before
+-- a failed call did this, if the pipes hadn't failed before
 abbrev pub LeavesPipe : Which → PipeCall → LogPipes → LogPipes → Type 0
 LeavesPipe which call v w = is_failed v ≡ false → DoesToPipe which call v w
 
--- the pipe goes by the rules that it went by, in the same directories
+-- the pipe has the same queue, directories and settings as before
 pub record SameRules (before after : OnePipe) : Type 0 where
   pub queue : after.queue ≡ before.queue
   pub directories : after.directories ≡ before.directories
   pub settings : after.settings ≡ before.settings
 
--- both pipes go by the rules that they went by, in the same directories
+-- both pipes have the same queues, directories and settings as before
 abbrev pub KeepRules : LogPipes → LogPipes → Type 0
 KeepRules v w = SameRules v.append w.append × SameRules v.rewrite w.rewrite
 
--- the pipe wrote a record, at this place
+-- the pipe wrote a record, at this location
 abbrev pub PipeAppends : Which → (LogFileContext → List ℕ) → FileBlockHandle → LogPipes → LogPipes → Type 0
 PipeAppends which signed block = DoesToPipe which (λ layout rules before after.
     AppendsAt layout.format layout.own layout.paths rules.new_files rules.queue signed before after block)
 
--- the pipe didn't write a record, and why: an `Io` is of the kind that the file system answered the write
--- with
+-- the pipe didn't write a record, for this error; the kind of an `Io` is the one that the file system returned for the
+-- write
 abbrev pub PipeFailsToAppend : Which → (LogFileContext → List ℕ) → Error → LogPipes → LogPipes → Type 0
 PipeFailsToAppend which signed error = LeavesPipe which (λ layout rules before after.
     AppendFails layout.format layout.own layout.paths rules.new_files rules.queue signed before after error)
@@ -63,35 +63,35 @@ abbrev pub PipeFailsToSync : Which → LogPipes → LogPipes → Type 0
 PipeFailsToSync which = LeavesPipe which (λ layout rules before after.
     FailsToSyncPipe layout.format layout.own layout.paths before)
 
--- the pipe went on in its next file
+-- the pipe rotated
 abbrev pub PipeRotates : Which → LogPipes → LogPipes → Type 0
 PipeRotates which = DoesToPipe which (λ layout rules before after.
     Rotates layout.format layout.own layout.paths (header_bytes rules.new_files.format) before after)
 
--- the pipe didn't go on in its next file, and why
+-- the pipe didn't rotate, for this error
 abbrev pub PipeFailsToRotate : Which → Error → LogPipes → LogPipes → Type 0
 PipeFailsToRotate which error = LeavesPipe which (λ layout rules before after.
     RotationLeaves layout.format layout.own layout.paths (header_bytes rules.new_files.format) before after
     error)
 
--- the pipe's files below a number went, but for those that stay for use
+-- the pipe's files below a number were deleted, except for those kept for recycling
 abbrev pub PipePurges : Which → ℕ → LogPipes → LogPipes → Type 0
 PipePurges which seq = DoesToPipe which (λ layout rules before after.
     Purges layout.format layout.own layout.paths rules.capacity seq before after)
 
--- the pipe's files below a number didn't go, or some of them, and why
+-- the pipe's files below a number weren't deleted, or only some of them, for this error
 abbrev pub PipeFailsToPurge : Which → ℕ → Error → LogPipes → LogPipes → Type 0
 PipeFailsToPurge which seq error = LeavesPipe which (λ layout rules before after.
     PurgeLeaves layout.format layout.own layout.paths rules.capacity seq before after error)
 
--- The same whatever stands on the disk: no log is asked for, and so it holds also where none is there.
+-- The same on any disk: no log is required, so it also holds if there is none.
 
--- the pipe wrote a record, at this place, by these file calls
+-- the pipe wrote a record, at this location, by these file calls
 abbrev pub PipeAppendsBy : Which → (LogFileContext → List ℕ) → FileBlockHandle → LogPipes → LogPipes → Type 0
 PipeAppendsBy which signed block = DoesToPipe which (λ layout rules before after.
     AppendsBy layout.paths rules.new_files rules.queue signed before after block)
 
--- the pipe didn't write a record, and which calls it made
+-- the pipe didn't write a record, and made these calls
 abbrev pub PipeFailsToAppendBy : Which → (LogFileContext → List ℕ) → Error → LogPipes → LogPipes → Type 0
 PipeFailsToAppendBy which signed error = LeavesPipe which (λ layout rules before after.
     FailsToAppendBy layout.paths rules.new_files rules.queue signed before after error)
@@ -100,26 +100,26 @@ PipeFailsToAppendBy which signed error = LeavesPipe which (λ layout rules befor
 abbrev pub PipeSyncsBy : Which → LogPipes → LogPipes → Type 0
 PipeSyncsBy which = DoesToPipe which (λ layout rules before after. Syncs before.writer.handle)
 
--- the sync of that file was refused
+-- the sync of that file failed
 abbrev pub PipeFailsToSyncBy : Which → LogPipes → LogPipes → Type 0
 PipeFailsToSyncBy which = LeavesPipe which (λ layout rules before after. FailsToSyncBy before.writer.handle)
 
--- the pipe went on in its next file, by these calls
+-- the pipe rotated, by these calls
 abbrev pub PipeRotatesBy : Which → LogPipes → LogPipes → Type 0
 PipeRotatesBy which = DoesToPipe which (λ layout rules before after.
     TurnsPipeBy layout.paths rules.new_files.format before after)
 
--- the pipe didn't go on in its next file, and which calls it made
+-- the pipe didn't rotate, and made these calls
 abbrev pub PipeFailsToRotateBy : Which → Error → LogPipes → LogPipes → Type 0
 PipeFailsToRotateBy which error = LeavesPipe which (λ layout rules before after.
     FailsToTurnBy layout.paths rules.new_files.format before after error)
 
--- the pipe's files below a number were deleted, but for those that stay for use, and no others
+-- the pipe's files below a number were deleted, except for those kept for recycling, and no others
 abbrev pub PipePurgesBy : Which → ℕ → LogPipes → LogPipes → Type 0
 PipePurgesBy which seq = DoesToPipe which (λ layout rules before after.
     DropsBy (paths_going layout.paths rules.capacity seq before))
 
--- they weren't, or some first ones of them were
+-- they weren't, or only some first ones of them were
 abbrev pub PipeFailsToPurgeBy : Which → ℕ → Error → LogPipes → LogPipes → Type 0
 PipeFailsToPurgeBy which seq error = LeavesPipe which (λ layout rules before after.
     FailsToPurgeBy layout.paths rules.capacity seq before error)

@@ -1,4 +1,4 @@
--- The two pipes of a log as an engine sees them, and the log that they run over.
+-- The two pipes of a log as an engine sees them, and the log over which they run.
 use Rattle.std.specs.Prelude.{◌≡◌, ℕ, ◌<◌, Bool, false, ◌||◌, List, length}
 use Rattle.raft_log_model_laws.specs.Item.{Record}
 use Rattle.raft_log_disk.specs.Disk.{Disk}
@@ -18,8 +18,7 @@ use Rattle.raft_log_file_pair.specs.Queues.{QueueLayout, TwoQueues}
 use Rattle.raft_log_file_pair.specs.State.{LogOnDisk, Pipes, pipe_at, Run}
 use Rattle.raft_log_file_pair.specs.Own.{log_layout, log_queues}
 
--- one of a log's pipes: of which queue its files are and in which directories they lie, by which rules it
--- goes on, its files, and whether it has failed
+-- one of a log's pipes: its queue, the directories of its files, its settings, its files, and whether it has failed
 pub record OnePipe : Type 0 where
   pub queue : LogQueue
   pub directories : List (List ℕ)
@@ -27,7 +26,7 @@ pub record OnePipe : Type 0 where
   pub files : PipeFiles
   pub failed : Bool
 
--- how a pipe's files are written, and where they lie
+-- how a pipe's files are written, and where they are
 abbrev pub layout_of : OnePipe → QueueLayout LogRecord
 layout_of pipe = log_layout pipe.queue pipe.directories
 
@@ -42,7 +41,7 @@ abbrev pub one_at : Which → LogPipes → OnePipe
 one_at InAppend v = v.append
 one_at InRewrite v = v.rewrite
 
--- the directory that holds the log: the main one of Append's files
+-- the directory of the log: the main one of Append's files
 abbrev pub main_directory : LogPipes → List ℕ
 main_directory v = directory_at v.append.directories 0
 
@@ -64,30 +63,30 @@ files_of v = record { append = v.append.files; rewrite = v.rewrite.files }
 abbrev pub header_at : Which → LogPipes → List ℕ
 header_at which v = header_bytes (one_at which v).settings.new_files.format
 
--- the files of a queue that are kept for use
+-- the files of a queue that are kept for recycling
 abbrev pub spares_at : Which → LogPipes → List Listed
 spares_at which v = (pipe_at which (files_of v)).recycled.items
 
--- whether a call was refused that couldn't be mended
+-- whether a pipe has failed: a call failed, and its effects couldn't be undone
 abbrev pub is_failed : LogPipes → Bool
 is_failed v = v.append.failed || v.rewrite.failed
 
--- a fault is armed: the disk may have the place marked that it makes unreadable, and all else is as it was
+-- a fault is armed: the disk may have a place marked that the fault makes unreadable, and all else is unchanged
 pub record ArmsPipes (fault : Fault) (v w : LogPipes) : Type 0 where
   pub disk : Arms fault v.disk w.disk
   pub others : w ≡ record v { disk = w.disk }
 
--- what a record says, where an entry stands for its bytes and a key's value for its own
+-- what a record says; an entry is represented by its bytes, and a key's value by its own
 abbrev pub Said : Type 0
 Said = Record (List ℕ) (List ℕ)
 
--- how a log is read: what its records say, and in which directories the files of either queue lie
+-- how a log is read: what its records say, and the directories of each queue's files
 pub record LogSense : Type 0 where
   pub says : LogRecord → Said
   pub append : List (List ℕ)
   pub rewrite : List (List ℕ)
 
--- the queues of a log that is read so
+-- the queues of a log that is read like this
 abbrev pub queues : LogSense → TwoQueues LogRecord (List ℕ) (List ℕ)
 queues log = log_queues log.says log.append log.rewrite
 
@@ -95,7 +94,7 @@ queues log = log_queues log.says log.append log.rewrite
 abbrev pub State : Type 0
 State = LogOnDisk LogRecord
 
--- the pipe is that of the queue, in these directories (one at least), and it hasn't failed
+-- the pipe is that of the queue, in these directories (at least one), and hasn't failed
 pub record IsPipeOf (queue : LogQueue) (directories : List (List ℕ)) (pipe : OnePipe) : Type 0 where
   pub named : pipe.queue ≡ queue
   pub told : pipe.settings.queue ≡ queue

@@ -1,4 +1,4 @@
--- The two queues of a log: how the files of each are written, where they lie, and what their records say.
+-- The two queues of a log: how the files of each are written, where they are, and what their records say.
 use Rattle.std.specs.Prelude.{◌≡◌, ℕ, ◌<◌, List}
 use Rattle.raft_log_model_laws.specs.Item.{Record}
 use Rattle.raft_log_file_laws.specs.LogFormat.{Format, CanTellFormat}
@@ -10,24 +10,24 @@ use Rattle.raft_log_file_queue.specs.Layout.{FilePaths, IsLayout}
 use Rattle.raft_log_directory_laws.specs.Calls.{Which}
 use Rattle.raft_log_directory_laws.specs.Calls.Which.{InAppend, InRewrite}
 
--- how the files of a queue are written, which paths are its own, and under which each file lies
+-- how the files of a queue are written, which paths are its own, and the path of each file
 pub record QueueLayout (R : Type 0) : Type 1 where
   pub format : Format R
   pub own : List ℕ → Type 0
   pub paths : FilePaths
 
--- the layout is lawful, and of any bytes it can be told whether they begin with a header, or with a record
+-- the layout is lawful, and it is decidable whether bytes begin with a header, or with a record
 pub record IsQueueLayout {R : Type 0} (layout : QueueLayout R) : Type 0 where
   pub lawful : IsLayout layout.format layout.own layout.paths
   pub told : CanTellFormat layout.format
 
--- both queues of a log, and what a record of theirs says
+-- both queues of a log, and what a record in them says
 pub record TwoQueues (R E V : Type 0) : Type 1 where
   pub append : QueueLayout R
   pub rewrite : QueueLayout R
   pub says : R → Record E V
 
--- each has its layout, and no path is own to both
+-- each has its layout, and no path belongs to both
 pub record AreTwoQueues {R E V : Type 0} (log : TwoQueues R E V) : Type 0 where
   pub append : IsQueueLayout log.append
   pub rewrite : IsQueueLayout log.rewrite

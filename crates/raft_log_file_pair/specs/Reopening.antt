@@ -1,4 +1,4 @@
--- A log is found again behind a stop, and its pipes are opened: what becomes of its numbered files.
+-- A log is found again after a stop, and its pipes are opened: what this does to its numbered files.
 use Rattle.std.specs.Prelude.{◌≡◌, ℕ, ◌≤◌, ◌⊎◌, false, Some, None, List, [], ◌∷◌, ◌++◌, length, suc, take}
 use Rattle.raft_log_model_laws.specs.Item.{Record}
 use Rattle.raft_log_model_laws.specs.Groups.{Map, directory_meaning, taken}
@@ -29,31 +29,31 @@ use Rattle.raft_log_file_pair.specs.Beginning.{stopped_log}
 use Rattle.raft_log_file_pair.specs.Steps.{next_log}
 use Rattle.raft_log_file_pair.specs.Lying.{IsUnbegun, OpenPipes, none_open, with_open, RunOrLie}
 
--- Of one queue's numbered files some that had left the span are in it again, some first unsynced records are
+-- In one queue, some numbered files that had left the live range may be in it again. Some first unsynced records are
 -- kept, and all that was read is synced.
 abbrev pub ReadsAgain : {S E V : Type 0} → (S → Files E V → Type 0) → Which → S → S → Type 0
 ReadsAgain {S} {E} {V} ties which s t = (f : Files E V) → ties s f
     → (r : ReadAgain (queue_at which f))
     × ties t (put which f (from_at which f) (read_files (queue_at which f) r))
 
--- Of both queues some numbered files that had left the span are in it again, some first unsynced records are
+-- In both queues, some numbered files that had left the live range may be in it again. Some first unsynced records are
 -- kept, and all that was read is synced.
 abbrev pub ReadsBothAgain : {S E V : Type 0} → (S → Files E V → Type 0) → S → S → Type 0
 ReadsBothAgain {S} {E} {V} ties s t = (f : Files E V) → ties s f
     → (r : ReadAgain f.rewrite) × (a : ReadAgain f.append)
     × ties t (record f { rewrite = read_files f.rewrite r; append = read_files f.append a })
 
--- the queue's files lie on the disk as a stop left them, each of its span; or none was made yet
+-- the queue's files are on the disk as a stop left them, each of its live range; or none was created yet
 abbrev pub RestsQueue : {R : Type 0} → QueueLayout R → Spanned R → Disk → Type 0
 RestsQueue layout q d = (IsStopped layout q.files d × HasSpan layout.format q d) ⊎ IsUnbegun layout q d
 
--- the files of both queues lie on the disk as a stop left them, each of its span; or none was made yet
+-- the files of both queues are on the disk as a stop left them, each of its live range; or none was created yet
 pub record RestBoth {R E V : Type 0} (log : TwoQueues R E V) (s : LogOnDisk R) : Type 0 where
   pub append : RestsQueue log.append s.append s.disk
   pub rewrite : RestsQueue log.rewrite s.rewrite s.disk
 
--- However the queues of a log stand, a stop leaves them at rest, with some first unsynced records of each, as
--- if they had been read again; and in what a next crash leaves no checksum is met by chance.
+-- In any state of a log's queues, a stop without a CRC collision leaves them at rest, with some first unsynced records
+-- of each. It is as if they had been read again. What the next crash leaves of that has no CRC collision.
 abbrev pub CrashIsAStep : {R E V : Type 0} → TwoQueues R E V → Type 0
 CrashIsAStep {R} log = AreTwoQueues log → (o : OpenPipes) (s : LogOnDisk R) (image : Disk)
     → RunOrLie log o s → IsImage s.disk image
@@ -69,9 +69,9 @@ CrashIsAStep {R} log = AreTwoQueues log → (o : OpenPipes) (s : LogOnDisk R) (i
     → later.rewrite.first ≡ s.rewrite.first
     → IsLeftByCrash log (stopped_log s append rewrite image) later)
 
--- The files of a queue, as they were found: the last one, which its handle may write, was read up to the end
--- that is told; those before it are there, down to the first number below which no file has the next one; and
--- so are those that are kept for use.
+-- The files of a queue, as they were found. The last one, which its handle may write, was read up to `found.end`. The
+-- earlier ones exist, down to the first number below which no file follows. The files that are kept for recycling exist
+-- too.
 pub record AreFound {R : Type 0} (layout : QueueLayout R) (found : FoundFiles) (earlier : List Listed)
     (last : Listed) (number : ℕ) (d : Disk) : Type 0 where
   pub number_is : last.seq ≡ number
@@ -84,8 +84,7 @@ pub record AreFound {R : Type 0} (layout : QueueLayout R) (found : FoundFiles) (
   pub begins : (m : ℕ) → suc m ≡ first_number earlier last → IsAbsent layout.format m d
   pub spares : AllKept layout.format layout.paths (first_number earlier last) d found.recycled.items
 
--- What was found of a queue is what a stop left: all its files that no gap parts from the last one; or it has
--- none.
+-- What was found of a queue is what a stop left: all its files that no gap separates from the last one; or it has none.
 pub data IsFoundOf {R : Type 0} (layout : QueueLayout R) (found : FoundFiles) (q : Spanned R)
     (d : Disk) : Type 0 where
   stopped : (earlier : List Listed) (last : Listed) → found.files.items ≡ earlier ++ last ∷ []
@@ -94,11 +93,11 @@ pub data IsFoundOf {R : Type 0} (layout : QueueLayout R) (found : FoundFiles) (q
   unbegun : found.files.items ≡ [] → IsUnbegun layout q d
       → AllKept layout.format layout.paths 1 d found.recycled.items → IsFoundOf layout found q d
 
--- the log once the files of one queue were found again, its span beginning with this number
+-- the log after the files of one queue were found again; its live range begins with this number
 abbrev pub found_log : {R : Type 0} → Which → LogOnDisk R → ℕ → LogFiles R → Disk → LogOnDisk R
 found_log which s first files d = with_spanned which s (record { first = first; files = files }) d
 
--- What a refused open leaves, by its error: the disk as it was; or all that was read is there still, synced.
+-- What a failed open leaves, by its error: the disk unchanged; or all records that were read are still there, synced.
 abbrev pub LeavesUnopened : {R E V : Type 0} → TwoQueues R E V → Which → OpenPipes → LogOnDisk R → Error → Disk
     → Type 0
 LeavesUnopened log which o s errors.Memory new = new ≡ s.disk
@@ -108,8 +107,8 @@ LeavesUnopened {R} log which o s (errors.Io kind) new = (files : LogFiles R) × 
     × ReadsAgain (Ties log) which s (next_log which s files new)
 LeavesUnopened log which o s _ new = ⊥
 
--- The files that a pipe goes on with, where those were found: the finished ones, and behind a header of the
--- pipe's format the records of the last one, all synced.
+-- The files with which a pipe continues, if those were found: the finished ones, and after a header of the pipe's
+-- format the records of the last one, all synced.
 pub record GoesOnFound {R : Type 0} (files : PipeFiles) (was now : LogFiles R) : Type 0 where
   pub older : now.older ≡ was.older
   pub last : now.last ≡ was.last
@@ -117,8 +116,8 @@ pub record GoesOnFound {R : Type 0} (files : PipeFiles) (was now : LogFiles R) :
   pub durable : now.durable ≡ recent was
   pub pending : now.pending ≡ []
 
--- A pipe that is opened over what was found of its queue runs; nothing of it is unsynced, and the other queue
--- stands as it did. And what a refusal leaves.
+-- A pipe that is opened over what was found of its queue runs; nothing of it is unsynced, and the other queue's state
+-- is unchanged. And what a failed open leaves.
 pub record OpensBeside {R E V : Type 0} (log : TwoQueues R E V) (which : Which) (o : OpenPipes)
     (begin : NewFiles) (found : FoundFiles) (s : LogOnDisk R) : Type 0 where
   pub answered : (files : PipeFiles) (new : Disk)
@@ -132,16 +131,18 @@ pub record OpensBeside {R E V : Type 0} (log : TwoQueues R E V) (which : Which) 
       found error s.disk new
       → LeavesUnopened log which o s error new
 
--- a pipe is opened over what was found of its queue, or refused, however the other queue stands
+-- a pipe is opened over what was found of its queue, or fails to open, in any state of the other queue
 abbrev pub OpenIsAStep : {R E V : Type 0} → TwoQueues R E V → Type 0
 OpenIsAStep {R} log = AreTwoQueues log → (which : Which) (o : OpenPipes) (begin : NewFiles)
     (found : FoundFiles) (s : LogOnDisk R) → IsSound s.disk → RunOrLie log (with_open which o None) s
     → IsFoundOf (layout_at which log) found (spanned_at which s) s.disk
     → OpensBeside log which o begin found s
 
--- What is said of a log goes on where it is found again. Queue after queue, both are; one of which nothing is
--- unsynced counts as read as it stands. Then the map is the one after some first pending batches, and none is
--- pending; and a view that is made of what was read is true of it.
+-- What holds for a log still holds after it is found again.
+-- - `append_first`, `rewrite_first`: both queues are read again, one after the other.
+-- - `still`: a queue without unsynced records counts as read again.
+-- - `log_of`: the map is the one after some first pending batches, and none is pending.
+-- - `replays`: a view that is made from what was read is true of the log.
 pub record FoundLogIsALog {R E V : Type 0} (log : TwoQueues R E V) : Type 0 where
   pub append_first : (s mid t : LogOnDisk R) → ReadsAgain (Ties log) InAppend s mid
       → ReadsAgain (Ties log) InRewrite mid t → ReadsBothAgain (Ties log) s t

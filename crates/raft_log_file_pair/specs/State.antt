@@ -1,5 +1,5 @@
--- A log on a disk: its two queues, the pipes that have their files open, and the numbered files that these
--- are.
+-- A log on a disk: its two queues, the pipes that have their files open, and the numbered files that correspond to
+-- them.
 use Rattle.std.specs.Prelude.{◌≡◌, ℕ, ◌<◌, ◌≤◌, ◌⊎◌, List}
 use Rattle.raft_log_disk.specs.Disk.{Disk}
 use Rattle.raft_log_file_laws.specs.LogFormat.{Format}
@@ -14,7 +14,7 @@ use Rattle.raft_log_directory_laws.specs.Calls.{Which}
 use Rattle.raft_log_directory_laws.specs.Calls.Which.{InAppend, InRewrite}
 use Rattle.raft_log_file_pair.specs.Queues.{QueueLayout, TwoQueues}
 
--- a queue on a disk: the number of its span's first file, and its files with their records
+-- a queue on a disk: the number of its live range's first file, and its files with their records
 pub record Spanned (R : Type 0) : Type 0 where
   pub first : ℕ
   pub files : LogFiles R
@@ -50,7 +50,7 @@ abbrev pub with_pipe : Which → Pipes → PipeFiles → Pipes
 with_pipe InAppend p files = record { append = files; rewrite = p.rewrite }
 with_pipe InRewrite p files = record { append = p.append; rewrite = files }
 
--- the pipe's files are the queue's, on this disk, and its span begins where the queue's does
+-- the pipe's files are the queue's, on this disk, and its live range begins where the queue's does
 pub record RunsQueue {R : Type 0} (layout : QueueLayout R) (files : PipeFiles) (q : Spanned R)
     (d : Disk) : Type 0 where
   pub first : files.first_seq ≡ q.first
@@ -68,20 +68,20 @@ pub record IsStopped {R : Type 0} (layout : QueueLayout R) (q : LogFiles R) (d :
   pub N : Names
   pub stands : Stands layout.format layout.own d q path id (IsLeftover layout.format q) N d
 
--- the records of the queue are held: by a pipe, also by one that has failed, or as a stop left them
+-- the queue's records are held: by a pipe, even one that has failed, or as a stop left them
 abbrev pub HoldsQueue : {R : Type 0} → QueueLayout R → LogFiles R → Disk → Type 0
 HoldsQueue layout q d = StandsWithRecords layout.format layout.own d q d ⊎ IsStopped layout q d
 
--- the records of both queues are held, each by a pipe, also by one that has failed, or as a stop left them
+-- the records of both queues are held, each by a pipe, even one that has failed, or as a stop left them
 pub record HoldsBoth {R E V : Type 0} (log : TwoQueues R E V) (s : LogOnDisk R) : Type 0 where
   pub append : HoldsQueue log.append s.append.files s.disk
   pub rewrite : HoldsQueue log.rewrite s.rewrite.files s.disk
 
--- each number from the first on, below the other, has a file
+-- each number from `first` on, below `end`, has a file
 abbrev pub AreThere : {R : Type 0} → Format R → ℕ → ℕ → Disk → Type 0
 AreThere F first end d = (m : ℕ) → first ≤ m → m < end → IsThere F m d
 
--- each number of the queue's span has one (that the last one has, its records say)
+-- each number of the queue's live range has a file; the last one has one because its records are held
 abbrev pub HasSpan : {R : Type 0} → Format R → Spanned R → Disk → Type 0
 HasSpan F q d = AreThere F q.first q.files.last d
 

@@ -1,4 +1,4 @@
--- Each call of a pipe, told by the numbered files of the log that it leaves.
+-- Each call of a pipe, described by the numbered files of the log that it leaves.
 use Rattle.std.specs.Prelude.{◌≡◌, ℕ, ◌⊎◌, List}
 use Rattle.raft_log_model_laws.specs.Item.{Record}
 use Rattle.raft_log_disk.specs.Disk.{Disk}
@@ -22,23 +22,23 @@ use Rattle.raft_log_file_pair.specs.State.{Spanned, LogOnDisk, spanned_at, with_
 use Rattle.raft_log_file_pair.specs.Turning.{IsOrGoesOn, HasLast, HasTaken, IsCutBack, in_span}
 use Rattle.raft_log_file_pair.specs.Crash.{AllowsIn}
 
--- A call on another queue's paths leaves this one: its pipe runs on, or what it held is held.
+-- A call on another queue's paths leaves this queue unchanged: its pipe still runs, or the records that it held are
+-- held.
 pub record StaysAside {R : Type 0} (layout : QueueLayout R) (theirs : List ℕ → Type 0)
     (old new : Disk) : Type 0 where
   pub runs : (files : PipeFiles) (q : Spanned R) → RunsQueue layout files q old → RunsQueue layout files q new
   pub holds : (q : Spanned R) → HoldsQueue layout q.files old → HoldsQueue layout q.files new
 
--- a queue stays as it was in a call that touches only names of which none is a path of its own
+-- a queue is unchanged by a call that touches only names of which none is a path of its own
 abbrev pub OtherQueueStays : {R : Type 0} → QueueLayout R → (List ℕ → Type 0) → Type 0
 OtherQueueStays layout theirs = IsQueueLayout layout → ((path : List ℕ) → layout.own path → theirs path → ⊥)
     → (old new : Disk) → TouchesOnlyNames theirs old new → StaysAside layout theirs old new
 
--- the log once a call on one queue left it these files, its span beginning where it began
+-- the log after a call on one queue left it these files; its live range begins where it began
 abbrev pub next_log : {R : Type 0} → Which → LogOnDisk R → LogFiles R → Disk → LogOnDisk R
 next_log which s files d = with_spanned which s (in_span (spanned_at which s) files) d
 
--- A record that is written: both pipes run on, and the numbered files take it, in the file that its place
--- names.
+-- A record is written: both pipes still run, and the numbered files get the record, in the file of its location.
 abbrev pub AppendIsAStep : {R E V : Type 0} → TwoQueues R E V → Type 0
 AppendIsAStep {R} {E} {V} log = AreTwoQueues log → (which : Which) (p : Pipes) (s : LogOnDisk R)
     → Run log p s → (begin : NewFiles) (queue : LogQueue) (signed : LogFileContext → List ℕ) (y : Record E V)
@@ -54,7 +54,7 @@ AppendIsAStep {R} {E} {V} log = AreTwoQueues log → (which : Which) (p : Pipes)
     × Run log (with_pipe which p after) (next_log which s files new)
     × Appends (Ties log) which y block.id.seq s (next_log which s files new)
 
--- the record was cut back: both pipes run on, and all that was written before is synced
+-- the record's write failed and was truncated away: both pipes still run, and all that was written before is synced
 abbrev pub LeavesCutBack : {R E V : Type 0} → TwoQueues R E V → Which → Pipes → LogOnDisk R → List ℕ
     → PipeFiles → Disk → Type 0
 LeavesCutBack {R} log which p s header after new = (files : LogFiles R)
@@ -62,7 +62,7 @@ LeavesCutBack {R} log which p s header after new = (files : LogFiles R)
     × Run log (with_pipe which p after) (next_log which s files new)
     × CutsBack (Ties log) which s (next_log which s files new)
 
--- the record was left out: both pipes run on, and no record was added
+-- no record was added: both pipes still run
 abbrev pub LeavesWithout : {R E V : Type 0} → TwoQueues R E V → Which → Pipes → LogOnDisk R → List ℕ
     → PipeFiles → Disk → Type 0
 LeavesWithout {R} log which p s header after new = (files : LogFiles R)
@@ -81,7 +81,7 @@ LeavesFailed {R} log which p s header y new = (files : LogFiles R)
     × HoldsBoth log (next_log which s files new)
     × MayAppend (Ties log) (AllowsIn log) which y s (next_log which s files new)
 
--- what a refused record leaves, by its error
+-- what a failed append leaves, by its error
 abbrev pub NotAppended : {R E V : Type 0} → TwoQueues R E V → Which → Pipes → LogOnDisk R → List ℕ
     → Record E V → PipeFiles → Error → Disk → Type 0
 NotAppended log which p s header y after (errors.Io kind) new = LeavesCutBack log which p s header after new
@@ -93,7 +93,7 @@ NotAppended log which p s header y after errors.Memory new = LeavesWithout log w
 NotAppended log which p s header y after errors.Failed new = LeavesFailed log which p s header y new
 NotAppended log which p s header y after _ new = ⊥
 
--- a record that a pipe refuses leaves what its error says
+-- a failed append leaves what its error says
 abbrev pub RefusedAppendIsAStep : {R E V : Type 0} → TwoQueues R E V → Type 0
 RefusedAppendIsAStep {R} {E} {V} log = AreTwoQueues log → (which : Which) (p : Pipes) (s : LogOnDisk R)
     → Run log p s → (begin : NewFiles) (queue : LogQueue) (signed : LogFileContext → List ℕ) (y : Record E V)
@@ -104,14 +104,14 @@ RefusedAppendIsAStep {R} {E} {V} log = AreTwoQueues log → (which : Which) (p :
     → after.first_seq ≡ (pipe_at which p).first_seq
     → NotAppended log which p s (header_bytes begin.format) y after error new
 
--- the errors of a refused record, or rotation, that tell of a file call that was refused
+-- the errors of a failed append or rotation that report a failed file call
 abbrev pub TellsOfCall : Error → Type 0
 TellsOfCall (errors.Io kind) = Unit {0}
 TellsOfCall (errors.TryAgain text) = Unit {0}
 TellsOfCall errors.Failed = Unit {0}
 TellsOfCall _ = ⊥
 
--- behind such an error of a record a file call has failed
+-- if an append fails with such an error, a file call has failed
 abbrev pub RefusedAppendHasFailed : {R E V : Type 0} → TwoQueues R E V → Type 0
 RefusedAppendHasFailed {R} {E} {V} log = AreTwoQueues log → (which : Which) (p : Pipes) (s : LogOnDisk R)
     → Run log p s → (begin : NewFiles) (queue : LogQueue) (signed : LogFileContext → List ℕ) (y : Record E V)
@@ -121,7 +121,7 @@ RefusedAppendHasFailed {R} {E} {V} log = AreTwoQueues log → (which : Which) (p
     queue signed (pipe_at which p) after error s.disk new
     → TellsOfCall error → Fails s.disk new
 
--- where the error of a refused rotation tells of a file call, one has failed
+-- if a rotation fails with such an error, a file call has failed
 abbrev pub RefusedRotationHasFailed : {R E V : Type 0} → TwoQueues R E V → Type 0
 RefusedRotationHasFailed {R} log = AreTwoQueues log → (which : Which) (p : Pipes) (s : LogOnDisk R)
     → Run log p s → (header : List ℕ) (after : PipeFiles) (error : Error) (new : Disk)

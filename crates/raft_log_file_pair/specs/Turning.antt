@@ -1,4 +1,4 @@
--- How the files of a queue go on, by the calls of its pipe.
+-- How the files of a queue continue through the calls of its pipe.
 use Rattle.std.specs.Prelude.{◌≡◌, ℕ, ◌⊎◌, List, [], ◌∷◌, ◌++◌, length}
 use Rattle.raft_log_disk.specs.Disk.{Disk}
 use Rattle.raft_log_file_laws.specs.Chains.{Written, spelled}
@@ -10,22 +10,22 @@ use Rattle.raft_log_file_pipe.specs.Files.{Listed}
 use Rattle.raft_log_file_pipe.specs.Exits.{IsStaleOfNext}
 use Rattle.raft_log_file_pair.specs.State.{Spanned}
 
--- a next file with this header, over what the oldest of the files kept for use holds on that disk (and maybe
--- over room that was made)
+-- a next file with this header, over the content of the oldest file kept for recycling on that disk; zeros may be
+-- preallocated
 abbrev pub GoesOnInNext : {R : Type 0} → List ℕ → List Listed → Disk → LogFiles R → LogFiles R → Type 0
 GoesOnInNext header kept d q p = (room : ℕ) × (stale : List ℕ) × IsStaleOfNext kept d stale
     × (p ≡ with_room room (rotated header stale q))
 
--- the queue as it was, or in its next file
+-- the queue unchanged, or in its next file
 abbrev pub IsOrGoesOn : {R : Type 0} → List ℕ → List Listed → Disk → LogFiles R → LogFiles R → Type 0
 IsOrGoesOn header kept d q p = (p ≡ q) ⊎ GoesOnInNext header kept d q p
 
--- a record was written, maybe in the next file
+-- a record was written, possibly in the next file
 abbrev pub HasTaken : {R : Type 0} → List ℕ → List Listed → Disk → LogFiles R → LogFiles R → Type 0
 HasTaken {R} header kept d q r = (p : LogFiles R) × IsOrGoesOn header kept d q p × (room : ℕ)
     × (w : Written R) × (r ≡ with_more (w ∷ []) (with_room room p))
 
--- the record is the last one of the queue's last file, signed for some file, and lies at this place of it
+-- the record is the last one of the queue's last file, signed for some file, and is at this location
 pub record HasLast {R : Type 0} (signed : LogFileContext → List ℕ) (said : R) (block : FileBlockHandle)
     (q : LogFiles R) : Type 0 where
   pub context : LogFileContext
@@ -38,12 +38,12 @@ pub record HasLast {R : Type 0} (signed : LogFileContext → List ℕ) (said : R
   pub offset : block.offset ≡ length (q.header ++ spelled front)
   pub len : block.len ≡ length last.bytes
 
--- a record was refused, maybe in the next file, and cut off again: all is synced, and maybe the queue went on
--- once more
+-- a record's write failed, possibly in the next file, and was truncated away: all is synced, and the queue may have
+-- rotated once more
 abbrev pub IsCutBack : {R : Type 0} → List ℕ → List Listed → Disk → LogFiles R → LogFiles R → Type 0
 IsCutBack {R} header kept d q r = (p : LogFiles R) × IsOrGoesOn header kept d q p
     × (later : List Listed) × (between : Disk) × IsOrGoesOn header later between (settled p) r
 
--- the queue with other files, in a span that begins where it began
+-- the queue with other files, in a live range that begins where it began
 abbrev pub in_span : {R : Type 0} → Spanned R → LogFiles R → Spanned R
 in_span q files = record { first = q.first; files = files }

@@ -1,5 +1,5 @@
--- What an engine says of its log, over the disk, once a batch was written: the steps above, put together with
--- what stands in its tables.
+-- What an engine's contracts say of its log on the disk, after a batch was written: the steps above, combined with the
+-- contents of its tables.
 use Rattle.std.specs.Prelude.{◌≡◌, ℕ, List, [], ◌∷◌, ◌++◌}
 use Rattle.raft_log_model_laws.specs.Item.{Record}
 use Rattle.raft_log_model_laws.specs.Groups.{Map, taken}
@@ -16,7 +16,7 @@ use Rattle.raft_log_directory_laws.specs.Tables.{GrowsTo}
 use Rattle.raft_log_file_pair.specs.Queues.{TwoQueues, AreTwoQueues, SaysRecord}
 use Rattle.raft_log_file_pair.specs.State.{LogOnDisk, Pipes, with_pipe, Run, Ties}
 
--- On this disk the pipes run over some log, and the view is true of its numbered files.
+-- The pipes run over some log on this disk, and the view is true of its numbered files.
 pub record IsAtOn {R E V : Type 0} (log : TwoQueues R E V) (p : Pipes) (d : Disk) (v : View E V) (m : Map E V)
     (pending : List (Record E V)) : Type 0 where
   pub state : LogOnDisk R
@@ -24,7 +24,7 @@ pub record IsAtOn {R E V : Type 0} (log : TwoQueues R E V) (p : Pipes) (d : Disk
   pub run : Run log p state
   pub at : IsAt (Ties log state) v m pending
 
--- of the batches some first ones are synced, the others pending
+-- some first batches are synced, and the others are pending
 pub record EndsOn {R E V : Type 0} (log : TwoQueues R E V) (p : Pipes) (d : Disk) (v : View E V) (m : Map E V)
     (pending : List (Record E V)) : Type 0 where
   pub done : List (Record E V)
@@ -32,7 +32,7 @@ pub record EndsOn {R E V : Type 0} (log : TwoQueues R E V) (p : Pipes) (d : Disk
   pub splits : done ++ rest ≡ pending
   pub at : IsAtOn log p d v (taken m done) rest
 
--- a batch that was written to Append is pending behind the others
+-- a batch that was written to Append is pending, after the others
 abbrev pub WrittenIsPending : {R E V : Type 0} → TwoQueues R E V → Type 0
 WrittenIsPending {R} {E} {V} log = AreTwoQueues log → (p : Pipes) (old new : Disk) (v u : View E V)
     (m : Map E V) (pending : List (Record E V)) → IsAtOn log p old v m pending

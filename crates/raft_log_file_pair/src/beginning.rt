@@ -4,12 +4,12 @@ ghost use Rattle.raft_log_file_pair.specs.Beginning.{BegunLogIsEmpty, NoFilesAre
 
 use crate::queues::LogQueues;
 
-/// Two queues that have begun are the numbered files in which nothing was written.
+/// Two queues that have begun correspond to the numbered files in which nothing was written.
 pub fn begun_log_is_empty<G: LogQueues>()
     ensures { (log : G) → BegunLogIsEmpty (G.queues log) }
 {}
 
-/// A disk without log files is the log of nothing.
+/// A disk without log files is the empty log.
 pub fn no_files_are_nothing<G: LogQueues>()
     ensures { (log : G) → NoFilesAreNothing (G.queues log) }
 {}

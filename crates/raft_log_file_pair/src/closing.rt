@@ -1,26 +1,27 @@
-//! The pipes of a log are closed.
+//! Closing the pipes of a log.
 
 ghost use Rattle.raft_log_file_pair.specs.Closing.{ClosedLogIsALog, CloseIsAStep, NamesAreReserved, SettledLogIsALog};
 
 use crate::queues::LogQueues;
 
-/// A pipe that is closed leaves what was there, maybe all of it synced, whatever was refused; and the other
-/// queue stands as it did.
+/// Closing a pipe keeps its records, all of which may be synced, even if calls fail. The other queue's state is
+/// unchanged.
 pub fn close_is_a_step<G: LogQueues>()
     ensures { (log : G) → CloseIsAStep (G.queues log) }
 {}
 
-/// That files kept for use get reserved names takes nothing from the log.
+/// Giving reserved names to files kept for recycling removes nothing from the log.
 pub fn names_are_reserved<G: LogQueues>()
     ensures { (log : G) → NamesAreReserved (G.queues log) }
 {}
 
-/// Both pipes are closed, the last files first: what an engine said of its log is true of what lies there.
+/// If both pipes are closed, the active files first, what an engine's contracts stated of its log is true of what is on
+/// the disk.
 pub fn closed_log_is_a_log<G: LogQueues>()
     ensures { (log : G) → ClosedLogIsALog (G.queues log) }
 {}
 
-/// Both pipes are closed and both last files were cut and synced: all that an engine wrote is durable.
+/// If both pipes are closed and both active files were truncated and synced, all that an engine wrote is durable.
 pub fn settled_log_is_a_log<G: LogQueues>()
     ensures { (log : G) → SettledLogIsALog (G.queues log) }
 {}

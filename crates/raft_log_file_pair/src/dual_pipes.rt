@@ -40,7 +40,7 @@ impl<F: FileSystem> DualPipes<F> {
         }
     }
 
-    /// The directory that holds the log: the main one of Append's files.
+    /// The directory of the log: the main one of Append's files.
     pub fn path(&self) -> &str
         ensures { result.now ≡ main_directory (⟦<DualPipes<F> as PipeLog>⟧.shown self.now) }
     {
@@ -189,10 +189,10 @@ impl<F: FileSystem> PipeLog for DualPipes<F> {
         }
     }
 
-    /// Nobody listens.
+    /// There is no listener.
     fn post_apply_memtables(&mut self, _file_id: FileId) {}
 
-    /// Nobody listens.
+    /// There is no listener.
     fn first_file_not_ready_for_purge(&self, _queue: LogQueue) -> Option<FileSeq> {
         None
     }

@@ -4,8 +4,8 @@ ghost use Rattle.raft_log_file_pair.specs.Failing.{FailedPipesLeaveLogs};
 
 use crate::queues::LogQueues;
 
-/// Where a pipe fails, at a sync, a rotation or a batch, the log lies on the disk, with or without the batch;
-/// so a crash and an open find it.
+/// After a pipe fails, at a sync, a rotation or a batch, the log is on the disk, with or without the batch; so a crash
+/// and an open find it.
 pub fn failed_pipes_leave_logs<G: LogQueues>()
     ensures { (log : G) → FailedPipesLeaveLogs (G.queues log) }
 {}

@@ -1,7 +1,7 @@
-//! The two pipes of a log over one file system, told to an engine by the steps of its log alone: it never speaks
-//! of files, names or offsets. What each call of a pipe makes of the two queues on one disk, told by the numbered
-//! files of the log's machine, are the laws below it: all public functions but those of `DualPipes` and
-//! `PipeLog`, which do nothing, and whose contracts are what is proved.
+//! The two pipes of a log over one file system. For an engine, their contracts describe only the steps of its log,
+//! without files, names or offsets. The laws below them state what each pipe call does to the two queues on one disk,
+//! in terms of the machine's numbered files. All public functions except those of `DualPipes` and `PipeLog` are such
+//! laws: they do nothing, and their contracts are what is proved.
 #![tactic(auto)]
 
 pub mod appending;

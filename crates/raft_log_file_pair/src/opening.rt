@@ -1,4 +1,4 @@
-//! The pipes of a log are opened, over what was found of its queues.
+//! Opens the pipes of a log, over what was found of its queues.
 
 ghost use Rattle.std.specs.Prelude.{IfErr, IfOk};
 ghost use Rattle.raft_log_disk.specs.Causes.{IsLater};
@@ -13,32 +13,31 @@ use raft_log_file_pipe::{FoundFiles, PipeSettings, SinglePipe};
 use raft_log_record_base::Error;
 use std::alloc::Global;
 
-/// A queue of a log as it was found: where its files lie, how its pipe is to write them, and which ones are
-/// there.
+/// A queue of a log as it was found: where its files are, how its pipe should write them, and which files exist.
 #[derive(Drop)]
 pub struct FoundPipe {
-    /// Where the queue's files lie.
+    /// Where the queue's files are.
     pub layout: LogLayout,
     /// How the queue's files are to be written.
     pub settings: PipeSettings,
-    /// Which files are there.
+    /// Which files exist.
     pub found: FoundFiles,
 }
 
 /// Why a log wasn't opened, and its file system.
 #[derive(Drop)]
 pub struct OpenRefused<F> {
-    /// Why.
+    /// The error.
     pub error: Error,
-    /// The file system, which is handed back.
+    /// The file system, which is returned.
     pub file_system: F,
 }
 
 impl<F: FileSystem> DualPipes<F> {
-    /// Opens both pipes, that of Append first, over what was found of the log's queues.
+    /// Opens both pipes, Append's first, over what was found of the log's queues.
     ///
-    /// Refused as either pipe is, with that pipe's error, the file system is handed back: the log lies there as
-    /// it was, or all that was read of it is synced.
+    /// If opening a pipe fails, returns that pipe's error with the file system: the log is there unchanged, or all that
+    /// was read of it is synced.
     pub fn open<L: Log>(
         alloc: Global,
         rt: &L,

@@ -11,10 +11,10 @@ use raft_log_file_pipe::ReactiveBytes;
 use raft_log_record_base::{FileBlockHandle, FileId, FileSeq, LogQueue, Result};
 use std::alloc::Global;
 
-/// A log's two queues of files. Each clause speaks of whatever log the pipes run over.
+/// A log's two queues of files. Each clause holds for any log over which the pipes run.
 ///
-/// Once a call was refused as `Failed`, every later call that would change something is, and changes nothing,
-/// whichever queue it is on.
+/// After a call returned `Failed`, every later call on either queue that would change something returns it too, and
+/// changes nothing.
 pub trait PipeLog {
     ghost use Rattle.raft_log_file_pair.specs.State.{pipe_at};
     ghost use Rattle.raft_log_file_pipe.specs.Reading.{IsReadAt, IsReadRefused};
@@ -31,10 +31,10 @@ pub trait PipeLog {
     ghost use Rattle.raft_log_file_pair.specs.Calls.{AppendsTo, ArmsNoPipes, FailsToAppendTo, FailsToPurgeQueue, FailsToRotateQueue, FailsToSyncQueue, IsSpanOf, PurgesQueue, RotatesQueue, StaysFailed, SyncsQueue, TellsFailure, seq_at, size_at};
     ghost use Rattle.raft_log_file_pair.specs.PipeCalls.{KeepRules, PipeAppends, PipeAppendsBy, PipeFailsToAppend, PipeFailsToAppendBy, PipeFailsToPurge, PipeFailsToPurgeBy, PipeFailsToRotate, PipeFailsToRotateBy, PipeFailsToSync, PipeFailsToSyncBy, PipePurges, PipePurgesBy, PipeRotates, PipeRotatesBy, PipeSyncs, PipeSyncsBy};
 
-    /// The file system that the files are in, which a close gives back.
+    /// The file system of the files, which a close returns.
     type Files;
 
-    /// Whoever listens.
+    /// The listener.
     type Listener;
 
     /// The pipes, and their disk.
@@ -43,22 +43,22 @@ pub trait PipeLog {
     /// The file system.
     ghost files: { Self → Self.Files };
 
-    /// The disk of the file system that a close gives back.
+    /// The disk of the file system that a close returns.
     ghost disk_of: { Self.Files → Disk };
 
-    /// What arming a fault makes of that file system, beside its disk.
+    /// The effect of arming a fault on that file system, apart from its disk.
     ghost arms_files: { Fault → Self.Files → Self.Files → Type 0 };
 
-    /// What whoever listens holds back of a queue: nothing, or the files from a number on.
+    /// What the listener pins of a queue: nothing, or the files from a number on.
     ghost holds_back: { Self → LogQueue → Option ℕ → Type 0 };
 
-    /// Whoever listens.
+    /// The listener.
     ghost listener: { Self → Self.Listener };
 
-    /// What each thing that is told makes of whoever listens.
+    /// The effect of each event on the listener.
     ghost hears: { Told → Self.Listener → Self.Listener → Type 0 };
 
-    /// Whether a call was refused that couldn't be mended.
+    /// Whether a pipe has failed: a call failed, and its effects couldn't be undone.
     fn is_failed(&self) -> bool
         ensures { result ≡ is_failed (shown self.now) };
 
@@ -70,10 +70,10 @@ pub trait PipeLog {
     fn has_stopped(&self) -> bool
         ensures { result ≡ (shown self.now).disk.stopped };
 
-    /// Arms a fault of the file system: it alters which later calls are refused, and nothing else; a place
-    /// that it makes unreadable is marked on the disk.
+    /// Arms a fault of the file system. It changes which later calls fail, and nothing else; if it makes a place
+    /// unreadable, that is marked on the disk.
     ///
-    /// `Io` where it isn't armed: the file system had stopped, or memory ran out.
+    /// Fails with `Io` if the file system had stopped, or if memory ran out.
     fn arm(&mut self, fault: &Fault) -> Result<()>
         ensures ok { OnOk result (ArmsPipes fault.now (shown self.old) (shown self.new)) }
         ensures armed { OnOk result (arms_files fault.now (files self.old) (files self.new)) }
@@ -87,43 +87,44 @@ pub trait PipeLog {
         ensures last { result.1 ≡ (pipe_at (which_of queue) (files_of (shown self.now))).active.seq }
         ensures span { IsSpanOf (which_of queue) (shown self.now) result.0 result.1 };
 
-    /// The number of the file at a fraction of a queue's span, counted from its first file on and rounded
-    /// down: the one behind the last for the whole.
+    /// The number of the file at a fraction of a queue's live range, counted from its first file and rounded down. For
+    /// the whole range, the number after the last one.
     fn file_at(&self, queue: LogQueue, num: u32, den: u32) -> FileSeq
         requires fraction { num ≤ den }
         requires whole { 0 < den }
         ensures { result ≡ seq_at (which_of queue) (shown self.now) num den };
 
-    /// The size of all files of a queue's span in bytes, where each counts as long as it is to be; at most
-    /// the greatest number that there is.
+    /// The total size of a queue's live range in bytes, where each file counts as the target size; at most 2^64 - 1.
     fn total_size(&self, queue: LogQueue) -> usize
         ensures { result ≡ size_at (which_of queue) (shown self.now) };
 
-    /// The bytes at a place, fewer where its file ends before. `Corruption` where its file isn't of the
-    /// queue's span.
+    /// The bytes at a location; fewer if its file ends first. Fails with `Corruption` if its file isn't in the queue's
+    /// live range.
     fn read_bytes(&self, alloc: Global, block: FileBlockHandle) -> Result<Vec<u8>>
         ensures ok { IfOk result (λ bytes. IsReadAt (pipe_at (which_of block.id.queue)
             (files_of (shown self.now))) block bytes.items (shown self.now).disk) }
         ensures err { IfErr result (IsReadRefused (pipe_at (which_of block.id.queue)
             (files_of (shown self.now))) block (shown self.now).disk) };
 
-    /// The bytes at a place come in the stead of those that the list has, fewer where its file ends before.
-    /// `Corruption` where its file isn't of the queue's span. A refusal leaves any bytes.
+    /// Replaces the contents of `bytes` with the bytes at a location; fewer if its file ends first. Fails with
+    /// `Corruption` if its file isn't in the queue's live range. If it fails, `bytes` may hold anything.
     fn read_over(&self, alloc: Global, block: FileBlockHandle, bytes: &mut Vec<u8>) -> Result<()>
         ensures ok { OnOk result (IsReadAt (pipe_at (which_of block.id.queue)
             (files_of (shown self.now))) block bytes.new.items (shown self.now).disk) }
         ensures err { IfErr result (IsReadRefused (pipe_at (which_of block.id.queue)
             (files_of (shown self.now))) block (shown self.now).disk) };
 
-    /// Writes a record behind the others of a queue, and answers its place. It is signed for the file that it
-    /// goes into, which is the next one where the last one is as long as it is to be.
+    /// Appends a record to a queue, and returns its location. The record is signed for the file that it goes into,
+    /// which is the next one if the active file has reached the target size.
     ///
-    /// `Io`: the write was refused and cut off, and all before it is durable. `TryAgain`: the same for want
-    /// of space, and the queue went on in its next file. `Memory`, `NumberRange`: there is no next file, and
-    /// nothing is lost; the numbers that a file's name can have have run out. `Failed`: the pipes have failed.
+    /// - `Io`: the write failed and was truncated away, and all before it is durable.
+    /// - `TryAgain`: the same for lack of space, and the queue rotated.
+    /// - `Memory`, `NumberRange`: the queue couldn't rotate, and nothing is lost. `NumberRange` means that the numbers
+    ///   that a file's name can have have run out.
+    /// - `Failed`: the pipes have failed.
     ///
-    /// Whoever listens is told of each file that the queue went on in, and then, if it is written, of the record
-    /// at its place.
+    /// The listener hears of each file into which the queue rotated, and then, if the record is written, of the record
+    /// at its location.
     fn append<L: Log, B: ReactiveBytes>(
         &mut self,
         alloc: Global,
@@ -164,7 +165,7 @@ pub trait PipeLog {
         ensures fails { TellsFailure result (shown self.new) }
         ensures later { IsLater (shown self.old).disk (shown self.new).disk };
 
-    /// Makes all records of a queue durable. Refused, it is `Failed`.
+    /// Makes all records of a queue durable. If it fails, returns `Failed`.
     fn sync<L: Log>(&mut self, rt: &L, queue: LogQueue) -> Result<()>
         ensures ok { OnOk result (SyncsQueue (which_of queue) (shown self.old) (shown self.new)) }
         ensures err { OnErr result (FailsToSyncQueue (which_of queue) (shown self.old) (shown self.new)) }
@@ -179,11 +180,12 @@ pub trait PipeLog {
         ensures fails { TellsFailure result (shown self.new) }
         ensures later { IsLater (shown self.old).disk (shown self.new).disk };
 
-    /// A queue goes on in its next file: the oldest of those that are kept for use, or a new one where there
-    /// is none.
+    /// Rotates a queue into its next file: the oldest of those that are kept for recycling, or a new one if there is
+    /// none.
     ///
-    /// Refused for want of memory, or of a number (`NumberRange`: the last file has the last one), nothing is
-    /// done. `Failed` where a file call was refused.
+    /// - `Memory`: nothing was done.
+    /// - `NumberRange`: the active file has the last number, and nothing was done.
+    /// - `Failed`: a file call failed.
     fn rotate<L: Log>(&mut self, alloc: Global, rt: &L, queue: LogQueue) -> Result<()>
         ensures ok { OnOk result (RotatesQueue (which_of queue) (shown self.old) (shown self.new)) }
         ensures err { IfErr result (λ error. FailsToRotateQueue (which_of queue) error
@@ -202,11 +204,11 @@ pub trait PipeLog {
         ensures fails { TellsFailure result (shown self.new) }
         ensures later { IsLater (shown self.old).disk (shown self.new).disk };
 
-    /// The files of a queue below this one leave its span; the answer is how many.
+    /// Removes the files of a queue below this one from its live range, and returns how many.
     ///
-    /// `Other` where the number is none of the span's, `Memory`: nothing is done. `NumberRange`: the
-    /// same, where a file has a number that no name has, which none of a log's has. `Failed`: a file wasn't
-    /// deleted.
+    /// - `Other` (the number isn't in the live range), `Memory`: nothing was done.
+    /// - `NumberRange`: the same, as a file has a number that no name has; no log has such a file.
+    /// - `Failed`: a file wasn't deleted.
     fn purge_to<L: Log>(&mut self, alloc: Global, rt: &L, file_id: FileId) -> Result<usize>
         ensures ok { OnOk result (PurgesQueue (which_of file_id.queue) file_id.seq
             (shown self.old) (shown self.new)) }
@@ -234,23 +236,25 @@ pub trait PipeLog {
         ensures fails { TellsFailure result (shown self.new) }
         ensures later { IsLater (shown self.old).disk (shown self.new).disk };
 
-    /// What the last record of this file says is in the tables: whoever listens is told, and nothing changes.
+    /// The last record of this file was applied to the tables: the listener hears of it, and nothing changes.
     fn post_apply_memtables(&mut self, file_id: FileId)
         ensures shown { shown self.new ≡ shown self.old }
         ensures files { files self.new ≡ files self.old }
         ensures told { Hears hears (RecordApplied file_id ∷ []) (listener self.old) (listener self.new) };
 
-    /// The number of the first file of a queue that must not be purged yet, if there is one, as whoever listens
-    /// has it.
+    /// The number of the first file of a queue that the listener pins, if there is one; it must not be purged yet.
     fn first_file_not_ready_for_purge(&self, queue: LogQueue) -> Option<FileSeq>
         ensures { holds_back self.now queue result };
 
-    /// Closes both pipes, and gives the file system back, whatever happened: both last files are cut behind
-    /// their records and synced, Append's first, and then the files that are kept for use get reserved names.
+    /// Closes both pipes, and returns the file system in any case. Truncates both active files after their records and
+    /// syncs them, Append's first; then the files that are kept for recycling get reserved names.
     ///
-    /// Once the result is `Ok`, all records of both queues are durable. `Io`: a cut or a sync was refused,
-    /// Append's if both were; what was durable still is, and the other queue was closed all the same.
-    /// `Failed`: the pipes had failed, and nothing was touched. A name that is refused is only logged.
+    /// - `Ok`: all records of both queues are durable.
+    /// - `Io`: a truncation or a sync failed; if both queues failed, the error is Append's. What was durable still is,
+    ///   and the other queue was closed anyway.
+    /// - `Failed`: the pipes had failed, and nothing was touched.
+    ///
+    /// A failure to give a name is only logged.
     fn close<L: Log>(self, alloc: Global, rt: &L) -> Closed<Self::Files>
         ensures held { is_failed (shown self) ≡ false → ClosesLog (shown self) (disk_of result.files) }
         ensures settled { OnOk result.result (ClosesSettled (shown self) (disk_of result.files)) }

@@ -3,15 +3,15 @@
 ghost use Rattle.raft_log_model_laws.specs.Item.{Record};
 ghost use Rattle.raft_log_file_pair.specs.Queues.{AreTwoQueues, TwoQueues};
 
-/// Says how the files of a log's two queues are written, and what their records say.
+/// States how the files of a log's two queues are written, and what their records say.
 pub trait LogQueues {
     /// A record, as it is written.
     type Record;
 
-    /// What stands for an entry.
+    /// What represents an entry.
     type Entry;
 
-    /// What stands for a key's value.
+    /// What represents a key's value.
     type Value;
 
     ghost queues: { Self → TwoQueues Self.Record Self.Entry Self.Value };

@@ -1,22 +1,22 @@
-//! A log is found again behind a crash, and its pipes are opened.
+//! A log is found again after a crash, and its pipes are opened.
 
 ghost use Rattle.raft_log_file_pair.specs.Reopening.{CrashIsAStep, FoundLogIsALog, OpenIsAStep};
 
 use crate::queues::LogQueues;
 
-/// A crash leaves the files of both queues at rest, with some first unsynced records of each, however they
-/// stood.
+/// In any state of the queues, a crash without a CRC collision leaves the files of both at rest, with some first
+/// unsynced records of each.
 pub fn crash_is_a_step<G: LogQueues>()
     ensures { (log : G) → CrashIsAStep (G.queues log) }
 {}
 
-/// A pipe that is opened over what was found of its queue runs, all that was read is synced, and the other
-/// queue stands as it did. A refusal leaves the disk as it was, or all that was read.
+/// A pipe that is opened over what was found of its queue runs, and all that was read is synced. The other queue's
+/// state is unchanged. A failed open leaves the disk unchanged, or all records that were read.
 pub fn open_is_a_step<G: LogQueues>()
     ensures { (log : G) → OpenIsAStep (G.queues log) }
 {}
 
-/// What is said of a log goes on where it is found again: its map is the one after some first pending batches.
+/// What holds for a log still holds after it is found again: its map is the one after some first pending batches.
 pub fn found_log_is_a_log<G: LogQueues>()
     ensures { (log : G) → FoundLogIsALog (G.queues log) }
 {}

@@ -1,4 +1,4 @@
-//! A queue is synced, and goes on in the next file.
+//! A queue is synced, and rotates into the next file.
 
 ghost use Rattle.raft_log_file_pair.specs.Syncing.{
   RefusedRotationIsAStep,
@@ -8,18 +8,18 @@ ghost use Rattle.raft_log_file_pair.specs.Syncing.{
 
 use crate::queues::LogQueues;
 
-/// A sync of one queue is one of its numbered files, and both pipes run on.
+/// A sync of one queue is a sync of its numbered files, and both pipes still run.
 pub fn sync_is_a_step<G: LogQueues>()
     ensures { (log : G) → SyncIsAStep (G.queues log) }
 {}
 
-/// A rotation of one queue settles its numbered files, and both pipes run on.
+/// A rotation of one queue syncs all that was written to it, and both pipes still run.
 pub fn rotation_is_a_step<G: LogQueues>()
     ensures { (log : G) → RotationIsAStep (G.queues log) }
 {}
 
-/// A rotation that is refused for want of memory or of a number changes nothing. Where the pipe has failed,
-/// the images allow the numbered files as they were, or behind the rotation.
+/// A rotation that fails because memory or the file numbers ran out changes nothing. If the pipe has failed, the images
+/// allow the numbered files unchanged, or after the rotation.
 pub fn refused_rotation_is_a_step<G: LogQueues>()
     ensures { (log : G) → RefusedRotationIsAStep (G.queues log) }
 {}

@@ -1,4 +1,4 @@
--- A record is written to a pipe: what was done, and what stands.
+-- Appending a record to a pipe: what the call did, and what holds after it.
 use Rattle.std.specs.Prelude.{◌≡◌, ◌≢◌, ◌⊎◌, ℕ, ◌+◌, ◌<◌, ◌≤◌, List, length}
 use Rattle.std.specs.declared.io.ErrorKind.TheVariants.{StorageFull}
 use Rattle.raft_log_disk.specs.Disk.{Disk}
@@ -20,13 +20,13 @@ use Rattle.raft_log_file_pipe.specs.Exits.{IsTurned, Rotates, RotationLeaves, Ad
 use Rattle.raft_log_file_pipe.specs.declared.pipe_files.PipeFiles.{PipeFiles}
 use Rattle.raft_log_file_pipe.specs.declared.new_files.NewFiles.{NewFiles}
 
--- what records of the last file are signed for
+-- the context for which records of the active file are signed
 abbrev pub context_of : LogQueue → PipeFiles → LogFileContext
 context_of queue files =
     record { id = record { queue = queue; seq = files.active.seq }; version = files.active.format.version }
 
--- Before a record is written the pipe goes on in the next file where the last one is as long as it is to
--- be, or longer; else nothing is done.
+-- Before a record is written, the pipe rotates if the active file has reached the target size; otherwise nothing is
+-- done.
 pub data TurnsFirst {R : Type 0} (F : Format R) (own : List ℕ → Type 0) (paths : FilePaths)
     (begin : NewFiles) (before after : PipeFiles) (old new : Disk) : Type 0 where
   stays : before.writer.written < begin.target_size → after ≡ before → new ≡ old
@@ -35,8 +35,8 @@ pub data TurnsFirst {R : Type 0} (F : Format R) (own : List ℕ → Type 0) (pat
       → Rotates F own paths (header_bytes begin.format) before after old new
       → IsTurned begin.format before after → TurnsFirst F own paths begin before after old new
 
--- The record was written behind the others of the last file, which may be the next one, signed for that
--- file, and by one write, for which room was made up to the target size; this is its place.
+-- The record was appended to the active file, which may be a new one. It is signed for that file, and one write wrote
+-- it, after space was made up to the target size. The block is its location.
 pub record AppendsAt {R : Type 0} (F : Format R) (own : List ℕ → Type 0) (paths : FilePaths)
     (begin : NewFiles) (queue : LogQueue) (signed : LogFileContext → List ℕ)
     (before after : PipeFiles) (block : FileBlockHandle) (old new : Disk) : Type 0 where
@@ -50,13 +50,13 @@ pub record AppendsAt {R : Type 0} (F : Format R) (own : List ℕ → Type 0) (pa
   pub id : block.id ≡ record { queue = queue; seq = middle.active.seq }
   pub len : block.len ≡ length (signed (context_of queue middle))
 
--- try again: the same record may be written to the file that the pipe went on in
+-- try again: the same record may be written to the file into which the pipe rotated
 abbrev pub SaysTryAgain : Error → Type 0
 SaysTryAgain (errors.TryAgain text) = Unit {0}
 SaysTryAgain _ = ⊥
 
--- The pipe went on in the next file for want of space in the last one, and the record is to be tried again;
--- or that was refused.
+-- The pipe rotated because the active file was out of space, and the record should be tried again; or the rotation
+-- failed.
 pub data TurnsElsewhere {R : Type 0} (F : Format R) (own : List ℕ → Type 0) (paths : FilePaths)
     (begin : NewFiles) (before after : PipeFiles) (error : Error) (old new : Disk) : Type 0 where
   elsewhere : Rotates F own paths (header_bytes begin.format) before after old new
@@ -65,8 +65,8 @@ pub data TurnsElsewhere {R : Type 0} (F : Format R) (own : List ℕ → Type 0) 
   nowhere : RotationLeaves F own paths (header_bytes begin.format) before after error old new
       → TurnsElsewhere F own paths begin before after error old new
 
--- The pipe went on in the next file, in the directory that this state of the file system says. It is an own
--- relation, as no disk says what may be told of a directory's space.
+-- The pipe rotated, and this state of the file system determined the next file's directory. It is a separate relation,
+-- as no disk determines the free space that is reported for a directory.
 pub record GoesInto {R F : Type 0} (disk : F → Disk) (tells : F → List ℕ → ℕ → Type 0)
     (format : Format R) (own : List ℕ → Type 0) (paths : FilePaths) (begin : NewFiles)
     (before after : PipeFiles) (old new : F) : Type 0 where
@@ -75,8 +75,8 @@ pub record GoesInto {R F : Type 0} (disk : F → Disk) (tells : F → List ℕ �
   pub placed : IsPlaced (tells old) (disk old) begin.target_size paths.directories
       before.recycled.items after.active.path_id
 
--- The record was cut off again for want of space in the last file, which may be the next one already; from
--- that state of the file system, with the files that were kept for use, the pipe went on in the next one.
+-- The record was truncated away for lack of space in the active file, which may already be a new one. From that state
+-- of the file system, the pipe rotated, using the files that were kept for recycling.
 pub record GoesElsewhere {R F : Type 0} (disk : F → Disk) (tells : F → List ℕ → ℕ → Type 0)
     (format : Format R) (own : List ℕ → Type 0) (paths : FilePaths) (begin : NewFiles) (queue : LogQueue)
     (signed : LogFileContext → List ℕ) (before after : PipeFiles) (old new : F) : Type 0 where
@@ -90,13 +90,13 @@ pub record GoesElsewhere {R F : Type 0} (disk : F → Disk) (tells : F → List 
   pub lists : SameLists middle cut
   pub goes : GoesInto disk tells format own paths begin cut after short new
 
--- the pipe's last file is the one that it was, or one of so many behind it
+-- the pipe's active file is the one that it was, or at most `count` files after it
 abbrev pub GoesOnBy : ℕ → PipeFiles → PipeFiles → Type 0
 GoesOnBy count before after =
     (before.active.seq ≤ after.active.seq) × (after.active.seq ≤ before.active.seq + count)
 
--- What is told of a refused write, and what was done then: where there was no space, the pipe went on in
--- the next file, or that was refused too; what couldn't be cut off leaves the pipe not to be used any more.
+-- Which error a failed write returns, and what was done then. If there was no space, the pipe rotated, or failed to. If
+-- what was written couldn't be truncated away, the error is `Failed`.
 abbrev pub Tells : {R : Type 0} → Format R → (List ℕ → Type 0) → FilePaths → NewFiles → WriteFault → PipeFiles
     → PipeFiles → Error → Disk → Disk → Type 0
 Tells F own paths begin (CutBack kind) before after error old new =
@@ -105,8 +105,8 @@ Tells F own paths begin (CutBack kind) before after error old new =
 Tells F own paths begin (Failed kind) before after error old new =
     (error ≡ errors.Failed) × (after ≡ before) × (new ≡ old)
 
--- Why a record wasn't written, and what stands then: the pipe was to go on in the next file, and that was
--- refused; or the write was, and its refusal is told, or that of the call that was to cut it off.
+-- Why a record wasn't written, and what holds then: the pipe had to rotate first, and that failed; or the write failed.
+-- The error is the write's, or `Failed` if what it left couldn't be truncated away.
 pub data AppendFails {R : Type 0} (F : Format R) (own : List ℕ → Type 0) (paths : FilePaths)
     (begin : NewFiles) (queue : LogQueue) (signed : LogFileContext → List ℕ)
     (before after : PipeFiles) (error : Error) (old new : Disk) : Type 0 where

@@ -1,4 +1,4 @@
--- Which file calls a call of a pipe made, in their order: no others, and nothing but what they change.
+-- Which file calls a call of a pipe made, in their order: no others, and only what they change.
 use Rattle.std.specs.Prelude.{◌≡◌, ◌⊎◌, ℕ, true, None, List, [], ◌∷◌, length}
 use Rattle.std.specs.declared.io.ErrorKind.{ErrorKind}
 use Rattle.raft_log_disk.specs.Disk.{Disk}
@@ -11,8 +11,8 @@ use Rattle.raft_log_file_queue.specs.Layout.{FilePaths, path_of, plain_place}
 use Rattle.raft_log_file_queue.specs.Rotation.{RotatesBy, RotationMakes}
 use Rattle.raft_log_file_pipe.specs.Files.{Listed}
 
--- A rotation: the last file is finished; where no file is kept for use, a next one is made, else the oldest
--- of them gets its name, which was opened to be written before; and that one is begun.
+-- A rotation finishes the active file. If no file is kept for recycling, it creates the next one; otherwise it renames
+-- the oldest kept file, which was opened for writing before. Then it begins that file.
 abbrev pub TurnsBy : FilePaths → List ℕ → List Listed → LogFileWriter → Listed → LogFileWriter → Disk → Disk
     → Type 0
 TurnsBy paths header [] writer next after old new = RotatesBy writer header
@@ -21,16 +21,16 @@ TurnsBy paths header (f ∷ fs) writer next after old new = IsOpened (path_of pa
     × RotatesBy writer header (λ handle. Renames (path_of paths f) (path_of paths next)) next.handle after
     old new
 
--- no file with a path was opened: the file system has stopped, or no file has the path
+-- no file at a path was opened: the file system has stopped, or no file has the path
 abbrev pub IsUnopened : List ℕ → Disk → Type 0
 IsUnopened path d = (d.stopped ≡ true) ⊎ (d.names path ≡ None)
 
--- the path of a number in the directory of a file, without a sign
+-- the path of a number in a file's directory, without a sign
 abbrev pub next_path : FilePaths → Listed → ℕ → List ℕ
 next_path paths file = paths.numbered (plain_place (length paths.directories) file.path_id)
 
--- A rotation that was refused: one of its calls was, and none was made behind it; or no call was made, as the
--- oldest of the files kept for use wasn't opened.
+-- A failed rotation: one of its calls failed, and none was made after it; or no call was made, as the oldest of the
+-- files kept for recycling couldn't be opened.
 abbrev pub TurnsNot : FilePaths → List ℕ → List Listed → LogFileWriter → ℕ → Disk → Disk → Type 0
 TurnsNot paths header [] writer number old new = (directory : ℕ) × (error : ErrorKind)
     × RotationMakes writer header (FailsToCreate (paths.numbered directory number))
@@ -40,12 +40,12 @@ TurnsNot paths header (f ∷ fs) writer number old new = (IsUnopened (path_of pa
     × RotationMakes writer header (FailsToRename (path_of paths f) (next_path paths f number))
     (λ handle. Renames (path_of paths f) (next_path paths f number)) error old new)
 
--- the files with these paths are deleted, in their order
+-- the files at these paths were deleted, in their order
 abbrev pub DropsBy : List (List ℕ) → Disk → Disk → Type 0
 DropsBy [] old new = new ≡ old
 DropsBy (path ∷ paths) old new = (between : Disk) × Deletes path old between × DropsBy paths between new
 
--- up to one whose deletion was refused
+-- the files at these paths were deleted, in their order, up to one whose deletion failed
 abbrev pub DropsUntil : List (List ℕ) → Disk → Disk → Type 0
 DropsUntil [] old new = ⊥
 DropsUntil (path ∷ paths) old new = ((error : ErrorKind) × FailsToDelete path error old new)

@@ -1,5 +1,5 @@
--- What each call of a pipe does, whatever stands on the disk: by which file calls, in their order and no others,
--- and what the pipe's own files are then. None of it asks that the files hold a queue.
+-- What each call of a pipe does, on any disk: its file calls, in their order and no others, and the pipe's files after
+-- it. None of it requires that the files hold a queue.
 use Rattle.std.specs.Prelude.{◌≡◌, ◌≢◌, ◌⊎◌, ℕ, ◌<◌, ◌≤◌, ◌^◌, false, List, [], ◌∷◌, ◌++◌, length, suc}
 use Rattle.std.specs.declared.io.ErrorKind.{ErrorKind}
 use Rattle.std.specs.declared.io.ErrorKind.TheVariants.{StorageFull}
@@ -32,7 +32,7 @@ use Rattle.raft_log_file_pipe.specs.declared.pipe_files.PipeFiles.{PipeFiles}
 
 -- A rotation.
 
--- the pipe went on in the next file, under the path of its number, by these calls
+-- the pipe rotated into the next file, at the path of its number, by these calls
 pub record TurnsPipeBy (paths : FilePaths) (format : LogFileFormat) (before after : PipeFiles)
     (old new : Disk) : Type 0 where
   pub turned : IsTurned format before after
@@ -45,9 +45,8 @@ abbrev pub OldestIsFar : List Listed → Type 0
 OldestIsFar [] = ⊥
 OldestIsFar (f ∷ fs) = 10 ^ 16 ≤ f.seq
 
--- Why the pipe didn't go on in the next file: for want of memory, or as the next number has no name, or that of
--- the file that was to be used, and nothing was done; else as one of the calls was refused, behind which none
--- was made.
+-- Why the pipe didn't rotate. `Memory`: out of memory. `NumberRange`: the next number, or that of the file to recycle,
+-- has no name. In both cases nothing was done. `Failed`: one of the calls failed, and none was made after it.
 abbrev pub FailsToTurnBy : FilePaths → LogFileFormat → PipeFiles → PipeFiles → Error → Disk → Disk → Type 0
 FailsToTurnBy paths format before after errors.Memory old new = SameFiles before after × (new ≡ old)
 FailsToTurnBy paths format before after errors.NumberRange old new =
@@ -59,8 +58,8 @@ FailsToTurnBy paths format before after _ old new = ⊥
 
 -- An append.
 
--- before a record is written the pipe goes on in the next file where the last one is as long as it is to be, or
--- longer; else nothing is done
+-- before a record is written, the pipe rotates if the active file has reached the target size; otherwise nothing is
+-- done
 pub data TurnsFirstBy (paths : FilePaths) (begin : NewFiles) (before after : PipeFiles) (old new : Disk)
     : Type 0 where
   stays : before.writer.written < begin.target_size → after ≡ before → new ≡ old
@@ -68,8 +67,8 @@ pub data TurnsFirstBy (paths : FilePaths) (begin : NewFiles) (before after : Pip
   turns : begin.target_size ≤ before.writer.written → TurnsPipeBy paths begin.format before after old new
       → TurnsFirstBy paths begin before after old new
 
--- The bytes, signed for the last file, which may be the next one, were written to it at the writer's offset, once
--- room was made for them; their place has that file's number, that offset, and their length.
+-- The bytes were written to the active file at the writer's offset, after space was made for them. They are signed for
+-- this file, which may be a new one. The block has that file's number, that offset, and their length.
 pub record AppendsBy (paths : FilePaths) (begin : NewFiles) (queue : LogQueue)
     (signed : LogFileContext → List ℕ) (before after : PipeFiles) (block : FileBlockHandle) (old new : Disk)
     : Type 0 where
@@ -83,15 +82,15 @@ pub record AppendsBy (paths : FilePaths) (begin : NewFiles) (queue : LogQueue)
   pub offset : block.offset ≡ middle.writer.written
   pub len : block.len ≡ length (signed (context_of queue middle))
 
--- the pipe went on in the next file, and the record is to be tried again; or it didn't
+-- the pipe rotated, and the record should be tried again; or it didn't rotate
 abbrev pub TurnsElsewhereBy : FilePaths → LogFileFormat → PipeFiles → PipeFiles → Error → Disk → Disk
     → Type 0
 TurnsElsewhereBy paths format before after error old new =
     (SaysTryAgain error × TurnsPipeBy paths format before after old new)
     ⊎ FailsToTurnBy paths format before after error old new
 
--- What is told of a refused write, and what was done behind it: where there was no space, the pipe went on in the
--- next file, or didn't; else nothing.
+-- Which error a failed write returns, and what was done after it: if there was no space, the pipe rotated, or failed
+-- to; otherwise nothing.
 abbrev pub TellsBy : FilePaths → LogFileFormat → WriteFault → PipeFiles → PipeFiles → Error → Disk → Disk
     → Type 0
 TellsBy paths format (CutBack kind) before after error old new =
@@ -100,8 +99,8 @@ TellsBy paths format (CutBack kind) before after error old new =
 TellsBy paths format (Failed kind) before after error old new =
     (error ≡ errors.Failed) × (after ≡ before) × (new ≡ old)
 
--- Why a record wasn't written: the pipe was to go on in the next file first, and didn't; or the write was refused,
--- and what it left was cut off at the writer's offset and synced, or one of these was refused too.
+-- Why a record wasn't written. The pipe had to rotate first, and didn't. Or the write failed, and what it left was
+-- truncated at the writer's offset and synced, or one of these calls failed too.
 pub data FailsToAppendBy (paths : FilePaths) (begin : NewFiles) (queue : LogQueue)
     (signed : LogFileContext → List ℕ) (before after : PipeFiles) (error : Error) (old new : Disk)
     : Type 0 where
@@ -117,12 +116,12 @@ pub data FailsToAppendBy (paths : FilePaths) (begin : NewFiles) (queue : LogQueu
 
 -- A sync, a purge and an open.
 
--- the sync of this file was refused, and no other call was made
+-- the sync of this file failed, and no other call was made
 abbrev pub FailsToSyncBy : Handle → Disk → Disk → Type 0
 FailsToSyncBy handle old new = (error : ErrorKind) × FailsToSync handle error old new
 
--- Why the files below a number didn't go: nothing was done; or some first ones of those that were to go went, and
--- the next one's deletion was refused.
+-- Why a purge failed: nothing was done; or some first ones of the files to delete were deleted, and deleting the next
+-- one failed.
 abbrev pub FailsToPurgeBy : FilePaths → ℕ → ℕ → PipeFiles → Error → Disk → Disk → Type 0
 FailsToPurgeBy paths capacity seq before errors.Memory old new = new ≡ old
 FailsToPurgeBy paths capacity seq before (errors.Other fault) old new = new ≡ old
@@ -131,8 +130,8 @@ FailsToPurgeBy paths capacity seq before errors.Failed old new =
     DropsUntil (paths_going paths capacity seq before) old new
 FailsToPurgeBy paths capacity seq before _ old new = ⊥
 
--- The pipe was opened, and these are its lists: its file 1 was made and begun, where none was found; else the last
--- one that was found was cut where its records end, and goes on there.
+-- The pipe was opened, and has these lists: if no file was found, its file 1 was created and begun; otherwise the last
+-- file that was found was truncated where its records end, and the pipe continues there.
 pub data OpensPipeBy (paths : FilePaths) (format : LogFileFormat) (found : FoundFiles) (files : PipeFiles)
     (old new : Disk) : Type 0 where
   begins : found.files.items ≡ [] → IsListedFirst format found.recycled.items files

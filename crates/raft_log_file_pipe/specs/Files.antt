@@ -1,4 +1,4 @@
--- The files of a pipe, and how they stand on a disk.
+-- The files of a pipe, and their state on a disk.
 use Rattle.std.specs.Prelude.{◌≡◌, ℕ, ◌<◌, ◌^◌, false, Some, List, [], ◌∷◌, suc}
 use Rattle.raft_log_disk.specs.Disk.{File, Disk}
 use Rattle.raft_log_file_laws.specs.LogFormat.{Format}
@@ -17,19 +17,19 @@ use Rattle.raft_log_file_pipe.specs.declared.pipe_files.PipeFiles.{PipeFiles}
 abbrev pub Listed : Type 0
 Listed = listed.File
 
--- these are the files of the numbers from `first` on, up to the last one's, each under its path
+-- these are the files of the numbers from `first` on, below `last`, each at its path
 abbrev pub IsSpan : FilePaths → Names → ℕ → List Listed → ℕ → Type 0
 IsSpan paths N first [] last = first ≡ last
 IsSpan paths N first (f ∷ fs) last = (f.seq ≡ first) × (f.reserved ≡ false)
     × (N (path_of paths f) ≡ Some f.handle.file) × IsSpan paths N (suc first) fs last
 
--- whatever number and header the file gets, it holds no record of it
+-- the file holds no record under any number and header that it may get
 abbrev pub CanBeUsed : {R : Type 0} → Format R → File → Type 0
 CanBeUsed {R} F file = (q : LogFiles R) (header : List ℕ) → F.IsHeader header
     → IsNew F (begun header file.content q) file
 
--- A file that is kept for use lies under its path, which is a reserved one or that of a number below the
--- span, and can be used.
+-- A file that is kept for recycling may be recycled. It is at its path, which is a reserved one or that of a number
+-- below the live range.
 pub record IsKeptForUse {R : Type 0} (F : Format R) (paths : FilePaths) (first : ℕ) (d : Disk)
     (f : Listed) : Type 0 where
   pub named : d.names (path_of paths f) ≡ Some f.handle.file
@@ -42,14 +42,14 @@ abbrev pub NoneHas : FilePaths → List ℕ → List Listed → Type 0
 NoneHas paths path [] = Unit {0}
 NoneHas paths path (f ∷ fs) = (path_of paths f ≡ path → ⊥) × NoneHas paths path fs
 
--- each of these files is kept for use, and no two of them have one path
+-- each of these files is kept for recycling, and no two of them have the same path
 abbrev pub AllKept : {R : Type 0} → Format R → FilePaths → ℕ → Disk → List Listed → Type 0
 AllKept F paths first d [] = Unit {0}
 AllKept F paths first d (f ∷ fs) = IsKeptForUse F paths first d f
     × NoneHas paths (path_of paths f) fs × AllKept F paths first d fs
 
--- The files of a pipe are those of a queue on a disk: its last file is written to, those before it are
--- there from the span's first number on, and those that are kept for use are there.
+-- The files of a pipe are those of a queue on a disk: its last file is the active one, the earlier ones exist from the
+-- live range's first number on, and the files kept for recycling exist.
 pub record IsPipe {R : Type 0} (F : Format R) (own : List ℕ → Type 0) (paths : FilePaths) (base : Disk)
     (files : PipeFiles) (q : LogFiles R) (d : Disk) : Type 0 where
   pub active : IsOpen F own base files.writer q (path_of paths files.active) d.names d

@@ -1,4 +1,4 @@
--- The headers that a pipe writes: the records of its files follow one another.
+-- The headers that a pipe writes: records of its files follow one another, without an alignment.
 use Rattle.std.specs.Prelude.{◌≡◌, ℕ, List, codes}
 use Rattle.std.specs.String.{string_bytes}
 use Rattle.raft_log_record_base.specs.declared.errors.Error.{Error}
@@ -6,11 +6,11 @@ use Rattle.raft_log_record_base.specs.declared.errors.Error.TheVariants as error
 use Rattle.raft_log_file_format.specs.declared.header.LogFileFormat.{LogFileFormat}
 use Rattle.raft_log_file_queue.specs.Layout.{IsUnaligned}
 
--- how it is told that a format has an alignment
+-- the text of the error for a format with an alignment
 abbrev pub told_aligned : List ℕ
 told_aligned = codes "the files of a pipe have no alignment"
 
--- why no header is made: the format has an alignment, as is told, or memory ran out
+-- why no header is made: the format has an alignment, as the text says, or memory ran out
 abbrev pub IsAlignmentRefusal : LogFileFormat → Error → Type 0
 IsAlignmentRefusal format (errors.InvalidArgument text) =
     (IsUnaligned format → ⊥) × (string_bytes text ≡ told_aligned)

@@ -1,4 +1,4 @@
--- What follows of a pipe that stands on a disk, and of one that has failed.
+-- What follows for a pipe on a disk, and for one that has failed.
 use Rattle.std.specs.Prelude.{◌≡◌, ℕ, ◌≤◌, false, Option, List, length}
 use Rattle.raft_log_disk.specs.Disk.{Disk}
 use Rattle.raft_log_disk.specs.Image.{IsImage, IsSound}
@@ -15,10 +15,10 @@ use Rattle.raft_log_file_pipe.specs.Files.{Listed, IsSpan, AllKept, IsPipe}
 use Rattle.raft_log_file_pipe.specs.Opening.{IsFound, HasOwnHeader, first_number}
 use Rattle.raft_log_file_pipe.specs.declared.pipe_files.PipeFiles.{PipeFiles}
 
--- A queue whose records are held is kept: whatever a stop leaves, what is read of it are all records of its
--- earlier files, the durable ones of the last, and the first of the pending ones. And it is the queue
--- again, seen from there, with these. So it is after each call on a pipe, answered or refused: a pipe that
--- stands holds its records.
+-- A queue whose records are held is kept. After any stop without a CRC collision, reading gives all records of its
+-- earlier files and the durable ones of the last. Of the pending ones it gives some first ones. What the stop leaves is
+-- the queue again, with these records. A running pipe holds its records, and so does a pipe after each call, whether it
+-- succeeds or fails.
 pub record PipesAreKept {R : Type 0} (F : Format R) (own : List ℕ → Type 0) (paths : FilePaths) : Type 0 where
   pub standing : (base : Disk) (files : PipeFiles) (q : LogFiles R) (d : Disk)
       → IsPipe F own paths base files q d → StandsWithRecords F own base q d
@@ -28,8 +28,8 @@ pub record PipesAreKept {R : Type 0} (F : Format R) (own : List ℕ → Type 0) 
       → (path : List ℕ) × (id : ℕ) × (N : Names) × (count : ℕ) × (count ≤ length q.pending)
       × Stands F own image (kept_to count q) path id (IsLeftover F (kept_to count q)) N image
 
--- The files of a queue as they are found on a disk: the last one is open to be written, and was read up to
--- this end; those before it are there, and so are those that are kept for use.
+-- The files of a queue as they are found on a disk: the last one is open for writing, and was read up to `end`; the
+-- earlier ones exist, and so do those that are kept for recycling.
 pub record AreFoundOnDisk {R : Type 0} (F : Format R) (paths : FilePaths) (earlier : List Listed) (last : Listed)
     (end : Option ℕ) (kept : List Listed) (number : ℕ) (d : Disk) : Type 0 where
   pub number_is : last.seq ≡ number
@@ -40,8 +40,8 @@ pub record AreFoundOnDisk {R : Type 0} (F : Format R) (paths : FilePaths) (earli
   pub span : IsSpan paths d.names (first_number earlier last) earlier number
   pub spares : AllKept F paths (first_number earlier last) d kept
 
--- Whatever a stop leaves of a queue whose records are held, a pipe may be opened over it, with some first
--- pending records: so a stop, an open and more calls compose.
+-- A pipe may be opened over what a stop without a CRC collision leaves of a queue whose records are held. It has some
+-- of the first pending records. So a stop, an open and more calls compose.
 abbrev pub PipesAreFound : {R : Type 0} → Format R → (List ℕ → Type 0) → FilePaths → Type 0
 PipesAreFound {R} F own paths = CanTellFormat F → (base : Disk) (q : LogFiles R) (d image : Disk) → IsSound d
     → StandsWithRecords F own base q d → IsImage d image → NoChanceInLast F q d image

@@ -1,4 +1,4 @@
--- The files below a number leave the span of a pipe: some stay for use, the others are dropped.
+-- The files below a number leave the live range of a pipe: some are kept for recycling, the others are deleted.
 use Rattle.std.specs.Prelude.{◌≡◌, ℕ, ◌-◌, ◌<◌, ◌≤◌, ◌^◌, false, nat_lt, ◌&&◌, if◌then◌else◌, Some, None, List, [], ◌∷◌, ◌++◌, length, map, take, drop, slice_index_or, suc}
 use Rattle.std.specs.Map.{update}
 use Rattle.std.specs.Str.{bytes_eq}
@@ -18,41 +18,41 @@ use Rattle.raft_log_file_pipe.specs.Exits.{SameFiles}
 use Rattle.raft_log_file_pipe.specs.declared.pipe_files.PipeFiles.{PipeFiles}
 use Rattle.raft_log_record_base.specs.Files.{is_signed}
 
--- of files that leave the span those that stay for use: the first of them that may be used again, while
--- there is room for one more
+-- the files that leave the live range and are kept for recycling: the first ones that may be recycled, as long as there
+-- is room for one more
 abbrev pub staying : ℕ → List Listed → List Listed
 staying room [] = []
 staying room (f ∷ fs) = if is_signed f.format.version && nat_lt 0 room then f ∷ staying (room - 1) fs
     else staying room fs
 
--- of files that leave the span those that don't stay for use
+-- the files that leave the live range and aren't kept
 abbrev pub going : ℕ → List Listed → List Listed
 going room [] = []
 going room (f ∷ fs) = if is_signed f.format.version && nat_lt 0 room then going (room - 1) fs
     else f ∷ going room fs
 
--- for how many more files there is room, once the span begins at this number
+-- for how many more files there is room, after the live range begins at this number
 abbrev pub room_from : ℕ → ℕ → PipeFiles → ℕ
 room_from capacity seq files = capacity - suc (files.active.seq - seq) - length files.recycled.items
 
--- a number of the span
+-- a number of the live range
 abbrev pub IsInSpan : ℕ → PipeFiles → Type 0
 IsInSpan seq files = (files.first_seq ≤ seq) × (seq - files.first_seq ≤ length files.earlier.items)
 
--- the names without these
+-- the names without those at these paths
 abbrev pub without : List (List ℕ) → Names → Names
 without [] N = N
 without (path ∷ paths) N = without paths (update bytes_eq N path None)
 
--- These files lie under their paths, below the span's first number, and none of them is kept for use, nor
--- one of them another.
+-- These files are at their paths, below the live range's first number. None of them is kept for recycling, and no two
+-- of them have the same path.
 abbrev pub AreGone : FilePaths → Names → ℕ → List Listed → List Listed → Type 0
 AreGone paths N first kept [] = Unit {0}
 AreGone paths N first kept (f ∷ fs) = (f.seq < first) × (f.reserved ≡ false)
     × ((id : ℕ) × (N (path_of paths f) ≡ Some id)) × NoneHas paths (path_of paths f) kept
     × NoneHas paths (path_of paths f) fs × AreGone paths N first kept fs
 
--- the first so many of these paths were dropped, one after the other, and the others are there
+-- the first `count` of these paths were deleted, one after the other, and the others exist
 abbrev pub DropsTo : {R : Type 0} → Format R → (List ℕ → Type 0) → FilePaths → List (List ℕ) → ℕ → Disk → Disk
     → Type 0
 DropsTo {R} F own paths gone count old new = (base : Disk) (files : PipeFiles) (q : LogFiles R)
@@ -66,8 +66,8 @@ DropsTo {R} F own paths gone count old new = (base : Disk) (files : PipeFiles) (
 abbrev pub LosesFirst : List (List ℕ) → Disk → Disk → Type 0
 LosesFirst gone old new = (count : ℕ) × (new.names ≡ without (take count gone) old.names)
 
--- one of these files wasn't dropped: a file call failed, the records are held, and the span is there, as are
--- the files behind that one
+-- one of these files wasn't deleted: a file call failed, the records are held, and the live range exists; only some
+-- first ones of these paths lost their names
 abbrev pub FailsToDropAll : {R : Type 0} → Format R → (List ℕ → Type 0) → FilePaths → List (List ℕ) → Disk
     → Disk → Type 0
 FailsToDropAll {R} F own paths gone old new = (base : Disk) (files : PipeFiles) (q : LogFiles R)
@@ -77,7 +77,7 @@ FailsToDropAll {R} F own paths gone old new = (base : Disk) (files : PipeFiles) 
     × IsSpan paths new.names files.first_seq files.earlier.items q.last × LosesFirst gone old new
     × DropsUntil gone old new
 
--- the files that are listed once those below a number have left the span
+-- the pipe's lists after the files below a number have left the live range
 pub record IsRaised (capacity seq : ℕ) (before after : PipeFiles) : Type 0 where
   pub first : after.first_seq ≡ seq
   pub earlier : after.earlier.items ≡ drop (seq - before.first_seq) before.earlier.items
@@ -86,12 +86,12 @@ pub record IsRaised (capacity seq : ℕ) (before after : PipeFiles) : Type 0 whe
   pub recycled : after.recycled.items ≡ before.recycled.items
       ++ staying (room_from capacity seq before) (take (seq - before.first_seq) before.earlier.items)
 
--- the paths of the files that go
+-- the paths of the files to delete
 abbrev pub paths_going : FilePaths → ℕ → ℕ → PipeFiles → List (List ℕ)
 paths_going paths capacity seq files = map (path_of paths)
     (going (room_from capacity seq files) (take (seq - files.first_seq) files.earlier.items))
 
--- the files that go went, one after the other, and no other name changed
+-- the files to delete were deleted, one after the other, and no other name changed
 abbrev pub Purges : {R : Type 0} → Format R → (List ℕ → Type 0) → FilePaths → ℕ → ℕ → PipeFiles → PipeFiles
     → Disk → Disk → Type 0
 Purges {R} F own paths capacity seq before after old new = (base : Disk) (q : LogFiles R)
@@ -99,8 +99,8 @@ Purges {R} F own paths capacity seq before after old new = (base : Disk) (q : Lo
     × (new.names ≡ without (paths_going paths capacity seq before) old.names)
     × DropsBy (paths_going paths capacity seq before) old new
 
--- one of the files that go didn't: a file call failed, the records are held, the span is there, and of the
--- files that were to go only some first ones went
+-- one of the files to delete wasn't deleted: a file call failed, the records are held, the live range exists, and only
+-- some first ones of the files were deleted
 abbrev pub FailsToPurge : {R : Type 0} → Format R → (List ℕ → Type 0) → FilePaths → ℕ → ℕ → PipeFiles
     → PipeFiles → Disk → Disk → Type 0
 FailsToPurge {R} F own paths capacity seq before after old new = (base : Disk) (q : LogFiles R)
@@ -109,13 +109,14 @@ FailsToPurge {R} F own paths capacity seq before after old new = (base : Disk) (
     × LosesFirst (paths_going paths capacity seq before) old new
     × DropsUntil (paths_going paths capacity seq before) old new
 
--- an error of another kind, with a text of its own, or want of memory for that
+-- an error `Other`, with a text, or out of memory for that
 abbrev pub IsOtherOrMemory : Error → Type 0
 IsOtherOrMemory (errors.Other fault) = Unit {0}
 IsOtherOrMemory errors.Memory = Unit {0}
 IsOtherOrMemory _ = ⊥
 
--- why a number's place in the span isn't told: it is none of the span's, or memory was short for saying so
+-- why the number of files below a number isn't returned: the number isn't in the live range, and the error says so or
+-- memory ran out for it
 abbrev pub CountFails : ℕ → PipeFiles → Error → Type 0
 CountFails seq files error = (IsInSpan seq files → ⊥) × IsOtherOrMemory error
 
@@ -123,15 +124,15 @@ CountFails seq files error = (IsInSpan seq files → ⊥) × IsOtherOrMemory err
 abbrev pub HasFarFile : List Listed → Type 0
 HasFarFile fs = (f : Listed) × (i : ℕ) × (i < length fs) × (f ≡ slice_index_or fs i f) × (10 ^ 16 ≤ f.seq)
 
--- why files weren't parted: for want of memory, or a number has no name
+-- why files weren't split: memory ran out, or a number has no name
 abbrev pub PartFails : List Listed → Error → Type 0
 PartFails fs errors.Memory = Unit {0}
 PartFails fs errors.NumberRange = HasFarFile fs
 PartFails fs _ = ⊥
 
--- Why a purge was refused, and what stands then: for want of memory, or as the number is none of the span's
--- (or a file's has no name), nothing was done; else a file call failed, and the files below the number have
--- left the span all the same.
+-- Why a purge failed, and what holds then. `Memory`, `Other` (the number isn't in the live range) and `NumberRange` (a
+-- file's number has no name): nothing was done. `Failed`: a file call failed, and the files below the number have left
+-- the live range anyway.
 abbrev pub PurgeLeaves : {R : Type 0} → Format R → (List ℕ → Type 0) → FilePaths → ℕ → ℕ → PipeFiles →
     PipeFiles
     → Error → Disk → Disk → Type 0

@@ -1,4 +1,4 @@
-//! Appending to a pipe: the last file is rotated where it is long enough, and a refused write is cut back.
+//! Appending to a pipe: rotates if the active file has reached the target size, and truncates after a failed write.
 
 ghost use Rattle.std.specs.Prelude.{◌≡◌, ◌<◌, ◌≤◌, ◌^◌, IfErr, IfOk, OnErr, OnOk};
 ghost use Rattle.raft_log_disk.specs.Causes.{IsLater};
@@ -22,7 +22,7 @@ use raft_log_record_base::{Error, FileBlockHandle, FileId, LogFileContext, LogQu
 use std::alloc::Global;
 use std::io::ErrorKind;
 
-/// Goes on in the next file where the last one is as long as it is to be.
+/// Rotates if the active file has reached the target size.
 fn turn_first<G: PipeFormat, F: FileSystem, L: Log>(
     alloc: Global,
     layout: &G,
@@ -54,8 +54,8 @@ fn turn_first<G: PipeFormat, F: FileSystem, L: Log>(
     Ok(())
 }
 
-/// Goes on in the next file where there is no space for a record in the last one, and answers why the record
-/// isn't written: it is to be tried again, or there is no next file.
+/// The active file is out of space for a record: rotates, and returns the error to report: `TryAgain` if the rotation
+/// succeeded, otherwise the error that stopped it.
 fn turn_elsewhere<G: PipeFormat, F: FileSystem, L: Log>(
     alloc: Global,
     layout: &G,
@@ -84,8 +84,7 @@ fn turn_elsewhere<G: PipeFormat, F: FileSystem, L: Log>(
     }
 }
 
-/// Answers why a record isn't written, where its write was refused. Where that was for want of space, the
-/// pipe goes on in the next file.
+/// Returns the error to report for a failed write. If the write failed for lack of space, the pipe rotates.
 fn tell_fault<G: PipeFormat, F: FileSystem, L: Log>(
     alloc: Global,
     layout: &G,
@@ -120,12 +119,12 @@ fn tell_fault<G: PipeFormat, F: FileSystem, L: Log>(
     }
 }
 
-/// Writes a record behind the others, and answers its place. The pipe goes on in the next file first where
-/// the last one is as long as it is to be, or longer.
+/// Appends a record, and returns its location. The pipe rotates first if the active file has reached the target size.
 ///
-/// `Io`: the write was refused, what it left was cut off, and everything before it is durable. `TryAgain`:
-/// the same for want of space, and the pipe went on in the next file. `Memory`, `NumberRange`: there is no
-/// next file, and nothing is lost. `Failed`: the pipe isn't to be used any more.
+/// - `Io`: the write failed; its bytes were truncated away, and everything before them is durable.
+/// - `TryAgain`: the same for lack of space, and the pipe rotated.
+/// - `Memory`, `NumberRange`: the pipe couldn't rotate, and nothing is lost.
+/// - `Failed`: the pipe can't be used any more.
 pub fn append<G: PipeFormat, F: FileSystem, L: Log, B: ReactiveBytes>(
     alloc: Global,
     layout: &G,

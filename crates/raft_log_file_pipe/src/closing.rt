@@ -1,4 +1,4 @@
-//! A pipe is closed: its last file is finished, and files kept for use get reserved names, for the next open.
+//! Closing a pipe: its active file is finished, and files kept for recycling get reserved names, for the next open.
 
 ghost use Rattle.std.specs.Prelude.{◌≡◌, [], ◌∷◌, if◌then◌else◌, max, reverse, false, OnOk};
 ghost use Rattle.raft_log_disk.specs.Causes.{IsLater};
@@ -14,8 +14,8 @@ use std::alloc::Global;
 use std::collections::VecDeque;
 use std::io::ErrorKind;
 
-/// Finishes the last file: cuts it behind its records, and makes these durable. Fails with the `Io` of the cut
-/// or the sync that was refused, which is also logged.
+/// Finishes the active file: truncates it after its records, and syncs it. If the truncation or the sync fails, returns
+/// its `Io` and logs it.
 pub fn finish<G: PipeFormat, F: FileSystem, L: Log>(
     layout: &G,
     rt: &L,
@@ -39,7 +39,7 @@ pub fn finish<G: PipeFormat, F: FileSystem, L: Log>(
     Ok(())
 }
 
-/// The greater one of a number and that of a file with a reserved name.
+/// The greater of a number and that of a file with a reserved name.
 fn greater_reserved(greatest: FileSeq, file: &File) -> FileSeq
     ensures { result ≡ (if file.now.reserved then max file.now.seq greatest else greatest) }
 {
@@ -50,7 +50,7 @@ fn greater_reserved(greatest: FileSeq, file: &File) -> FileSeq
     }
 }
 
-/// The greatest number in a reserved name, or 0 where none of the files has one.
+/// The greatest number in a reserved name; 0 if none of the files has one.
 fn greatest_reserved(files: &VecDeque<File>) -> FileSeq
     ensures { result ≡ greatest_reserved files.now.items }
 {
@@ -61,8 +61,8 @@ fn greatest_reserved(files: &VecDeque<File>) -> FileSeq
     greatest
 }
 
-/// Gives a file that is kept for use the reserved name behind the last one, in the main directory. Answers
-/// the number of the last one then; a refusal is logged.
+/// Gives a file that is kept for recycling the reserved name after the last one, in the main directory. Returns the
+/// number of the last reserved name then; a failure is logged.
 fn reserve<G: PipeFormat, F: FileSystem, L: Log>(
     alloc: Global,
     layout: &G,
@@ -105,9 +105,9 @@ fn log_unnamed<L: Log>(rt: &L, from: &str, to: &str, kind: ErrorKind) {
     error!(rt; "{from} didn't get the name {to}: {kind}");
 }
 
-/// The files that are kept for use get reserved names in the main directory, from the newest down until one
-/// has such a name, with numbers from the greatest reserved one on. One that doesn't get it leaves the number
-/// to the next.
+/// Gives files that are kept for recycling reserved names in the main directory, from the newest down until one has
+/// such a name. The numbers begin after the greatest reserved one. If a file doesn't get its name, the next one gets
+/// the number.
 pub fn reserve_files<G: PipeFormat, F: FileSystem, L: Log>(
     alloc: Global,
     layout: &G,

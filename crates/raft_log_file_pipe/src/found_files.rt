@@ -3,13 +3,13 @@
 use raft_log_file_queue::File;
 use std::collections::VecDeque;
 
-/// The files of a queue, as they were found where no pipe has it open, and how far the last one was read.
+/// The files of a queue as they were found while no pipe has it open, and how far the last one was read.
 #[derive(Drop, Debug)]
 pub struct FoundFiles {
-    /// The files of the queue in the order of their numbers, without a gap; none where it is to begin.
+    /// The files of the queue in the order of their numbers, without a gap; none if it is to begin.
     pub files: VecDeque<File>,
-    /// Where the whole records of the last file end, in bytes; `None` where it has no header.
+    /// The offset in bytes at which the whole records of the last file end; `None` if it has no header.
     pub end: Option<usize>,
-    /// The files that are kept for use, the oldest first.
+    /// The files that are kept for recycling, the oldest first.
     pub recycled: VecDeque<File>,
 }

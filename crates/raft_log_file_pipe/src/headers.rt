@@ -1,4 +1,4 @@
-//! The headers that a pipe writes: the records of its files follow one another.
+//! The headers that a pipe writes: records of its files follow one another, without an alignment.
 
 ghost use Rattle.std.specs.Prelude.{◌≡◌, IfErr, IfOk};
 ghost use Rattle.raft_log_file_format.specs.Header.{header_bytes};
@@ -9,7 +9,8 @@ use raft_log_file_format::LogFileFormat;
 use raft_log_record_base::{Error, Result};
 use std::alloc::Global;
 
-/// The header of a pipe's file in this format. `InvalidArgument` where the format has an alignment; `Memory`.
+/// The header of a pipe's file in this format. Fails with `InvalidArgument` if the format has an alignment, or with
+/// `Memory`.
 pub(crate) fn encode_header(alloc: Global, format: LogFileFormat) -> Result<Vec<u8>>
     ensures ok { IfOk result (λ header. IsUnaligned format × (header.items ≡ header_bytes format)) }
     ensures err { IfErr result (IsAlignmentRefusal format) }

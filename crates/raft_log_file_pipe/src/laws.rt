@@ -1,25 +1,25 @@
-//! What is promised of a pipe, at any point between its calls and inside them.
+//! What is proved of a pipe, at any point between its calls and inside them.
 
 ghost use Rattle.raft_log_file_pipe.specs.WritingLast.{PipesWriteTheirLast};
 ghost use Rattle.raft_log_file_pipe.specs.Laws.{PipesAreFound, PipesAreKept};
 
 use raft_log_file_queue::PipeFormat;
 
-/// Whatever a stop leaves of a pipe's files, all records of the earlier files are read, all synced ones of
-/// the last, and the first of the others; and that is the queue again.
+/// After any stop without a CRC collision, all records of a pipe's earlier files are read, and all durable ones of the
+/// last. Of the pending ones some first ones are read. What the stop leaves is the queue again.
 pub fn pipes_are_kept<G: PipeFormat>()
     ensures { (layout : G) → PipesAreKept (G.format layout) (G.own layout) (G.file_paths layout) }
 {}
 
-/// Whatever a stop leaves of a pipe's files, a pipe may be opened over it, once the files are found and the
-/// last one was read: its queue is the one that was stopped, with its synced records and the first of the
-/// others.
+/// A pipe may be opened over what a stop without a CRC collision leaves of a pipe's files, after they were found and
+/// the last one was read. Its queue is the one that was stopped, with its durable records and some of the first pending
+/// ones.
 pub fn stopped_pipes_are_found<G: PipeFormat>()
     ensures { (layout : G) → PipesAreFound (G.format layout) (G.own layout) (G.file_paths layout) }
 {}
 
-/// Whatever stands on the disk, a pipe that was opened writes the file that it lists as the last; and what an
-/// append answered may be read at its place.
+/// On any disk, a pipe that was opened writes the file that it lists as the active one. What an append wrote may be
+/// read at the location that it returned.
 pub fn pipes_write_their_last<G: PipeFormat>()
     ensures { (layout : G) → PipesWriteTheirLast (G.file_paths layout) }
 {}

@@ -1,8 +1,8 @@
-//! A queue of log files as an engine uses it: records go into its last file, which is rotated when it is
-//! long enough, over a file that was kept for use or into a new one; what isn't needed is purged.
+//! A queue of log files as an engine uses it. Records are appended to its active file. A rotation continues in a file
+//! that was kept for recycling or in a new one. A purge removes what isn't needed any more.
 //!
-//! Every call is lent the file system. What may want memory comes before the first file call that changes
-//! something, and what is refused for it leaves pipe and disk as they were.
+//! Every call borrows the file system. Anything that allocates memory comes before the first file call that changes
+//! something; if memory runs out there, pipe and disk are unchanged.
 #![tactic(auto)]
 
 mod appending;

@@ -15,21 +15,21 @@ use raft_log_record_base::{Error, Result};
 use std::alloc::Global;
 use std::io::ErrorKind;
 
-/// How files are begun: in which format, with which header, and up to which size they are written.
+/// How files are begun: their format, their header, and their target size.
 #[derive(Drop, Debug)]
 pub struct NewFiles {
     /// The format.
     pub format: LogFileFormat,
     header: Vec<u8>,
-    /// A file that is as long as this, in bytes, or longer gets no more records.
+    /// A file of this size in bytes, or longer, gets no more records.
     pub target_size: usize,
     ghost unaligned: { IsUnaligned format },
     ghost spelled: { header.items ≡ header_bytes format },
 }
 
 impl NewFiles {
-    /// Files of this format, up to this size in bytes. `InvalidArgument` where the format has an alignment;
-    /// `Memory`.
+    /// Files of this format, with this target size in bytes. Fails with `InvalidArgument` if the format has an
+    /// alignment, or with `Memory`.
     pub fn new(alloc: Global, format: LogFileFormat, target_size: usize) -> Result<NewFiles>
         ensures format { IfOk result (λ files. files.format ≡ format) }
         ensures size { IfOk result (λ files. files.target_size ≡ target_size) }
@@ -52,7 +52,7 @@ impl NewFiles {
     }
 }
 
-/// Whether a directory has room for so many bytes. One of which no space is told has none.
+/// Whether a directory has room for `size` bytes. If its free space can't be read, it has none.
 fn has_room<F: FileSystem>(file_system: &F, directory: &str, size: usize) -> Result<bool>
     ensures ok { IfOk result (TellsRoom (F.tells_space file_system.now) (F.disk file_system.now) size
         directory.now) }
@@ -65,8 +65,8 @@ fn has_room<F: FileSystem>(file_system: &F, directory: &str, size: usize) -> Res
     }
 }
 
-/// The directory for a new file: where there are several, the first that has room for so many bytes, and
-/// the main one where none has.
+/// The directory for a new file: if there are several, the first that has room for `size` bytes, or the main one if
+/// none has.
 pub fn choose_directory<G: PipeFormat, F: FileSystem>(
     layout: &G,
     file_system: &F,

@@ -1,4 +1,4 @@
-//! A pipe is opened: over the files that were found of its queue, or over none.
+//! Opening a pipe: over the files that were found of its queue, or over none.
 
 ghost use Rattle.std.specs.Prelude.{◌≡◌, [], false, IfErr, IfOk};
 ghost use Rattle.raft_log_disk.specs.Causes.{IsLater};
@@ -22,7 +22,7 @@ use raft_log_record_base::{Error, FileSeq, Result};
 use std::alloc::Global;
 use std::collections::VecDeque;
 
-/// Begins a queue that has no file, in its file 1. The files that are kept for use are those that were found.
+/// Begins a queue that has no file, in its file 1. The files that are kept for recycling are those that were found.
 fn begin<G: PipeFormat, F: FileSystem, L: Log>(
     alloc: Global,
     layout: &G,
@@ -74,7 +74,7 @@ fn begin<G: PipeFormat, F: FileSystem, L: Log>(
     }
 }
 
-/// The last file as the pipe has it: one without a header gets one of the first version.
+/// The last file as the pipe lists it: one without a header gets one of version 1.
 fn take_last(last: File, end: Option<usize>) -> File
     ensures { result ≡ taken_up end last }
 {
@@ -97,7 +97,7 @@ fn first_seq(earlier: &VecDeque<File>, last: &File) -> FileSeq
     }
 }
 
-/// Takes a queue up again behind what was read of its last file.
+/// Reopens a queue after what was read of its last file.
 fn take_up<G: PipeFormat, F: FileSystem, L: Log>(
     alloc: Global,
     layout: &G,
@@ -136,11 +136,12 @@ fn take_up<G: PipeFormat, F: FileSystem, L: Log>(
     }
 }
 
-/// OpensPipe a pipe over what was found of its queue: where there is no file, the queue begins in a file 1; else
-/// it goes on behind what was read of its last file, and that is cut, synced and writable.
+/// Opens a pipe over what was found of its queue. If there is no file, the queue begins in a file 1. Otherwise it
+/// continues after what was read of its last file, which is truncated there, synced and writable.
 ///
-/// `Memory`: nothing was done. `InvalidArgument`: the last file has an alignment. `Io`: a file call was
-/// refused; all that was read is there still.
+/// - `Memory`: nothing was done.
+/// - `InvalidArgument`: the last file has an alignment.
+/// - `Io`: a file call failed; all records that were read are still there.
 pub fn open<G: PipeFormat, F: FileSystem, L: Log>(
     alloc: Global,
     layout: &G,

@@ -11,23 +11,23 @@ use raft_log_record_base::{Error, FileSeq};
 use std::alloc::Global;
 use std::collections::VecDeque;
 
-/// The files of a pipe: its span, whose last file is written to, and those that are kept for use.
+/// The files of a pipe: its live range, whose last file is the active one, and those that are kept for recycling.
 #[derive(Drop, Debug)]
 pub struct PipeFiles {
-    /// The number of the span's first file.
+    /// The number of the live range's first file.
     pub first_seq: FileSeq,
-    /// The files of the span before the last, in the order of their numbers.
+    /// The earlier files of the live range, in the order of their numbers.
     pub earlier: VecDeque<File>,
-    /// The last file.
+    /// The active file.
     pub active: File,
-    /// What writes the last file.
+    /// The writer of the active file.
     pub writer: LogFileWriter,
-    /// The files that are kept for use, the oldest first.
+    /// The files that are kept for recycling, the oldest first.
     pub recycled: VecDeque<File>,
 }
 
 impl PipeFiles {
-    /// The last file is one before the last from now on, and this one is the last.
+    /// Moves the active file to the earlier ones, and makes `next` the active file.
     pub fn turn_to(&mut self, next: File)
         requires { deque_len self.old.earlier < deque_capacity self.old.earlier }
         ensures first { self.new.first_seq ≡ self.old.first_seq }
@@ -40,7 +40,7 @@ impl PipeFiles {
         self.active = next;
     }
 
-    /// The handle of a file of the span; none for another number.
+    /// The handle of a file of the live range; none for another number.
     pub fn handle_of(&self, seq: FileSeq) -> Option<Handle>
         ensures some { IfSome result (λ handle. IsListed seq self.now handle.file) }
         ensures last { IfSome result (λ handle. seq ≡ self.now.active.seq → handle ≡ self.now.active.handle) }
@@ -55,7 +55,7 @@ impl PipeFiles {
     }
 }
 
-/// Why nothing is read of a number that no file of the span has: `Corruption`; or `Memory`.
+/// The error of a read for a number that no file of the live range has: `Corruption`, or `Memory`.
 #[cold]
 pub fn unlisted(alloc: Global, seq: FileSeq) -> Error
     ensures { (files : PipeFiles) → IsUnlisted seq files → IsNotTold seq files result }

@@ -1,4 +1,4 @@
-//! Files that leave the span of a pipe.
+//! Files that leave the live range of a pipe.
 
 ghost use Rattle.std.specs.Prelude.{◌≡◌, ℕ, ◌≤◌, ◌-◌, List, ◌∷◌, ◌++◌, nat_lt, ◌&&◌, length, map, take, IfErr, IfOk, OnErr, OnOk};
 ghost use Rattle.std.specs.String.{string_bytes};
@@ -21,7 +21,7 @@ use std::alloc::Global;
 use std::collections::VecDeque;
 use std::io::ErrorKind;
 
-/// Drops the files with these paths, in their order.
+/// Deletes the files at these paths, in their order.
 fn drop_files<G: PipeFormat, F: FileSystem>(
     layout: &G,
     file_system: &mut F,
@@ -44,14 +44,14 @@ fn drop_files<G: PipeFormat, F: FileSystem>(
     Ok(())
 }
 
-/// Files that leave the span: those that stay for use, and the paths of the others.
+/// Files that leave the live range: those that are kept for recycling, and the paths of the others.
 #[derive(Drop)]
 struct Parted {
     kept: VecDeque<File>,
     gone: Vec<String>,
 }
 
-/// Whether a file stays for use, where there is room for so many.
+/// Whether a file may be kept for recycling, if there is room for `room` files.
 fn can_stay(file: &File, room: usize) -> bool
     ensures { result ≡ (is_signed file.now.format.version && nat_lt 0 room) }
 {
@@ -59,8 +59,8 @@ fn can_stay(file: &File, room: usize) -> bool
 }
 
 impl Parted {
-    /// Takes one more file: it stays where it can and there is room for so many, and the answer is for how
-    /// many there is room then.
+    /// Takes one more file, and keeps it if it may be recycled and there is room. Returns for how many files there is
+    /// room then.
     fn take<G: PipeFormat>(
         &mut self,
         alloc: Global,
@@ -87,8 +87,8 @@ impl Parted {
     }
 }
 
-/// Parts the first files of the span, so many of them: the oldest that can be used again stay, while there
-/// is room for one more.
+/// Splits the first `count` files of the live range: the oldest that may be recycled are kept, as long as there is room
+/// for one more.
 fn part_files<G: PipeFormat>(
     alloc: Global,
     layout: &G,
@@ -113,7 +113,7 @@ fn part_files<G: PipeFormat>(
     Ok(parted)
 }
 
-/// How many files lie below a number of the span; another number is refused as `Other`.
+/// How many files are below a number of the live range. Fails with `Other` if the number isn't in the live range.
 fn count_below(alloc: Global, files: &PipeFiles, seq: FileSeq) -> Result<usize>
     ensures ok { IfOk result (λ count. IsInSpan seq files.now × (count ≡ seq - files.now.first_seq)) }
     ensures err { IfErr result (CountFails seq files.now) }
@@ -124,7 +124,7 @@ fn count_below(alloc: Global, files: &PipeFiles, seq: FileSeq) -> Result<usize>
     }
 }
 
-/// A number that is none of the span's, as `Other`, or `Memory` where there is no room to say so.
+/// The error for a number that isn't in the live range: `Other`, or `Memory` if memory ran out for it.
 fn not_in_span(alloc: Global, files: &PipeFiles, seq: FileSeq) -> Error
     ensures { IsOtherOrMemory result }
 {
@@ -135,12 +135,12 @@ fn not_in_span(alloc: Global, files: &PipeFiles, seq: FileSeq) -> Error
     }
 }
 
-/// The files below a number leave the span, before any file call. From the oldest on, those whose records
-/// are signed stay for use, while the pipe has fewer files than its capacity with them; the others are
-/// deleted. The answer is how many left the span.
+/// Removes the files below a number from the live range, before any file call. From the oldest on, those with signed
+/// records are kept for recycling, as long as the pipe has fewer files than its capacity with them. The others are
+/// deleted. Returns how many left the live range.
 ///
-/// `Other` where the number is none of the span's, `Memory`: nothing is done. `Failed`: a file
-/// wasn't deleted, and the pipe isn't to be used any more.
+/// - `Other` (the number isn't in the live range), `Memory`: nothing was done.
+/// - `Failed`: a file wasn't deleted, and the pipe can't be used any more.
 pub fn purge<G: PipeFormat, F: FileSystem, L: Log>(
     alloc: Global,
     layout: &G,

@@ -1,14 +1,14 @@
-//! Bytes that are signed for the file that they are written to.
+//! Bytes that are signed for the file to which they are written.
 ghost use Rattle.std.specs.Prelude.{◌≡◌};
 
 use raft_log_record_base::LogFileContext;
 
-/// Bytes that are signed for the file that they are written to.
+/// Bytes that are signed for the file to which they are written.
 pub trait ReactiveBytes {
     ghost use Rattle.std.specs.Prelude.{ℕ, List};
     ghost use Rattle.raft_log_record_base.specs.declared.pipe_log.LogFileContext.{LogFileContext};
 
-    /// What is written, whatever file it is signed for.
+    /// The value that is written, whatever file it is signed for.
     type Said;
 
     ghost said: { Self → Self.Said };

@@ -1,4 +1,4 @@
-//! Rotations of a pipe: over the oldest of the files that are kept for use, or into a new one.
+//! Rotations of a pipe: into the oldest file kept for recycling, or into a new one.
 
 ghost use Rattle.std.specs.Prelude.{◌≡◌, ◌<◌, ◌∷◌, [], drop, length, suc, IfOk, IfErr, OnErr, OnOk};
 ghost use Rattle.std.specs.VecDeque.{deque_len, deque_capacity};
@@ -20,7 +20,7 @@ use raft_log_record_base::{Error, FileSeq, Result};
 use std::alloc::Global;
 use std::io::ErrorKind;
 
-/// Opens a file that is kept for use, to write it under its next number. It changes nothing.
+/// Opens a file that is kept for recycling, to write it under its next number. It changes nothing.
 fn open_kept<F: FileSystem>(file_system: &F, path: &str) -> Result<Handle>
     ensures ok { IfOk result (λ handle.
         IsOpened path.now permissions.ReadWrite handle (F.disk file_system.now)) }
@@ -33,7 +33,7 @@ fn open_kept<F: FileSystem>(file_system: &F, path: &str) -> Result<Handle>
     }
 }
 
-/// The place of a new name in the directory of a file: it has no sign, whatever the file's name has.
+/// The place of a new name in the directory of a file: the name has no sign, whether or not the file's name has one.
 fn place_beside<G: PipeFormat>(layout: &G, file: &File) -> PathId
     ensures { result
         ≡ plain_place (length (G.file_paths layout.now).directories) file.now.path_id }
@@ -41,7 +41,7 @@ fn place_beside<G: PipeFormat>(layout: &G, file: &File) -> PathId
     plain_place(layout.paths().len(), file.path_id)
 }
 
-/// Goes on in the oldest of the files that are kept for use, under the next number, in its directory.
+/// Rotates into the oldest file kept for recycling, under the next number, in its directory.
 fn go_over<G: PipeFormat, F: FileSystem, L: Log>(
     alloc: Global,
     layout: &G,
@@ -101,7 +101,7 @@ fn go_over<G: PipeFormat, F: FileSystem, L: Log>(
     Ok(())
 }
 
-/// Goes on in a file that is made for the next number.
+/// Rotates into a new file with the next number.
 fn go_into_new<G: PipeFormat, F: FileSystem, L: Log>(
     alloc: Global,
     layout: &G,
@@ -153,11 +153,11 @@ fn go_into_new<G: PipeFormat, F: FileSystem, L: Log>(
     }
 }
 
-/// Goes on in the next file: the oldest of those that are kept for use, or a new one where there is none.
-/// The last file is finished first.
+/// Rotates: finishes the active file, and continues in the oldest file kept for recycling, or in a new one if there is
+/// none.
 ///
-/// Refused for want of memory or of a number, nothing is done. `Failed` where a file call was refused: the
-/// pipe isn't to be used any more.
+/// - `Memory`, `NumberRange`: nothing was done.
+/// - `Failed`: a file call failed, and the pipe can't be used any more.
 pub fn rotate<G: PipeFormat, F: FileSystem, L: Log>(
     alloc: Global,
     layout: &G,

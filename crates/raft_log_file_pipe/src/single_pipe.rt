@@ -21,10 +21,10 @@ use raft_log_file_writer::LogFileReader;
 use raft_log_record_base::{Error, FileBlockHandle, FileSeq, LogQueue, Result};
 use std::alloc::Global;
 
-/// One queue of log files. Its calls are lent the file system.
+/// One queue of log files. Its calls borrow the file system.
 ///
-/// Once a call was refused that couldn't be mended, the pipe has failed: every later call that would change
-/// something is refused as `Failed`, and changes nothing.
+/// If a call fails and its effects can't be undone, the pipe has failed: every later call that would change something
+/// returns `Failed`, and changes nothing.
 #[derive(Drop)]
 pub struct SinglePipe<G> {
     layout: G,
@@ -36,11 +36,11 @@ pub struct SinglePipe<G> {
 /// How a pipe writes its files.
 #[derive(Drop, Debug)]
 pub struct PipeSettings {
-    /// Which queue the files are of.
+    /// The queue of the files.
     pub queue: LogQueue,
     /// How the pipe's files are begun.
     pub new_files: NewFiles,
-    /// How many files it may have, those of its span and those kept for use, before a purge deletes some.
+    /// How many files it may have, those of its live range and those kept for recycling, before a purge deletes some.
     pub capacity: usize,
 }
 
@@ -57,7 +57,7 @@ impl<G: PipeFormat> SinglePipe<G> {
     ghost use Rattle.raft_log_file_writer.specs.Reader.{AreBytesAt};
     ghost use Rattle.raft_log_file_pipe.specs.Exits.{FailsToSyncPipe, IsTurned, Rotates, RotationLeaves, SameLists, SyncsPipe};
 
-    /// A pipe over these files, which writes them so.
+    /// A pipe over these files, with these settings.
     pub fn new(layout: G, settings: PipeSettings, files: PipeFiles) -> SinglePipe<G>
         ensures layout { result.layout ≡ layout }
         ensures settings { result.settings ≡ settings }
@@ -72,14 +72,14 @@ impl<G: PipeFormat> SinglePipe<G> {
         }
     }
 
-    /// Where the pipe's files lie, and how they are written.
+    /// Where the pipe's files are, and how they are written.
     pub fn layout(&self) -> &G
         ensures { result.now ≡ self.now.layout }
     {
         &self.layout
     }
 
-    /// Whether a call was refused that couldn't be mended.
+    /// Whether the pipe has failed: a call failed, and its effects couldn't be undone.
     pub fn is_failed(&self) -> bool
         ensures { result ≡ self.now.failed }
     {
@@ -94,15 +94,15 @@ impl<G: PipeFormat> SinglePipe<G> {
         (self.files.first_seq, self.files.active.seq)
     }
 
-    /// How many files the span has.
+    /// How many files the live range has.
     fn count(&self) -> usize
         ensures { result ≡ suc (length self.now.files.earlier.items) }
     {
         self.files.earlier.len() + 1
     }
 
-    /// The number of the file at a fraction of the span, counted from its first file on and rounded down: the
-    /// one behind the last for the whole.
+    /// The number of the file at a fraction of the live range, counted from its first file and rounded down. For the
+    /// whole range, the number after the last one.
     pub fn file_at(&self, num: u32, den: u32) -> FileSeq
         requires fraction { num ≤ den }
         requires whole { 0 < den }
@@ -115,8 +115,7 @@ impl<G: PipeFormat> SinglePipe<G> {
         self.files.first_seq.saturating_add(at)
     }
 
-    /// The size of all files of the span in bytes, where each counts as long as it is to be; at most the
-    /// greatest number that there is.
+    /// The total size of the live range's files in bytes, where each counts as the target size; at most 2^64 - 1.
     pub fn total_size(&self) -> usize
         ensures { result ≡ min (suc (length self.now.files.earlier.items)
             * self.now.settings.new_files.target_size) (2 ^ 64 - 1) }
@@ -125,12 +124,13 @@ impl<G: PipeFormat> SinglePipe<G> {
             .saturating_mul(self.settings.new_files.target_size)
     }
 
-    /// Writes a record behind the others, and answers its place. The pipe goes on in the next file first
-    /// where the last one is as long as it is to be, or longer.
+    /// Appends a record, and returns its location. The pipe rotates first if the active file has reached the target
+    /// size.
     ///
-    /// `Io`: the write was refused, what it left was cut off, and everything before it is durable.
-    /// `TryAgain`: the same for want of space, and the pipe went on in the next file. `Memory`,
-    /// `NumberRange`: there is no next file, and nothing is lost. `Failed`: the pipe has failed.
+    /// - `Io`: the write failed; its bytes were truncated away, and everything before them is durable.
+    /// - `TryAgain`: the same for lack of space, and the pipe rotated.
+    /// - `Memory`, `NumberRange`: the pipe couldn't rotate, and nothing is lost.
+    /// - `Failed`: the pipe has failed.
     pub fn append<F: FileSystem, L: Log, B: ReactiveBytes>(
         &mut self,
         alloc: Global,
@@ -189,7 +189,7 @@ impl<G: PipeFormat> SinglePipe<G> {
         answer
     }
 
-    /// Makes all records durable. Refused, it is `Failed`, and the pipe has failed.
+    /// Makes all records durable. If it fails, returns `Failed`, and the pipe has failed.
     pub fn sync<F: FileSystem, L: Log>(&mut self, rt: &L, file_system: &mut F) -> Result<()>
         ensures ok { OnOk result (SyncsPipe (G.format self.old.layout) (G.own self.old.layout)
             (G.file_paths self.old.layout) self.old.files (F.disk file_system.old) (F.disk file_system.new)) }
@@ -219,9 +219,10 @@ impl<G: PipeFormat> SinglePipe<G> {
         Ok(())
     }
 
-    /// Goes on in the next file: the oldest of those that are kept for use, or a new one where there is none.
+    /// Rotates into the oldest file kept for recycling, or into a new one if there is none.
     ///
-    /// Refused for want of memory or of a number, nothing is done. `Failed` where a file call was refused.
+    /// - `Memory`, `NumberRange`: nothing was done.
+    /// - `Failed`: a file call failed.
     pub fn rotate<F: FileSystem, L: Log>(
         &mut self,
         alloc: Global,
@@ -269,12 +270,12 @@ impl<G: PipeFormat> SinglePipe<G> {
         answer
     }
 
-    /// The files below a number leave the span; the answer is how many. From the oldest on, those whose
-    /// records are signed stay for use, while the pipe has fewer files than its capacity with them; the
+    /// Removes the files below a number from the live range, and returns how many. From the oldest on, those with
+    /// signed records are kept for recycling, as long as the pipe has fewer files than its capacity with them. The
     /// others are deleted.
     ///
-    /// `Other` where the number is none of the span's, `Memory`: nothing is done. `Failed`: a
-    /// file wasn't deleted, and the pipe has failed.
+    /// - `Other` (the number isn't in the live range), `Memory`: nothing was done.
+    /// - `Failed`: a file wasn't deleted, and the pipe has failed.
     pub fn purge_to<F: FileSystem, L: Log>(
         &mut self,
         alloc: Global,
@@ -319,7 +320,8 @@ impl<G: PipeFormat> SinglePipe<G> {
         answer
     }
 
-    /// The bytes at a place, fewer where the file ends before. `Corruption` where its file isn't listed.
+    /// The bytes at a location; fewer if the file ends first. Fails with `Corruption` if its file isn't in the live
+    /// range.
     pub fn read_bytes<F: FileSystem>(
         &self,
         alloc: Global,
@@ -339,8 +341,8 @@ impl<G: PipeFormat> SinglePipe<G> {
         LogFileReader::open(handle).read(alloc, file_system, block)
     }
 
-    /// The bytes at a place come in the stead of those that the list has, fewer where the file ends before.
-    /// `Corruption` where its file isn't listed. A refusal leaves any bytes.
+    /// Replaces the contents of `bytes` with the bytes at a location; fewer if the file ends first. Fails with
+    /// `Corruption` if its file isn't in the live range. If it fails, `bytes` may hold anything.
     pub fn read_over<F: FileSystem>(
         &self,
         alloc: Global,
@@ -367,12 +369,13 @@ impl<G: PipeFormat + Drop> SinglePipe<G> {
     ghost use Rattle.raft_log_file_pipe.specs.Opening.{OpenLeaves, OpensPipe};
     ghost use Rattle.raft_log_file_pipe.specs.Doing.{OpensPipeBy};
 
-    /// OpensPipe a pipe over what was found of its queue: where there is no file, the queue begins in a file 1;
-    /// else it goes on behind what was read of its last file, which is cut there, synced, and gets a header
-    /// of the first version where it has none.
+    /// Opens a pipe over what was found of its queue. If there is no file, the queue begins in a file 1. Otherwise it
+    /// continues after what was read of its last file, which is truncated there and synced. If that file has no header,
+    /// it gets one of version 1.
     ///
-    /// `Memory`: nothing was done. `InvalidArgument`: no header has the last file's format. `Io`: a file call
-    /// was refused; all that was read is there still.
+    /// - `Memory`: nothing was done.
+    /// - `InvalidArgument`: the last file's format has an alignment, and nothing was done.
+    /// - `Io`: a file call failed; all records that were read are still there.
     pub fn open<F: FileSystem, L: Log>(
         alloc: Global,
         layout: G,
@@ -399,13 +402,13 @@ impl<G: PipeFormat + Drop> SinglePipe<G> {
         Ok(SinglePipe::new(layout, settings, files))
     }
 
-    /// Closes the pipe: its last file is cut behind its records and synced, and the files that are kept for
-    /// use get reserved names in the main directory, from the newest down until one has such a name, with
-    /// numbers from the greatest reserved one on.
+    /// Closes the pipe: truncates its active file after its records and syncs it. Then the files that are kept for
+    /// recycling get reserved names in the main directory, from the newest down until one has such a name. The numbers
+    /// begin after the greatest reserved one. A failure to give a name is only logged.
     ///
-    /// Once it returns `Ok`, all records are durable. `Io`: the cut or the sync was refused; what was durable
-    /// still is, and the names were given all the same. `Failed`: the pipe had failed, and nothing was
-    /// touched. A name that is refused is only logged.
+    /// - `Ok`: all records are durable.
+    /// - `Io`: the truncation or the sync failed; what was durable still is, and the names were given anyway.
+    /// - `Failed`: the pipe had failed, and nothing was touched.
     pub fn close<F: FileSystem, L: Log>(
         self,
         alloc: Global,
@@ -435,9 +438,10 @@ impl<G: PipeFormat + Drop> SinglePipe<G> {
         finished
     }
 
-    /// The first half of a close: the last file is cut behind its records and synced.
+    /// The first half of a close: truncates the active file after its records, and syncs it.
     ///
-    /// `Io`: the cut or the sync was refused. `Failed`: the pipe had failed, and nothing was touched.
+    /// - `Io`: the truncation or the sync failed.
+    /// - `Failed`: the pipe had failed, and nothing was touched.
     pub fn finish<F: FileSystem, L: Log>(&mut self, rt: &L, file_system: &mut F) -> Result<()>
         ensures held { self.old.failed ≡ false → LeavesClosed (G.format self.old.layout)
             (G.own self.old.layout) (G.file_paths self.old.layout) self.old.files
@@ -463,8 +467,8 @@ impl<G: PipeFormat + Drop> SinglePipe<G> {
         finish(&self.layout, rt, file_system, &mut self.files)
     }
 
-    /// The second half: the files that are kept for use get reserved names, as `close` has it. Refusals are
-    /// logged. Of a pipe that has failed nothing is touched.
+    /// The second half of a close: gives the files that are kept for recycling reserved names, as `close` does.
+    /// Failures are logged. If the pipe has failed, nothing is touched.
     pub fn reserve_names<F: FileSystem, L: Log>(self, alloc: Global, rt: &L, file_system: &mut F)
         ensures held { self.failed ≡ false → StaysLeft (G.format self.layout) (G.own self.layout)
             self.files.recycled.items (F.disk file_system.old) (F.disk file_system.new) }

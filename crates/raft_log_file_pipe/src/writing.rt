@@ -1,4 +1,4 @@
-//! Records that are written to the last file of a pipe.
+//! Records that are written to the active file of a pipe.
 
 ghost use Rattle.std.specs.Prelude.{◌≡◌, ◌<◌, ◌^◌, IfErr, OnErr, OnOk, IfOk};
 ghost use Rattle.raft_log_disk.specs.Causes.{IsLater};
@@ -13,8 +13,8 @@ use raft_log_disk::FileSystem;
 use raft_log_file_queue::{PipeFormat, WriteFault, append_record, sync_records};
 use std::io::ErrorKind;
 
-/// Writes a record behind the others of the last file, and answers its place, in bytes from the file's
-/// front on. Where the write is refused, the file is cut back to what was written before, and synced.
+/// Appends a record to the active file, and returns its offset in bytes. If the write fails, the file is truncated to
+/// what was written before, and synced.
 pub fn add<G: PipeFormat, F: FileSystem, L: Log>(
     layout: &G,
     rt: &L,
@@ -32,7 +32,7 @@ pub fn add<G: PipeFormat, F: FileSystem, L: Log>(
     ensures short { IfOk result (λ at. at < 2 ^ 63) }
     ensures lists { SameLists files.old files.new }
 
-    // Which calls were made, and whose refusal is told.
+    // Which calls were made, and whose error is returned.
     ensures calls { OnOk result (WritesNext files.old.writer files.new.writer bytes.now size
         (F.disk file_system.old) (F.disk file_system.new)) }
     ensures refusal { IfErr result (λ fault. AppendMakes fault files.old.writer files.new.writer bytes.now

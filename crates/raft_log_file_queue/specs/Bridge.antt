@@ -1,4 +1,4 @@
--- Which numbered files of the log's machine the files on a disk are, and what is read of their images.
+-- How the files on a disk correspond to the numbered files of the log's machine, and what is read of their images.
 use Rattle.std.specs.Prelude.{◌≡◌, ℕ, ◌+◌, ◌<◌, ◌≤◌, List, [], ◌∷◌, ◌++◌, map, suc, zero}
 use Rattle.raft_log_model_laws.specs.Item.{Record}
 use Rattle.raft_log_machine_laws.specs.Files.{LogFile, FileQueue, FileEvent, FileStep, IsRead, AllBehind}
@@ -8,11 +8,11 @@ use Rattle.raft_log_file_laws.specs.Chains.{Written}
 use Rattle.raft_log_file_laws.specs.LogFormat.{Format}
 use Rattle.raft_log_file_laws.specs.LogQueue.{Past, LogFiles, Found, IsAbsent, NoChanceInLast, ReadsFrom}
 
--- what written records say
+-- the values of written records
 abbrev pub said : {R E V : Type 0} → (R → Record E V) → List (Written R) → List (Record E V)
 said says ws = map (λ w. says w.value) ws
 
--- so many files from a number on
+-- `k` numbered files from a number on
 abbrev pub filed : {R E V : Type 0} → (R → Record E V) → (ℕ → Past R) → ℕ → ℕ → List (LogFile E V)
 filed says older s zero = []
 filed says older s (suc k) = record {
@@ -21,12 +21,12 @@ filed says older s (suc k) = record {
       (older s).records;
 } ∷ filed says older (suc s) k
 
--- a file as it was read
+-- a file as it was read, as a numbered file
 abbrev pub logged : {R E V : Type 0} → (R → Record E V) → Found R → LogFile E V
 logged says found = record { number = found.number; records = said says found.records }
 
--- These are the numbered files of the queue, where those from `low` on are there without a gap and the
--- span begins at `first`: below `low` no file is there, or those that are lie behind a gap.
+-- These are the numbered files of the queue, if its files from `low` on have no gap and its live range begins at
+-- `first`. The number just below `low` has no file, so any older files come before a gap.
 pub record IsFileQueue {R E V : Type 0} (says : R → Record E V) (F : Format R) (q : LogFiles R)
     (low first : ℕ)
     (d : Disk) (files : FileQueue E V) : Type 0 where
@@ -42,8 +42,8 @@ pub record IsFileQueue {R E V : Type 0} (says : R → Record E V) (F : Format R)
   pub behind : AllBehind low files.behind
   pub gap : (m : ℕ) → suc m ≡ low → IsAbsent F m d
 
--- An image reads as the numbered files allow: of the pending records some first ones are kept, and
--- whatever is read, from whatever start up to the span's first file, is of the files with these.
+-- Reading an image gives what the numbered files allow: some first pending records are kept. From any start up to the
+-- first file of the live range, reading gives the numbered files with these records.
 abbrev pub ReadsAsFiles : {R E V : Type 0} → (R → Record E V) → Format R → LogFiles R → ℕ → ℕ → Disk
     → FileQueue E V
     → Type 0
@@ -53,7 +53,7 @@ ReadsAsFiles {R} {E} {V} says F q low first d files = (image : Disk) → IsImage
     × ((s : ℕ) → s ≤ first → (found : List (Found R)) → ReadsFrom F image s found
     → IsRead low files kept s (map (logged says) found))
 
--- the numbered files take this step, and are then those of that queue on that disk
+-- the numbered files take this step, and then correspond to that queue on that disk
 abbrev pub StepsTo : {R E V : Type 0} → (R → Record E V) → Format R → FileEvent E V → FileQueue E V
     → LogFiles R
     → ℕ → ℕ → Disk → Type 0

@@ -1,4 +1,4 @@
--- Under which paths the files of a queue lie.
+-- At which paths the files of a queue are.
 use Rattle.std.specs.Prelude.{◌≡◌, ℕ, ◌<◌, ◌+◌, ◌-◌, ◌^◌, Bool, cond, nat_le, List, [], length, slice_index_or}
 use Rattle.raft_log_disk.specs.Disk.{IsPathIn}
 use Rattle.raft_log_file_laws.specs.LogFormat.{Format, IsFormat}
@@ -7,21 +7,21 @@ use Rattle.raft_log_file_format.specs.declared.header.LogFileFormat.{LogFileForm
 use Rattle.raft_log_file_queue.specs.Standing.{OwnsPaths}
 use Rattle.raft_log_file_queue.specs.declared.format.File.{File}
 
--- Whether names in this place have a sign in front of the number: behind the places of so many directories
--- each has a second one, for such names.
+-- Whether names at this place have a plus sign before the number. Each of the `count` directories has a second place,
+-- after the first `count` ones, for such names.
 abbrev pub has_sign : ℕ → ℕ → Bool
 has_sign count place = nat_le count place
 
--- the place for names in a directory, of so many, with a sign or without one
+-- the place for names in a directory, of `count` directories, with a sign or without one
 abbrev pub place_of : ℕ → ℕ → Bool → ℕ
 place_of count place signed = cond signed (count + place) place
 
--- the first place of the directory that has this place, of so many
+-- the first place of the directory that has this place, of `count` directories
 abbrev pub plain_place : ℕ → ℕ → ℕ
 plain_place count place = cond (has_sign count place) (place - count) place
 
--- The directories that a queue's files lie in, the main one first; and the path of a file by its directory's
--- place among them and its number: of a file in its queue, or of one that is kept under a reserved name.
+-- The directories of a queue's files, the main one first. The path of a file follows from its directory's place and its
+-- number: for a file in its queue, and for one with a reserved name.
 pub record FilePaths : Type 0 where
   pub directories : List (List ℕ)
   pub numbered : ℕ → ℕ → List ℕ
@@ -32,12 +32,12 @@ abbrev pub path_of : FilePaths → File → List ℕ
 path_of paths file = cond file.reserved (paths.reserved file.path_id file.seq)
     (paths.numbered file.path_id file.seq)
 
--- the places of records in a file of this format are no multiples of anything: they follow one another
+-- records of this format follow one another, without an alignment
 abbrev pub IsUnaligned : LogFileFormat → Type 0
 IsUnaligned format = format.alignment ≡ 0
 
--- Each number that is in range has its path in each directory, and lies there; a reserved name is the queue's
--- own, and no number's; and the header of each format without an alignment is one here.
+-- Each number in range has its path in each directory, and the path is in that directory. A reserved name is the
+-- queue's own, and no number's. The header of each format without an alignment is a header here.
 pub record IsLayout {R : Type 0} (F : Format R) (own : List ℕ → Type 0) (paths : FilePaths) : Type 0 where
   pub format : IsFormat F
   pub owns : OwnsPaths F own

@@ -1,5 +1,5 @@
--- How a queue of numbered files goes on: what its calls make of its records. Which bytes stand where is
--- said of its last file alone; the earlier ones are finished.
+-- How a queue of numbered files continues: the effects of its calls on its records. Only the last file's bytes matter;
+-- the earlier files are finished.
 use Rattle.std.specs.Prelude.{◌≡◌, ℕ, ◌<◌, ◌⊎◌, List, [], ◌++◌}
 use Rattle.raft_log_disk.specs.Disk.{grown}
 use Rattle.raft_log_file_laws.specs.Chains.{Written, spelled}
@@ -9,7 +9,7 @@ use Rattle.raft_log_file_laws.specs.LogQueue.{Past, LogFiles, recent}
 abbrev pub whole : {R : Type 0} → LogFiles R → List ℕ
 whole q = q.header ++ spelled (recent q)
 
--- the last file, as it is finished
+-- the last file as a finished one
 abbrev pub finished : {R : Type 0} → LogFiles R → Past R
 finished q = record { header = q.header; records = recent q }
 
@@ -25,14 +25,14 @@ with_more ws q = record q { pending = q.pending ++ ws }
 abbrev pub synced : {R : Type 0} → LogFiles R → LogFiles R
 synced q = record q { durable = recent q; pending = [] }
 
--- all records are synced, and nothing stands behind them
+-- all records are synced, and nothing follows them
 abbrev pub settled : {R : Type 0} → LogFiles R → LogFiles R
 settled q = record q { stale = []; durable = recent q; pending = [] }
 
--- room was made ahead: zeros, which count as having stood there
+-- zeros were preallocated; they count as stale bytes
 abbrev pub with_room : {R : Type 0} → ℕ → LogFiles R → LogFiles R
 with_room size q = record q { stale = grown size q.stale }
 
--- the last file as one without records, with the header that it is to get, over these bytes
+-- the last file as one without records, with the header that it will get, over these stale bytes
 abbrev pub begun : {R : Type 0} → List ℕ → List ℕ → LogFiles R → LogFiles R
 begun header stale q = record q { header = header; stale = stale; durable = []; pending = [] }

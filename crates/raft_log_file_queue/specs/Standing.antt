@@ -1,12 +1,12 @@
--- How the files of a queue stand on a disk, at any point inside any call: one relation, with what is known
--- of the last file as its parameter.
+-- The files of a queue on a disk, at any point inside any call: one relation, `Stands`, whose parameter `P` is what is
+-- known of the last file.
 use Rattle.std.specs.Prelude.{◌≡◌, ℕ, ◌<◌, ◌≤◌, ◌⊎◌, false, Option, Some, None, List}
 use Rattle.raft_log_disk.specs.Disk.{File, Disk, HasDirectory}
 use Rattle.raft_log_file_laws.specs.LogFormat.{Format}
 use Rattle.raft_log_file_laws.specs.LogQueue.{LogFiles, IsPast}
 use Rattle.raft_log_disk.specs.Touching.{HasFile, TouchesOnlyNames}
 
--- which file has which path
+-- which file is at which path
 abbrev pub Names : Type 0
 Names = List ℕ → Option ℕ
 
@@ -14,24 +14,25 @@ Names = List ℕ → Option ℕ
 abbrev pub HaveOneName : Names → Type 0
 HaveOneName N = (a b : List ℕ) (id : ℕ) → N a ≡ Some id → N b ≡ Some id → a ≡ b
 
--- no number below this one is that of two files
+-- no number below this one has two files
 abbrev pub HaveOneFile : {R : Type 0} → Format R → ℕ → Names → Type 0
 HaveOneFile F end N = (m i j : ℕ) (a b : List ℕ) → m < end → F.IsPath m a → F.IsPath m b
     → N a ≡ Some i → N b ≡ Some j → i ≡ j
 
--- a file may be made here, or get this path: no directory has it, and its own directory is there
+-- a file may be created or renamed here: no directory has the path, and its parent directory exists
 pub record IsPlace (path : List ℕ) (d : Disk) : Type 0 where
   pub apart : d.directories path ≡ false
   pub home : HasDirectory path d
 
--- a queue's own paths are those of its files, and maybe others that it keeps for later
+-- a queue's own paths are those of its files, and possibly others that it keeps for later
 abbrev pub OwnsPaths : {R : Type 0} → Format R → (List ℕ → Type 0) → Type 0
 OwnsPaths F own = (m : ℕ) (path : List ℕ) → m < F.limit → F.IsPath m path → own path
 
--- The files of a queue, on a disk with these names: the last one has this path and this number in the file
--- system, and `P` holds of it; no other file has its number, none a higher one; whoever has a lower one is
--- that file as it was finished, and no other file has that number; and since `base` nothing has changed but
--- the queue's own paths and files.
+-- The files of a queue, on a disk with these names.
+-- - The last file has this path and this node number, and `P` holds for it.
+-- - No other file has its number, and no number above it has a file.
+-- - A file with a lower number is that file as it was finished, and no other file has that number.
+-- - Since `base`, nothing has changed but the queue's own paths and files.
 pub record Stands {R : Type 0} (F : Format R) (own : List ℕ → Type 0) (base : Disk) (q : LogFiles R)
     (path : List ℕ) (id : ℕ) (P : File → Type 0) (N : Names) (d : Disk) : Type 0 where
   pub names : d.names ≡ N

@@ -1,4 +1,4 @@
-//! How the files of a queue are written, and under which paths they lie.
+//! How the files of a queue are written, and at which paths they are.
 
 ghost use Rattle.std.specs.Prelude.{◌≡◌, ℕ, ◌+◌, ◌<◌, ◌^◌, List, OnOk, IfOk, IfErr, map};
 ghost use Rattle.std.specs.String.{string_bytes};
@@ -11,11 +11,11 @@ use raft_log_file_format::LogFileFormat;
 use raft_log_record_base::{FileSeq, Result};
 use std::alloc::Global;
 
-/// The place of a directory in the list of those that a log's files lie in. Behind the last one each directory
-/// has a second place, for files whose names have a sign in front of the number.
+/// The place of a directory in the list of a log's directories. Each directory has a second place, after the last first
+/// one, for files whose names have a plus sign before the number.
 pub type PathId = usize;
 
-/// The directories that a log's files lie in, the main one first.
+/// The directories of a log's files, the main one first.
 pub type Paths = Vec<String>;
 
 /// The main directory's place.
@@ -24,14 +24,15 @@ pub const DEFAULT_PATH_ID: PathId = 0;
 /// The number of a queue's first file.
 pub const DEFAULT_FIRST_FILE_SEQ: FileSeq = 1;
 
-/// Whether names in this place have a sign in front of the number, of so many directories.
+/// Whether names at this place have a plus sign before the number; `directories` is the number of directories.
 pub fn has_sign(directories: usize, path_id: PathId) -> bool
     ensures { result ≡ has_sign directories path_id }
 {
     directories <= path_id
 }
 
-/// The place for names in a directory, of so many, with a sign in front of the number or without one.
+/// The place for names in a directory, with a plus sign before the number or without one; `directories` is the number
+/// of directories.
 pub fn place_of(directories: usize, path_id: PathId, signed: bool) -> PathId
     requires { directories + path_id < 2 ^ 64 }
     ensures { result ≡ place_of directories path_id signed }
@@ -42,8 +43,8 @@ pub fn place_of(directories: usize, path_id: PathId, signed: bool) -> PathId
     path_id
 }
 
-/// The first place of the directory that has this place, of so many: that of names without a sign, as all new
-/// files have them.
+/// The first place of the directory that has this place: the one for names without a sign, which all new files have.
+/// `directories` is the number of directories.
 pub fn plain_place(directories: usize, path_id: PathId) -> PathId
     ensures { result ≡ plain_place directories path_id }
 {
@@ -56,21 +57,21 @@ pub fn plain_place(directories: usize, path_id: PathId) -> PathId
 /// A file of a queue.
 #[derive(Clone, Copy, Debug)]
 pub struct File {
-    /// The file's number; of a reserved file the number in its name.
+    /// The file's number; for a reserved file, the number in its name.
     pub seq: FileSeq,
     /// The open file.
     pub handle: Handle,
     /// How the file is written.
     pub format: LogFileFormat,
-    /// The place of the directory that the file lies in: the second one where the name has a sign.
+    /// The place of the file's directory: the second one if the name has a sign.
     pub path_id: PathId,
     /// Whether the file has a reserved name.
     pub reserved: bool,
 }
 
-/// Says how the files of a queue are written, and under which paths they lie.
+/// States how the files of a queue are written, and at which paths they are.
 pub trait PipeFormat {
-    /// What a record says.
+    /// The value of a record.
     type Record;
 
     ghost format: { Self → Format Self.Record };
@@ -79,7 +80,7 @@ pub trait PipeFormat {
 
     ghost file_paths: { Self → FilePaths };
 
-    /// The path of a file. Refused as its name is.
+    /// The path of a file. Fails as making its name does.
     fn file_path(&self, alloc: Global, file: &File) -> Result<String>
         ensures ok { IfOk result (λ path. string_bytes path ≡ path_of (file_paths self.now) file.now) }
         ensures named { OnOk result (file.now.seq < 10 ^ 16) }

@@ -1,4 +1,4 @@
-//! The calls of a pipe on the last file of its queue, with what stands at each exit.
+//! The calls of a pipe on the last file of its queue, with what holds after each.
 
 ghost use Rattle.std.specs.Prelude.{IfOk, IfErr, OnOk, OnErr};
 ghost use Rattle.raft_log_disk.specs.Causes.{IsLater};
@@ -16,14 +16,13 @@ use std::io::ErrorKind;
 /// Why a record wasn't written.
 #[derive(Clone, Copy, Debug, PartialEq, Eq)]
 pub enum WriteFault {
-    /// The write was refused; what it left was cut off, and that was synced.
+    /// The write failed; the file was truncated to what was written before, and synced.
     CutBack(ErrorKind),
-    /// The write was refused, and so was the cut, or its sync: the record may be there.
+    /// The write failed, and so did the truncation or its sync: the record may be there.
     Failed(ErrorKind),
 }
 
-/// Writes a record behind the others. Where the write is refused, the file is cut back to what was written
-/// before, and synced.
+/// Appends a record. If the write fails, the file is truncated to what was written before, and synced.
 pub fn append_record<G: PipeFormat, F: FileSystem, L: Log>(
     layout: &G,
     rt: &L,
@@ -38,7 +37,7 @@ pub fn append_record<G: PipeFormat, F: FileSystem, L: Log>(
         fault writer.old writer.new
         (F.disk file_system.old) (F.disk file_system.new)) }
 
-    // Which calls were made, in their order, and whose refusal is told.
+    // Which calls were made, in their order, and whose error is returned.
     ensures calls { OnOk result (WritesNext writer.old writer.new bytes.now target_size
         (F.disk file_system.old) (F.disk file_system.new)) }
     ensures refusal { IfErr result (λ fault. AppendMakes fault writer.old writer.new bytes.now target_size
@@ -76,7 +75,7 @@ pub fn sync_records<G: PipeFormat, F: FileSystem>(
     writer.sync(file_system)
 }
 
-/// Finishes the file: cuts it behind its records, and makes these durable.
+/// Finishes the file: truncates it after its records, and syncs it.
 pub fn finish_file<G: PipeFormat, F: FileSystem>(
     layout: &G,
     file_system: &mut F,
@@ -96,8 +95,8 @@ pub fn finish_file<G: PipeFormat, F: FileSystem>(
     writer.close(file_system)
 }
 
-/// Begins the file of a handle, which has got the next number: writes its header, whatever it holds, and
-/// makes that durable.
+/// Begins the file of a handle, which got the next number: writes its header at its front, whatever it holds, and syncs
+/// that.
 pub fn begin_file<G: PipeFormat, F: FileSystem, L: Log>(
     layout: &G,
     rt: &L,

@@ -1,9 +1,9 @@
-//! A queue of numbered log files on a disk: how its files stand at any point inside any call, what a stop leaves
-//! of them, and which numbered files of the machine they are; and the calls that a pipe is made of, which keep
-//! what was synced at every exit.
+//! A queue of numbered log files on a disk: the state of its files at any point inside any call, what a stop leaves of
+//! them, and the machine's numbered files. Also the calls of which a pipe is made; they keep synced records whether
+//! they succeed or fail.
 //!
-//! Each call says what stands when it was answered and when it was refused, over any file system and any format
-//! of files: on the last file of a queue (`last_file`), and on the names of its files (`rotation`).
+//! Each call's contract says what holds when it succeeds and when it fails, over any file system and any format of
+//! files: for the last file of a queue (`last_file`), and for the names of its files (`rotation`).
 #![tactic(auto)]
 
 pub mod format;

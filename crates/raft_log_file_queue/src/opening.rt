@@ -1,4 +1,4 @@
-//! How a queue begins, in a file 1 that is made for it, and how its last file is taken up again after a stop.
+//! How a queue begins, in a file 1 that is created for it, and how its last file is reopened after a stop.
 
 ghost use Rattle.std.specs.Prelude.{IfOk, IfErr, OnOk, OnErr, unwrap_or};
 ghost use Rattle.raft_log_disk.specs.Causes.{IsLater};
@@ -13,10 +13,10 @@ use raft_log_disk::{FileSystem, Handle};
 use raft_log_file_writer::LogFileWriter;
 use std::io::ErrorKind;
 
-/// Begins a queue that has no file: makes its file 1 under this path, writes the header, and makes that
-/// durable. Answers a handle that may write the file, and the writer that stands behind the header.
+/// Begins a queue that has no file: creates its file 1 at this path, writes the header, and syncs it. Returns a handle
+/// that may write the file, and the writer, which is after the header.
 ///
-/// Refused, there is a place for the queue still, or the file is there, without a record.
+/// If it fails, there is still a place for the queue, or the file exists, without a record.
 pub fn begin_queue<G: PipeFormat, F: FileSystem, L: Log>(
     layout: &G,
     rt: &L,
@@ -29,7 +29,7 @@ pub fn begin_queue<G: PipeFormat, F: FileSystem, L: Log>(
     ensures err { OnErr result (FailsToBeginQueue (G.format layout.now) (G.own layout.now)
         header.now path.now (F.disk file_system.old) (F.disk file_system.new)) }
 
-    // Which calls were made, and whose refusal is told; and no file that was there changes.
+    // Which calls were made, and whose error is returned; and no file that existed changes.
     ensures calls { IfOk result (λ begun. BeginsQueueBy path.now header.now begun.0 begun.1
         (F.disk file_system.old) (F.disk file_system.new)) }
     ensures refusal { IfErr result (λ error. BeginQueueMakes path.now header.now error
@@ -42,9 +42,8 @@ pub fn begin_queue<G: PipeFormat, F: FileSystem, L: Log>(
     Ok((handle, writer))
 }
 
-/// Cuts the last file of a queue, as a stop left it, behind the records that were read of it, or to nothing
-/// where it has no header, and makes that durable. The file is cut and synced also where this changes
-/// nothing.
+/// Truncates the last file of a queue, as a stop left it, after the records that were read of it, and syncs it. If it
+/// has no header, truncates it to nothing. The file is truncated and synced even if this changes nothing.
 pub fn trim_leftover<G: PipeFormat, F: FileSystem>(
     layout: &G,
     file_system: &mut F,
@@ -56,7 +55,7 @@ pub fn trim_leftover<G: PipeFormat, F: FileSystem>(
     ensures err { OnErr result (FailsToTrim (G.format layout.now) (G.own layout.now) handle end
         (F.disk file_system.old) (F.disk file_system.new)) }
 
-    // Which calls were made, and whose refusal is told.
+    // Which calls were made, and whose error is returned.
     ensures calls { OnOk result (Trims handle (unwrap_or end 0)
         (F.disk file_system.old) (F.disk file_system.new)) }
     ensures refusal { IfErr result (λ error. TrimMakes handle (unwrap_or end 0) error
@@ -68,11 +67,11 @@ pub fn trim_leftover<G: PipeFormat, F: FileSystem>(
     file_system.sync(handle)
 }
 
-/// Takes the last file of a queue up again, as a stop left it: cuts it to this end, behind which no whole
-/// record was read, and goes on there; where it has no header, it is emptied and gets this one. All of that
-/// is durable before the writer is answered.
+/// Reopens the last file of a queue, as a stop left it. Truncates it to this end, after which no whole record was read,
+/// and continues there. If the file has no header, it is emptied and gets this one. All that is durable before the
+/// writer is returned.
 ///
-/// Refused, all that was read is there still.
+/// If it fails, all records that were read are still there.
 pub fn reopen_file<G: PipeFormat, F: FileSystem, L: Log>(
     layout: &G,
     rt: &L,

@@ -1,5 +1,5 @@
-//! Rotations: the last file of a queue is finished, and the queue goes on in the next one. Earlier files
-//! go.
+//! Rotations: the last file of a queue is finished, and the queue continues in the next one. Also deletes earlier
+//! files.
 
 ghost use Rattle.std.specs.Prelude.{◌≡◌, ℕ, Some, None, IfOk, IfErr, OnOk, OnErr};
 ghost use Rattle.std.specs.String.{string_bytes};
@@ -15,7 +15,7 @@ use raft_log_disk::{FileSystem, Handle};
 use raft_log_file_writer::LogFileWriter;
 use std::io::ErrorKind;
 
-/// Goes on in a file that is made for the next number, and answers its handle.
+/// Rotates into a file that is created for the next number. Returns its handle.
 pub fn rotate_to_new<G: PipeFormat, F: FileSystem, L: Log>(
     layout: &G,
     rt: &L,
@@ -29,7 +29,7 @@ pub fn rotate_to_new<G: PipeFormat, F: FileSystem, L: Log>(
     ensures err { OnErr result (FailsToRotateToNew (G.format layout.now) (G.own layout.now)
         header.now path.now writer.old (F.disk file_system.old) (F.disk file_system.new)) }
 
-    // Which calls were made, and whose refusal is told; and no other file changes.
+    // Which calls were made, and whose error is returned; and no other file changes.
     ensures calls { IfOk result (λ handle. RotatesBy writer.old header.now
         (λ handle. Creates path.now handle.file) handle writer.new
         (F.disk file_system.old) (F.disk file_system.new)) }
@@ -45,8 +45,8 @@ pub fn rotate_to_new<G: PipeFormat, F: FileSystem, L: Log>(
     Ok(handle)
 }
 
-/// Goes on in a file that was kept for use, under the next number. The handle is the file's, opened to
-/// write before the call: nothing that may want memory comes between the calls that change something.
+/// Rotates into a file that was kept for recycling, under the next number. The handle is the file's, opened for writing
+/// before the call, so that nothing allocates memory between the calls that change something.
 pub fn rotate_over<G: PipeFormat, F: FileSystem, L: Log>(
     layout: &G,
     rt: &L,
@@ -66,7 +66,7 @@ pub fn rotate_over<G: PipeFormat, F: FileSystem, L: Log>(
         writer.old
         (F.disk file_system.old) (F.disk file_system.new)) }
 
-    // Which calls were made, and whose refusal is told; and no other file changes.
+    // Which calls were made, and whose error is returned; and no other file changes.
     ensures calls { OnOk result (RotatesBy writer.old header.now (λ named. Renames from.now to.now) handle
         writer.new (F.disk file_system.old) (F.disk file_system.new)) }
     ensures refusal { IfErr result (λ error. RotationMakes writer.old header.now
@@ -82,7 +82,7 @@ pub fn rotate_over<G: PipeFormat, F: FileSystem, L: Log>(
     Ok(())
 }
 
-/// Drops a file that the queue doesn't need any more: an earlier one, or one that was kept for use.
+/// Deletes a file that the queue doesn't need any more: an earlier one, or one that was kept for recycling.
 pub fn drop_file<G: PipeFormat, F: FileSystem>(
     layout: &G,
     file_system: &mut F,

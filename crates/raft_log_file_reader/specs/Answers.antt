@@ -1,5 +1,4 @@
--- What comes of log files that are read: their items, and why the reading of a file ends before the file
--- does.
+-- What reading log files returns: their items, and why reading a file ends before the file does.
 use Rattle.std.specs.Prelude.{◌≡◌, ℕ, ◌⊎◌, false, List, [], ◌∷◌, ◌++◌, map, Result, Ok, Err, length}
 use Rattle.std.specs.String.{string_bytes}
 use Rattle.raft_log_record_base.specs.declared.errors.Error.{Error}
@@ -17,7 +16,7 @@ use Rattle.raft_log_file_reader.specs.Refused.{FailsBehind}
 use Rattle.raft_log_file_reader.specs.declared.open_file.OpenFile.{OpenFile}
 use Rattle.raft_log_file_reader.specs.declared.log_file.LogFile.{LogFile}
 
--- an item, or why no more of a file's items come
+-- an item, or the error that ends the items of a file
 abbrev pub Answer : Type 0
 Answer = Result LogItem Error
 
@@ -25,13 +24,13 @@ Answer = Result LogItem Error
 abbrev pub given : List LogItem → List Answer
 given items = map Ok items
 
--- each item of these batches, in order
+-- the items of each of these batches, in order
 abbrev pub given_all : List (List LogItem) → List Answer
 given_all [] = []
 given_all (items ∷ batches) = given items ++ given_all batches
 
--- What comes of an open file from an offset on: the items of its batches, up to its end; or up to a batch
--- that is refused, and then why.
+-- What is read of an open file from an offset on: the items of its batches up to its end, or up to a batch that fails,
+-- followed by that error.
 pub data GivesFrom (d : Disk) (file : OpenFile) (offset : ℕ) (answers : List Answer) : Type 0 where
   whole : (batches : List (List LogItem)) (end : ℕ)
       → HasBatches file (bytes_of file.source d) offset batches end
@@ -41,21 +40,21 @@ pub data GivesFrom (d : Disk) (file : OpenFile) (offset : ℕ) (answers : List A
       → HasBatches file (bytes_of file.source d) offset batches end → FailsBehind file d end error
       → answers ≡ given_all batches ++ Err error ∷ [] → GivesFrom d file offset answers
 
--- why the file with a path wasn't opened to be read: the file system has stopped; or it runs, and no file has
--- the path or memory ran out
+-- why the file at a path wasn't opened for reading: the file system has stopped; or it runs, and no file has the path
+-- or memory ran out
 abbrev pub IsReadOpenRefusal : List ℕ → Disk → Error → Type 0
 IsReadOpenRefusal path d (errors.Io kind) = IsAfterStop d kind ⊎ ((d.stopped ≡ false) × WrongName path d kind)
 IsReadOpenRefusal path d errors.Memory = d.stopped ≡ false
 IsReadOpenRefusal path d _ = ⊥
 
--- this is the log file that is open, at its header's end
+-- this log file is open, with the offset at which its header ends
 pub record IsLogFileOpen (d : Disk) (file : LogFile) (current : OpenFile) (start : ℕ) : Type 0 where
   pub is : current.id ≡ file.id
   pub found : IsOpened (string_bytes file.path) ReadOnly current.source.handle d
   pub size : current.source.size ≡ length (bytes_of current.source d)
   pub header : SaysFormat (bytes_of current.source d) current.format start
 
--- What comes of a log file: why it wasn't found or opened, or what stands behind its header.
+-- What is read of a log file: an error if it wasn't found or opened, else what is read after its header.
 pub data GivesFile (d : Disk) (file : LogFile) (answers : List Answer) : Type 0 where
   unfound : (error : Error) → IsReadOpenRefusal (string_bytes file.path) d error → answers ≡ Err error ∷ []
       → GivesFile d file answers
@@ -64,7 +63,7 @@ pub data GivesFile (d : Disk) (file : LogFile) (answers : List Answer) : Type 0 
   opened : (current : OpenFile) (start : ℕ) → IsLogFileOpen d file current start
       → GivesFrom d current start answers → GivesFile d file answers
 
--- What comes of log files: what comes of each, one after the other.
+-- What is read of log files: what is read of each, one after the other.
 abbrev pub GivesFiles : Disk → List LogFile → List Answer → Type 0
 GivesFiles d [] answers = answers ≡ []
 GivesFiles d (file ∷ files) answers = (first : List Answer) × (more : List Answer)

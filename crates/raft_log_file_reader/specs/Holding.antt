@@ -6,7 +6,7 @@ use Rattle.raft_log_file_reader.specs.Source.{bytes_of}
 use Rattle.raft_log_file_reader.specs.declared.source.Source.{Source}
 use Rattle.raft_log_file_reader.specs.declared.window.Window.{Window}
 
--- the window holds a part of the bytes of the file, whose size is known
+-- the window holds a part of the file's bytes, and the file's size is known
 pub record HoldsPart (source : Source) (d : Disk) (window : Window) : Type 0 where
   pub size : source.size ≡ length (bytes_of source d)
   pub part : IsPart window.start window.bytes.items (bytes_of source d)

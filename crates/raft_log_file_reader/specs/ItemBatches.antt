@@ -1,4 +1,4 @@
--- A reader of the batches of log files: what still comes of it, and how much that is at most.
+-- A reader of the batches of log files: what it still returns, and how many results at most.
 use Rattle.std.specs.Prelude.{◌≡◌, ℕ, ◌+◌, ◌-◌, suc, List, [], ◌++◌, length, sum_by, Option, Some, None, MatchOption}
 use Rattle.std.specs.String.{string_bytes}
 use Rattle.std.specs.Vec.Iter.{into_iter_items}
@@ -11,16 +11,16 @@ use Rattle.raft_log_file_reader.specs.Answers.{Answer, GivesFrom, GivesFiles}
 use Rattle.raft_log_file_reader.specs.declared.log_file.LogFile.{LogFile}
 use Rattle.raft_log_file_reader.specs.declared.batches.BatchReader.{BatchReader}
 
--- what still comes of the file that a reader has open
+-- what is still read of the file that a reader has open
 abbrev pub GivesOpen : Disk → LogItemBatchFileReader → List Answer → Type 0
 GivesOpen d reader answers =
     MatchOption (file_of reader) (answers ≡ []) (λ file. GivesFrom d file (end_of reader) answers)
 
--- the files that weren't opened yet
+-- the files that aren't opened yet
 abbrev pub files_of : BatchReader → List LogFile
 files_of reader = into_iter_items reader.files
 
--- what still comes: of the file that is open, and then of those that weren't opened yet
+-- what is still read: of the open file, and then of the files that aren't opened yet
 pub record GivesRest (d : Disk) (reader : BatchReader) (answers : List Answer) : Type 0 where
   pub current : List Answer
   pub later : List Answer
@@ -28,25 +28,25 @@ pub record GivesRest (d : Disk) (reader : BatchReader) (answers : List Answer) :
   pub of_later : GivesFiles d (files_of reader) later
   pub both : answers ≡ current ++ later
 
--- after these answers comes what comes of the new reader
+-- these results are followed by what the new reader still returns
 abbrev pub AnswersGoOn : {S : Type 0} → (S → List Answer → Type 0) → S → List Answer → S → Type 0
 AnswersGoOn gives old first new = (rest : List Answer) → gives new rest → gives old (first ++ rest)
 
--- how many answers come at most of an open file: one for each byte behind an offset, and a refusal
+-- the most results that an open file still gives: one for each byte after an offset, and an error
 abbrev pub most_behind : Option OpenFile → ℕ → ℕ
 most_behind None end = 0
 most_behind (Some file) end = suc (file.source.size - end)
 
--- how many bytes a named file has
+-- how many bytes the file with this number has; 0 if there is none
 abbrev pub named_len : Disk → Option ℕ → ℕ
 named_len d None = 0
 named_len d (Some id) = length (bytes_in (d.files id))
 
--- how many answers come at most of a file that wasn't opened yet
+-- the most results that a file gives that isn't opened yet
 abbrev pub most_of : Disk → LogFile → ℕ
 most_of d file = suc (suc (named_len d (d.names (string_bytes file.path))))
 
--- how many answers still come at most
+-- the most results that are still to come
 abbrev pub most_left : Disk → BatchReader → ℕ
 most_left d reader = most_behind (file_of reader.reader) (end_of reader.reader)
     + sum_by (most_of d) (files_of reader)

@@ -6,7 +6,7 @@ use Rattle.raft_log_file_reader.specs.Answers.{Answer}
 use Rattle.raft_log_file_reader.specs.ItemReader.{StillGives, GivesFirst}
 use Rattle.raft_log_file_reader.specs.declared.item_reader.LogItemReader.{LogItemReader}
 
--- The answers of the calls up to the one that answers nothing are what came of the reader.
+-- The results of all calls up to the first that returns nothing are what the reader still had to return.
 abbrev pub CallsGiveAll : {F : Type 0} → (F → Disk) → Type 0
 CallsGiveAll {F} disk = (reader : LogItemReader F) (answers : List Answer)
     → Drains (GivesFirst disk) reader answers → StillGives disk reader answers

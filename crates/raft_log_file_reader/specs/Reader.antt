@@ -1,4 +1,4 @@
--- A reader of a log file: what callers see of it, and what its calls answer.
+-- A reader of a log file: what callers see of it, and what its calls return.
 use Rattle.std.specs.Prelude.{◌≡◌, ℕ, ◌+◌, ◌-◌, ◌≤◌, length, Option, Some, None, MatchOption}
 use Rattle.std.specs.Option.{ForSome}
 use Rattle.raft_log_record_base.specs.declared.pipe_log.FileId.{FileId}
@@ -16,28 +16,28 @@ use Rattle.raft_log_file_reader.specs.declared.source.Source.{Source}
 use Rattle.raft_log_file_reader.specs.declared.open_file.OpenFile.{OpenFile}
 use Rattle.raft_log_file_reader.specs.declared.reader.LogItemBatchFileReader.{LogItemBatchFileReader}
 
--- the file that the reader reads, if one is open
+-- the file that the reader has open, if any
 abbrev pub file_of : LogItemBatchFileReader → Option OpenFile
 file_of reader = reader.file
 
--- where the last good record that was read ends, or the header
+-- where the last valid record that was read ends, or the header if none was read
 abbrev pub end_of : LogItemBatchFileReader → ℕ
 end_of reader = reader.valid_offset
 
--- where the entry block of the batch lies that came last
+-- the location of the entry block of the last batch
 abbrev pub last_block : LogItemBatchFileReader → FileBlockHandle
 last_block reader = reader.last_block
 
--- the reader reads this file, whose bytes stand on the disk as when it was opened
+-- the reader reads this file, whose bytes on the disk are unchanged since it was opened
 pub record IsReadingFile (d : Disk) (reader : LogItemBatchFileReader) (file : OpenFile) : Type 0 where
   pub holds : HoldsPart file.source d reader.window
   pub within : reader.valid_offset ≤ file.source.size
 
--- where a file is open, the reader reads it from this disk
+-- the reader reads the open file, if there is one, from this disk
 abbrev pub IsReading : Disk → LogItemBatchFileReader → Type 0
 IsReading d reader = ForSome reader.file (IsReadingFile d reader)
 
--- a place lies in the file that is open
+-- a location is within the open file
 abbrev pub IsInsideFile : FileBlockHandle → LogItemBatchFileReader → Type 0
 IsInsideFile block reader = ForSome reader.file (λ file. block.offset + block.len ≤ file.source.size)
 
@@ -46,7 +46,7 @@ pub record HasNoneOpen (reader : LogItemBatchFileReader) : Type 0 where
   pub file : file_of reader ≡ None
   pub end : end_of reader ≡ 0
 
--- the file by this handle is open, and the reader stands behind its header
+-- the file with this handle is open, and the reader is at the end of its header
 pub record Opens (id : FileId) (handle : Handle) (d : Disk) (format : LogFileFormat)
     (reader : LogItemBatchFileReader) : Type 0 where
   pub source : Source
@@ -55,24 +55,24 @@ pub record Opens (id : FileId) (handle : Handle) (d : Disk) (format : LogFileFor
   pub opened : file_of reader ≡ Some (record { id = id; source = source; format = format })
   pub header : SaysFormat (bytes_of source d) format (end_of reader)
 
--- the reader stands where it stood, in the same file, behind the batch that came last
+-- the reader is unmoved: it is in the same file, at the same offset, after the same batch
 pub record IsUnmoved (old new : LogItemBatchFileReader) : Type 0 where
   pub file : file_of new ≡ file_of old
   pub end : end_of new ≡ end_of old
   pub block : last_block new ≡ last_block old
 
--- The next batch with its end, or no batch where the file holds no more, which leaves the reader there.
+-- The next batch with its end; or none if the file has no more, and the reader is unmoved.
 abbrev pub AnswersBatch : Disk → OpenFile → LogItemBatchFileReader → LogItemBatchFileReader → Option ItemBatch
     → Type 0
 AnswersBatch d file old new found = MatchOption found
     (HasNoMore file (bytes_of file.source d) (end_of old) × IsUnmoved old new)
     (λ batch. HasBatch file (bytes_of file.source d) (end_of old) batch.items (end_of new))
 
--- how many bytes an open file has; 0 where none is open
+-- how many bytes an open file has; 0 if none is open
 abbrev pub size_in : Option OpenFile → ℕ
 size_in None = 0
 size_in (Some file) = file.source.size
 
--- how many bytes of its file the reader hasn't read
+-- how many bytes of its file the reader hasn't read yet
 abbrev pub left_of : LogItemBatchFileReader → ℕ
 left_of reader = size_in (file_of reader) - end_of reader

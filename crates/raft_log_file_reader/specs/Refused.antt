@@ -1,4 +1,4 @@
--- Why a call of a reader is refused.
+-- Why a call of a reader fails.
 use Rattle.std.specs.Prelude.{ℕ, List, take, drop, Result}
 use Rattle.std.specs.String.{string_bytes}
 use Rattle.raft_log_record_base.specs.Fault.{Fault, FailsOrMemory}
@@ -13,14 +13,13 @@ use Rattle.raft_log_file_reader.specs.Batches.{IsBroken}
 use Rattle.raft_log_file_reader.specs.declared.source.Source.{Source}
 use Rattle.raft_log_file_reader.specs.declared.open_file.OpenFile.{OpenFile}
 
--- bytes from an offset on couldn't be read, memory ran out, or this is the fault at which the reading of them
--- stops
+-- bytes from an offset on couldn't be read, memory ran out, or this is the fault at which reading them stops
 abbrev pub FailsAt : {Y : Type 0} → Source → Disk → ℕ → Error → Result Y Fault → Type 0
 FailsAt source d at (errors.Io kind) reading = IsUnreadFrom source at d kind
 FailsAt source d at e reading = FailsOrMemory e reading
 
--- Why no batch came: bytes behind an offset couldn't be read, memory ran out, or this is the first fault of
--- the record there.
+-- Why no batch was read: bytes after an offset couldn't be read, memory ran out, or this is the first fault of the
+-- record there.
 abbrev pub FailsBehind : OpenFile → Disk → ℕ → Error → Type 0
 FailsBehind file d offset (errors.Io kind) = IsUnreadFrom file.source offset d kind
 FailsBehind file d offset errors.Memory = Unit {0}
@@ -29,10 +28,10 @@ FailsBehind file d offset (errors.Corruption text) =
     IsBroken file (bytes_of file.source d) offset (corrupt (string_bytes text))
 FailsBehind file d offset _ = ⊥
 
--- the bytes that stand at a place of the file
+-- the bytes at a location of the file
 abbrev pub bytes_at : FileBlockHandle → OpenFile → Disk → List ℕ
 bytes_at block file d = take block.len (drop block.offset (bytes_of file.source d))
 
--- why the entry block there isn't known to be whole
+-- why the entry block at a location wasn't found to be whole
 abbrev pub FailsToCheckBlock : FileBlockHandle → OpenFile → Disk → Error → Type 0
 FailsToCheckBlock block file d e = FailsAt file.source d block.offset e (block_of (bytes_at block file d))

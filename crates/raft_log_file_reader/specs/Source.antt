@@ -7,16 +7,16 @@ use Rattle.raft_log_disk.specs.Disk.{Disk, File}
 use Rattle.raft_log_disk.specs.Reading.{IsUnread}
 use Rattle.raft_log_file_reader.specs.declared.source.Source.{Source}
 
--- the bytes of a file, if it is there
+-- the bytes of a file; none if it doesn't exist
 abbrev pub bytes_in : Option File → List ℕ
 bytes_in None = []
 bytes_in (Some file) = file.content
 
--- the bytes of the file, as they stand on the disk; there are none where it is gone
+-- the bytes of the file on the disk; none if it was deleted
 abbrev pub bytes_of : Source → Disk → List ℕ
 bytes_of source d = bytes_in (d.files source.handle.file)
 
--- a read of some of the file's bytes, none in front of this offset, was refused
+-- a read of some of the file's bytes, none before this offset, failed
 pub record IsUnreadFrom (source : Source) (offset : ℕ) (d : Disk) (kind : ErrorKind) : Type 0 where
   pub at : ℕ
   pub count : ℕ
@@ -24,13 +24,13 @@ pub record IsUnreadFrom (source : Source) (offset : ℕ) (d : Disk) (kind : Erro
   pub inside : at + count ≤ source.size
   pub unread : IsUnread source.handle at count d kind
 
--- why bytes from an offset on didn't come: the file system refused to read some, or memory ran out
+-- why bytes from an offset on weren't read: the file system failed a read, or memory ran out
 abbrev pub CannotRead : Source → ℕ → Disk → Error → Type 0
 CannotRead source offset d (errors.Io kind) = IsUnreadFrom source offset d kind
 CannotRead source offset d errors.Memory = Unit {0}
 CannotRead source offset d _ = ⊥
 
--- why so many bytes from an offset on didn't come: the file system refused to read them, or memory ran out
+-- why `count` bytes from an offset on weren't read: the file system failed the read, or memory ran out
 abbrev pub CannotReadPart : Source → ℕ → ℕ → Disk → Error → Type 0
 CannotReadPart source offset count d (errors.Io kind) = IsUnread source.handle offset count d kind
 CannotReadPart source offset count d errors.Memory = Unit {0}

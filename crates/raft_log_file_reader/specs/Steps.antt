@@ -1,4 +1,4 @@
--- The two steps of a reader of batches: reading on in the file that is open, and opening the next one.
+-- The two steps of a reader of batches: reading the next batch of the open file, and opening the next file.
 use Rattle.std.specs.Prelude.{◌≡◌, ℕ, ◌+◌, ◌<◌, List, [], ◌∷◌, length, Err}
 use Rattle.raft_log_record_base.specs.declared.errors.Error.{Error}
 use Rattle.raft_log_record_items.specs.declared.item.LogItem.{LogItem}
@@ -10,21 +10,21 @@ use Rattle.raft_log_file_reader.specs.ItemBatches.{GivesOpen, AnswersGoOn, files
 use Rattle.raft_log_file_reader.specs.declared.log_file.LogFile.{LogFile}
 use Rattle.raft_log_file_reader.specs.declared.batches.BatchReader.{BatchReader}
 
--- how many answers still come at most of the file that is open
+-- the most results that the open file still gives
 abbrev pub most_open : LogItemBatchFileReader → ℕ
 most_open reader = most_behind (file_of reader) (end_of reader)
 
--- these items came of the file that is open, and fewer answers than before are left
+-- these items were read of the open file, and fewer results than before are left
 pub record ReadsOn (d : Disk) (items : List LogItem) (old new : LogItemBatchFileReader) : Type 0 where
   pub goes_on : AnswersGoOn (GivesOpen d) old (given items) new
   pub fewer : length items + most_open new < most_open old
 
--- nothing more comes of the file that was open, and it is closed
+-- the file that was open has no more batches, and was closed
 pub record EndsOpen (d : Disk) (old new : LogItemBatchFileReader) : Type 0 where
   pub nothing : GivesOpen d old []
   pub closed : HasNoneOpen new
 
--- why nothing more comes of the file that was open; it is closed
+-- this error ends what is read of the file that was open; it was closed
 pub record FailsOpen (d : Disk) (error : Error) (old new : LogItemBatchFileReader) : Type 0 where
   pub told : GivesOpen d old (Err error ∷ [])
   pub some : 0 < most_open old
@@ -37,13 +37,13 @@ pub record OpensNext (d : Disk) (old new : BatchReader) : Type 0 where
   pub gives : (answers : List Answer) → GivesOpen d new.reader answers → GivesFile d file answers
   pub fewer : most_open new.reader < most_of d file
 
--- there is no file to open any more
+-- no file is left to open
 pub record HasNoFileLeft (old new : BatchReader) : Type 0 where
   pub none : files_of old ≡ []
   pub none_left : files_of new ≡ []
   pub closed : HasNoneOpen new.reader
 
--- why the first of the files that weren't opened yet gives nothing; it is passed over
+-- the first of the files that weren't opened yet fails with this error, and is skipped
 pub record FailsNext (d : Disk) (error : Error) (old new : BatchReader) : Type 0 where
   pub file : LogFile
   pub next : files_of old ≡ file ∷ files_of new

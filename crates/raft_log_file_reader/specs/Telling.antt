@@ -1,4 +1,4 @@
--- How a path that isn't what it is to be is told.
+-- The errors for a path that isn't what it should be.
 use Rattle.std.specs.Prelude.{◌≡◌, ℕ, Bool, true, false, List}
 use Rattle.std.specs.String.{string_bytes}
 use Rattle.std.specs.declared.io.ErrorKind.{ErrorKind}
@@ -13,8 +13,7 @@ TellsInvalid words path (errors.InvalidArgument text) = string_bytes text ≡ to
 TellsInvalid words path errors.Memory = Unit {0}
 TellsInvalid words path _ = ⊥
 
--- the refusal of a file system that has stopped as it is, and else an invalid argument, but for want of
--- memory
+-- After a stop, the error of the file system. Otherwise an invalid argument, or `Memory` if memory ran out.
 abbrev pub TellsAbsent : Bool → ErrorKind → List ℕ → List ℕ → Error → Type 0
 TellsAbsent stopped kind words path (errors.InvalidArgument text) =
     (stopped ≡ false) × (kind ≡ OutOfMemory → ⊥) × (string_bytes text ≡ told words path)

@@ -1,4 +1,4 @@
-//! Reading one batch through a window: padding in front of it, its header and its footer.
+//! Reads one batch through a window: the padding before it, its header and its footer.
 ghost use Rattle.std.specs.Prelude.{◌≡◌, ◌+◌, ◌-◌, ◌≤◌, ◌<◌, ◌^◌, ◌↔◌, length, take, drop, Ok, IsOk, IsTrue, IfOk, IfErr};
 ghost use Rattle.raft_log_record_frames.specs.Record.{header_at};
 ghost use Rattle.raft_log_file_reader.specs.Source.{bytes_of, CannotRead};
@@ -16,7 +16,7 @@ use raft_log_record_frames::{LOG_BATCH_HEADER_LEN, decode_header};
 use raft_log_record_items::CompressionType;
 use std::alloc::Global;
 
-/// How many bytes lead from an offset to the next multiple of an alignment; none without an alignment.
+/// How many bytes there are from an offset to the next multiple of an alignment; none without an alignment.
 fn padding_len(alignment: usize, offset: usize) -> usize
     ensures { result ≡ padding_len alignment offset }
 {
@@ -34,8 +34,8 @@ fn begins_header(alloc: Global, bytes: &[u8]) -> bool
     decode_header(alloc, &mut source).is_ok()
 }
 
-/// Where the record behind an offset is looked for: behind zero padding up to the next multiple of the
-/// alignment, if a header is broken at the offset, and else there.
+/// Where the record after an offset is: after zero padding up to the next multiple of the alignment, if no valid header
+/// is at the offset, and otherwise at the offset.
 pub(crate) fn find_record<F: FileSystem>(
     alloc: Global,
     file_system: &F,
@@ -66,11 +66,10 @@ pub(crate) fn find_record<F: FileSystem>(
     Ok(offset)
 }
 
-/// Where the footer of the record at an offset begins, and how many bytes the record has, both counted from
-/// its start.
+/// Where the footer of the record at an offset begins, and how many bytes the record has, both counted from its start.
 ///
-/// Refuses as a corruption, in this order, fewer bytes than a header has, a broken header, and a record that
-/// passes the file's end.
+/// Fails with a corruption on the first of these: too few bytes for a header, a broken header, a record that ends past
+/// the file's end.
 #[tactic(auto, unfolding(crate::specs::Batches::extent_at))]
 fn read_extent<F: FileSystem>(
     alloc: Global,
@@ -105,11 +104,11 @@ fn read_extent<F: FileSystem>(
     Ok((footer, len))
 }
 
-/// The batch of the record at an offset, with its places, how many bytes the record has, and where its entry
-/// block lies, which is not looked at.
+/// The batch of the record at an offset, with its locations, the record's length in bytes, and its entry block's
+/// location. The block isn't checked.
 ///
-/// Refuses as a corruption, in this order, a header, an end and a footer that are broken, and otherwise the
-/// first fault of the items.
+/// Fails with a corruption on the first of these: a broken header, end or footer; then with the first fault of the
+/// items.
 pub(crate) fn read_batch<F: FileSystem>(
     alloc: Global,
     file_system: &F,

@@ -1,4 +1,4 @@
-//! Reading the batches of log files, one file after another.
+//! Reads the batches of log files, one file after another.
 ghost use Rattle.std.specs.Prelude.{◌≡◌, ◌∷◌, [], Err, true, IfOk, IfErr};
 ghost use Rattle.raft_log_disk.specs.Reading.{IsOpened};
 ghost use Rattle.raft_log_disk.specs.declared.handle.Permission.TheVariants.{ReadOnly};
@@ -15,12 +15,12 @@ use std::vec::IntoIter;
 
 /// A reader of the batches of log files, one file after another.
 ///
-/// It has to be lent the same file system at each call, with the files as they were.
+/// Each call must get the same file system, with unchanged files.
 #[derive(Drop)]
 pub(crate) struct BatchReader {
-    /// The files that weren't opened yet.
+    /// The files that aren't opened yet.
     files: IntoIter<LogFile>,
-    /// Reads the file that is open.
+    /// Reads the open file.
     reader: LogItemBatchFileReader,
 }
 
@@ -32,8 +32,7 @@ impl BatchReader {
     ghost use Rattle.raft_log_file_reader.specs.ItemBatches.{GivesRest, AnswersGoOn, files_of, most_left};
     ghost use Rattle.raft_log_file_reader.specs.Steps.{ReadsOn, EndsOpen, FailsOpen, OpensNext, HasNoFileLeft, FailsNext};
 
-    /// A reader of these files, of which none is open, that reads so many bytes at once, if fewer are asked
-    /// for.
+    /// A reader of these files, with none open. It reads `read_block_size` bytes at once if fewer are needed.
     pub fn new(alloc: Global, files: Vec<LogFile>, read_block_size: usize) -> Self
         ensures files { files_of result ≡ files.items }
         ensures closed { HasNoneOpen result.reader }
@@ -45,8 +44,8 @@ impl BatchReader {
         }
     }
 
-    /// The next batch of the files; none where they hold no more. Where a file is refused, the next call
-    /// goes on with the file behind it.
+    /// The next batch of the files; none if they have no more. If a file fails, the next call continues with the next
+    /// file.
     pub fn next<F: FileSystem>(
         &mut self,
         alloc: Global,
@@ -75,7 +74,7 @@ impl BatchReader {
         }
     }
 
-    /// The next batch of the file that is open. It is closed where it holds no more, and where it is refused.
+    /// The next batch of the open file. Closes the file if it has no more, or if it fails.
     fn read_on<F: FileSystem>(
         &mut self,
         alloc: Global,
@@ -103,7 +102,7 @@ impl BatchReader {
         }
     }
 
-    /// Opens the next file, and answers whether there was one. One that is refused is passed over.
+    /// Opens the next file, and returns whether there was one. A file that fails is skipped.
     fn open_next<F: FileSystem>(&mut self, alloc: Global, file_system: &F) -> Result<bool>
         requires { HasNoneOpen self.old.reader }
         ensures reading { IsReading (F.disk file_system.now) self.new.reader }
@@ -120,8 +119,8 @@ impl BatchReader {
     }
 }
 
-/// Opens the file with a path to read it; want of memory is told apart from a refusal of the file system, and
-/// no stop is told as it.
+/// Opens the file at a path for reading. Out of memory is a separate error from those of the file system, and a stop
+/// isn't reported as it.
 fn find<F: FileSystem>(file_system: &F, path: &str) -> Result<Handle>
     ensures ok { IfOk result (λ handle. IsOpened path.now ReadOnly handle (F.disk file_system.now)) }
     ensures err { IfErr result (λ error. IsReadOpenRefusal path.now (F.disk file_system.now) error) }

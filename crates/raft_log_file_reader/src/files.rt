@@ -1,4 +1,4 @@
-//! Which files are read: the one with a path, or those that a directory holds.
+//! Which files are read: the one at a path, or those of a directory.
 ghost use Rattle.std.specs.Prelude.{◌≡◌, ◌↔◌, ◌∷◌, [], ◌++◌, map, true, Some, IfOk, IfErr};
 ghost use Rattle.std.specs.String.{string_bytes};
 ghost use Rattle.raft_log_record_base.specs.declared.errors.Error.TheVariants.{Memory};
@@ -13,8 +13,8 @@ use raft_log_record_base::{Error, FileId, Result};
 use std::alloc::Global;
 use std::io::ErrorKind;
 
-/// The log file with this path, alone. Refused as an invalid argument where no file has the path, and where
-/// its name isn't a log file's.
+/// The log file with this path, as the only one. Fails with an invalid argument if no file has the path, or if its name
+/// isn't a log file's.
 pub(crate) fn file_at<F: FileSystem>(
     alloc: Global,
     file_system: &F,
@@ -36,8 +36,8 @@ pub(crate) fn file_at<F: FileSystem>(
     Ok(files)
 }
 
-/// The log files that a directory holds, those of Rewrite first, and each queue's by their numbers. Refused
-/// as an invalid argument where the path isn't a directory's.
+/// The log files of a directory, those of Rewrite first, and each queue's in the order of their numbers. Fails with an
+/// invalid argument if the path isn't a directory's.
 pub(crate) fn files_in<F: FileSystem>(
     alloc: Global,
     file_system: &F,
@@ -75,7 +75,7 @@ fn log_files(alloc: Global, directory: &str, names: &[String]) -> Result<Vec<Log
     Ok(files)
 }
 
-/// The log file that the name behind a path's last slash says.
+/// The log file that the name after a path's last slash states.
 fn id_of(path: &str) -> Option<FileId>
     ensures { (id : FileId) → (result ≡ Some id) ↔ IsLogPath id path.now }
 {
@@ -85,7 +85,7 @@ fn id_of(path: &str) -> Option<FileId>
     FileId::parse_file_name(&path[at + 1..])
 }
 
-/// Why a file wasn't opened or a directory not listed: these words where nothing of the kind has the path.
+/// Why a file wasn't opened or a directory not listed: these words if nothing of the kind has the path.
 fn absent(alloc: Global, stopped: bool, kind: ErrorKind, words: &str, path: &str) -> Error
     ensures { TellsAbsent stopped kind words.now path.now result }
 {

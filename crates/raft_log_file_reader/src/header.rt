@@ -1,4 +1,4 @@
-//! The header at the front of a log file.
+//! Reads the header at the start of a log file.
 ghost use Rattle.std.specs.Prelude.{◌≡◌, ◌≤◌, length, IfOk, IfErr};
 ghost use Rattle.raft_log_file_reader.specs.Source.{bytes_of};
 ghost use Rattle.raft_log_file_reader.specs.Opening.{SaysFormat, FailsToOpen};
@@ -11,8 +11,7 @@ use raft_log_record_base::Result;
 use raft_log_record_frames::record::are_bytes;
 use std::alloc::Global;
 
-/// What the header of a file says, and where it ends. At most its first 69 bytes are read; the window holds
-/// them.
+/// The format in a file's header, and where the header ends. Reads at most the first 69 bytes; the window holds them.
 pub(crate) fn read_format<F: FileSystem>(
     alloc: Global,
     file_system: &F,

@@ -3,7 +3,7 @@ ghost use Rattle.raft_log_file_reader.specs.ItemLaws.{CallsGiveAll};
 
 use raft_log_disk::FileSystem;
 
-/// Whoever calls a reader of items until nothing comes gets what comes of its files.
+/// Calling a reader of items until it returns nothing returns all that is read of its files.
 pub fn calls_give_all<F: FileSystem>()
     ensures { CallsGiveAll F.disk }
 {}

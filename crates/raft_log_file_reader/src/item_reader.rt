@@ -12,16 +12,16 @@ use std::vec::IntoIter;
 /// How many bytes are read at once.
 const READ_BLOCK_SIZE: usize = 65_536;
 
-/// An iterator over the items of log files, with the places of their entries. It is lent the file system.
+/// An iterator over the items of log files, with the locations of their entries. It borrows the file system.
 ///
-/// The files come one after another, and of each its batches' items in order. Where a file is refused, that
-/// comes in place of the rest of it, and then the next file. The entries' bytes aren't looked at.
+/// It returns one file after another, and of each file its batches' items in order. If a file fails, the error replaces
+/// the rest of that file, and the next file follows. The entries' bytes aren't checked.
 #[derive(Drop)]
 pub struct LogItemReader<'a, F: FileSystem> {
     alloc: Global,
     file_system: &'a F,
     batches: BatchReader,
-    /// The items of the batch that was read last which didn't come yet.
+    /// The items of the last batch that weren't returned yet.
     items: IntoIter<LogItem>,
 }
 
@@ -30,8 +30,8 @@ impl<'a, F: FileSystem> LogItemReader<'a, F> {
     ghost use Rattle.raft_log_file_reader.specs.Files.{IsNoFile, IsNoDirectory};
     ghost use Rattle.raft_log_file_reader.specs.ItemReader.{IsReaderOf, ReadsFileAt, ReadsFilesIn};
 
-    /// A reader of the log file with this path. Refused as an invalid argument where no file has the path,
-    /// and where its name isn't a log file's.
+    /// A reader of the log file with this path. Fails with an invalid argument if no file has the path, or if its name
+    /// isn't a log file's.
     pub fn new_file_reader(alloc: Global, file_system: &'a F, path: &str) -> Result<Self>
         ensures ok { IfOk result (ReadsFileAt F.disk file_system.now path.now) }
         ensures err { IfErr result (λ error. IsNoFile path.now (F.disk file_system.now) error) }
@@ -40,8 +40,8 @@ impl<'a, F: FileSystem> LogItemReader<'a, F> {
         Ok(LogItemReader::new(alloc, file_system, files))
     }
 
-    /// A reader of the log files of a directory, those of Rewrite first, and each queue's by their numbers.
-    /// Refused as an invalid argument where the path isn't a directory's.
+    /// A reader of the log files of a directory, those of Rewrite first, and each queue's in the order of their
+    /// numbers. Fails with an invalid argument if the path isn't a directory's.
     pub fn new_directory_reader(alloc: Global, file_system: &'a F, directory: &str) -> Result<Self>
         ensures ok { IfOk result (ReadsFilesIn F.disk file_system.now directory.now) }
         ensures err { IfErr result (λ error. IsNoDirectory directory.now (F.disk file_system.now) error) }

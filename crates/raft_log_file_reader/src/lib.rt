@@ -1,5 +1,5 @@
-//! Reading a log file: its batches one after another, by blocks; and its items, of one file or of all that a
-//! directory holds.
+//! Reads log files: the batches of a file one after another, by blocks; and the items of one file or of all files in a
+//! directory.
 #![tactic(auto)]
 
 mod batch;

@@ -1,8 +1,8 @@
-//! A log file that is to be read.
+//! A log file to read.
 
 use raft_log_record_base::FileId;
 
-/// A log file that is to be read.
+/// A log file to read.
 #[derive(Debug, Drop)]
 pub struct LogFile {
     /// Which file it is.

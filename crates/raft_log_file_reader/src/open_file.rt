@@ -1,16 +1,16 @@
-//! A log file that is open to be read.
+//! A log file that is open for reading.
 
 use crate::source::Source;
 use raft_log_file_format::LogFileFormat;
 use raft_log_record_base::FileId;
 
-/// A log file that is open to be read.
+/// A log file that is open for reading.
 #[derive(Clone, Copy, Debug, PartialEq, Eq)]
 pub struct OpenFile {
     /// Which file it is.
     pub id: FileId,
-    /// Where the file's bytes are read from.
+    /// From where the file's bytes are read.
     pub source: Source,
-    /// What the file's header says.
+    /// The format that the file's header states.
     pub format: LogFileFormat,
 }

@@ -16,10 +16,10 @@ use raft_log_record_frames::decode_entries_block;
 use raft_log_record_items::CompressionType;
 use std::alloc::Global;
 
-/// A reader of the batches of a log file, one file after another. It reads blocks into one buffer that is
-/// kept; which batches come doesn't depend on the size of a block.
+/// A reader of the batches of a log file, one file after another. It reads blocks into one buffer that is kept; the
+/// batches don't depend on the block size.
 ///
-/// While a file is open the reader has to be lent the file system as it was when the file was opened.
+/// While a file is open, calls must get the file system as it was when the file was opened.
 #[derive(Drop, Debug)]
 pub struct LogItemBatchFileReader {
     window: Window,
@@ -28,7 +28,7 @@ pub struct LogItemBatchFileReader {
     last_block: FileBlockHandle,
 }
 
-/// The place of a block without bytes.
+/// The location of a block without bytes.
 fn no_block() -> FileBlockHandle
     ensures { result ≡ no_block }
 {
@@ -47,7 +47,7 @@ impl LogItemBatchFileReader {
     ghost use Rattle.raft_log_file_reader.specs.Opening.{FailsToOpen};
     ghost use Rattle.raft_log_file_reader.specs.Refused.{FailsBehind, FailsToCheckBlock, bytes_at};
 
-    /// A reader without a file, which reads so many bytes at once, if fewer are asked for.
+    /// A reader without a file. It reads `read_block_size` bytes at once if fewer are needed.
     pub fn new(alloc: Global, read_block_size: usize) -> Self
         ensures closed { HasNoneOpen result }
         ensures reading { (d : Disk) → IsReading d result }
@@ -72,8 +72,8 @@ impl LogItemBatchFileReader {
         self.valid_offset = 0;
     }
 
-    /// Opens a file and answers what its header says: its first 69 bytes are read, and nothing of them is
-    /// held. A refusal leaves no file open.
+    /// Opens a file, and returns the format that its header states. Reads its first 69 bytes, and keeps none of them.
+    /// If it fails, no file is open.
     pub fn open<F: FileSystem>(
         &mut self,
         alloc: Global,
@@ -101,10 +101,10 @@ impl LogItemBatchFileReader {
         }
     }
 
-    /// The next batch, with the places of its entries; none where the file holds no more, or none is open.
-    /// The entries' bytes aren't looked at.
+    /// The next batch, with the locations of its entries; none if the file has no more, or if no file is open. The
+    /// entries' bytes aren't checked.
     ///
-    /// Where it is refused the reader stays where it is, so that the same call is refused again.
+    /// If it fails, the reader stays where it is, so that the same call fails again.
     pub fn next<F: FileSystem>(
         &mut self,
         alloc: Global,
@@ -144,10 +144,10 @@ impl LogItemBatchFileReader {
         Ok(Some(batch))
     }
 
-    /// Checks the entry block at a place of the open file, which a batch that was read has told: so the
-    /// batch's record is whole. The block is held whole. Where no file is open nothing is checked.
+    /// Checks the entry block at a location of the open file, which a batch stated: if it succeeds, the batch's record
+    /// is whole. Reads the whole block into memory. If no file is open, it checks nothing.
     ///
-    /// Refuses as a corruption a block whose checksum isn't that of its entries.
+    /// Fails with a corruption if the block's checksum isn't that of its entries.
     pub fn check_entry_block<F: FileSystem>(
         &mut self,
         alloc: Global,
@@ -175,16 +175,14 @@ impl LogItemBatchFileReader {
         Ok(())
     }
 
-    /// Where the entry block of the batch lies that came last, of whatever file; it has no bytes where none
-    /// came.
+    /// The location of the entry block of the last batch, of any file; a block without bytes if there was no batch.
     pub fn last_block(&self) -> FileBlockHandle
         ensures { result ≡ last_block self.now }
     {
         self.last_block
     }
 
-    /// Where the last good record that was read ends, or the header, where none was read; 0 where no file is
-    /// open.
+    /// Where the last valid record that was read ends, or the header if none was read; 0 if no file is open.
     pub fn valid_offset(&self) -> usize
         ensures { result ≡ end_of self.now }
     {

@@ -1,12 +1,12 @@
-//! A file that bytes are read from.
+//! A file from which bytes are read.
 
 use raft_log_disk::Handle;
 
-/// A file that bytes are read from.
+/// A file from which bytes are read.
 #[derive(Clone, Copy, Debug, PartialEq, Eq)]
 pub struct Source {
-    /// By which it is read.
+    /// The handle by which it is read.
     pub handle: Handle,
-    /// How many bytes it has.
+    /// Its size in bytes.
     pub size: usize,
 }

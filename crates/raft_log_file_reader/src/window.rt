@@ -1,4 +1,4 @@
-//! The part of a file's bytes that a reader holds.
+//! The part of a file's bytes that a reader keeps.
 ghost use Rattle.std.specs.Prelude.{◌≡◌, ◌+◌, ◌-◌, ◌≤◌, ◌<◌, ◌^◌, ◌++◌, [], List, ℕ, length, take, drop, min, vec_len, OnOk, OnErr, IfErr};
 ghost use Rattle.raft_log_file_reader.specs.Window.{IsPart, Covers};
 ghost use Rattle.raft_log_file_reader.specs.Source.{bytes_of, CannotRead, CannotReadPart};
@@ -8,27 +8,27 @@ use raft_log_disk::FileSystem;
 use raft_log_record_base::{Error, Result};
 use std::alloc::Global;
 
-/// How many bytes are skipped at least, as long entries are, where fewer than a block are read behind them.
+/// If a read skips at least this many bytes, as after long entries, it reads less than a block.
 const SKIPPED: usize = 1_024;
 
-/// How many bytes are read at once there, if fewer are asked for.
+/// How many bytes such a read reads at once if fewer are needed.
 const BEHIND_SKIPPED: usize = 256;
 
-/// The part of a file's bytes that a reader holds, in one buffer that is kept.
+/// The part of a file's bytes that a reader keeps, in one buffer that is reused.
 #[derive(Drop, Debug)]
 pub(crate) struct Window {
     /// The bytes.
     bytes: Vec<u8>,
-    /// Where the first of them stands in the file.
+    /// The offset of the first of them in the file.
     start: usize,
-    /// How many bytes are read at once, if fewer are asked for.
+    /// How many bytes are read at once if fewer are needed.
     block_size: usize,
 }
 
 impl Window {
     ghost use Rattle.raft_log_file_reader.specs.Holding.{HoldsPart};
 
-    /// A window that holds nothing.
+    /// An empty window.
     pub fn new(alloc: Global, block_size: usize) -> Self
         ensures bytes { result.bytes.items ≡ [] }
         ensures start { result.start ≡ 0 }
@@ -41,7 +41,7 @@ impl Window {
         }
     }
 
-    /// Holds nothing, from an offset on.
+    /// Empties the window, and moves it to an offset.
     pub fn begin(&mut self, offset: usize)
         ensures bytes { self.new.bytes.items ≡ [] }
         ensures start { self.new.start ≡ offset }
@@ -51,7 +51,7 @@ impl Window {
         self.start = offset;
     }
 
-    /// Where what is held ends in the file.
+    /// The offset in the file at which the kept bytes end.
     fn end(&self) -> usize
         requires { self.now.start + length self.now.bytes.items < 2 ^ 64 }
         ensures { result ≡ self.now.start + length self.now.bytes.items }
@@ -59,12 +59,12 @@ impl Window {
         self.start + self.bytes.len()
     }
 
-    /// Makes so many bytes of the file from an offset on be held, and so many more behind them if a block is
-    /// read for them and the file has them. A refusal leaves a part of the file.
+    /// Fills the window with `size` bytes of the file from an offset on, and with up to `prefetch` bytes after them, as
+    /// far as the file has them. If it fails, the window holds a part of the file.
     ///
-    /// What is held in front of the offset is dropped where something is read. Where the offset doesn't lie
-    /// within what is held, reading begins anew there. At least a block is read at once, up to the file's
-    /// end, or fewer bytes where long entries are skipped, which nobody looks at.
+    /// It reads only if the window lacks some of these bytes. A read drops the bytes before the offset. If the offset
+    /// isn't within the window, the window begins anew there. A read takes at least a block, up to the file's end, or
+    /// less after skipping long entries, which nobody reads.
     pub fn peek<F: FileSystem>(
         &mut self,
         file_system: &F,
@@ -94,8 +94,8 @@ impl Window {
         self.read_on(file_system, source, room)
     }
 
-    /// How many bytes are read at once from an offset on: a block, or fewer where many bytes between what is
-    /// held and the offset are skipped.
+    /// How many bytes are read at once from an offset on: a block, or fewer if many bytes between the window and the
+    /// offset are skipped.
     fn at_once(&self, offset: usize) -> usize
         requires { self.now.start + length self.now.bytes.items < 2 ^ 64 }
         ensures { result ≤ self.now.block_size }
@@ -106,7 +106,7 @@ impl Window {
         self.block_size
     }
 
-    /// Drops what is held in front of an offset, or all where it doesn't lie within what is held.
+    /// Drops the bytes before an offset, or all bytes if the offset isn't within the window.
     fn move_to(&mut self, offset: usize)
         requires { self.old.start + length self.old.bytes.items < 2 ^ 64 }
         ensures start { self.new.start ≡ offset }
@@ -122,7 +122,7 @@ impl Window {
         }
     }
 
-    /// Drops what is held in front of an offset.
+    /// Drops the bytes before an offset.
     fn drop_front(&mut self, offset: usize)
         requires front { self.old.start ≤ offset }
         requires back { offset ≤ self.old.start + length self.old.bytes.items }
@@ -137,7 +137,7 @@ impl Window {
         self.start = offset;
     }
 
-    /// Reads so many bytes behind what is held. A refusal leaves what is held.
+    /// Reads `room` bytes after those in the window. If it fails, the window is unchanged.
     pub fn read_on<F: FileSystem>(
         &mut self,
         file_system: &F,
@@ -167,7 +167,7 @@ impl Window {
         }
     }
 
-    /// So many of the bytes that are held, from an offset on.
+    /// The `size` bytes from an offset on, which the window has.
     pub fn held(&self, offset: usize, size: usize) -> &[u8]
         requires { Covers self.now.start self.now.bytes.items offset size }
         ensures { (content : List ℕ) → IsPart self.now.start self.now.bytes.items content
@@ -178,7 +178,7 @@ impl Window {
     }
 }
 
-/// Fills room with the file's bytes from an offset on.
+/// Fills the room with the file's bytes from an offset on.
 fn fill<F: FileSystem>(file_system: &F, source: Source, at: usize, room: &mut [u8]) -> Result<()>
     requires size { source.size ≡ length (bytes_of source (F.disk file_system.now)) }
     requires inside { at + length room.old ≤ source.size }

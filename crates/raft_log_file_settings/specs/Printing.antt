@@ -19,13 +19,13 @@ use Rattle.raft_log_file_settings.specs.Settings.{Settings}
 
 -- Values.
 
--- the word of a recovery mode that is written, for tail tolerance the older one
+-- the word that is printed for a recovery mode; for `TolerateTailCorruption` the older one
 abbrev pub word_of : RecoveryMode → List ℕ
 word_of AbsoluteConsistency = codes "absolute-consistency"
 word_of TolerateTailCorruption = codes "tolerate-corrupted-tail-records"
 word_of TolerateAnyCorruption = codes "tolerate-any-corruption"
 
--- a size: a number of bytes, and past the range of TOML's numbers a text
+-- a size: a number of bytes, or a text if it is past the range of TOML's numbers
 abbrev pub size_data : ℕ → Data
 size_data n = cond (nat_le (2 ^ 63) n) (string (size_text n)) (integer (pos n))
 
@@ -44,7 +44,7 @@ pub record SizesFit (s : Settings) : Type 0 where
   pub memory : SizeFits s.memory_limit
   pub prefill : SizeFits s.prefill_limit
 
--- what a key is given, as TOML has it
+-- the value of a key, as TOML has it
 abbrev pub data_of : Entry → Data
 data_of (entries.Text text) = string text.now
 data_of (entries.Size size) = size_data size.0
@@ -53,7 +53,7 @@ data_of (entries.Switch on) = boolean on
 
 -- Rows.
 
--- a key and its value; without one the key is left out
+-- a key and its value; without a value the key is left out
 abbrev pub Row : Type 0
 Row = List ℕ × Option Data
 
@@ -81,37 +81,37 @@ rows_of s =
     ∷ (codes "prefill-limit", option_map size_data s.prefill_limit)
     ∷ []
 
--- what each key has once a row is put into a table
+-- the values of keys after a row was added to a table
 abbrev pub with_row : Row → (List ℕ → Option Data) → List ℕ → Option Data
 with_row row at k = cond (bytes_eq row.0 k) (option_or row.1 (at k)) (at k)
 
--- what each key has once rows are put into a table, one after another
+-- the values of keys after rows were added to a table, one after another
 abbrev pub with_rows : List Row → (List ℕ → Option Data) → List ℕ → Option Data
 with_rows [] at = at
 with_rows (row ∷ rows) at = with_rows rows (with_row row at)
 
--- the table has what these rows say and nothing else, and none of its values has others inside
+-- the table has exactly the values of these rows, and none of its values is nested
 pub record HasRows (rows : List Row) (table : Members) : Type 0 where
   pub at : (k : List ℕ) → get_member k table ≡ with_rows rows (λ _. None) k
   pub flat : members_depth table ≡ 0
 
--- a text is TOML, and its table has what these rows say and nothing else
+-- a text is TOML, and its table has exactly the values of these rows
 abbrev pub SaysRows : List ℕ → List Row → Type 0
 SaysRows text rows = (table : Members) × (parse_document text ≡ Some table) × HasRows rows table
 
--- a table has this value at a key, else what it had, and is as flat as both
+-- a table got this value at a key, and stays flat if both are
 pub record PutsAt (key : List ℕ) (value : Data) (old new : Members) : Type 0 where
   pub at : (k : List ℕ) → get_member k new ≡ cond (bytes_eq key k) (Some value) (get_member k old)
   pub flat : depth value ≡ 0 → members_depth old ≡ 0 → members_depth new ≡ 0
 
--- a row is put into a table, which stays flat
+-- a row was added to a table, which stays flat
 pub record PutsRow (row : Row) (old new : Members) : Type 0 where
   pub at : (k : List ℕ) → get_member k new ≡ with_row row (λ l. get_member l old) k
   pub flat : members_depth old ≡ 0 → members_depth new ≡ 0
 
--- Refusals.
+-- Errors.
 
--- a number that TOML doesn't say: 2^63 or more
+-- a number that TOML can't express: 2^63 or more
 abbrev pub is_unsaid : Option Data → Bool
 is_unsaid (Some (integer (pos n))) = nat_le (2 ^ 63) n
 is_unsaid _ = false
@@ -125,14 +125,14 @@ first_unsaid (row ∷ rows) = if is_unsaid row.1 then Some row.0 else first_unsa
 abbrev pub too_large : List ℕ → List ℕ
 too_large key = codes "number past the range of TOML at " ++ key
 
--- why rows aren't printed: the first number past the range of TOML, by its key, or memory ran out
+-- why rows aren't printed: the first number past the range of TOML, named by its key, or out of memory
 abbrev pub IsUnprintable : List Row → Error → Type 0
 IsUnprintable rows (errors.InvalidArgument text) =
     (key : List ℕ) × (first_unsaid rows ≡ Some key) × (string_bytes text ≡ too_large key)
 IsUnprintable rows errors.Memory = Unit {0}
 IsUnprintable rows _ = ⊥
 
--- the refusal that names such a key, or want of memory
+-- the error that names such a key, or out of memory
 abbrev pub SaysTooLarge : List ℕ → Error → Type 0
 SaysTooLarge key (errors.InvalidArgument text) = string_bytes text ≡ too_large key
 SaysTooLarge key errors.Memory = Unit {0}

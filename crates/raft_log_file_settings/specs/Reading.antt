@@ -1,4 +1,4 @@
--- How settings are read from TOML: each key with the type of its value, and what stands where it is absent.
+-- How settings are read from TOML: each key with the type of its value, and its default.
 use Rattle.std.specs.Prelude.{◌≡◌, ℕ, ℤ, pos, negsuc, ◌++◌, Bool, List, Option, Some, None, Result, Ok, Err, ◌⊎◌, if◌then◌else◌, ◌==◌, codes}
 use Rattle.std.specs.Str.{bytes_eq, trim}
 use Rattle.std.specs.Option.{option_map, option_and_then}
@@ -47,7 +47,7 @@ version_numbered n = if n == 1 then Some V1 else (if n == 2 then Some V2 else No
 abbrev pub version_of : Data → Option Version
 version_of d = option_and_then version_numbered (number_of d)
 
--- the word of a recovery mode; tail tolerance has an older word too
+-- the recovery mode for a word; `TolerateTailCorruption` has an older word too
 abbrev pub mode_word : List ℕ → Option RecoveryMode
 mode_word word =
     if bytes_eq word (codes "absolute-consistency") then Some AbsoluteConsistency
@@ -62,7 +62,7 @@ mode_of d = option_and_then mode_word (as_str d)
 
 -- Keys.
 
--- a value that is there, or this fault
+-- a value, or this error if there is none
 abbrev pub ok_or : {X : Type 0} → Option X → List ℕ → Result X (List ℕ)
 ok_or (Some x) key = Ok x
 ok_or None key = Err key
@@ -72,16 +72,16 @@ abbrev pub at_value : {X : Type 0} → List ℕ → (Data → Option X) → X �
 at_value key read absent None = Ok absent
 at_value key read absent (Some d) = ok_or (read d) key
 
--- the value of a key, or what stands where the key is absent; a value of another kind makes the key wrong
+-- the value of a key, or its default if the key is absent; a value of another kind makes the key wrong
 abbrev pub at : {X : Type 0} → List ℕ → (Data → Option X) → X → Members → Result X (List ℕ)
 at key read absent t = at_value key read absent (get_member key t)
 
--- a value of a key that may be absent for good, if it can be read
+-- a value of an optional key, if it can be read
 abbrev pub maybe : {X : Type 0} → (Data → Option X) → Data → Option (Option X)
 maybe read d = option_map (λ x. Some x) (read d)
 
--- What a table says of files that are used again, over the usual settings: whether they are, whether they are
--- prefilled, and how many bytes of these there are.
+-- What a table sets for recycling, over the usual settings: whether files are recycled, whether they are prefilled, and
+-- how many bytes are prefilled.
 unfoldable pub recycling_in : Settings → Members → Result (Bool × Bool × Option ℕ) (List ℕ)
 recycling_in usual t = do
   enable_log_recycle ← at (codes "enable-log-recycle") as_bool usual.enable_log_recycle t
@@ -89,7 +89,7 @@ recycling_in usual t = do
   prefill_limit ← at (codes "prefill-limit") (maybe size_of) usual.prefill_limit t
   Ok (enable_log_recycle, prefill_for_recycle, prefill_limit)
 
--- what a table says of purges: from which sizes of Append and of Rewrite on, and from which share of garbage
+-- what a table sets for purges: the sizes of Append and of Rewrite, and the share of garbage, above which they begin
 unfoldable pub purging_in : Settings → Members → Result (ℕ × Option ℕ × ℕ) (List ℕ)
 purging_in usual t = do
   threshold ← at (codes "purge-threshold") size_of usual.purge_threshold t
@@ -97,7 +97,7 @@ purging_in usual t = do
   garbage_ratio ← at (codes "purge-rewrite-garbage-ratio") number_of usual.purge_rewrite_garbage_ratio t
   Ok (threshold, rewrite, garbage_ratio)
 
--- what a table says of a recovery: what it does about damage, its block and its workers
+-- what a table sets for a recovery: how it handles damage, its block size and its workers
 unfoldable pub recovery_in : Settings → Members → Result (RecoveryMode × ℕ × ℕ) (List ℕ)
 recovery_in usual t = do
   recovery_mode ← at (codes "recovery-mode") mode_of usual.recovery_mode t
@@ -105,7 +105,7 @@ recovery_in usual t = do
   recovery_threads ← at (codes "recovery-threads") number_of usual.recovery_threads t
   Ok (recovery_mode, block, recovery_threads)
 
--- what a table says of new files: what is without effect, their format, and the size from which they are full
+-- what a table sets for new files: a setting without effect, their format, and the size at which they are full
 unfoldable pub files_in : Settings → Members → Result (Option ℕ × Version × ℕ) (List ℕ)
 files_in usual t = do
   bytes_per_sync ← at (codes "bytes-per-sync") (maybe size_of) usual.bytes_per_sync t
@@ -113,8 +113,7 @@ files_in usual t = do
   target_file_size ← at (codes "target-file-size") size_of usual.target_file_size t
   Ok (bytes_per_sync, format_version, target_file_size)
 
--- the settings that a table says over the usual ones, or its first wrong key in this order; other keys are
--- left out
+-- the usual settings, overridden by a table's, or its first wrong key in this order; other keys are ignored
 unfoldable pub settings_over : Settings → Members → Result Settings (List ℕ)
 settings_over usual t = do
   dir ← at (codes "dir") as_str usual.dir t
@@ -142,27 +141,27 @@ settings_over usual t = do
     prefill_limit = recycling.2;
   })
 
--- the settings that a table says; what it leaves out is as usual
+-- the settings that a table states; keys that it leaves out have their usual values
 abbrev pub settings_in : Members → Result Settings (List ℕ)
 settings_in = settings_over default_settings
 
--- What a reading answers.
+-- What reading returns.
 
 -- the text that names a wrong key
 abbrev pub wrong_value : List ℕ → List ℕ
 wrong_value key = codes "wrong value of " ++ key
 
--- the text for what TOML refuses
+-- the text for what isn't TOML
 abbrev pub no_toml : List ℕ
 no_toml = codes "settings are no TOML"
 
--- a refusal for what TOML refuses, or want of memory
+-- the error for what isn't TOML, or out of memory
 abbrev pub SaysNoToml : Error → Type 0
 SaysNoToml (errors.InvalidArgument text) = string_bytes text ≡ no_toml
 SaysNoToml errors.Memory = Unit {0}
 SaysNoToml _ = ⊥
 
--- a refusal that names this key, or want of memory
+-- the error that names this key, or out of memory
 abbrev pub NamesKey : Error → List ℕ → Type 0
 NamesKey (errors.InvalidArgument text) key = string_bytes text ≡ wrong_value key
 NamesKey errors.Memory key = Unit {0}
@@ -174,32 +173,32 @@ GivesAt (Ok x) key reading = reading ≡ Ok x
 GivesAt (Err errors.Memory) key reading = Unit {0}
 GivesAt (Err e) key reading = (reading ≡ Err key) × NamesKey e key
 
--- the values of several keys were read, or the first wrong key is told, or memory ran out
+-- the values of several keys were read, or the first wrong key is returned, or memory ran out
 abbrev pub GivesKeys : {X : Type 0} → Result X Error → Result X (List ℕ) → Type 0
 GivesKeys (Ok x) reading = reading ≡ Ok x
 GivesKeys (Err errors.Memory) reading = Unit {0}
 GivesKeys (Err e) reading = (key : List ℕ) × (reading ≡ Err key) × NamesKey e key
 
--- a text that is lent was read of a key, or the key is wrong, or memory ran out
+-- a borrowed text was read at a key, or the key is wrong, or memory ran out
 abbrev pub GivesText : Result (Bor (List ℕ)) Error → List ℕ → Result (List ℕ) (List ℕ) → Type 0
 GivesText (Ok x) key reading = reading ≡ Ok x.now
 GivesText (Err errors.Memory) key reading = Unit {0}
 GivesText (Err e) key reading = (reading ≡ Err key) × NamesKey e key
 
--- a text that is lent and may be absent for good was read of a key, or the key is wrong, or memory ran out
+-- a borrowed text, which may be absent, was read at a key, or the key is wrong, or memory ran out
 abbrev pub GivesTextIfAny : Result (Option (Bor (List ℕ))) Error → List ℕ
     → Result (Option (List ℕ)) (List ℕ) → Type 0
 GivesTextIfAny (Ok x) key reading = reading ≡ Ok (option_map (λ text. text.now) x)
 GivesTextIfAny (Err errors.Memory) key reading = Unit {0}
 GivesTextIfAny (Err e) key reading = (reading ≡ Err key) × NamesKey e key
 
--- Settings that a table says were read, or its first wrong key is told, or memory ran out.
+-- Settings were read from a table, or its first wrong key is returned, or memory ran out.
 abbrev pub GivesSettings : Result Config Error → Result Settings (List ℕ) → Type 0
 GivesSettings (Ok config) reading = reading ≡ Ok (settings_of config)
 GivesSettings (Err errors.Memory) reading = Unit {0}
 GivesSettings (Err e) reading = (key : List ℕ) × (reading ≡ Err key) × NamesKey e key
 
--- a text is TOML, and its table says these settings
+-- a text is TOML, and its table states these settings
 abbrev pub SaysSettings : List ℕ → Settings → Type 0
 SaysSettings text s = (table : Members) × (parse_document text ≡ Some table) × (settings_in table ≡ Ok s)
 
@@ -207,7 +206,7 @@ SaysSettings text s = (table : Members) × (parse_document text ≡ Some table) 
 abbrev pub HasWrongKey : List ℕ → List ℕ → Type 0
 HasWrongKey text key = (table : Members) × (parse_document text ≡ Some table) × (settings_in table ≡ Err key)
 
--- What a text answers: the settings of its table, or its first wrong key, or that it is no TOML.
+-- What reading a text returns: the settings of its table, or its first wrong key, or that it isn't TOML.
 abbrev pub GivesSettingsOf : Result Config Error → List ℕ → Type 0
 GivesSettingsOf (Err errors.Memory) text = Unit {0}
 GivesSettingsOf (Err (errors.InvalidArgument why)) text =

@@ -1,4 +1,4 @@
--- Which settings are refused, what the others become, and the capacities that they give.
+-- Which settings are rejected, what the others become, and the capacities that follow from them.
 use Rattle.std.specs.Prelude.{◌≡◌, ℕ, ◌<◌, ◌*◌, ◌/◌, ◌^◌, ◌-◌, ◌⊎◌, max, min, nat_le, ◌&&◌, Bool, true, false, if◌then◌else◌, List, ◌∷◌, ◌++◌, Option, Some, None, IsSomeAnd, unwrap_or}
 use Rattle.anyhow.specs.Error.{HasMessage}
 use Rattle.raft_log_record_base.specs.declared.errors.Error.{Error}
@@ -13,7 +13,7 @@ use Rattle.raft_log_file_settings.specs.Settings.{Settings}
 use Rattle.raft_log_file_settings.specs.Text.{fault_text}
 use Rattle.raft_log_record_base.specs.Files.{is_signed}
 
--- the name of a log file, or of a file that is kept to be used
+-- the name of a log file, or of a file that is kept for recycling
 abbrev pub IsFileName : List ℕ → Type 0
 IsFileName name =
     (n : ℕ) × (((queue : LogQueue) × IsNamed (suffix_of queue) name n) ⊎ IsNamed reserved_suffix name n)
@@ -22,7 +22,7 @@ IsFileName name =
 abbrev pub IsFileIn : List ℕ → List ℕ → Type 0
 IsFileIn directory path = (name : List ℕ) × IsFileName name × (path ≡ directory ++ 47 ∷ name)
 
--- the two directories are one, or one has the path of a file in the other
+-- the two directories are the same, or one has the path of a file in the other
 abbrev pub Clash : List ℕ → List ℕ → Type 0
 Clash dir spill = (dir ≡ spill) ⊎ (IsFileIn dir spill ⊎ IsFileIn spill dir)
 
@@ -34,7 +34,7 @@ HasFault s faults.DirectoriesClash = IsSomeAnd s.spill_dir (Clash s.dir)
 HasFault s faults.RecycleUnsigned = (s.enable_log_recycle ≡ true) × (s.format_version ≡ V1)
 HasFault s faults.PrefillWithoutRecycle = (s.prefill_for_recycle ≡ true) × (s.enable_log_recycle ≡ false)
 
--- in which order faults are told
+-- the order in which faults are reported
 abbrev pub place : ConfigFault → ℕ
 place faults.PurgeBelowTarget = 0
 place faults.NoTargetSize = 1
@@ -51,20 +51,20 @@ pub record IsFirstFault (s : Settings) (fault : ConfigFault) : Type 0 where
 abbrev pub HasNoFault : Settings → Type 0
 HasNoFault s = (fault : ConfigFault) → HasFault s fault → ⊥
 
--- why settings are refused: their first fault, in its words, or memory ran out for saying so
+-- why settings are rejected: the text of their first fault, or memory ran out for it
 abbrev pub IsRefusedFor : Settings → Error → Type 0
 IsRefusedFor s (errors.Other why) =
     (fault : ConfigFault) × IsFirstFault s fault × HasMessage (Some (fault_text fault)) why.value
 IsRefusedFor s errors.Memory = (fault : ConfigFault) × IsFirstFault s fault
 IsRefusedFor s _ = ⊥
 
--- the first value, or this one where there is none
+-- the first value, or this one if there is none
 abbrev pub or_else : Option ℕ → ℕ → Option ℕ
 or_else (Some n) default = Some n
 or_else None default = Some default
 
--- Sound settings, made whole: a rewrite threshold, a block of 512 bytes and one worker at least, and a limit
--- of prefilled files exactly where files are prefilled.
+-- Valid settings, completed: a rewrite threshold, a block of at least 512 bytes, and at least one worker. There is a
+-- limit of prefilled files if and only if files are prefilled.
 abbrev pub sanitized : Settings → Settings
 sanitized s = record s {
   purge_rewrite_threshold =
@@ -74,7 +74,7 @@ sanitized s = record s {
   prefill_limit = if s.prefill_for_recycle then or_else s.prefill_limit s.purge_threshold else None;
 }
 
--- half as many files again as fit so many bytes, at most 2^32 - 1
+-- one and a half times as many files as fit into so many bytes, at most 2^32 - 1
 abbrev pub files_within : ℕ → ℕ → ℕ
 files_within limit target = min (limit / target * 3 / 2) (2 ^ 32 - 1)
 
@@ -82,7 +82,7 @@ files_within limit target = min (limit / target * 3 / 2) (2 ^ 32 - 1)
 abbrev pub can_recycle : Settings → Bool
 can_recycle s = s.enable_log_recycle && is_signed s.format_version
 
--- how many files are kept to be used again
+-- how many files are kept for recycling
 abbrev pub recycle_capacity : Settings → ℕ
 recycle_capacity s =
     if can_recycle s && nat_le s.target_file_size s.purge_threshold

@@ -26,7 +26,7 @@ pub record Settings : Type 0 where
   pub prefill_for_recycle : Bool
   pub prefill_limit : Option ℕ
 
--- what a `Config` says
+-- the settings of a `Config`
 abbrev pub settings_of : Config → Settings
 settings_of c = record {
   dir = string_bytes c.dir;
@@ -71,6 +71,6 @@ abbrev pub spill_directory : Option (List ℕ) → List (List ℕ)
 spill_directory None = []
 spill_directory (Some path) = path ∷ []
 
--- the directories in which a log's files lie by these settings, the main one first
+-- the directories of a log's files by these settings, the main one first
 abbrev pub directories_of : Settings → List (List ℕ)
 directories_of s = s.dir ∷ spill_directory s.spill_dir

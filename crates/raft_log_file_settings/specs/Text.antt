@@ -1,9 +1,9 @@
--- The texts of what may be wrong with settings.
+-- The texts for what may be wrong with settings.
 use Rattle.std.specs.Prelude.{ℕ, List, codes}
 use Rattle.raft_log_file_settings.specs.declared.fault.ConfigFault.{ConfigFault}
 use Rattle.raft_log_file_settings.specs.declared.fault.ConfigFault.TheVariants as faults
 
--- what is wrong, in words
+-- the text of a fault
 abbrev pub fault_text : ConfigFault → List ℕ
 fault_text faults.PurgeBelowTarget = codes "purge-threshold < target-file-size"
 fault_text faults.NoTargetSize = codes "target-file-size is 0"

@@ -1,4 +1,4 @@
-//! The settings of a log: what may be set, and what is made of it.
+//! The settings of a log, their checks, and the values derived from them.
 ghost use Rattle.std.specs.Prelude.{◌≡◌, ◌↔◌, IsTrue, IfNone, IfSome, IfOk, IfErr, OnOk, OnErr, List, length};
 ghost use Rattle.std.specs.String.{string_bytes};
 ghost use Rattle.raft_log_file_settings.specs.Sanitized.{IsFileName, IsFileIn, Clash, files_within};
@@ -15,38 +15,37 @@ use std::alloc::{AllocError, Global};
 /// The least block that a recovery reads at a time.
 const MIN_RECOVERY_READ_BLOCK_SIZE: u64 = 512;
 
-/// The settings of a log. `default` has the usual ones; `sanitize` refuses what can't be and makes the rest
-/// whole.
+/// The settings of a log. `default` returns the usual ones; `sanitize` rejects invalid ones and completes the rest.
 #[derive(Clone, Debug, Drop, PartialEq, Eq)]
 pub struct Config {
-    /// The main directory of log files; made at an open where it isn't there.
+    /// The main directory of log files; an open makes it if it doesn't exist.
     pub dir: String,
-    /// A second directory, for new files where the main one has no room.
+    /// A second directory, for new files if the main one has no space.
     pub spill_dir: Option<String>,
-    /// What an open does about damaged files.
+    /// How an open handles damaged files.
     pub recovery_mode: RecoveryMode,
-    /// How much of a file is read at a time at an open; 512 bytes at least.
+    /// How many bytes of a file an open reads at a time; at least 512.
     pub recovery_read_block_size: ReadableSize,
-    /// How many workers read files at an open; one at least.
+    /// How many workers read files at an open; at least one.
     pub recovery_threads: usize,
     /// Without effect.
     pub bytes_per_sync: Option<ReadableSize>,
     /// The format of new files.
     pub format_version: Version,
-    /// From which size on a file is full.
+    /// The size in bytes at which a file is full.
     pub target_file_size: ReadableSize,
-    /// Above which size of Append a purge takes files from it.
+    /// The size of Append above which a purge takes files from it.
     pub purge_threshold: ReadableSize,
-    /// Above which size of Rewrite a purge may rewrite it; by default a tenth of `purge_threshold`, and one
-    /// file at least.
+    /// The size of Rewrite above which a purge may rewrite it. By default a tenth of `purge_threshold`, but at least
+    /// one file.
     pub purge_rewrite_threshold: Option<ReadableSize>,
-    /// Above which share of garbage, in thousandths, a purge rewrites Rewrite.
+    /// The share of garbage, in thousandths, above which a purge rewrites Rewrite.
     pub purge_rewrite_garbage_ratio: u64,
     /// Without effect.
     pub memory_limit: Option<ReadableSize>,
-    /// Whether files that are purged from Append are kept to be used again.
+    /// Whether files that are purged from Append are kept for recycling.
     pub enable_log_recycle: bool,
-    /// Whether an open fills files with zeros to be used.
+    /// Whether an open prefills files with zeros for later use.
     pub prefill_for_recycle: bool,
     /// How many bytes of such files there are at most; by default `purge_threshold`.
     pub prefill_limit: Option<ReadableSize>,
@@ -81,10 +80,9 @@ impl Config {
         }
     }
 
-    /// The settings that a TOML text says; an absent key has its usual value, and keys that aren't known are
-    /// left out. A size is a number of bytes or a text as `ReadableSize` reads it, the garbage ratio a number
-    /// of thousandths. Text that is no TOML is refused as an invalid argument, a wrong value by one that
-    /// names the first such key.
+    /// The settings in a TOML text; an absent key has its usual value, and unknown keys are ignored. A size is a number
+    /// of bytes or a text as `ReadableSize` reads it; the garbage ratio is a number of thousandths. If the text isn't
+    /// TOML, fails with an invalid argument; if a value is wrong, the invalid argument names the first such key.
     pub fn from_toml(alloc: Global, text: &str) -> Result<Config>
         ensures { GivesSettingsOf result text.now }
     {
@@ -95,9 +93,9 @@ impl Config {
         }
     }
 
-    /// The settings as TOML, which `from_toml` reads as the same settings: each key that has a value. A size
-    /// of 2^63 or more, which TOML has no number for, is a text; another such number is refused as an invalid
-    /// argument that names its key.
+    /// The settings as TOML, which `from_toml` reads as the same settings: each key that has a value. A size of 2^63 or
+    /// more, for which TOML has no number, is a text. Any other such number fails with an invalid argument that names
+    /// its key.
     pub fn to_toml(&self, alloc: Global) -> Result<String>
         ensures ok { IfOk result (λ text. SaysSettings (string_bytes text) (settings_of self.now)) }
         ensures rows { IfOk result (λ text. SaysRows (string_bytes text) (rows_of (settings_of self.now))) }
@@ -110,8 +108,8 @@ impl Config {
         }
     }
 
-    /// Refuses settings that can't be, the first fault in the order of `ConfigFault`, and leaves them as they
-    /// were; else makes them whole, and warns of what has no effect.
+    /// Rejects invalid settings with their first fault, in the order of `ConfigFault`, and leaves them unchanged.
+    /// Otherwise completes them, and warns of settings without effect.
     pub fn sanitize<L: Log>(&mut self, rt: &L, alloc: Global) -> Result<()>
         ensures ok { OnOk result (HasNoFault (settings_of self.old)) }
         ensures whole { OnOk result (settings_of self.new ≡ sanitized (settings_of self.old)) }
@@ -126,7 +124,7 @@ impl Config {
         Ok(())
     }
 
-    /// How many files are kept to be used again.
+    /// How many files are kept for recycling.
     pub fn recycle_capacity(&self) -> usize
         ensures { result ≡ recycle_capacity (settings_of self.now) }
     {
@@ -137,7 +135,7 @@ impl Config {
         }
     }
 
-    /// How many files an open fills with zeros to be used.
+    /// How many files an open prefills with zeros.
     pub fn prefill_capacity(&self) -> usize
         ensures { result ≡ prefill_capacity (settings_of self.now) }
     {
@@ -195,7 +193,7 @@ impl Config {
         }
     }
 
-    /// Whether the spill directory can't stand beside the main one.
+    /// Whether the spill directory clashes with the main one.
     fn directories_clash(&self) -> bool
         ensures { IsTrue result ↔ HasFault (settings_of self.now) DirectoriesClash }
     {
@@ -205,7 +203,7 @@ impl Config {
         }
     }
 
-    /// Warns of settings that have no effect.
+    /// Warns of settings without effect.
     fn warn_of_ignored<L: Log>(&self, rt: &L) {
         if self.bytes_per_sync.is_some() {
             warn!(rt; "bytes-per-sync has no effect");
@@ -218,7 +216,7 @@ impl Config {
         }
     }
 
-    /// Sets what is left open, and raises what is too small.
+    /// Sets what is unset, and raises what is too small.
     fn make_whole(&mut self)
         ensures { settings_of self.new ≡ sanitized (settings_of self.old) }
     {
@@ -236,8 +234,8 @@ impl Config {
         }
     }
 
-    /// Above which size of Rewrite, in bytes, a purge may rewrite it: without a setting a tenth of Append's
-    /// threshold, but no less than a file is to have.
+    /// The size of Rewrite, in bytes, above which a purge may rewrite it. Without a setting, a tenth of Append's
+    /// threshold, but at least the target size of a file.
     pub fn rewrite_threshold(&self) -> u64
         ensures { Some result ≡ (sanitized (settings_of self.now)).purge_rewrite_threshold }
     {
@@ -247,7 +245,7 @@ impl Config {
         }
     }
 
-    /// Whether files that are purged may be used again.
+    /// Whether purged files may be recycled.
     fn can_recycle(&self) -> bool
         ensures { result ≡ can_recycle (settings_of self.now) }
     {
@@ -255,7 +253,7 @@ impl Config {
     }
 }
 
-/// Half as many files again as fit so many bytes.
+/// One and a half times as many files as fit into so many bytes.
 fn files_within(limit: u64, target: u64) -> usize
     ensures { result ≡ files_within limit target }
 {
@@ -263,7 +261,7 @@ fn files_within(limit: u64, target: u64) -> usize
     (files * 3 / 2).min(u32::MAX as u128) as usize
 }
 
-/// Whether two directories are one, or one has the path of a log file in the other.
+/// Whether two directories are the same, or one has the path of a log file in the other.
 fn clash(dir: &str, spill: &str) -> bool
     ensures { IsTrue result ↔ Clash dir.now spill.now }
 {
@@ -283,7 +281,7 @@ fn is_file_in(directory: &str, path: &str) -> bool
     is_file_name(name)
 }
 
-/// Whether a name is a log file's, or that of a file that is kept to be used.
+/// Whether a name is a log file's, or that of a file that is kept for recycling.
 fn is_file_name(name: &str) -> bool
     ensures { IsTrue result ↔ IsFileName name.now }
 {

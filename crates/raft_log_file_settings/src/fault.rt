@@ -3,7 +3,7 @@ ghost use Rattle.std.specs.Prelude.{◌≡◌, Some};
 
 use std::fmt;
 
-/// What may be wrong with settings, in the order in which it is told.
+/// What may be wrong with settings, in the order in which it is reported.
 #[derive(Clone, Copy, Debug, PartialEq, Eq)]
 pub enum ConfigFault {
     /// A purge would begin before a file is full.
@@ -12,16 +12,16 @@ pub enum ConfigFault {
     NoTargetSize,
     /// The spill directory is the directory, or one of the two has the path of a log file in the other.
     DirectoriesClash,
-    /// Files of a format without signatures can't be used again.
+    /// Files of a format without signatures can't be recycled.
     RecycleUnsigned,
-    /// Files are filled to be used again, and none is.
+    /// Files are prefilled for recycling, but recycling is off.
     PrefillWithoutRecycle,
 }
 
 impl ConfigFault {
     ghost use Rattle.raft_log_file_settings.specs.Text.{fault_text};
 
-    /// What is wrong, in words.
+    /// The text of the fault.
     pub fn text(self) -> &'static str
         ensures { result.now ≡ fault_text self }
     {

@@ -15,7 +15,7 @@ use raft_log_record_base::{Error, ReadableSize, Result};
 use std::alloc::{AllocError, Global};
 use toml::{Table, Value};
 
-/// What a key is given.
+/// The value of a key.
 #[derive(Clone, Copy)]
 pub enum Entry<'a> {
     Text(&'a str),
@@ -24,7 +24,7 @@ pub enum Entry<'a> {
     Switch(bool),
 }
 
-/// The settings as a table. A number of 2^63 or more is refused by its key.
+/// The settings as a table. A number of 2^63 or more fails with its key.
 pub fn to_table(alloc: Global, config: &Config) -> Result<Table>
     ensures ok { IfOk result (λ table. HasRows (rows_of (settings_of config.now)) (table_view table)) }
     ensures fits { SizesFit (settings_of config.now) }
@@ -109,7 +109,7 @@ fn size_entry(size: Option<ReadableSize>) -> Option<Entry<'static>>
     }
 }
 
-/// The table of rows, put into it one after another.
+/// The table of rows, which are added one after another.
 fn table_of(alloc: Global, rows: &[(&str, Option<Entry<'_>>)]) -> Result<Table>
     ensures ok { IfOk result (λ table. HasRows (map row_of rows.now) (table_view table)) }
     ensures err { IfErr result (λ error. IsUnprintable (map row_of rows.now) error) }
@@ -121,7 +121,7 @@ fn table_of(alloc: Global, rows: &[(&str, Option<Entry<'_>>)]) -> Result<Table>
     Ok(table)
 }
 
-/// PutsAt a row into a table, unless it has no value.
+/// Adds a row to a table, unless it has no value.
 fn put_row(alloc: Global, table: &mut Table, row: &(&str, Option<Entry<'_>>)) -> Result<()>
     ensures ok { OnOk result (PutsRow (row_of row.now) (table_view table.old) (table_view table.new)) }
     ensures said { OnOk result (is_unsaid (row_of row.now).1 ≡ false) }
@@ -150,7 +150,7 @@ fn value_of(alloc: Global, key: &str, entry: Entry<'_>) -> Result<Value>
     }
 }
 
-/// The value of a size: a number of bytes, or a text where TOML has no such number.
+/// The value of a size: a number of bytes, or a text if TOML has no such number.
 fn size_value(alloc: Global, size: ReadableSize) -> std::result::Result<Value, AllocError>
     ensures { IfOk result (λ value. view value ≡ size_data size.0) }
 {
@@ -160,7 +160,7 @@ fn size_value(alloc: Global, size: ReadableSize) -> std::result::Result<Value, A
     }
 }
 
-/// The refusal of a number that TOML doesn't say, by its key, or `Memory`.
+/// The error for a number that TOML can't express, with its key, or `Memory`.
 fn too_large(alloc: Global, key: &str) -> Error
     ensures { SaysTooLarge key.now result }
 {
@@ -170,7 +170,7 @@ fn too_large(alloc: Global, key: &str) -> Error
     }
 }
 
-/// PutsAt a value at a key.
+/// Adds a value to a table at a key.
 fn put(alloc: Global, table: &mut Table, key: &str, value: Value) -> Result<()>
     ensures ok { OnOk result (PutsAt key.now (view value) (table_view table.old) (table_view table.new)) }
     ensures err { IfErr result (λ error. error ≡ Memory) }

@@ -13,7 +13,7 @@ use raft_log_record_base::{Error, ReadableSize, Result, Version};
 use std::alloc::{AllocError, Global};
 use toml::{Table, Value};
 
-/// The number that a value is.
+/// The number in a value.
 fn number_of(value: &Value) -> Option<u64>
     ensures { result ≡ number_of (view value.now) }
 {
@@ -23,7 +23,7 @@ fn number_of(value: &Value) -> Option<u64>
     }
 }
 
-/// The size that a value is.
+/// The size in a value.
 fn size_of(value: &Value) -> Option<u64>
     ensures { result ≡ size_of (view value.now) }
 {
@@ -36,7 +36,7 @@ fn size_of(value: &Value) -> Option<u64>
     }
 }
 
-/// The version that a value is.
+/// The version in a value.
 fn version_of(value: &Value) -> Option<Version>
     ensures { result ≡ version_of (view value.now) }
 {
@@ -57,7 +57,7 @@ fn mode_of(value: &Value) -> Option<RecoveryMode>
     }
 }
 
-/// The recovery mode of this word.
+/// The recovery mode for this word.
 fn mode_word(word: &str) -> Option<RecoveryMode>
     ensures { result ≡ mode_word word.now }
 {
@@ -79,7 +79,7 @@ fn member<'a>(table: &'a Table, key: &str) -> Option<&'a Value>
     table.get(key)
 }
 
-/// What was read of a key's value, or the refusal that names the key.
+/// What was read of a key's value, or the error that names the key.
 fn read_or_wrong<T: Drop>(alloc: Global, key: &'static str, read: Option<T>) -> Result<T>
     ensures { GivesAt result key.now (ok_or read key.now) }
 {
@@ -99,7 +99,7 @@ fn size_at(alloc: Global, table: &Table, key: &'static str, absent: ReadableSize
     }
 }
 
-/// The size at a key that may be absent for good.
+/// The size at an optional key.
 fn maybe_size_at(
     alloc: Global,
     table: &Table,
@@ -124,7 +124,7 @@ fn number_at(alloc: Global, table: &Table, key: &'static str, absent: u64) -> Re
     }
 }
 
-/// The switch at a key.
+/// The boolean at a key.
 fn bool_at(alloc: Global, table: &Table, key: &'static str, absent: bool) -> Result<bool>
     ensures { GivesAt result key.now (at key.now as_bool absent (table_view table.now)) }
 {
@@ -174,7 +174,7 @@ fn text_at<'a>(
     }
 }
 
-/// The text at a key that may be absent for good.
+/// The text at an optional key.
 fn maybe_text_at<'a>(
     alloc: Global,
     table: &'a Table,
@@ -190,7 +190,7 @@ fn maybe_text_at<'a>(
     }
 }
 
-/// The refusal that names a key, or `Memory`.
+/// The error that names a key, or `Memory`.
 fn wrong_value(alloc: Global, key: &str) -> Error
     ensures { NamesKey result key.now }
 {
@@ -200,7 +200,7 @@ fn wrong_value(alloc: Global, key: &str) -> Error
     }
 }
 
-/// The refusal of a text that is no TOML, or `Memory`.
+/// The error for a text that isn't TOML, or `Memory`.
 pub fn no_toml(alloc: Global) -> Error
     ensures { SaysNoToml result }
 {
@@ -210,7 +210,7 @@ pub fn no_toml(alloc: Global) -> Error
     }
 }
 
-/// What a table says of files that are used again.
+/// What a table sets for recycling.
 #[tactic(auto, unfolding(crate::specs::Reading::recycling_in))]
 fn recycling_in(alloc: Global, table: &Table, usual: &Config) -> Result<(bool, bool, Option<u64>)>
     ensures { GivesKeys result (recycling_in (settings_of usual.now) (table_view table.now)) }
@@ -226,7 +226,7 @@ fn recycling_in(alloc: Global, table: &Table, usual: &Config) -> Result<(bool, b
     Ok((enable, prefill, limit))
 }
 
-/// What a table says of purges.
+/// What a table sets for purges.
 #[tactic(auto, unfolding(crate::specs::Reading::purging_in))]
 fn purging_in(alloc: Global, table: &Table, usual: &Config) -> Result<(u64, Option<u64>, u64)>
     ensures { GivesKeys result (purging_in (settings_of usual.now) (table_view table.now)) }
@@ -239,7 +239,7 @@ fn purging_in(alloc: Global, table: &Table, usual: &Config) -> Result<(u64, Opti
     Ok((threshold, rewrite, ratio))
 }
 
-/// What a table says of a recovery.
+/// What a table sets for a recovery.
 #[tactic(auto, unfolding(crate::specs::Reading::recovery_in))]
 fn recovery_in(alloc: Global, table: &Table, usual: &Config) -> Result<(RecoveryMode, u64, u64)>
     ensures { GivesKeys result (recovery_in (settings_of usual.now) (table_view table.now)) }
@@ -256,7 +256,7 @@ fn recovery_in(alloc: Global, table: &Table, usual: &Config) -> Result<(Recovery
     Ok((mode, block, threads))
 }
 
-/// What a table says of new files.
+/// What a table sets for new files.
 #[tactic(auto, unfolding(crate::specs::Reading::files_in))]
 fn files_in(alloc: Global, table: &Table, usual: &Config) -> Result<(Option<u64>, Version, u64)>
     ensures { GivesKeys result (files_in (settings_of usual.now) (table_view table.now)) }
@@ -272,14 +272,14 @@ fn files_in(alloc: Global, table: &Table, usual: &Config) -> Result<(Option<u64>
     Ok((per_sync, format_version, target))
 }
 
-/// The settings that a table says; what it leaves out is as usual.
+/// The settings that a table states; keys that it leaves out have their usual values.
 pub fn from_table(alloc: Global, table: &Table) -> Result<Config>
     ensures { GivesSettings result (settings_in (table_view table.now)) }
 {
     settings_over(alloc, table, &Config::default(alloc))
 }
 
-/// The settings that a table says over the usual ones.
+/// The usual settings, overridden by a table's.
 #[tactic(auto, unfolding(crate::specs::Reading::settings_over))]
 fn settings_over(alloc: Global, table: &Table, usual: &Config) -> Result<Config>
     ensures { GivesSettings result (settings_over (settings_of usual.now) (table_view table.now)) }
@@ -310,7 +310,7 @@ fn settings_over(alloc: Global, table: &Table, usual: &Config) -> Result<Config>
     })
 }
 
-/// A text that is lent, if there is one.
+/// A borrowed text, if there is one.
 pub fn text_of(text: &Option<String>) -> Option<&str>
     ensures { option_map (λ t. t.now) result ≡ option_map string_bytes text.now }
 {
@@ -340,7 +340,7 @@ fn sized(bytes: Option<u64>) -> Option<ReadableSize>
     }
 }
 
-/// A text of its own, if there is one.
+/// An owned copy of a text, if there is one.
 fn copied(alloc: Global, text: Option<&str>) -> std::result::Result<Option<String>, AllocError>
     ensures { IfOk result (λ copy. option_map string_bytes copy ≡ option_map (λ t. t.now) text.entry) }
 {

@@ -1,13 +1,12 @@
-//! What a recovery does about damaged files.
+//! How a recovery handles damaged files.
 
-/// What a recovery does about damaged files.
+/// How a recovery handles damaged files.
 #[derive(Clone, Copy, Debug, PartialEq, Eq)]
 pub enum RecoveryMode {
-    /// Any damage refuses the open.
+    /// Any damage fails the open.
     AbsoluteConsistency,
-    /// The last file of a queue is shortened to what stands before its damage; damage of another one refuses
-    /// the open.
+    /// The last file of a queue is truncated before its damage; damage in any other file fails the open.
     TolerateTailCorruption,
-    /// Each file is shortened to what stands before its damage.
+    /// Each file is truncated before its damage.
     TolerateAnyCorruption,
 }

@@ -1,5 +1,5 @@
-//! A call that finds no memory is refused as such and changes nothing; asked again, it is answered. Run it
-//! with each allocation failing in turn.
+//! A call that runs out of memory fails with `OutOfMemory` and changes nothing; made again, it succeeds. Run it with
+//! each allocation failing in turn.
 use raft_log_disk::{FileSystem, Permission};
 use raft_log_disk_memory::{MemoryFileSystem, Remainder};
 use std::io::ErrorKind;
@@ -35,7 +35,7 @@ fn seen(system: &MemoryFileSystem, path: &str) -> Result<(usize, [u8; 8]), Error
     Ok((system.file_size(file)?, room))
 }
 
-// Makes a call; where it finds no memory, once more.
+// Makes a call; if it runs out of memory, once more.
 fn made(rt: &impl Abort, system: &mut MemoryFileSystem, number: usize) -> Result<bool, Fail> {
     let failures = system.failures();
     let f = seen(system, "d/f");

@@ -1,11 +1,11 @@
--- What comes of a directory.
+-- What reading a directory returns.
 use Rattle.std.specs.Prelude.{ℕ, List}
 use Rattle.raft_log_disk.specs.Disk.{Disk}
 use Rattle.raft_log_file_reader.specs.Files.{AreFilesOf}
 use Rattle.raft_log_file_reader.specs.Answers.{Answer, GivesFiles}
 use Rattle.raft_log_file_reader.specs.declared.log_file.LogFile.{LogFile}
 
--- these answers come of the log files of the directory
+-- these answers come from the log files of the directory
 pub record GivesDirectory (directory : List ℕ) (d : Disk) (answers : List Answer) : Type 0 where
   pub files : List LogFile
   pub are : AreFilesOf directory d files

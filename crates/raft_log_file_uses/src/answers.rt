@@ -9,7 +9,7 @@ use raft_log_record_base::Result;
 use raft_log_record_items::LogItem;
 use std::alloc::Global;
 
-/// What comes of the log files of a directory: their items in order, and why a file was refused.
+/// Returns the items of a directory's log files in order, and for each file that isn't read the error.
 pub fn answers_of<F: FileSystem>(
     alloc: Global,
     file_system: &F,

@@ -10,7 +10,7 @@ use std::alloc::Global;
 /// How many bytes are read at once.
 const READ_BLOCK_SIZE: usize = 16_384;
 
-/// Where the good records of a log file end: there the file ends, or its next record is broken.
+/// Returns the offset at which the good records of a log file end: the file ends there, or its next record is broken.
 pub fn good_end<F: FileSystem>(
     alloc: Global,
     file_system: &F,

@@ -1,4 +1,5 @@
-//! Proved callers of the reader of log files: what comes of a directory, and where the good records of a file end.
+//! Proved callers of the reader of log files: they read a directory's items, and find the end of a file's good
+//! records.
 #![tactic(auto)]
 
 pub mod answers;

@@ -11,8 +11,8 @@ use std::alloc::Global;
 /// How many bytes are read at once.
 const READ_BLOCK_SIZE: usize = 65_536;
 
-/// Where the good records of a log file end, as `good_end` answers it; a broken entry block of one of them is
-/// refused.
+/// Returns the offset at which the good records of a log file end, as `good_end` does. Fails if one of them has a
+/// broken entry block.
 pub fn whole_end<F: FileSystem>(
     alloc: Global,
     file_system: &F,
@@ -37,7 +37,7 @@ pub fn whole_end<F: FileSystem>(
     }
 }
 
-/// Where the entry block of a batch lies, in front of an end; no bytes where it has none.
+/// The location of a batch's entry block, before an end; no bytes if it has none.
 fn block_of(batch: &LogItemBatch, end: usize, id: FileId) -> FileBlockHandle
     ensures { result.offset + result.len ≤ end }
 {

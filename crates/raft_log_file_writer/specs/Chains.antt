@@ -1,4 +1,4 @@
--- A chain of records in a file that a writer writes: what each of its calls makes of it.
+-- A chain of records in a file: what each call of the file's writer does to it.
 use Rattle.std.specs.Prelude.{◌≡◌, ℕ, ◌≤◌, Bool, true, Some, List, [], ◌∷◌, ◌++◌, length, take, drop}
 use Rattle.std.specs.declared.io.ErrorKind.{ErrorKind}
 use Rattle.raft_log_disk.specs.Disk.{File, Disk, at_rest, zeros}
@@ -12,13 +12,13 @@ use Rattle.raft_log_disk.specs.Touching.{HasFile}
 use Rattle.raft_log_file_writer.specs.declared.writer.LogFileWriter.{LogFileWriter}
 use Rattle.raft_log_file_writer.specs.Writer.{IsWritten, IsDurable, WritesNext, FailsToWriteNext, Closes, FailsToClose, TakesUp, FailsToTakeUp, needs_header}
 
--- what is durable of a file is there, whatever a stop leaves of it
+-- the durable bytes of a file remain after any stop
 abbrev pub DurableIsLeft : Type 0
 DurableIsLeft = (bytes left : List ℕ) (file : File) → IsDurable bytes file → IsLeft file left
     → take (length bytes) left ≡ bytes
 
--- Up to the writer's offset its file has a chain of records, and holds it; `more` are records whose write was
--- refused, of which anything may stand behind the offset.
+-- Up to the writer's offset its file has a chain of records, and holds it. `more` are records whose write failed; any
+-- part of them may follow the offset.
 pub record IsAtEnd {R : Type 0} (IsFrame : List ℕ → R → Type 0) (start : ℕ) (stale : List ℕ)
     (durable pending more : List (Written R))
     (writer : LogFileWriter) (d : Disk) : Type 0 where
@@ -28,23 +28,24 @@ pub record IsAtEnd {R : Type 0} (IsFrame : List ℕ → R → Type 0) (start : �
   pub chain : drop start bytes ≡ spelled (durable ++ pending)
   pub holds : HasFile writer.handle.file (HoldsChain IsFrame start stale durable (pending ++ more)) d
 
--- from a place on the file has stale bytes alone, and it is no shorter than these
+-- from this offset on the file has only stale bytes, and it is no shorter than these
 pub record HasStaleFrom (from : ℕ) (stale : List ℕ) (file : File) : Type 0 where
   pub stands : StandsBehind from stale file.content
   pub covers : length stale ≤ length file.content
 
--- Up to the writer's offset its file has a chain of records, and holds it; no write was refused since the
--- file was closed, and behind the offset stand stale bytes alone.
+-- Up to the writer's offset its file has a chain of records, and holds it. No write has failed since the file was
+-- closed, and only stale bytes follow the offset.
 abbrev pub IsReady : {R : Type 0} → (List ℕ → R → Type 0) → ℕ → List ℕ → List (Written R) → List (Written R)
     → LogFileWriter → Disk → Type 0
 IsReady IsFrame start stale durable pending writer d = IsAtEnd IsFrame start stale durable pending [] writer d
     × HasFile writer.handle.file (HasStaleFrom writer.written stale) d
 
--- What the calls of a writer make of a chain. A record that is written is the last pending one; the zeros
--- that were allocated count as stale. A sync makes all durable; where it is refused, the durable ones are so
--- still. A record that is refused counts as the last pending one, and the writer stands where it stood; once
--- the file is closed, it has the others alone, all durable. Where that is refused, the durable ones are so
--- still, and the refused one counts.
+-- What the calls of a writer do to a chain.
+-- - `written`: the record is the last pending one; preallocated zeros count as stale.
+-- - `refused`: a record whose write failed counts as the last pending one, and the writer's offset is unchanged.
+-- - `synced`: all records are durable. `not_synced`: at least the durable ones are still durable.
+-- - `closed`: the file has exactly the other records, without the failed ones, all durable. `not_closed`: the durable
+--   ones are still durable, and the failed ones count.
 pub record ChainIsWritten {R : Type 0} (IsFrame : List ℕ → R → Type 0) (start : ℕ) (stale : List ℕ)
     (durable pending : List (Written R))
     (before after : LogFileWriter) (old new : Disk) : Type 0 where
@@ -69,7 +70,7 @@ pub record ChainIsWritten {R : Type 0} (IsFrame : List ℕ → R → Type 0) (st
       → FailsToClose before after error old new
       → HasFile before.handle.file (HoldsAtLeast IsFrame start stale durable (pending ++ more)) new
 
--- whatever was written, each call of a writer makes of a chain of records what is said of it
+-- each call of a writer has these effects on a chain of records, whatever was written
 abbrev pub WriterKeepsChain : {R : Type 0} → (List ℕ → R → Type 0) → Type 0
 WriterKeepsChain {R} IsFrame = IsSelfDelimiting IsFrame
     → (start : ℕ) (stale : List ℕ) (durable pending : List (Written R))
@@ -82,13 +83,13 @@ pub record HoldsNothing {R : Type 0} (IsFrame : List ℕ → R → Type 0) (star
   pub chain : HoldsChain IsFrame start stale [] [] file
   pub only : HasStaleFrom 0 stale file
 
--- each file at rest, new or used before, is one without records
+-- each file at rest, new or recycled, is one without records
 abbrev pub RestHoldsNothing : {R : Type 0} → (List ℕ → R → Type 0) → Type 0
 RestHoldsNothing IsFrame = (start : ℕ) (content : List ℕ)
     → HoldsNothing IsFrame start content (at_rest content)
 
--- How a chain begins: a file without records that gets a header is ready for its first record. Where the
--- header is refused, it is without records still.
+-- How a chain begins: a file without records that gets a header is ready for its first record. If writing the header
+-- fails, it is still without records.
 pub record ChainBegins {R : Type 0} (IsFrame : List ℕ → R → Type 0) (handle : Handle)
     (header stale : List ℕ) (reset : Bool) (old new : Disk) : Type 0 where
   pub begun : (writer : LogFileWriter) → handle.permission ≡ ReadWrite
@@ -102,7 +103,7 @@ abbrev pub GetsHeader : Handle → List ℕ → Bool → Disk → Type 0
 GetsHeader handle header reset d = (file : File) → d.files handle.file ≡ Some file
     → needs_header header reset file.content ≡ true
 
--- in each file without records that gets a header a chain begins; refused, it is without records still
+-- a chain begins in each file without records that gets a header; if that fails, the file is still without records
 abbrev pub WriterBeginsChain : {R : Type 0} → (List ℕ → R → Type 0) → Type 0
 WriterBeginsChain {R} IsFrame = (handle : Handle) (header stale : List ℕ) (reset : Bool) (old new : Disk)
     → HasFile handle.file (HoldsNothing IsFrame (length header) stale) old → GetsHeader handle header reset old

@@ -1,4 +1,4 @@
-//! Building a writer of the file with a path.
+//! Building a writer for the file at a path.
 
 ghost use Rattle.std.specs.Prelude.{◌≡◌, true, false, Some, IfOk, IfErr};
 ghost use Rattle.raft_log_file_format.specs.Header.{HasWrittenHeader, IsFileHeader, IsHeaderRefusal, header_bytes};
@@ -15,11 +15,11 @@ use raft_log_file_format::LogFileFormat;
 use raft_log_record_base::Result;
 use std::alloc::Global;
 
-/// Makes a file, or opens it, and takes it up to write behind what it holds. A file that is made gets the
-/// format's header, and one that is shorter than that header too.
+/// Creates or opens a file, and returns a writer that appends to it. A new file gets the format's header, and so does a
+/// file that is shorter than the header. The header is built before any call is made.
 ///
-/// The header is built before any call is made. `Io(AlreadyExists)` where a file is to be made and the path
-/// is taken, `Io(NotFound)` where one is to be opened and isn't there.
+/// - `Io(AlreadyExists)`: the file should be created, and the path is taken.
+/// - `Io(NotFound)`: the file should be opened, and doesn't exist.
 pub fn build_file_writer<F: FileSystem, L: Log>(
     rt: &L,
     alloc: Global,
@@ -34,7 +34,7 @@ pub fn build_file_writer<F: FileSystem, L: Log>(
         (F.disk file_system.old) (F.disk file_system.new)) }
     ensures has_header { IfOk result (λ writer. HasWrittenHeader format) }
 
-    // What stands in the file.
+    // What the file holds.
     ensures created { create ≡ true → IfOk result (λ writer. IsWritten writer (header_bytes format)
         (F.disk file_system.new)) }
     ensures opened { create ≡ false → IfOk result (λ writer. IsGoneOn (header_bytes format) writer
@@ -52,8 +52,7 @@ pub fn build_file_writer<F: FileSystem, L: Log>(
     Ok(LogFileWriter::open(rt, file_system, handle, &header, create)?)
 }
 
-/// The bytes of a format's header. A format of the first version with an alignment has none, and is refused
-/// as an invalid argument.
+/// The bytes of a format's header. Fails with an invalid argument for version 1 with an alignment, which has no header.
 pub fn build_header(alloc: Global, format: &LogFileFormat) -> Result<Vec<u8>>
     ensures ok { IfOk result (λ header. HasWrittenHeader format.now × (header.items ≡ header_bytes format.now)) }
     ensures spelled { IfOk result (λ header. IsFileHeader header.items format.now) }
@@ -64,7 +63,7 @@ pub fn build_header(alloc: Global, format: &LogFileFormat) -> Result<Vec<u8>>
     Ok(header)
 }
 
-/// Makes a file, or opens it, to write it.
+/// Creates or opens a file for writing.
 fn find_file<F: FileSystem>(file_system: &mut F, path: &str, create: bool) -> Result<Handle>
     ensures ok { IfOk result (λ handle. Finds path.now create handle
         (F.disk file_system.old) (F.disk file_system.new)) }

@@ -1,4 +1,4 @@
-//! One log file over any file system: its header, what is written behind it, and how that is read again.
+//! One log file over any file system: its header, appending to it, and reading it again.
 #![tactic(auto)]
 
 pub mod build;

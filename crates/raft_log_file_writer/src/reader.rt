@@ -11,10 +11,10 @@ use raft_log_record_base::{Error, FileBlockHandle, Result};
 use std::alloc::Global;
 use std::io::ErrorKind;
 
-/// As many bytes as the longest header has.
+/// The length of the longest header in bytes.
 const MAX_HEADER_LEN: usize = 69;
 
-/// Opens a file to read it. `Io(NotFound)` where no file has the path.
+/// Opens a file for reading. Fails with `Io(NotFound)` if no file has the path.
 pub fn build_file_reader<F: FileSystem>(file_system: &F, path: &str) -> Result<LogFileReader>
     ensures ok { IfOk result (λ reader. IsOpened path.now Permission.ReadOnly reader.handle
         (F.disk file_system.now)) }
@@ -24,7 +24,7 @@ pub fn build_file_reader<F: FileSystem>(file_system: &F, path: &str) -> Result<L
     Ok(LogFileReader::open(handle))
 }
 
-/// Opens a file; want of memory is told apart from a refusal of the file system, and no stop is told as it.
+/// Opens a file. Out of memory is a separate error from those of the file system, and a stop isn't reported as it.
 pub(crate) fn open_file<F: FileSystem>(
     file_system: &F,
     path: &str,
@@ -40,10 +40,10 @@ pub(crate) fn open_file<F: FileSystem>(
     }
 }
 
-/// A log file that is open to be read at any place. Its calls are lent the file system.
+/// A log file that is open for reading at any offset. Its calls borrow the file system.
 ///
-/// A read that the file system refuses isn't tried again: it is refused for good, as the file system has
-/// stopped, the file is gone, or a place of it is unreadable.
+/// A read that the file system fails isn't retried, as it would fail again: the file system has stopped, the file was
+/// deleted, or a byte is unreadable.
 #[derive(Clone, Copy, Debug, PartialEq, Eq)]
 pub struct LogFileReader {
     handle: Handle,
@@ -57,9 +57,8 @@ impl LogFileReader {
         LogFileReader { handle }
     }
 
-    /// Reads the format off the header. A file that begins with no header is refused as the header's reading
-    /// is: other magic bytes, a version's number that is cut short (a codec's error), one that no version
-    /// has, an alignment that is cut short.
+    /// Reads the format from the header. If the file begins with no header, fails on the first of these: other magic
+    /// bytes, a truncated version number (a codec error), an unknown version, a truncated alignment.
     pub fn parse_format<F: FileSystem>(
         &self,
         alloc: Global,
@@ -77,7 +76,7 @@ impl LogFileReader {
         LogFileFormat::decode(alloc, &mut source)
     }
 
-    /// The bytes of a block; fewer where the file ends before the block does.
+    /// The bytes of a block; fewer if the file ends before the block does.
     pub fn read<F: FileSystem>(
         &self,
         alloc: Global,
@@ -94,8 +93,8 @@ impl LogFileReader {
         Ok(bytes)
     }
 
-    /// The bytes of a block come in the stead of those that the list has; fewer where the file ends before the
-    /// block does. A refusal leaves any bytes.
+    /// Replaces the contents of `bytes` with the bytes of a block; fewer if the file ends before the block does. If it
+    /// fails, `bytes` may hold anything.
     pub fn read_over<F: FileSystem>(
         &self,
         file_system: &F,
@@ -113,7 +112,7 @@ impl LogFileReader {
         Ok(())
     }
 
-    /// Reads bytes from an offset on until the room is full or the file ends, and answers how many.
+    /// Reads bytes from an offset on until the room is full or the file ends. Returns how many.
     pub fn read_to<F: FileSystem>(
         &self,
         file_system: &F,

@@ -1,4 +1,4 @@
-//! Writing one log file: ahead of its end, and cut back to it.
+//! Writing one log file: allocates ahead of its end, and truncates it to what was written.
 
 ghost use Rattle.std.specs.Prelude.{◌≡◌, ℕ, ◌+◌, ◌<◌, ◌^◌, ◌++◌, List, length, nat_lt, ◌||◌, IfOk, IfErr, OnOk, OnErr};
 ghost use Rattle.raft_log_disk.specs.Causes.{Fails, IsLater};
@@ -9,20 +9,19 @@ use log::{Log, warn};
 use raft_log_disk::{FileSystem, Handle};
 use std::io::ErrorKind;
 
-/// The most bytes that are allocated ahead of a write, beside those that it needs.
+/// The most bytes that are allocated ahead of a write, beyond those that it needs.
 const FILE_ALLOCATE_SIZE: usize = 2_097_152;
 
-/// A log file that is written behind its end. Its calls are lent the file system.
+/// The writer of a log file, which appends to it. Its calls borrow the file system.
 ///
-/// A refused call leaves what was written before, and the writer may be used again. It knows where the file
-/// may end, also after a refusal: `truncate` and `close` cut the file where it may be longer than what was
-/// written.
+/// If a call fails, what was written before remains, and the writer may be used again. It tracks how long the file may
+/// be, even after a failure: `truncate` and `close` truncate a file that may be longer than what was written.
 #[derive(Drop, Debug)]
 pub struct LogFileWriter {
     handle: Handle,
-    // How many bytes are written, from the file's front on.
+    // How many bytes are written, from the start of the file.
     written: usize,
-    // Where the file ends at the latest: behind what was allocated, or tried to be.
+    // The largest length that the file may have, including what was allocated or may have been.
     capacity: usize,
     ghost short: { written < 2 ^ 63 },
 }
@@ -30,8 +29,8 @@ pub struct LogFileWriter {
 impl LogFileWriter {
     ghost use Rattle.raft_log_file_writer.specs.Writer.{Closes, CutsBehind, DurableStays, FailsToClose, FailsToCutBehind, FailsToTakeUp, FailsToWriteNext, CanBeTakenUp, IsWriterAt, IsClosed, IsSynced, IsTakenUp, AreItsBytes, IsWritten, KeepsWritten, MakesRoom, TakesUp, WritesNext, reach};
 
-    /// Takes a file up behind what it holds. One that is shorter than the header, or that is to begin anew,
-    /// gets the header at its front, whatever stands there. It takes no memory.
+    /// Opens a writer at the end of a file. If the file is shorter than the header, or `force_reset` is set, it writes
+    /// the header at the front, whatever the file holds. It allocates no memory.
     pub fn open<F: FileSystem, L: Log>(
         rt: &L,
         file_system: &mut F,
@@ -44,7 +43,7 @@ impl LogFileWriter {
         ensures err { IfErr result (λ error. FailsToTakeUp handle header.now force_reset error
             (F.disk file_system.old) (F.disk file_system.new)) }
 
-        // What stands in the file; and a refusal has a cause.
+        // What the file holds; and a failure has a cause.
         ensures written { IfOk result (λ writer. IsTakenUp handle header.now force_reset writer
             (F.disk file_system.old) (F.disk file_system.new)) }
         ensures cause { OnErr result (CanBeTakenUp handle (F.disk file_system.old)
@@ -71,11 +70,10 @@ impl LogFileWriter {
         Ok(writer)
     }
 
-    /// Writes bytes behind those that were written. Where the file may end before the new end, it is made
-    /// longer first: by what is missing, or, if that is more, by what is left to the target size, up to
-    /// 2 MiB. A refusal of this is logged, and nothing else comes of it.
+    /// Appends bytes to those that were written. If the file may end before the new end, it is grown first: by what is
+    /// missing, or, if that is more, by what is left to the target size, up to 2 MiB. A failure to grow is only logged.
     ///
-    /// Refused, the offset is as it was; some of the bytes may stand behind it.
+    /// If the write fails, the offset is unchanged; some of the bytes may follow it.
     pub fn write<F: FileSystem, L: Log>(
         &mut self,
         rt: &L,
@@ -88,7 +86,7 @@ impl LogFileWriter {
         ensures err { IfErr result (λ error. FailsToWriteNext self.old self.new bytes.now target_size_hint
             error (F.disk file_system.old) (F.disk file_system.new)) }
 
-        // What stands in the file, and what a stop leaves of it.
+        // What the file holds, and what a stop leaves of it.
         ensures written { OnOk result ((front : List ℕ) → IsWritten self.old front (F.disk file_system.old)
             → IsWritten self.new (front ++ bytes.now) (F.disk file_system.new)) }
         ensures kept { OnErr result (KeepsWritten self.old self.new
@@ -106,14 +104,14 @@ impl LogFileWriter {
         Ok(())
     }
 
-    /// Cuts the file to what was written, if it may be longer. Refused, it may still be longer.
+    /// Truncates the file to what was written, if it may be longer. If it fails, the file may still be longer.
     pub fn truncate<F: FileSystem>(&mut self, file_system: &mut F) -> Result<(), ErrorKind>
         ensures ok { OnOk result (CutsBehind self.old self.new
             (F.disk file_system.old) (F.disk file_system.new)) }
         ensures err { IfErr result (λ error. FailsToCutBehind self.old self.new error
             (F.disk file_system.old) (F.disk file_system.new)) }
 
-        // What stands in the file, and what a stop leaves of it.
+        // What the file holds, and what a stop leaves of it.
         ensures whole { OnOk result ((bytes : List ℕ) → IsWritten self.old bytes (F.disk file_system.old)
             → AreItsBytes self.new bytes (F.disk file_system.new)) }
         ensures kept { OnErr result (KeepsWritten self.old self.new
@@ -137,7 +135,7 @@ impl LogFileWriter {
         ensures err { IfErr result (λ error. FailsToSync self.now.handle error
             (F.disk file_system.old) (F.disk file_system.new)) }
 
-        // What stands in the file, and what a stop leaves of it.
+        // What the file holds, and what a stop leaves of it.
         ensures synced { OnOk result ((bytes : List ℕ) → IsWritten self.now bytes (F.disk file_system.old)
             → IsSynced self.now bytes (F.disk file_system.new)) }
         ensures kept { OnErr result (KeepsWritten self.now self.now
@@ -151,15 +149,15 @@ impl LogFileWriter {
         file_system.sync(self.handle)
     }
 
-    /// Cuts the file to what was written, if it may be longer, and syncs it. A refused cut leaves the sync
-    /// out.
+    /// Truncates the file to what was written, if it may be longer, and syncs it. If the truncation fails, it doesn't
+    /// sync.
     pub fn close<F: FileSystem>(&mut self, file_system: &mut F) -> Result<(), ErrorKind>
         ensures ok { OnOk result (Closes self.old self.new
             (F.disk file_system.old) (F.disk file_system.new)) }
         ensures err { IfErr result (λ error. FailsToClose self.old self.new error
             (F.disk file_system.old) (F.disk file_system.new)) }
 
-        // What stands in the file, and what a stop leaves of it.
+        // What the file holds, and what a stop leaves of it.
         ensures closed { OnOk result ((bytes : List ℕ) → IsWritten self.old bytes (F.disk file_system.old)
             → IsClosed self.new bytes (F.disk file_system.new)) }
         ensures kept { OnErr result (KeepsWritten self.old self.new
@@ -174,7 +172,7 @@ impl LogFileWriter {
         self.sync(file_system)
     }
 
-    /// How many bytes are written, the header's among them: the place of the next one.
+    /// How many bytes are written, including the header: the offset of the next byte.
     pub fn offset(&self) -> usize
         ensures is { result ≡ self.now.written }
         ensures short { result < 2 ^ 63 }
@@ -182,7 +180,7 @@ impl LogFileWriter {
         self.written
     }
 
-    /// Makes the file longer where it may end before a write does.
+    /// Grows the file if it may end before the end of a write.
     fn make_room<F: FileSystem, L: Log>(
         &mut self,
         rt: &L,
@@ -207,7 +205,7 @@ impl LogFileWriter {
     }
 }
 
-/// Whether a file of this size gets a header: it is to begin anew, or is too short to have one.
+/// Whether a file of this size gets a header: it is reset, or too short to have one.
 fn needs_header(header: &[u8], size: usize, force_reset: bool) -> bool
     ensures { result ≡ (force_reset || nat_lt size (length header.now)) }
 {

@@ -1,7 +1,7 @@
-//! The files of a log, in one name: file systems, names, headers and settings, one file written and read, the pipe
-//! of a queue, both pipes of a log, and who listens to them.
+//! The files of a log, under one name: file systems, names, headers, settings, readers and writers of one file,
+//! pipes, and listeners.
 //!
-//! This crate only hands on; the page of each part says what its calls promise.
+//! This crate only re-exports; the page of each part says what its calls promise.
 #![tactic(auto)]
 
 pub use raft_log_disk::{Fault, FileSystem, Handle, Permission};

@@ -1,4 +1,4 @@
--- A log's files without damage and gaps, and what an inspection of them says.
+-- A log's files without damage and gaps, and what an inspection of them finds.
 use Rattle.std.specs.Prelude.{◌≡◌, ◌≤◌, ◌⊎◌, ◌==◌, ℕ, Bool, true, Option, Some, None, List, [], All, drop, unwrap_or}
 use Rattle.std.specs.List.{AllZip}
 use Rattle.std.specs.List.Sorted.{IsPermutation}
@@ -33,13 +33,13 @@ abbrev pub AreZeros : List ℕ → Type 0
 AreZeros bytes = All (λ byte. byte ≡ 0) bytes
 
 -- Nothing is wrong with a file whose last whole record ends here: the file ends there too. A queue's last file may
--- have zeros alone after it, as a log grows it ahead; without a header it may have nothing but zeros.
+-- have only zeros after it, as a log grows it ahead; without a header it may have only zeros.
 abbrev pub IsUndamaged : Bool → List ℕ → Option ℕ → Option Error → Type 0
 IsUndamaged last content end fault =
     (fault ≡ None) ⊎ ((last ≡ true) × AreZeros (drop (unwrap_or end 0) content))
 
--- A file of a queue whose last file has the number `newest`: its bytes read as a header and these batches, each of a
--- whole record, its entry block too, and nothing is wrong after the last one.
+-- A file of a queue whose last file has the number `newest`. Its bytes read as a header and these batches, and
+-- nothing is wrong after the last one. Each batch is a whole record, with its entry block.
 pub record IsIntactFile (queue : LogQueue) (directories : List (List ℕ)) (d : Disk) (newest : ℕ) (file : FoundFile)
     (batches : List Batch) : Type 0 where
   pub node : ℕ
@@ -49,7 +49,7 @@ pub record IsIntactFile (queue : LogQueue) (directories : List (List ℕ)) (d : 
   pub undamaged : IsUndamaged (file.seq == newest) (bytes_in (d.files node)) read.end read.fault
   pub holds : batches ≡ said (id_of queue file) read.batches
 
--- The numbers of a queue's log files in these directories are consecutive, none of the files is damaged, and these
+-- The numbers of a queue's log files in these directories are consecutive, and none of the files is damaged. These
 -- are their batches, file after file.
 pub record IsIntactQueue (queue : LogQueue) (directories : List (List ℕ)) (d : Disk) (batches : List Batch)
     : Type 0 where

@@ -17,7 +17,7 @@ use Rattle.raft_log_inspection.specs.Intact.{AreZeros, IsIntactFile}
 use Rattle.raft_log_inspection.specs.declared.damage.Damage.{Damage}
 use Rattle.raft_log_inspection.specs.declared.zeros.Piece.{Piece}
 
--- as many bytes of a file were read from a place on as there was room for, and it is known whether they are zeros
+-- as many bytes of a file were read from an offset on as there was room for, and it is known whether they are zeros
 pub record IsPieceOf (content : List ℕ) (at room : ℕ) (piece : Piece) : Type 0 where
   pub number : piece.count ≡ min room (length content - at)
   pub zeros : IsTrue piece.has_zeros ↔ AreZeros (take piece.count (drop at content))

@@ -16,14 +16,14 @@ pub enum InspectFault {
         /// Why the call failed.
         error: Error,
     },
-    /// A file's name, which the error has, says a number and isn't that number's; the machine declined a record; or
-    /// memory is short.
+    /// A file's name, which the error has, begins with a number and isn't that number's; the machine declined a
+    /// record; or memory ran out.
     #[error("{0}")]
     Log(Error),
 }
 
 impl InspectFault {
-    /// The failure of a call on a path. Without memory for the path, that memory is short.
+    /// The failure of a call on a path; `Memory` if there was none for the path.
     pub fn at(alloc: Global, path: &str, error: Error) -> InspectFault {
         match String::from_str(alloc, path) {
             Ok(path) => InspectFault::Path { path, error },
@@ -31,7 +31,7 @@ impl InspectFault {
         }
     }
 
-    /// The refusal of a call on a path by the file system, as `at` tells it.
+    /// The failure of a file system's call on a path, as `at` returns it.
     pub(crate) fn refused(alloc: Global, path: &str, kind: ErrorKind) -> InspectFault {
         if kind == ErrorKind::OutOfMemory {
             return InspectFault::Log(Error::Memory);

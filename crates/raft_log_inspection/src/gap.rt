@@ -1,4 +1,4 @@
-//! Where the numbers of a queue's files aren't consecutive.
+//! Gaps in the numbers of a queue's files.
 
 ghost use Rattle.std.specs.Prelude.{◌≡◌, ◌↔◌, [], IsTrue, IfOk};
 ghost use Rattle.raft_log_open_scan.specs.Runs.{FollowsNumber, IsConsecutive};
@@ -13,11 +13,11 @@ use std::alloc::{AllocError, Global};
 pub struct Gap {
     /// The number of the first file.
     pub before: FileSeq,
-    /// The number of the second file: the same one, or a higher one behind missing numbers.
+    /// The number of the second file: the same one, or a higher one after missing numbers.
     pub behind: FileSeq,
 }
 
-/// The gaps between files that stand in the order of their numbers. `AllocError`.
+/// The gaps between files that are in the order of their numbers. Fails only for lack of memory.
 pub(crate) fn gaps_of(alloc: Global, files: &[FoundFile]) -> Result<Vec<Gap>, AllocError>
     ensures { IfOk result (λ gaps. gaps.items ≡ [] → IsConsecutive files.now) }
 {

@@ -30,17 +30,23 @@ pub struct QueueInspection {
     pub damages: Vec<Damage>,
 }
 
-/// Reads all log files of a queue in these directories, in the order of their numbers, hands a machine their records,
-/// and returns what is wrong with them. Nothing is changed.
+/// Reads all log files of a queue in these directories, in the order of their numbers. Hands a machine their records,
+/// and returns what is wrong with them. Changes nothing.
 ///
-/// A file is damaged if it doesn't begin with a header, or if what follows its last whole record isn't one. So each
-/// file that an open would cut or refuse is damaged, and one with a broken entry block, which an open sees in a
-/// queue's last file and at the end of the others alone. Zeros alone at the end of a queue's last file are no damage,
-/// since a log grows its files ahead of its records; so an empty last file isn't damaged either. A header with an
-/// alignment and no record after it counts as torn. The machine is handed the records before the damage.
+/// A file is damaged if it doesn't begin with a header, or if what follows its last whole record isn't one.
+/// - Each file that an open would truncate or fail on is damaged.
+/// - A file with a broken entry block is damaged. An open checks these only in a queue's last file and at the end of
+///   the others.
+/// - Only zeros at the end of a queue's last file are no damage, since a log grows its files ahead of its records. An
+///   empty last file isn't damaged either.
+/// - A header with an alignment and no record after it counts as torn.
 ///
-/// `Path` if a directory isn't listed, or a file isn't opened or read. `Log` if a file's name says a number and isn't
-/// that number's, if the machine declines a record, and if memory is short.
+/// The machine is handed the records before the damage.
+///
+/// Fails with `Path` if a directory isn't listed, or a file isn't opened or read. Fails with `Log`:
+/// - if a file's name begins with a number and isn't that number's
+/// - if the machine declines a record
+/// - if memory runs out
 pub fn inspect_queue<F: FileSystem, M: ReplayMachine>(
     alloc: Global,
     files: &F,

@@ -15,10 +15,11 @@ use raft_log_open_scan::{FileKind, FileName};
 use raft_log_record_base::LogQueue;
 use std::alloc::Global;
 
-/// The log files of a queue in these directories, in the order of their numbers: of two with one number that of the
-/// earlier directory comes first, and of two in one directory that without a sign.
+/// The log files of a queue in these directories, in the order of their numbers. If two have one number, the one in
+/// the earlier directory comes first; in one directory, the one without a sign.
 ///
-/// `Path` if a directory isn't listed, `Log` if a file's name says a number and isn't that number's.
+/// Fails with `Path` if a directory isn't listed, or with `Log` if a file's name begins with a number and isn't that
+/// number's.
 pub(crate) fn find_queue<F: FileSystem>(
     alloc: Global,
     files: &F,

@@ -5,7 +5,7 @@ ghost use Rattle.std.specs.Prelude.{◌≤◌, All};
 use raft_log_open_scan::scanning::found::FoundFile;
 use raft_log_record_base::FileSeq;
 
-/// The highest number that one of these files has; 0 of no files.
+/// The highest number of these files; 0 if there are none.
 pub(crate) fn newest_of(files: &[FoundFile]) -> FileSeq
     ensures { All (λ file. file.seq ≤ result) files.now }
 {

@@ -18,7 +18,7 @@ use raft_log_record_base::{FileId, FileSeq, LogQueue};
 use raft_log_table_segments::ReplayMachine;
 use std::alloc::Global;
 
-/// Reads a file of a queue, whose last file has the number `newest`, hands a machine its records, and returns the
+/// Reads a file of a queue, whose last file has the number `newest`. Hands a machine its records, and returns the
 /// file's damage, if it has any. Fails as `inspect_queue` does.
 pub(crate) fn read_one<F: FileSystem, M: ReplayMachine>(
     alloc: Global,
@@ -39,7 +39,7 @@ pub(crate) fn read_one<F: FileSystem, M: ReplayMachine>(
         Ok(handle) => handle,
         Err(kind) => return Err(InspectFault::refused(alloc, path.as_str(), kind)),
     };
-    // Of a file that is read as a last one each record's entry block is looked at.
+    // In a file that is read as a last one, each record's entry block is checked.
     let listed = ListedFile {
         id: FileId {
             queue,
@@ -54,7 +54,7 @@ pub(crate) fn read_one<F: FileSystem, M: ReplayMachine>(
     }
 }
 
-/// The damage of a file that was read, which is its queue's last one or not, if it has any.
+/// The damage of a file that was read, if it has any. The file is its queue's last one or not.
 fn damage_of<F: FileSystem>(
     alloc: Global,
     files: &F,

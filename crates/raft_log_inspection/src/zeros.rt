@@ -1,4 +1,4 @@
-//! The end of a file is told from zeros.
+//! Finds out whether the end of a file is only zeros.
 
 ghost use Rattle.std.specs.Prelude.{◌≡◌, ◌↔◌, ◌<◌, IsTrue, IfOk, drop, length};
 ghost use Rattle.raft_log_file_reader.specs.Source.{bytes_in};
@@ -22,7 +22,7 @@ pub(crate) struct Piece {
     pub(crate) has_zeros: bool,
 }
 
-/// Whether a file has zeros alone from this offset on; nothing is that too. `Io` if a read fails, or `Memory`.
+/// Whether a file has only zeros from this offset on, or nothing. Fails with `Io` if a read fails, or with `Memory`.
 pub(crate) fn has_zeros_from<F: FileSystem>(
     alloc: Global,
     files: &F,
@@ -38,7 +38,7 @@ pub(crate) fn has_zeros_from<F: FileSystem>(
     Ok(zeros)
 }
 
-/// Whether a file of this size has zeros alone from this offset on; as many bytes are read at a time as the room has.
+/// Whether a file of this size has only zeros from this offset on. Reads as many bytes at a time as the room has.
 fn scan_zeros<F: FileSystem>(
     files: &F,
     handle: Handle,

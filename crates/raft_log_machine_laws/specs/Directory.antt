@@ -1,4 +1,4 @@
--- The machine on numbered files.
+-- The machine, over numbered files.
 use Rattle.std.specs.Prelude.{◌≡◌, ℕ, ◌<◌, List, [], ◌∷◌, ◌++◌}
 use Rattle.raft_log_model_laws.specs.Item.{Record}
 use Rattle.raft_log_model_laws.specs.Groups.{appended, rewritten}
@@ -10,7 +10,8 @@ use Rattle.raft_log_machine_laws.specs.Fresh.{fresh_machine}
 use Rattle.raft_log_machine_laws.specs.Files.{LogFile, FileQueue, FileEvent, FileStep, IsRead, records_of, span, numbered_from, store_of, fresh_files}
 use Rattle.raft_log_machine_laws.specs.Files.FileEvent.{Read}
 
--- a machine, and the files of Rewrite and of Append, those that are not behind a gap numbered from these on
+-- a machine, and the files of Rewrite and of Append; the files that are not before a gap are numbered from these
+-- numbers on
 pub record Directory (E V : Type 0) : Type 0 where
   pub machine : Machine E V
   pub rewrite : FileQueue E V
@@ -18,13 +19,13 @@ pub record Directory (E V : Type 0) : Type 0 where
   pub append : FileQueue E V
   pub append_from : ℕ
 
--- an event, and what happens at it to each queue's files
+-- an event, and what happens to each queue's files with it
 pub record DirectoryEvent (E V : Type 0) : Type 0 where
   pub event : Event E V
   pub rewrite : FileEvent E V
   pub append : FileEvent E V
 
--- the event happens, the files change, and hold what the machine says
+-- the event happens, the files change, and their records are the machine's
 pub record DirectoryStep {E V : Type 0} (e : DirectoryEvent E V) (d n : Directory E V) : Type 0 where
   pub step : Step e.event d.machine n.machine
   pub rewrite : FileStep e.rewrite d.rewrite n.rewrite
@@ -40,7 +41,7 @@ DirectorySteps d [] n = n ≡ d
 DirectorySteps {E} {V} d (e ∷ es) n =
     (next : Directory E V) × DirectoryStep e d next × DirectorySteps next es n
 
--- a directory without records: of each queue an empty file 1
+-- a directory without records: each queue has an empty file 1
 abbrev pub fresh_directory : {E V : Type 0} → Directory E V
 fresh_directory = record {
   machine = fresh_machine;
@@ -56,8 +57,8 @@ IsRising [] = Unit {0}
 IsRising (f ∷ []) = Unit {0}
 IsRising (f ∷ g ∷ fs) = (f.number < g.number) × IsRising (g ∷ fs)
 
--- from every file from which a recovery may read, whatever the image kept of the unsynced records, the
--- reading gets through: numbers rise, no run leaves a hole, and Rewrite's atomic groups are unbroken
+-- From every file at which a recovery may begin, and whatever the image kept of the unsynced records, reading succeeds.
+-- Numbers rise, no run leaves a hole, and Rewrite's atomic groups are unbroken.
 pub record ReplaysInFiles {E V : Type 0} (n : ℕ) (r : FileQueue E V) (k : ℕ) (a : FileQueue E V)
     : Type 0 where
   pub append : (kept lost : List (Record E V)) → kept ++ lost ≡ a.pending
@@ -68,8 +69,8 @@ pub record ReplaysInFiles {E V : Type 0} (n : ℕ) (r : FileQueue E V) (k : ℕ)
       → IsRising files × IsUnbroken (records_of files)
       × ((g : ℕ) → NoHole nothing (rewritten g (records_of files)))
 
--- a crash that kept these of the unsynced records, and an open that reads these of the gone files again: of
--- each queue those below stay gone
+-- a crash that kept these of the unsynced records, and an open that reads these of the gone files again; the files
+-- `r_below` and `a_below` stay gone
 abbrev pub opening : {E V : Type 0} → (r_kept r_lost a_kept a_lost : List (Record E V))
     → (r_below r_again a_below a_again : List (LogFile E V)) → DirectoryEvent E V
 opening r_kept r_lost a_kept a_lost r_below r_again a_below a_again = record {
@@ -80,8 +81,7 @@ opening r_kept r_lost a_kept a_lost r_below r_again a_below a_again = record {
   append = Read a_below a_again a_kept;
 }
 
--- these files can be opened after such a crash: there is an open after which they are the spans of both
--- queues
+-- these files can be opened after such a crash: there is an open after which they are the live ranges of both queues
 pub record CanBeOpened {E V : Type 0} (d : Directory E V) (r_kept r_lost a_kept a_lost : List (Record E V))
     (r_files a_files : List (LogFile E V)) : Type 0 where
   pub r_below : List (LogFile E V)
@@ -93,8 +93,8 @@ pub record CanBeOpened {E V : Type 0} (d : Directory E V) (r_kept r_lost a_kept 
   pub rewrite : span opened.rewrite [] ≡ r_files
   pub append : span opened.append [] ≡ a_files
 
--- from every file from which a recovery may read, whatever the image kept of the unsynced records, what is
--- read can be opened
+-- from every file at which a recovery may begin, and whatever the image kept of the unsynced records, what is read can
+-- be opened
 abbrev pub OpensInFiles : {E V : Type 0} → Directory E V → Type 0
 OpensInFiles {E} {V} d =
     (r_kept r_lost a_kept a_lost : List (Record E V)) → r_kept ++ r_lost ≡ d.rewrite.pending

@@ -15,17 +15,17 @@ use Rattle.raft_log_machine_laws.specs.WrongRules.{tagged}
 abbrev pub entries : Record ℕ ℕ
 entries = Plain (tagged 1 (Run 1 (11 ∷ 12 ∷ 13 ∷ []) ∷ []))
 
--- the entries below 3 go, and a key comes
+-- the entries below 3 are deleted, and a key is put
 abbrev pub compaction : Record ℕ ℕ
 compaction = Plain (tagged 1 (Compact 3 ∷ Put (5 ∷ []) 50 ∷ []))
 
--- of this group things stand there, of every other group nothing stands
+-- this group has these whereabouts, and every other group has nothing
 abbrev pub only : Whereabouts → ℕ → Whereabouts
 only t g = if 1 == g then t else nowhere
 
--- the first purge copies the entries and lets the file go that had them; the second carries the mark, copies
--- the key and lets the next file go. Then the engine stops, and both files, which were kept to be reused, are
--- read again
+-- The first purge copies the entries, and their file leaves the live range. The second purge writes the tombstone and
+-- copies the key, and the next file leaves the live range. Then the engine stops, and both files, which were kept for
+-- recycling, are read again.
 abbrev pub two_purges : List (Event ℕ ℕ)
 two_purges =
     Take entries ∷ SyncAppend
@@ -48,8 +48,8 @@ purged_twice = record {
   append = record { gone = []; live = entries ∷ compaction ∷ []; pending = [] };
 }
 
--- the group's whereabouts in the directory after two purges and the open: entry 3 and the key stand in Append
--- again, and a mark is owed again
+-- The group's whereabouts in the directory after two purges and the open. Entry 3 and the key are in Append again, and
+-- a tombstone is owed again.
 abbrev pub read_again : Whereabouts
 read_again = record {
   first = 3;

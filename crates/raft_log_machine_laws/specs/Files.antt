@@ -1,4 +1,4 @@
--- The numbered files of a queue, from which of them a reading may start, and what may happen to them.
+-- The numbered files of a queue, where reading them may start, and what may happen to them.
 use Rattle.std.specs.Prelude.{◌≡◌, ℕ, ◌+◌, ◌<◌, ◌≤◌, List, [], ◌∷◌, ◌++◌, length, take}
 use Rattle.raft_log_model_laws.specs.Item.{Record}
 use Rattle.raft_log_model_laws.specs.Meaning.{Slot}
@@ -12,11 +12,11 @@ pub record LogFile (E V : Type 0) : Type 0 where
 
 -- the files of a queue, oldest first
 pub record FileQueue (E V : Type 0) : Type 0 where
-  -- left behind a gap: nothing reads them again
+  -- before a gap: nothing reads them again
   pub behind : List (LogFile E V)
-  -- below the span and still on disk without a gap, as recycled ones are
+  -- below the live range and still on disk without a gap, as recycled ones are
   pub gone : List (LogFile E V)
-  -- the span: its files but the last one, and the last one's number, synced records and unsynced records
+  -- the live range: its files except the active one; the active file's number, synced records and unsynced records
   pub full : List (LogFile E V)
   pub last : ℕ
   pub synced : List (Record E V)
@@ -27,11 +27,11 @@ abbrev pub records_of : {E V : Type 0} → List (LogFile E V) → List (Record E
 records_of [] = []
 records_of (f ∷ fs) = f.records ++ records_of fs
 
--- the files of the span in an image that kept these of the unsynced records
+-- the files of the live range, in an image that kept these of the unsynced records
 abbrev pub span : {E V : Type 0} → FileQueue E V → List (Record E V) → List (LogFile E V)
 span q kept = q.full ++ record { number = q.last; records = q.synced ++ kept } ∷ []
 
--- all files of the queue in an image that kept these of the unsynced records
+-- all files of the queue, in an image that kept these of the unsynced records
 abbrev pub all_files : {E V : Type 0} → FileQueue E V → List (Record E V) → List (LogFile E V)
 all_files q kept = q.behind ++ (q.gone ++ span q kept)
 
@@ -40,21 +40,21 @@ abbrev pub NumberedFrom : {E V : Type 0} → ℕ → List (LogFile E V) → Type
 NumberedFrom n [] = Unit {0}
 NumberedFrom n (f ∷ fs) = (f.number ≡ n) × NumberedFrom (n + 1) fs
 
--- the files lie below n, with a gap to it
+-- the files are below n, with a gap before n
 abbrev pub AllBehind : {E V : Type 0} → ℕ → List (LogFile E V) → Type 0
 AllBehind n [] = Unit {0}
 AllBehind n (f ∷ fs) = (f.number + 1 < n) × AllBehind n fs
 
--- the files that are not behind a gap are numbered from n on
+-- the files that are not before a gap are numbered from n on
 abbrev pub IsNumbered : {E V : Type 0} → ℕ → FileQueue E V → Type 0
 IsNumbered n q = NumberedFrom n (q.gone ++ span q []) × AllBehind n q.behind
 
--- the first file of the span
+-- the first file of the live range
 abbrev pub first_file : {E V : Type 0} → ℕ → FileQueue E V → ℕ
 first_file n q = n + length q.gone
 
--- Of the files that are there, where `first` is the first file of the span, a recovery may read these: those
--- from some place on, numbered without a gap from s on, where s is no higher than `first`
+-- A recovery may read these of the files that are there: a suffix of them, numbered without a gap from s on. s is at
+-- most `first`, the first file of the live range.
 pub record IsReadOf {E V : Type 0} (first : ℕ) (there : List (LogFile E V)) (s : ℕ)
     (files : List (LogFile E V)) : Type 0 where
   pub low : s ≤ first
@@ -75,9 +75,9 @@ queue_of q = record { gone = records_of q.gone; live = records_of q.full ++ q.sy
 abbrev pub store_of : {E V : Type 0} → FileQueue E V → FileQueue E V → Store E V
 store_of r a = record { rewrite = queue_of r; append = queue_of a }
 
--- A crash takes back nothing but pending batches, told of the numbered files: whatever beginnings of the
--- unsynced records an image has, there is ONE number of batches such that from every pair of starts that a
--- recovery may take the directory means the map after that many of them
+-- A crash loses only pending batches, in terms of the numbered files. Whatever prefixes of the unsynced records an
+-- image has, there is ONE number of batches for it. From every pair of starts of a recovery, the directory means the
+-- map after that many batches.
 abbrev pub SurvivesInFiles : {E V : Type 0} → ℕ → FileQueue E V → ℕ → FileQueue E V → Map E V
     → List (Record E V) → Type 0
 SurvivesInFiles {E} {V} n r k a m batches =
@@ -90,21 +90,21 @@ SurvivesInFiles {E} {V} n r k a m batches =
 
 -- what may happen to the files of a queue
 pub data FileEvent (E V : Type 0) : Type 0 where
-  -- the last file takes these records
+  -- the active file takes these records
   Grow : List (Record E V) → FileEvent E V
-  -- the last file is synced
+  -- the active file is synced
   Sync : FileEvent E V
-  -- the last file is synced, and a new one, of the next number, becomes the last
+  -- the active file is synced, and a new one with the next number becomes active
   Rotate : FileEvent E V
-  -- the span begins later: the first files leave it, the others stay
+  -- the live range begins later: the first files leave it, the others stay
   Raise : (out stay : List (LogFile E V)) → FileEvent E V
-  -- a file below the span is deleted or renamed: it was in the middle of those that could be read, and what
-  -- lies before it is behind a gap from now on
+  -- a file below the live range is deleted or renamed, perhaps one in the middle; the files before it are before a gap
+  -- from now on
   Lose : (before : List (LogFile E V)) (file : LogFile E V) (rest : List (LogFile E V)) → FileEvent E V
-  -- an image that kept these of the unsynced records is read: some of the gone files, and the span
+  -- an image that kept these of the unsynced records is read: some of the gone files, and the live range
   Read : (below again : List (LogFile E V)) (kept : List (Record E V)) → FileEvent E V
 
--- what each asks, and the files p that come of q
+-- what each event requires, and the files p after it
 abbrev pub FileStep : {E V : Type 0} → FileEvent E V → FileQueue E V → FileQueue E V → Type 0
 FileStep (Grow ys) q p = p ≡ record q { pending = q.pending ++ ys }
 FileStep Sync q p = p ≡ record q { synced = q.synced ++ q.pending; pending = [] }
@@ -122,11 +122,11 @@ FileStep (Read below again kept) q p =
     (below ++ again ≡ q.gone)
     × (p ≡ record q { gone = below; full = again ++ q.full; synced = q.synced ++ kept; pending = [] })
 
--- the number from which the files that are not behind a gap go on, after the event
+-- the number from which the files that are not before a gap continue, after the event
 abbrev pub numbered_from : {E V : Type 0} → ℕ → FileEvent E V → ℕ
 numbered_from n (Lose before file rest) = n + (length before + 1)
 numbered_from n _ = n
 
--- a queue without records in its file 1
+-- a queue without records, with its file 1
 abbrev pub fresh_files : {E V : Type 0} → FileQueue E V
 fresh_files = record { behind = []; gone = []; full = []; last = 1; synced = []; pending = [] }

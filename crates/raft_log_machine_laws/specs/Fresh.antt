@@ -9,7 +9,7 @@ use Rattle.raft_log_machine_laws.specs.Machine.{Machine}
 abbrev pub empty_queue : {E V : Type 0} → Queue E V
 empty_queue = record { gone = []; live = []; pending = [] }
 
--- the whereabouts of a group of which nothing was ever written
+-- the whereabouts of a group for which nothing was ever written
 abbrev pub nowhere : Whereabouts
 nowhere = record {
   first = 0;
@@ -21,7 +21,7 @@ nowhere = record {
   deleted = λ k. false;
 }
 
--- no entry and no value of any group
+-- no group has entries or values
 abbrev pub nothing_stands : {E V : Type 0} → Map E V
 nothing_stands g s = None
 

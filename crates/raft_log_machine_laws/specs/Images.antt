@@ -1,4 +1,4 @@
--- What every image has: the entries of each group are one run. And what a recovery reads of an image.
+-- What every image has: the entries of each group are one run. Also what a recovery reads of an image.
 use Rattle.std.specs.Prelude.{◌≡◌, ℕ, ◌<◌, ◌≤◌, List, ◌++◌, Option, Some, None}
 use Rattle.raft_log_model_laws.specs.Item.{Record}
 use Rattle.raft_log_model_laws.specs.Meaning.{Slot, Content}
@@ -9,7 +9,7 @@ use Rattle.raft_log_machine_laws.specs.Queue.{Store, reread}
 use Rattle.raft_log_machine_laws.specs.Machine.{Machine, Event}
 use Rattle.raft_log_machine_laws.specs.Machine.Event.{Reopen}
 
--- entries stand at each index from the first on, below the end, and nowhere else; no index is 2^64 - 1
+-- exactly the indexes from the first on and below the end have entries; no index is 2^64 - 1
 pub record IsOneRun {E V : Type 0} (m : Slot → Option (Content E V)) : Type 0 where
   pub first : ℕ
   pub end : ℕ
@@ -18,14 +18,13 @@ pub record IsOneRun {E V : Type 0} (m : Slot → Option (Content E V)) : Type 0 
   pub above : (i : ℕ) → end ≤ i → m (Index i) ≡ None
   pub solid : (i : ℕ) → first ≤ i → i < end → (entry : Content E V) × (m (Index i) ≡ Some entry)
 
--- after each beginning of the pending batches the entries of each group are one run: so they are in every
--- image
+-- after each prefix of the pending batches, the entries of each group are one run; so they are in every image
 pub record HasRuns {E V : Type 0} (w : Machine E V) : Type 0 where
   pub runs : (g : ℕ) (kept lost : List (Record E V)) → kept ++ lost ≡ w.store.append.pending
       → IsOneRun (taken w.map kept g)
 
--- a crash and a recovery: an image kept these beginnings of the unsynced records of both queues, and these
--- ends of the gone records are read
+-- a crash and a recovery: an image kept these prefixes of the unsynced records of both queues, and these suffixes of
+-- the gone records are read
 pub record Recovery {E V : Type 0} (q : Store E V) : Type 0 where
   pub r_kept : List (Record E V)
   pub r_lost : List (Record E V)
@@ -40,11 +39,11 @@ pub record Recovery {E V : Type 0} (q : Store E V) : Type 0 where
   pub a_image : a_kept ++ a_lost ≡ q.append.pending
   pub a_start : a_cut ++ a_back ≡ q.append.gone
 
--- the records that it reads of Rewrite
+-- the records of Rewrite that it reads
 abbrev pub rewrite_read : {E V : Type 0} → (q : Store E V) → Recovery q → List (Record E V)
 rewrite_read q r = r.r_back ++ (q.rewrite.live ++ r.r_kept)
 
--- the records that it reads of Append
+-- the records of Append that it reads
 abbrev pub append_read : {E V : Type 0} → (q : Store E V) → Recovery q → List (Record E V)
 append_read q r = r.a_back ++ (q.append.live ++ r.a_kept)
 
@@ -52,7 +51,7 @@ append_read q r = r.a_back ++ (q.append.live ++ r.a_kept)
 abbrev pub reopening : {E V : Type 0} → (q : Store E V) → Recovery q → Event E V
 reopening q r = Reopen r.r_kept r.r_lost r.r_cut r.r_back r.a_kept r.a_lost r.a_cut r.a_back
 
--- the directory once what was read is synced
+-- the directory after what was read is synced
 abbrev pub reopened : {E V : Type 0} → (q : Store E V) → Recovery q → Store E V
 reopened q r = record {
   rewrite = reread q.rewrite r.r_cut r.r_back r.r_kept;

@@ -1,4 +1,4 @@
--- The engine as a machine: its directory, the whereabouts of each group, and all that may happen to them.
+-- The engine as a machine: its directory, the whereabouts of each group, and the events that may happen to them.
 use Rattle.std.specs.Prelude.{◌≡◌, ℕ, ◌+◌, ◌≤◌, Bool, true, false, List, [], ◌∷◌, ◌++◌, length}
 use Rattle.raft_log_model_laws.specs.Item.{Item, Tagged, Record, items_of}
 use Rattle.raft_log_model_laws.specs.Item.Item.{Run}
@@ -32,9 +32,9 @@ RecordsFit (r ∷ rs) = AllFit (items_of r) × RecordsFit rs
 -- an engine on its directory
 pub record Machine (E V : Type 0) : Type 0 where
   pub store : Store E V
-  -- what is synced of Append means this map
+  -- the map that the synced records of Append mean
   pub map : Map E V
-  -- the groups' whereabouts, of all records, synced or not
+  -- the groups' whereabouts, for all records, synced or not
   pub whereabouts : ℕ → Whereabouts
   -- after a failure the whereabouts mean nothing, until the directory is opened again
   pub failed : Bool
@@ -43,41 +43,40 @@ pub record Machine (E V : Type 0) : Type 0 where
 pub data Event (E V : Type 0) : Type 0 where
   -- Append takes a record
   Take : Record E V → Event E V
-  -- all of a queue is synced: by a sync, by a rotation, or where a refused write was cut back and that was
-  -- synced
+  -- a queue is synced whole: by a sync, by a rotation, or after a failed write was truncated and that was synced
   SyncAppend : Event E V
   SyncRewrite : Event E V
-  -- Rewrite takes a record: marks, copies of Append's entries and keys, rewritten ones again
+  -- Rewrite takes a record: tombstones, copies of Append's entries and keys, or rewritten ones again
   WritePlain : List (Tagged E V) → Event E V
   -- Rewrite takes a part of the atomic group of this number
   WriteBegin : ℕ → List (Tagged E V) → Event E V
   WriteMiddle : ℕ → List (Tagged E V) → Event E V
   WriteEnd : ℕ → List (Tagged E V) → Event E V
-  -- a queue's span begins later: the first list of records leaves it, the second stays
+  -- a queue's live range begins later: the first list of records leaves it, the second stays
   RaiseAppend : (out stay : List (Record E V)) → Event E V
   RaiseRewrite : (out stay : List (Record E V)) → Event E V
-  -- the oldest gone records are lost, the second list is left of them
+  -- the oldest gone records are lost, and the second list remains
   LoseAppend : (lost rest : List (Record E V)) → Event E V
   LoseRewrite : (lost rest : List (Record E V)) → Event E V
   -- the engine fails
   Fail : Event E V
-  -- a crash or a close, and an open. Of the unsynced records of both queues some beginning is kept. Of the
-  -- gone ones an end is read
+  -- A crash or a close, and an open. A prefix of each queue's unsynced records is kept. A suffix of the gone records is
+  -- read.
   Reopen : (r_kept r_lost r_cut r_back a_kept a_lost a_cut a_back : List (Record E V)) → Event E V
 
--- the records of an atomic group that has not ended are the last ones of Rewrite's span
+-- the records of an atomic group that has not ended are the last ones of Rewrite's live range
 abbrev pub GoesOnWith : {E V : Type 0} → Queue E V → ℕ → List (Tagged E V) → List (List (Tagged E V)) → Type 0
 GoesOnWith {E} {V} q n first more =
     (front : List (Record E V)) × (q.live ++ q.pending ≡ front ++ begun n first more)
 
--- The items of an atomic group may be taken as these: they say the same of each slot, and leave no hole where
--- these leave none. So several runs, each at the end of the one before, may be taken as one
+-- The items of an atomic group may be replaced by these: they say the same of each slot, and leave no hole unless these
+-- do. Several runs, each at the end of the one before, may thus be taken as one.
 pub record IsJoined {E V : Type 0} (parts items : List (Item E V)) : Type 0 where
   pub same_words : (s : Slot) → says s parts ≡ says s items
   pub no_more_holes : (w : Window) → NoHole w items → NoHole w parts
 
--- What each event asks, and the machine v that it leads to from w. All that is asked of groups is asked of
--- their whereabouts
+-- What each event requires, and the machine v after it, from w. Requirements on groups are requirements on their
+-- whereabouts.
 abbrev pub Step : {E V : Type 0} → Event E V → Machine E V → Machine E V → Type 0
 Step (Take y) w v =
     (w.failed ≡ false)
@@ -153,7 +152,7 @@ abbrev pub Steps : {E V : Type 0} → Machine E V → List (Event E V) → Machi
 Steps w [] v = v ≡ w
 Steps {E} {V} w (e ∷ es) v = (next : Machine E V) × Step e w next × Steps next es v
 
--- what is said of a group's slots in the directory
+-- what the directory says of a group's slots
 abbrev pub said_of : {E V : Type 0} → ℕ → Store E V → SaysOfSlot E V
 said_of g q = record {
   lowest = λ s. says s (rewritten g (all_records q.rewrite));

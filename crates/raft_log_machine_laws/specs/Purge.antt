@@ -1,4 +1,4 @@
--- What a purge does and leaves.
+-- What a purge does, and what it leaves.
 use Rattle.std.specs.Prelude.{◌≡◌, List, [], ◌∷◌, ◌++◌}
 use Rattle.raft_log_model_laws.specs.Item.{Record}
 use Rattle.raft_log_model_laws.specs.Groups.{Map, directory_meaning}
@@ -6,18 +6,18 @@ use Rattle.raft_log_machine_laws.specs.Queue.{Store}
 use Rattle.raft_log_machine_laws.specs.Machine.{Event}
 use Rattle.raft_log_machine_laws.specs.Machine.Event.{Take, Reopen}
 
--- the event is the engine's own, as all are but a record that Append takes and an open
+-- the event is the engine's own: all are, except a record that Append takes and an open
 abbrev pub IsOwn : {E V : Type 0} → Event E V → Type 0
 IsOwn (Take y) = ⊥
 IsOwn (Reopen r_kept r_lost r_cut r_back a_kept a_lost a_cut a_back) = ⊥
 IsOwn _ = Unit {0}
 
--- as a purge's events are, whether it is answered or refused
+-- all events are the engine's own, as those of a purge are, whether it succeeds or fails
 abbrev pub AllOwn : {E V : Type 0} → List (Event E V) → Type 0
 AllOwn [] = Unit {0}
 AllOwn (e ∷ es) = IsOwn e × AllOwn es
 
--- a reading of the files as they stand, from some start of each queue
+-- a reading of the files, unchanged, from some start of each queue
 pub record Reading {E V : Type 0} (q : Store E V) : Type 0 where
   pub r_cut : List (Record E V)
   pub r_back : List (Record E V)
@@ -26,7 +26,7 @@ pub record Reading {E V : Type 0} (q : Store E V) : Type 0 where
   pub r_start : r_cut ++ r_back ≡ q.rewrite.gone
   pub a_start : a_cut ++ a_back ≡ q.append.gone
 
--- what such a reading means
+-- the meaning of such a reading
 abbrev pub meaning_there : {E V : Type 0} → (q : Store E V) → Reading q → Map E V
 meaning_there q r =
     directory_meaning (r.r_back ++ (q.rewrite.live ++ q.rewrite.pending))

@@ -1,4 +1,4 @@
--- What an open knows of the whereabouts of a group that it made from the files it read.
+-- What an open knows about the whereabouts of a group, which it made from the files that it read.
 use Rattle.std.specs.Prelude.{◌≡◌, ℕ, ◌+◌, ◌<◌, ◌≤◌, ◌⊎◌, nat_lt, Bool, true, false, ◌||◌, if◌then◌else◌, bytes_eq, List, [], ◌∷◌, length, Option, Some, None, is_some}
 use Rattle.raft_log_model_laws.specs.Item.{Item}
 use Rattle.raft_log_model_laws.specs.Item.Item.{Compact, Del}
@@ -21,16 +21,16 @@ has_del k [] = false
 has_del k (Del l ∷ xs) = bytes_eq l k || has_del k xs
 has_del k (x ∷ xs) = has_del k xs
 
--- The marks that count as owed, where that was read of Append: a Clean that is there, without one each
--- Compact and each Del, and no Del that isn't there. A Compact more does no harm
+-- The tombstones that count as owed after this was read of Append: a Clean if there is one, otherwise each Compact and
+-- each Del, and only a Del that is there. An additional Compact does no harm.
 pub record HasMarks {E V : Type 0} (append : List (Item E V)) (t : Whereabouts) : Type 0 where
   pub cleaned : t.cleaned ≡ has_clean append
   pub compacted : has_clean append ≡ false → has_compact append ≡ true → t.compacted ≡ true
   pub deleted : (k : List ℕ) → has_clean append ≡ false → has_del k append ≡ true → t.deleted k ≡ true
   pub was_deleted : (k : List ℕ) → t.deleted k ≡ true → has_del k append ≡ true
 
--- m is what the directory means for the group, append what was read of the group from Append's files: the
--- whereabouts have each thing where it stands, and the marks that those files have count as owed
+-- The whereabouts are right for a group. m is its map, and `append` what was read of it from Append's files. The
+-- whereabouts have each thing where it is, and the tombstones from those files count as owed.
 pub record IsRecovered {E V : Type 0} (m : Slot → Option (Content E V)) (append : List (Item E V))
     (t : Whereabouts) : Type 0 where
   pub in_order : (t.first ≤ t.split) × (t.split ≤ t.end) × (t.end ≤ top)
@@ -45,8 +45,8 @@ pub record IsRecovered {E V : Type 0} (m : Slot → Option (Content E V)) (appen
   pub key_older : (k : List ℕ) → t.appended k ≡ false → (m (Key k) ≡ None) ⊎ (says (Key k) append ≡ None)
   pub marks : HasMarks append t
 
--- the whereabouts are those of the directory's table, made of a table of Rewrite and a summary of Append:
--- what the summary's table has stands in Append, all else in Rewrite
+-- The whereabouts of the directory's table, which is made from a table of Rewrite and a summary of Append. What is in
+-- the summary's table is in Append, all else in Rewrite.
 pub record IsReadOff {E V : Type 0} (rewrite : Table E V) (append : Summary E V) (t : Whereabouts)
     : Type 0 where
   pub first : t.first ≡ (directory_table rewrite append).first
@@ -54,8 +54,8 @@ pub record IsReadOff {E V : Type 0} (rewrite : Table E V) (append : Summary E V)
   pub split : t.split ≡ (if nat_lt 0 (length append.table.entries) then append.table.first else t.end)
   pub appended : (k : List ℕ) → t.appended k ≡ is_some (append.table.values k)
 
--- things stand alike by both: they differ only in the number of a group without entries, and in marks that
--- may count or not
+-- Both place entries and keys alike. They differ only in the index of a group without entries, and in tombstones that
+-- may count or not.
 pub record StandAlike (t u : Whereabouts) : Type 0 where
   pub entries : t.first < t.end → (u.first ≡ t.first) × (u.split ≡ t.split) × (u.end ≡ t.end)
   pub no_entries : t.first ≡ t.end → u.first ≡ u.end

@@ -1,5 +1,4 @@
--- For each wrong rule a directory that holds its map, and what the rule makes of it. Entries and values are
--- numbers.
+-- For each wrong rule, a directory that holds its map, and what the rule does to it. Entries and values are numbers.
 use Rattle.std.specs.Prelude.{ℕ, true, List, [], ◌∷◌}
 use Rattle.raft_log_model_laws.specs.Item.{Item, Tagged, Record}
 use Rattle.raft_log_model_laws.specs.Item.Item.{Run, Clean, Compact, Put}
@@ -16,7 +15,7 @@ abbrev pub tagged : ℕ → List (Item ℕ ℕ) → List (Tagged ℕ ℕ)
 tagged g [] = []
 tagged g (x ∷ xs) = record { group = g; item = x } ∷ tagged g xs
 
--- a queue whose records are all synced and in its span
+-- a queue whose records are all synced and in its live range
 abbrev pub lone : List (Record ℕ ℕ) → Queue ℕ ℕ
 lone rs = record { gone = []; live = rs; pending = [] }
 
@@ -24,14 +23,14 @@ lone rs = record { gone = []; live = rs; pending = [] }
 abbrev pub lone_store : List (Record ℕ ℕ) → List (Record ℕ ℕ) → Store ℕ ℕ
 lone_store rewrite append = record { rewrite = lone rewrite; append = lone append }
 
--- the directory holds what it means, and no longer once its Append begins at the records that stay
+-- the directory holds what it means, but not after its Append begins at the records `stay`
 abbrev pub LosesByAppend : (rewrite out stay all : List (Record ℕ ℕ)) → Type 0
 LosesByAppend rewrite out stay all =
     HoldsMap (lone_store rewrite all) (directory_meaning rewrite all)
     × (HoldsMap (with_append (lone_store rewrite all) (raised (lone all) out stay))
     (directory_meaning rewrite all) → ⊥)
 
--- the directory holds what it means, and no longer once its Rewrite begins at the records that stay
+-- the directory holds what it means, but not after its Rewrite begins at the records `stay`
 abbrev pub LosesByRewrite : (append out stay all : List (Record ℕ ℕ)) → Type 0
 LosesByRewrite append out stay all =
     HoldsMap (lone_store all append) (directory_meaning all append)
@@ -42,15 +41,15 @@ LosesByRewrite append out stay all =
 abbrev pub first_run : Record ℕ ℕ
 first_run = Plain (tagged 1 (Run 1 (11 ∷ 12 ∷ 13 ∷ 14 ∷ []) ∷ []))
 
--- the entries below 3 go
+-- the entries below 3 are deleted
 abbrev pub compact_3 : Record ℕ ℕ
 compact_3 = Plain (tagged 1 (Compact 3 ∷ []))
 
--- the entries below 4 go
+-- the entries below 4 are deleted
 abbrev pub compact_4 : Record ℕ ℕ
 compact_4 = Plain (tagged 1 (Compact 4 ∷ []))
 
--- entry 3 anew, which cuts 4 off, and then a Compact that leaves nothing
+-- entry 3 anew, which truncates 4, and then a Compact that leaves nothing
 abbrev pub all_compacted : Record ℕ ℕ
 all_compacted = Plain (tagged 1 (Run 3 (23 ∷ []) ∷ Compact 4 ∷ []))
 

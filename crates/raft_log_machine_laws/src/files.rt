@@ -1,5 +1,4 @@
-//! Numbered files: from which of them a recovery may read, what it reads, and that the promise of the records
-//! is kept on them.
+//! Numbered files: at which of them a recovery may begin, what it reads, and that the laws on records hold for files.
 
 ghost use Rattle.std.specs.Prelude.{◌≡◌, ℕ, ◌+◌, ◌∷◌, List, ◌++◌, []};
 ghost use Rattle.raft_log_model_laws.specs.Groups.{Map};
@@ -21,8 +20,8 @@ ghost use Rattle.raft_log_machine_laws.specs.Files.{
 ghost use Rattle.raft_log_machine_laws.specs.Queue.{left, raised, reread, synced};
 ghost use Rattle.raft_log_machine_laws.specs.Survival.{Survives};
 
-/// From whatever file at or below the first of the span a recovery reads, as long as no number is missing:
-/// its records are an end of the gone ones, then all of the span. What lies behind a gap is never read.
+/// A recovery may begin at any file up to the first of the live range, as long as no number is missing. It reads a
+/// suffix of the gone records, then all of the live range. It never reads files before a gap.
 pub fn reading_is_an_end<E, V>()
     ensures { (n : ℕ) (q : FileQueue E V) (kept : List (Record E V)) (s : ℕ) (files : List (LogFile E V))
         → IsNumbered n q → IsRead n q kept s files
@@ -30,28 +29,27 @@ pub fn reading_is_an_end<E, V>()
         × (records_of files ≡ back ++ ((queue_of q).live ++ kept)) }
 {}
 
-/// What survives as records survives as numbered files, from every pair of files from which a recovery may
-/// read.
+/// What survives as records survives as numbered files, from every pair of files at which a recovery may begin.
 pub fn records_survive_in_files<E, V>()
     ensures { (n : ℕ) (r : FileQueue E V) (k : ℕ) (a : FileQueue E V) (m : Map E V)
         (batches : List (Record E V)) → IsNumbered n r → IsNumbered k a
         → Survives (store_of r a) m batches → SurvivesInFiles n r k a m batches }
 {}
 
-/// Numbers stay in order whatever happens to a queue's files, and the number from which they go on never
-/// falls: so a gap stays, and what lies behind it never comes back.
+/// Numbers stay in order whatever happens to a queue's files, and the number from which they continue never falls. A
+/// gap thus remains, and files before it never come back.
 pub fn numbers_stay_in_order<E, V>()
     ensures { (e : FileEvent E V) (n : ℕ) (q p : FileQueue E V) → FileStep e q p → IsNumbered n q
         → IsNumbered (numbered_from n e) p }
 {}
 
-/// A sync of the last file is a sync of the records.
+/// A sync of the active file is a sync of the records.
 pub fn sync_of_files<E, V>()
     ensures { (q : FileQueue E V) → queue_of (record q { synced = q.synced ++ q.pending; pending = [] })
         ≡ synced (queue_of q) }
 {}
 
-/// A rotation, over a new file or a reused one, is on the records a sync and nothing else.
+/// For the records, a rotation is only a sync, whether the new file is recycled or not.
 pub fn rotation_of_files<E, V>()
     ensures { (q : FileQueue E V)
         → queue_of (record q {
@@ -63,7 +61,7 @@ pub fn rotation_of_files<E, V>()
         ≡ synced (queue_of q) }
 {}
 
-/// Where the first files leave the span, their records do.
+/// If the first files leave the live range, their records do.
 pub fn rise_of_files<E, V>()
     ensures { (q : FileQueue E V) (out stay : List (LogFile E V)) → out ++ stay ≡ q.full
         → (queue_of (record q { gone = q.gone ++ out; full = stay })
@@ -71,8 +69,7 @@ pub fn rise_of_files<E, V>()
         × (records_of out ++ (records_of stay ++ q.synced) ≡ (queue_of q).live) }
 {}
 
-/// Where a gone file is deleted or renamed, its records and all before them are lost, whichever gone file it
-/// is.
+/// If a gone file is deleted or renamed, its records and all before them are lost, whichever gone file it is.
 pub fn loss_of_files<E, V>()
     ensures { (q : FileQueue E V) (before : List (LogFile E V)) (file : LogFile E V)
         (rest : List (LogFile E V)) → before ++ file ∷ rest ≡ q.gone
@@ -81,7 +78,7 @@ pub fn loss_of_files<E, V>()
         × ((records_of before ++ file.records) ++ records_of rest ≡ (queue_of q).gone) }
 {}
 
-/// What an open reads of an image and syncs is, on the records, the reading of an image from a start.
+/// For the records, what an open reads of an image and syncs is the reading of an image from a start.
 pub fn reading_of_files<E, V>()
     ensures { (q : FileQueue E V) (below again : List (LogFile E V)) (kept : List (Record E V))
         → below ++ again ≡ q.gone
@@ -91,25 +88,24 @@ pub fn reading_of_files<E, V>()
         × (records_of below ++ records_of again ≡ (queue_of q).gone) }
 {}
 
-/// Over every schedule of events and of changes of files, from two queues with an empty file 1 each, the
-/// directory survives as its map: from every pair of files from which a recovery may read.
+/// After every schedule of events and of changes of files, starting from two queues with an empty file 1 each, the
+/// directory survives as its map. It does so from every pair of files at which a recovery may begin.
 pub fn survives_in_files_always<E, V>()
     ensures { (events : List (DirectoryEvent E V)) (d : Directory E V)
         → DirectorySteps fresh_directory events d
         → SurvivesInFiles d.rewrite_from d.rewrite d.append_from d.append d.machine.map d.append.pending }
 {}
 
-/// Over every such schedule each reading gets through: whatever an image kept, from every file from which a
-/// recovery may read, numbers rise, no run leaves a hole in either queue, and Rewrite's atomic groups are
-/// unbroken.
+/// After every such schedule reading succeeds, whatever an image kept, and from every file at which a recovery may
+/// begin. Numbers rise, no run leaves a hole in either queue, and Rewrite's atomic groups are unbroken.
 pub fn replays_in_files_always<E, V>()
     ensures { (events : List (DirectoryEvent E V)) (d : Directory E V)
         → DirectorySteps fresh_directory events d
         → ReplaysInFiles d.rewrite_from d.rewrite d.append_from d.append }
 {}
 
-/// Over every such schedule each reading can be opened: whatever an image kept, and from every pair of files
-/// from which a recovery may read, there is an open after which the files that were read are the spans.
+/// After every such schedule each reading can be opened, whatever an image kept, and from every pair of files at which
+/// a recovery may begin. There is an open after which the files that were read are the live ranges.
 pub fn opens_in_files_always<E, V>()
     ensures { (events : List (DirectoryEvent E V)) (d : Directory E V)
         → DirectorySteps fresh_directory events d → OpensInFiles d }

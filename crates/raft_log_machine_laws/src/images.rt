@@ -1,5 +1,5 @@
-//! Whatever image a crash leaves: the entries of a group are one run in it, it can be opened, and the wording
-//! by intervals says of it what the last word says.
+//! Every image that a crash leaves: the entries of a group are one run in it, it can be opened, and the wording by
+//! intervals means the same as the last word.
 
 ghost use Rattle.std.specs.Prelude.{◌≡◌, ℕ, ◌≤◌, false, List, [], ◌∷◌, None, Option, Some};
 ghost use Rattle.raft_log_model_laws.specs.Groups.{appended, directory_meaning, rewritten, taken};
@@ -19,9 +19,8 @@ ghost use Rattle.raft_log_machine_laws.specs.Replay.{IsReplayable};
 ghost use Rattle.raft_log_machine_laws.specs.Whereabouts.{top, Whereabouts};
 ghost use Rattle.raft_log_machine_laws.specs.WrongRules.{entry_1, entry_3, failed_on};
 
-/// In each image the entries of a group are one run, and none has the index 2^64 - 1: after each beginning of
-/// the pending batches they are. Each event keeps it, a failure and an open too, so it is true over every
-/// schedule.
+/// In each image the entries of a group are one run, and none has the index 2^64 - 1: they are so after each prefix of
+/// the pending batches. Each event keeps this, even a failure and an open, so it holds after every schedule.
 pub fn each_image_has_one_run<E, V>()
     ensures fresh { HasRuns (fresh_machine {E = E} {V = V}) }
     ensures step { (e : Event E V) (w v : Machine E V) → Step e w v → IsKept w → HasRuns w → HasRuns v }
@@ -29,17 +28,17 @@ pub fn each_image_has_one_run<E, V>()
         → HasRuns v }
 {}
 
-/// Each image can be opened: whatever beginnings of the unsynced records a crash left, and from whatever
-/// files the two queues are read, what was read tells where each group's entries and values stand, so there
-/// is a step that opens it. No directory that the engine left is ever refused for what its records mean.
+/// Each image can be opened, whatever prefixes of the unsynced records a crash left, and from whatever files the two
+/// queues are read. What was read determines where each group's entries and values are, so there is a step that opens
+/// it. No open of a directory that the engine left fails because of what its records mean.
 pub fn each_image_can_be_opened<E, V>()
     ensures { (w : Machine E V) (r : Recovery w.store) → IsKept w → IsReplayable w → HasRuns w
         → (v : Machine E V) × Step (reopening w.store r) w v }
 {}
 
-/// Which whereabouts an open may make: those of the directory's table, made of any table of Rewrite and any
-/// summary of Append, however their segments were joined, with the marks that were read. What the summary's
-/// table has stands in Append, all else in Rewrite.
+/// Which whereabouts an open may make: those of the directory's table, with the tombstones that were read. The table is
+/// made from any table of Rewrite and any summary of Append, however their segments were joined. What is in the
+/// summary's table is in Append, all else in Rewrite.
 pub fn tables_tell_the_whereabouts<E, V>()
     ensures { (t : Table E V) (z : Summary E V) (rewrite append : List (Item E V)) → IsTableOf t rewrite
         → IsSummary z append → (m : Slot → Option (Content E V))
@@ -48,32 +47,32 @@ pub fn tables_tell_the_whereabouts<E, V>()
         → IsRecovered m append u }
 {}
 
-/// What an open read leaves it no choice: any two whereabouts that it may make have the same entries in
-/// Rewrite and in Append, and the same keys. Free are the number of a group without entries, marks beside a
-/// Clean, and a Compact more.
+/// What an open read determines the whereabouts: any two that it may make have the same entries in Rewrite and in
+/// Append, and the same keys. Only three things may differ: the index of a group without entries, tombstones in
+/// addition to a Clean, and an additional Compact.
 pub fn an_open_has_no_choice<E, V>()
     ensures { (m : Slot → Option (Content E V)) (append : List (Item E V))
         → ((s : Slot) (v : Option (Content E V)) → says s append ≡ Some v → m s ≡ v)
         → (t u : Whereabouts) → IsRecovered m append t → IsRecovered m append u → StandAlike t u }
 {}
 
-/// Of each image, read from any starts, of a failed engine too, the wording by intervals (what Rewrite keeps
-/// under Append's Cleans, greatest Compact and least start of a run, and no gap) says the map after the
-/// batches that were kept: no hole and no gap ever acts.
+/// For each image, read from any starts, even of a failed engine, the wording by intervals gives the map after the
+/// batches that were kept. By intervals, Rewrite keeps what Append's Cleans, greatest Compact and least start of a run
+/// leave of it, and nothing if there is a gap. The rules on holes and gaps never take effect.
 pub fn intervals_say_the_same_of_images<E, V>()
     ensures all { (w : Machine E V) (r : Recovery w.store) → IsKept w → IsReplayable w → HasRuns w → (g i : ℕ)
         → directory_by_intervals i (rewritten g (rewrite_read w.store r)) (appended g (append_read w.store r))
         ≡ taken w.map r.a_kept g (Index i) }
-    // of an engine that runs, where nothing of Append is lost, its whereabouts are enough
+    // for an engine that has not failed, if nothing of Append is lost, its whereabouts are enough
     ensures running { (w : Machine E V) (r : Recovery w.store) → IsKept w → IsReplayable w → w.failed ≡ false
         → r.a_kept ≡ w.store.append.pending → (g i : ℕ)
         → directory_by_intervals i (rewritten g (rewrite_read w.store r)) (appended g (append_read w.store r))
         ≡ taken w.map r.a_kept g (Index i) }
 {}
 
-/// What the directory means and that it can be read don't suffice for an open: Rewrite has entry 1, Append
-/// entry 3. Neither has a hole, nothing was lost, and 1 and 3 stand, but no step opens it: no whereabouts
-/// tell of an index between two entries at which nothing stands. The wording by intervals would drop entry 1.
+/// That the directory has a meaning and can be read isn't enough for an open. Rewrite has entry 1, Append entry 3.
+/// Neither queue has a hole, nothing was lost, and entries 1 and 3 are there, but no step opens it: no whereabouts have
+/// an empty index between two entries. The wording by intervals would drop entry 1.
 pub fn meaning_and_reading_are_too_little()
     ensures kept { IsKept (failed_on (entry_1 ∷ []) (entry_3 ∷ [])) }
     ensures replay { IsReplayable (failed_on (entry_1 ∷ []) (entry_3 ∷ [])) }

@@ -1,4 +1,4 @@
-//! Each law once at a concrete type of content: numbers for entries and for values.
+//! Each law once, at a concrete type of content: numbers for entries and for values.
 use crate::{example, files, images, machine, purge, replay, survival, wrong_rules};
 
 #[test]

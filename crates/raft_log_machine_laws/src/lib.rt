@@ -1,12 +1,12 @@
-//! Why no step of the log's engine, and no crash, takes back what was written.
+//! Laws: no step of the log's engine, and no crash, loses what was written and synced.
 //!
-//! Each public function here is a law over the definitions of `specs/`: it does nothing, and its contract is
-//! what is proved.
-//! * [`survival`]: what a directory holds, step by step, on the records of the two queues alone;
-//! * [`machine`]: the engine's whereabouts beside the queues, each event, and every schedule of them;
-//! * [`files`]: the same on numbered files, from every file from which a recovery may read;
+//! Each public function here is a law over the definitions of `specs/`. It does nothing, and its contract is what is
+//! proved.
+//! * [`survival`]: what a directory holds, step by step, in terms of the records of the two queues;
+//! * [`machine`]: the queues with the engine's whereabouts, each event, and every schedule of them;
+//! * [`files`]: the same for numbered files, from every file at which a recovery may begin;
 //! * [`replay`]: whatever a crash leaves can be read: no holes, and no broken atomic groups;
-//! * [`images`]: in whatever image a crash leaves the entries are one run, and it can be opened;
+//! * [`images`]: in whatever image a crash leaves, the entries are one run, and it can be opened;
 //! * [`purge`]: a purge changes nothing of what the directory means;
 //! * [`example`]: a schedule with two purges and a crash, step by step;
 //! * [`wrong_rules`]: rules that look right, and what each loses.

@@ -1,6 +1,6 @@
-//! The engine as a machine: its two queues, what they mean, and the whereabouts of each group, which say what
-//! stands where and which marks Rewrite is still owed. The premises of an event speak of the whereabouts
-//! alone.
+//! The engine as a machine: its two queues, what they mean, and the whereabouts of each group. The whereabouts are
+//! where things are, and which tombstones are still owed to Rewrite. The requirements of an event on groups concern
+//! only the whereabouts.
 
 ghost use Rattle.std.specs.Prelude.{◌≡◌, ℕ, List, map};
 ghost use Rattle.raft_log_model_laws.specs.Groups.{taken, Map};
@@ -16,34 +16,37 @@ ghost use Rattle.raft_log_machine_laws.specs.Replay.{IsReplayable};
 ghost use Rattle.raft_log_machine_laws.specs.Survival.{Survives};
 ghost use Rattle.raft_log_machine_laws.specs.Whereabouts.{CarriesAll, GrowsBy, HasAppended, HasRewritten, IsRenumbered, Whereabouts};
 
-/// A fresh directory, where nothing stands anywhere, keeps the invariant.
+/// A fresh directory, in which no group has anything, satisfies the invariant.
 pub fn fresh_machine_is_kept<E, V>()
     ensures { IsKept (fresh_machine {E = E} {V = V}) }
 {}
 
-/// Each event keeps the invariant: a record in Append, syncs, marks and copies in Rewrite, parts of atomic
-/// groups, first files that rise, files that are lost, a failure, and an open of any image from any starts.
+/// Each event keeps the invariant:
+/// - a record in Append, syncs, tombstones and copies in Rewrite, parts of atomic groups,
+/// - a live range that begins later, files that are lost, a failure,
+/// - an open of any image from any starts.
 pub fn each_step_keeps<E, V>()
     ensures { (e : Event E V) (w v : Machine E V) → Step e w v → IsKept w → IsKept v }
 {}
 
-/// Over every schedule of events from a fresh directory, the directory survives as its map, Append's unsynced
-/// records being the pending batches.
+/// After every schedule of events from a fresh directory, the directory survives as its map. The pending batches are
+/// Append's unsynced records.
 pub fn survives_always<E, V>()
     ensures { (events : List (Event E V)) (v : Machine E V) → Steps fresh_machine events v
         → Survives v.store v.map v.store.append.pending }
 {}
 
-/// The map as which a directory survives is what its batches make: those that Append took, synced or not, but
-/// for the ones that a crash lost. Purges, failures and losses of files leave no trace in it.
+/// The map as which a directory survives is made by the synced batches of its history, and its pending batches are
+/// those of its history. The history has what Append took, except what a crash lost. Purges, failures and losses of
+/// files don't change it.
 pub fn map_is_what_was_taken<E, V>()
     ensures { (events : List (Event E V)) (v : Machine E V) → Steps fresh_machine events v
         → (v.store.append.pending ≡ (history events).pending)
         × ((g : ℕ) (s : Slot) → v.map g s ≡ taken nothing_stands (history events).synced g s) }
 {}
 
-/// Where a group has no entries, the number at which none stand is free: it may be any, at any time, and the
-/// invariants stay.
+/// If a group has no entries, its index in the whereabouts is free. It may become any index at any time, and the
+/// invariants hold.
 pub fn renumbered_sound<E, V>()
     ensures kept { (w : Machine E V) (next : ℕ → Whereabouts)
         → ((g : ℕ) → IsRenumbered (w.whereabouts g) (next g))
@@ -55,9 +58,9 @@ pub fn renumbered_sound<E, V>()
         → HasRuns (record w { whereabouts = next }) }
 {}
 
-/// Whereabouts don't care what stands for an entry: they follow a batch of places as they follow one of
-/// bytes; what they allow Rewrite to take, what an open makes of what it read as places, and what they ask of
-/// the records that stay, they do for the bytes too.
+/// Whereabouts don't depend on what represents an entry. They follow a batch of places as they follow a batch of bytes.
+/// What they allow Rewrite to take, what an open makes from places, and what they require of the records that stay
+/// holds for bytes too.
 pub fn whereabouts_of_renamed<E, F, V>()
     ensures grows { (f : E → F) (t u : Whereabouts) (xs : List (Item E V)) → GrowsBy t xs u
         → GrowsBy t (map (renamed f) xs) u }

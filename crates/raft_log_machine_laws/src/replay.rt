@@ -1,5 +1,5 @@
-//! What a reading asks beside the meaning: that no run leaves a hole in either queue, and that atomic groups
-//! are whole. So a recovery gets through whatever a crash leaves.
+//! What a reading requires in addition to the meaning: no run leaves a hole in either queue, and atomic groups are
+//! whole. A recovery can thus read whatever a crash leaves.
 
 ghost use Rattle.std.specs.Prelude.{ℕ, ◌+◌, length, List, ◌∷◌, ◌++◌};
 ghost use Rattle.raft_log_model_laws.specs.Item.Item.{Run};
@@ -10,29 +10,29 @@ ghost use Rattle.raft_log_machine_laws.specs.Machine.{Event, IsJoined, IsKept, M
 ghost use Rattle.raft_log_machine_laws.specs.Replay.{IsReplayable, ReadsThrough};
 ghost use Rattle.raft_log_machine_laws.specs.Unbroken.{IsUnbroken};
 
-/// A fresh directory replays.
+/// A fresh directory satisfies what replay requires.
 pub fn fresh_machine_replays<E, V>()
     ensures { IsReplayable (fresh_machine {E = E} {V = V}) }
 {}
 
-/// Each event keeps what replay asks.
+/// Each event keeps what replay requires.
 pub fn each_step_replays<E, V>()
     ensures { (e : Event E V) (w v : Machine E V) → Step e w v → IsKept w → IsReplayable w → IsReplayable v }
 {}
 
-/// Where what replay asks is kept, each start of each queue and each beginning of its unsynced records can be
-/// read: no hole in Append, none in Rewrite, and no atomic group broken.
+/// If the invariants hold, each start of each queue can be read, with each prefix of its unsynced records: no hole in
+/// Append, none in Rewrite, and no broken atomic group.
 pub fn kept_machine_replays<E, V>()
     ensures { (w : Machine E V) → IsKept w → IsReplayable w → ReadsThrough w.store }
 {}
 
-/// Over every schedule of events from a fresh directory, the directory replays.
+/// After every schedule of events from a fresh directory, reading succeeds.
 pub fn replays_always<E, V>()
     ensures { (events : List (Event E V)) (v : Machine E V) → Steps fresh_machine events v → ReadsThrough v.store }
 {}
 
-/// Two runs of an atomic group, the second at the end of the first, may be taken as one; and what may be
-/// taken as something else may be so behind other items, and in several steps.
+/// Two runs of an atomic group, the second at the end of the first, may be taken as one. Such a replacement is also
+/// allowed after other items, and in several steps.
 pub fn runs_of_a_group_join<E, V>()
     ensures runs { (f : ℕ) (e : E) (es : List E) (d : E) (ds : List E) (rest : List (Item E V))
         → IsJoined (Run f (e ∷ es) ∷ Run (f + length (e ∷ es)) (d ∷ ds) ∷ rest)
@@ -42,7 +42,7 @@ pub fn runs_of_a_group_join<E, V>()
     ensures in_turn { (xs ys zs : List (Item E V)) → IsJoined xs ys → IsJoined ys zs → IsJoined xs zs }
 {}
 
-/// Unbroken records are tidy, so they may be cut into chunks anywhere, read apart and merged.
+/// Unbroken records are tidy, so they may be cut into segments anywhere, read apart and merged.
 pub fn unbroken_records_are_tidy<E, V>()
     ensures { (rs : List (Record E V)) → IsUnbroken rs → Tidy rs }
 {}

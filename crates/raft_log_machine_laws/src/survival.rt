@@ -1,6 +1,6 @@
-//! What two queues of records hold, and that each step keeps it. `HoldsMap q m` says that from every start from
-//! which a recovery may read, and with every beginning of Rewrite's unsynced records, what is synced of
-//! Append means the map m.
+//! What two queues of records hold, and that each step keeps it. `HoldsMap q m` says: from every start at which a
+//! recovery may begin, and with every prefix of Rewrite's unsynced records, the synced records of Append mean the map
+//! m.
 
 ghost use Rattle.std.specs.Prelude.{◌≡◌, ℕ, List, [], ◌∷◌, ◌++◌};
 ghost use Rattle.raft_log_model_laws.specs.Groups.{appended, of_group, rewritten, taken, Map};
@@ -13,49 +13,48 @@ ghost use Rattle.raft_log_machine_laws.specs.Queue.{left, raised, synced, takes,
 ghost use Rattle.raft_log_machine_laws.specs.Survival.{HoldsMap, IsSpoken, MayRaiseAppend, MayRaiseRewrite, MayRewrite, Survives};
 ghost use Rattle.raft_log_machine_laws.specs.Unbroken.{begun, joined, IsUnbroken};
 
-/// A directory that holds a map survives as it, Append's unsynced records being the pending batches: whatever
-/// a crash leaves of them, there is one number of batches such that from every pair of starts the directory
-/// means the map after that many.
+/// A directory that holds a map survives as it; the pending batches are Append's unsynced records. Whatever a crash
+/// leaves of them, there is one number of batches for it. From every pair of starts, the directory means the map after
+/// that many.
 pub fn held_map_survives<E, V>()
     ensures { (q : Store E V) (m : Map E V) → HoldsMap q m → Survives q m q.append.pending }
 {}
 
-/// Append may take any record at any time: that changes nothing of what is held.
+/// Append may take any record at any time: the directory still holds the map.
 pub fn append_takes<E, V>()
     ensures { (q : Store E V) (m : Map E V) (y : Record E V) → HoldsMap q m
         → HoldsMap (with_append q (takes q.append y)) m }
 {}
 
-/// Once Append is synced, the directory holds the map after the pending batches. So it is where a refused
-/// write was cut back and that was synced, and where a rotation synced the old file.
+/// After Append is synced, the directory holds the map after the pending batches. The sync may also be that of a
+/// rotation, or one after a failed write was truncated.
 pub fn append_syncs<E, V>()
     ensures { (q : Store E V) (m : Map E V) → HoldsMap q m
         → HoldsMap (with_append q (synced q.append)) (taken m q.append.pending) }
 {}
 
-/// A sync of Rewrite changes nothing of what is held.
+/// A sync of Rewrite keeps what the directory holds.
 pub fn rewrite_syncs<E, V>()
     ensures { (q : Store E V) (m : Map E V) → HoldsMap q m → HoldsMap (with_rewrite q (synced q.rewrite)) m }
 {}
 
-/// Rewrite may take a record by which, from each start, only harmless words come to count: restated content,
-/// or words that Append's synced records overrule.
+/// Rewrite may take a record if, from each start, it makes only harmless words count: restated content, or words that
+/// Append's synced records override.
 pub fn rewrite_takes<E, V>()
     ensures { (q : Store E V) (m : Map E V) (y : Record E V) → MayRewrite q m y → HoldsMap q m
         → HoldsMap (with_rewrite q (takes q.rewrite y)) m }
 {}
 
-/// Append's first file may be raised past the records `out` where Rewrite has nothing unsynced, and each slot
-/// is spoken of by what stays, or right in Rewrite.
+/// Append's live range may begin after the records `out` if Rewrite has nothing unsynced. For each slot, what stays
+/// must touch it, or Rewrite is right about it.
 pub fn append_rises<E, V>()
     ensures { (q : Store E V) (m : Map E V) (out stay : List (Record E V)) → out ++ stay ≡ q.append.live
         → q.rewrite.pending ≡ []
         → MayRaiseAppend q m stay → HoldsMap q m → HoldsMap (with_append q (raised q.append out stay)) m }
 {}
 
-/// Rewrite's first file may be raised past the records `out` where it has nothing unsynced, its groups are
-/// unbroken, and of each slot what counts of the records that stay speaks, or nothing stands there, or Append
-/// overrules it.
+/// Rewrite's live range may begin after the records `out` if it has nothing unsynced and its groups are unbroken. For
+/// each slot, what counts of the records that stay must touch it, or the slot is empty, or Append overrides it.
 pub fn rewrite_rises<E, V>()
     ensures { (q : Store E V) (m : Map E V) (out stay : List (Record E V)) → out ++ stay ≡ q.rewrite.live
         → q.rewrite.pending ≡ []
@@ -63,29 +62,28 @@ pub fn rewrite_rises<E, V>()
         → HoldsMap (with_rewrite q (raised q.rewrite out stay)) m }
 {}
 
-/// Where files below Append's first one are deleted, renamed or fall behind a gap, the directory holds the
-/// same.
+/// If files below Append's first one are deleted or renamed, or end up before a gap, the directory holds the same.
 pub fn append_loses<E, V>()
     ensures { (q : Store E V) (m : Map E V) (lost rest : List (Record E V)) → lost ++ rest ≡ q.append.gone
         → HoldsMap q m → HoldsMap (with_append q (left q.append rest)) m }
 {}
 
-/// Where files below Rewrite's first one are deleted, or fall behind a gap, the directory holds the same.
+/// If files below Rewrite's first one are deleted, or end up before a gap, the directory holds the same.
 pub fn rewrite_loses<E, V>()
     ensures { (q : Store E V) (m : Map E V) (lost rest : List (Record E V)) → lost ++ rest ≡ q.rewrite.gone
         → HoldsMap q m → HoldsMap (with_rewrite q (left q.rewrite rest)) m }
 {}
 
-/// After a crash that left any beginnings of the unsynced records, and an open that read from any starts and
-/// synced what it read, the directory holds the map after the batches that were left.
+/// A crash left any prefixes of the unsynced records, and an open read from any starts and synced what it read. Then
+/// the directory holds the map after the batches that were left.
 pub fn directory_reopens<E, V>()
     ensures { (q : Store E V) (m : Map E V) (r : Recovery q) → HoldsMap q m
         → HoldsMap (reopened q r) (taken m r.a_kept) }
 {}
 
-/// How an engine shows what the records that stay in Rewrite say: a slot of which a plain record that stays
-/// speaks, or an atomic group that stays from its BEGIN on, is spoken of by what stays; and then what stays
-/// says of it what all of the span said.
+/// How an engine shows what the records that stay in Rewrite say. If a plain record that stays, or an atomic group that
+/// stays from its BEGIN on, touches a slot, then what stays touches it. What stays then says of the slot what the whole
+/// live range said.
 pub fn what_stays_in_rewrite_says<E, V>()
     ensures plain { (g : ℕ) (s : Slot) (xs zs : List (Record E V)) (ys : List (Tagged E V))
         → IsSpoken (says s (of_group g ys)) → IsSpoken (says s (rewritten g (xs ++ Plain ys ∷ zs))) }
@@ -98,8 +96,8 @@ pub fn what_stays_in_rewrite_says<E, V>()
         → says s (rewritten g stay) ≡ says s (rewritten g (out ++ stay)) }
 {}
 
-/// How an engine shows what the records that stay in Append say: a slot of which a record that stays speaks
-/// is spoken of by what stays; and then what stays says of it what all of the span said.
+/// How an engine shows what the records that stay in Append say. If a record that stays touches a slot, then what stays
+/// touches it. What stays then says of the slot what the whole live range said.
 pub fn what_stays_in_append_says<E, V>()
     ensures one { (g : ℕ) (s : Slot) (xs zs : List (Record E V)) (y : Record E V)
         → IsSpoken (says s (of_group g (items_of y))) → IsSpoken (says s (appended g (xs ++ y ∷ zs))) }

@@ -25,7 +25,7 @@ module _ {E V : Type 0} where
   item_from (inr (inr (inr (inl (k, v))))) = Put k v
   item_from (inr (inr (inr (inr k)))) = Del k
 
-  -- an item is what its parts make
+  -- an item is put together again from its parts
   pub item_again : (x : Item E V) → item_from (item_parts x) ≡ x
   item_again (Run f es) = refl
   item_again Clean = refl
@@ -59,7 +59,7 @@ mark_from (inl n) = Begin n
 mark_from (inr (inl n)) = Middle n
 mark_from (inr (inr n)) = End n
 
--- a mark is what its parts make
+-- a mark is put together again from its parts
 pub mark_again : (m : Mark) → mark_from (mark_parts m) ≡ m
 mark_again (Begin n) = refl
 mark_again (Middle n) = refl
@@ -80,7 +80,7 @@ module _ {E V : Type 0} where
   record_from (inl xs) = Plain xs
   record_from (inr (m, xs)) = Part m xs
 
-  -- a record is what its parts make
+  -- a record is put together again from its parts
   pub record_again : (r : Record E V) → record_from (record_parts r) ≡ r
   record_again (Plain xs) = refl
   record_again (Part m xs) = refl

@@ -1,5 +1,4 @@
--- A segment of a queue, read by itself: what counts in it, and the pieces of atomic groups that its borders
--- cut.
+-- A segment of a queue, read by itself: what counts in it, and the pieces of atomic groups that its borders cut.
 use Rattle.std.specs.Prelude.{ℕ, ◌≡◌, ◌==◌, List, [], ◌∷◌, ◌++◌, if◌then◌else◌}
 use Rattle.raft_log_model_laws.specs.Item.{Tagged, Record}
 use Rattle.raft_log_model_laws.specs.Item.Record.{Plain, Part}
@@ -8,14 +7,14 @@ use Rattle.raft_log_model_laws.specs.Groups.{of_group, settled}
 
 -- what a segment does with the group of a number that may be open before it
 pub data Head (E V : Type 0) : Type 0 where
-  -- the group goes on with these items, and neither ends nor begins anew
+  -- the group continues with these items, and neither ends nor begins anew
   GoesOn : List (Tagged E V) → Head E V
   -- the group ends, with these items up to its end
   Ends : List (Tagged E V) → Head E V
-  -- a group of its number begins first: what was open is cut short
+  -- a group of its number begins first: the open one is given up
   BeginsAnew : Head E V
 
--- what a segment does with the group of a number, of which it has these items so far
+-- what a segment does with the group of a number, which has these items so far
 abbrev pub head : {E V : Type 0} → ℕ → List (Tagged E V) → List (Record E V) → Head E V
 head n xs [] = GoesOn xs
 head n xs (Plain ys ∷ rs) = head n xs rs
@@ -36,12 +35,12 @@ pub record Unfinished (E V : Type 0) : Type 0 where
   pub number : ℕ
   pub items : List (Tagged E V)
 
--- without the group of that number
+-- the groups except the one of that number
 abbrev pub without : {E V : Type 0} → ℕ → List (Unfinished E V) → List (Unfinished E V)
 without n [] = []
 without n (u ∷ us) = if u.number == n then without n us else u ∷ without n us
 
--- the group of that number has more items
+-- the group of that number gets more items
 abbrev pub more : {E V : Type 0} → ℕ → List (Tagged E V) → List (Unfinished E V) → List (Unfinished E V)
 more n ys [] = []
 more n ys (u ∷ us) =
@@ -64,13 +63,13 @@ unfinished_after us (r ∷ rs) = unfinished_after (next_unfinished us r) rs
 abbrev pub unfinished : {E V : Type 0} → List (Record E V) → List (Unfinished E V)
 unfinished rs = unfinished_after [] rs
 
--- what the unfinished group with these items brings in the next segment
+-- the items that an unfinished group adds in the next segment
 abbrev pub finish : {E V : Type 0} → List (Tagged E V) → Head E V → List (Tagged E V)
 finish xs (GoesOn ys) = []
 finish xs (Ends ys) = xs ++ ys
 finish xs BeginsAnew = []
 
--- what goes on of that group past the next segment
+-- that group if it is still unfinished after the next segment
 abbrev pub go_on : {E V : Type 0} → ℕ → List (Tagged E V) → Head E V → List (Unfinished E V)
 go_on n xs (GoesOn ys) = record { number = n; items = xs ++ ys } ∷ []
 go_on n xs (Ends ys) = []
@@ -81,12 +80,12 @@ abbrev pub completed : {E V : Type 0} → List (Unfinished E V) → (ℕ → Hea
 completed [] heads = []
 completed (u ∷ us) heads = finish u.items (heads u.number) ++ completed us heads
 
--- what goes on past the next segment of all groups that one leaves unfinished
+-- of all groups that one segment leaves unfinished, those still unfinished after the next
 abbrev pub carried_on : {E V : Type 0} → List (Unfinished E V) → (ℕ → Head E V) → List (Unfinished E V)
 carried_on [] heads = []
 carried_on (u ∷ us) heads = go_on u.number u.items (heads u.number) ++ carried_on us heads
 
--- what a segment comes to: what counts in it, what it does with groups that are open before it, what it
+-- the summary of a segment: what counts in it, what it does with groups that are open before it, and which groups it
 -- leaves unfinished
 pub record Segment (E V : Type 0) : Type 0 where
   pub counted : List (Tagged E V)
@@ -97,8 +96,8 @@ pub record Segment (E V : Type 0) : Type 0 where
 abbrev pub segment : {E V : Type 0} → List (Record E V) → Segment E V
 segment rs = record { counted = settled rs; heads = λ n. head n [] rs; left_open = unfinished rs }
 
--- two consecutive segments as one: what the later one completes comes after all of the earlier, before all of
--- its own
+-- Merges two consecutive segments. What the later one completes comes after all of the earlier one, and before the rest
+-- of the later one.
 abbrev pub merge : {E V : Type 0} → Segment E V → Segment E V → Segment E V
 merge a b = record {
   counted = a.counted ++ (completed a.left_open b.heads ++ b.counted);
@@ -106,13 +105,13 @@ merge a b = record {
   left_open = carried_on a.left_open b.heads ++ b.left_open;
 }
 
--- the two say the same of each group, and have the same pieces at their borders
+-- the two segments have the same items for each group, and the same pieces at their borders
 pub record IsSameSegment {E V : Type 0} (a b : Segment E V) : Type 0 where
   pub counted : (g : ℕ) → of_group g a.counted ≡ of_group g b.counted
   pub heads : (n : ℕ) → a.heads n ≡ b.heads n
   pub left_open : a.left_open ≡ b.left_open
 
--- consecutive segments, and in which order they are merged
+-- consecutive segments, and the order in which they are merged
 pub data Bracketing (A : Type 0) : Type 0 where
   One : List A → Bracketing A
   Both : Bracketing A → Bracketing A → Bracketing A

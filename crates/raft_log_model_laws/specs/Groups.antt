@@ -10,12 +10,12 @@ abbrev pub of_group : {E V : Type 0} → ℕ → List (Tagged E V) → List (Ite
 of_group g [] = []
 of_group g (x ∷ xs) = if x.group == g then x.item ∷ of_group g xs else of_group g xs
 
--- all items of the records, marks left out: what the records of Append say
+-- all items of the records, without marks: what the records of Append say
 abbrev pub contents : {E V : Type 0} → List (Record E V) → List (Tagged E V)
 contents [] = []
 contents (r ∷ rs) = items_of r ++ contents rs
 
--- the atomic groups that have begun and not ended: by its number, what each has so far
+-- the atomic groups that have begun and not ended: for each number, its items so far
 abbrev pub Open : Type 0 → Type 0 → Type 0
 Open E V = ℕ → Option (List (Tagged E V))
 
@@ -23,30 +23,30 @@ Open E V = ℕ → Option (List (Tagged E V))
 abbrev pub none_open : {E V : Type 0} → Open E V
 none_open n = None
 
--- the open groups, but for that of one number, which is so
+-- the open groups, with another value for the group of one number
 abbrev pub set_open : {E V : Type 0} → Open E V → ℕ → Option (List (Tagged E V)) → Open E V
 set_open o n v k = if n == k then v else o k
 
--- an open group with more items; what has not begun stays so
+-- an open group with more items; a group that has not begun is unchanged
 abbrev pub onto : {E V : Type 0} → Option (List (Tagged E V)) → List (Tagged E V) → Option (List (Tagged E V))
 onto None ys = None
 onto (Some xs) ys = Some (xs ++ ys)
 
--- the items that count with this record: those of a plain one, and at an end those of its whole group
+-- the items that count with this record: those of a plain one; at an end, those of its whole group
 abbrev pub counts : {E V : Type 0} → Open E V → Record E V → List (Tagged E V)
 counts o (Plain xs) = xs
 counts o (Part (Begin n) xs) = []
 counts o (Part (Middle n) xs) = []
 counts o (Part (End n) xs) = unwrap_or (onto (o n) xs) []
 
--- what is open after the record: a begin cuts short what was open under its own number
+-- what is open after the record; a begin gives up an open group of its own number
 abbrev pub opens : {E V : Type 0} → Open E V → Record E V → Open E V
 opens o (Plain xs) = o
 opens o (Part (Begin n) xs) = set_open o n (Some xs)
 opens o (Part (Middle n) xs) = set_open o n (onto (o n) xs)
 opens o (Part (End n) xs) = set_open o n None
 
--- the items that count, in the order in which they come to count, where these groups are open at first
+-- the items that count, in the order in which they start to count, if these groups are open at first
 abbrev pub settle : {E V : Type 0} → Open E V → List (Record E V) → List (Tagged E V)
 settle o [] = []
 settle o (r ∷ rs) = counts o r ++ settle (opens o r) rs
@@ -56,8 +56,8 @@ abbrev pub opened : {E V : Type 0} → Open E V → List (Record E V) → Open E
 opened o [] = o
 opened o (r ∷ rs) = opened (opens o r) rs
 
--- what the records of Rewrite say: an atomic group counts at its end, and without begin or end, or cut short
--- by a new begin of its own number, not at all
+-- What the records of Rewrite say. An atomic group counts at its end. It doesn't count without a begin or an end, or if
+-- a new begin of its number comes first.
 abbrev pub settled : {E V : Type 0} → List (Record E V) → List (Tagged E V)
 settled rs = settle none_open rs
 
@@ -69,14 +69,14 @@ appended g rs = of_group g (contents rs)
 abbrev pub rewritten : {E V : Type 0} → ℕ → List (Record E V) → List (Item E V)
 rewritten g rs = of_group g (settled rs)
 
--- what stands in the slots of the groups
+-- the contents of the slots of all groups
 abbrev pub Map : Type 0 → Type 0 → Type 0
 Map E V = ℕ → Slot → Option (Content E V)
 
--- what a directory means whose two queues hold these records
+-- what a directory means whose two queues have these records
 abbrev pub directory_meaning : {E V : Type 0} → List (Record E V) → List (Record E V) → Map E V
 directory_meaning rewrite append g s = directory s (rewritten g rewrite) (appended g append)
 
--- the map once Append has taken these records
+-- the map after Append has taken these records
 abbrev pub taken : {E V : Type 0} → Map E V → List (Record E V) → Map E V
 taken m rs g = after (m g) (appended g rs)

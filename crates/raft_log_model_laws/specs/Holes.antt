@@ -1,5 +1,4 @@
--- The hostile cases: a run past the end of the standing run, and a gap between Rewrite's entries and
--- Append's.
+-- The hostile cases: a run past the end of the current run, and a gap between Rewrite's entries and Append's.
 use Rattle.std.specs.Prelude.{ℕ, ◌≡◌, ◌<◌, ◌≤◌, ◌+◌, max, min, Bool, true, false, ◌&&◌, not, List, [], ◌∷◌, Option, Some, None, unwrap_or, if◌then◌else◌, nat_le, nat_lt, length, IsFalse, ⊤}
 use Rattle.std.specs.Option.{option_or}
 use Rattle.raft_log_model_laws.specs.Item.{Item}
@@ -8,22 +7,21 @@ use Rattle.raft_log_model_laws.specs.Meaning.{Slot, Content, write, holds}
 use Rattle.raft_log_model_laws.specs.Meaning.Slot.{Index}
 use Rattle.raft_log_model_laws.specs.Meaning.Content.{Entry}
 
--- the standing run: its first index, and the index after its last; it is empty where the second isn't above
--- the first
+-- the current run of entries: its first index, and the index after its last; it is empty if the second isn't above the
+-- first
 pub record Window : Type 0 where
   pub first : ℕ
   pub end : ℕ
 
--- no run stands
+-- there is no current run
 abbrev pub nothing : Window
 nothing = record { first = 0; end = 0 }
 
--- a run that starts at f leaves a hole after the standing run: it starts past the index after the last
+-- a run that starts at f leaves a hole after the current run: it starts past the index after the last
 abbrev pub is_past : Window → ℕ → Bool
 is_past w f = nat_lt w.first w.end && nat_lt w.end f
 
--- the standing run after an item: a run that starts inside or at the end goes on with it, any other run
--- stands alone
+-- the current run after an item: a run that starts inside it or at its end continues it, any other run replaces it
 abbrev pub next_window : {E V : Type 0} → Window → Item E V → Window
 next_window w (Run f []) = w
 next_window w (Run f (e ∷ es)) =
@@ -33,34 +31,34 @@ next_window w (Compact c) = record w { first = max w.first c }
 next_window w (Put k v) = w
 next_window w (Del k) = w
 
--- the standing run after more items
+-- the current run after more items
 abbrev pub window : {E V : Type 0} → Window → List (Item E V) → Window
 window w [] = w
 window w (x ∷ xs) = window (next_window w x) xs
 
--- the word of an item after that standing run: a run past its end drops what stood
+-- the word of an item after this current run: a run past its end drops the earlier entries
 abbrev pub write_past : {E V : Type 0} → Window → Slot → Item E V → Option (Option (Content E V))
 write_past w (Index i) (Run f []) = None
 write_past w (Index i) (Run f (e ∷ es)) =
     if is_past w f && nat_lt i f then Some None else write (Index i) (Run f (e ∷ es))
 write_past w s x = write s x
 
--- the last word on the slot of items that come after that standing run
+-- the last word of items on the slot, after this current run
 abbrev pub says_past : {E V : Type 0} → Window → Slot → List (Item E V) → Option (Option (Content E V))
 says_past w s [] = None
 says_past w s (x ∷ xs) = option_or (says_past (next_window w x) s xs) (write_past w s x)
 
--- what stands in the slot after the items, where a run past the end drops what stood
+-- the content of the slot after the items, if a run past the end drops the earlier entries
 abbrev pub holds_past : {E V : Type 0} → Slot → List (Item E V) → Option (Content E V)
 holds_past s xs = unwrap_or (says_past nothing s xs) None
 
--- entries stand from first on, below end, and nowhere else
+-- exactly the indexes from first on and below end have entries
 pub record Spans {E V : Type 0} (first end : ℕ) (m : ℕ → Option (Content E V)) : Type 0 where
   pub stands : (i : ℕ) → first ≤ i → i < end → (e : E) × (m i ≡ Some (Entry e))
   pub none_below : (i : ℕ) → i < first → m i ≡ None
   pub none_above : (i : ℕ) → end ≤ i → m i ≡ None
 
--- the item leaves no hole after that standing run
+-- the item leaves no hole after this current run
 abbrev pub FitsOn : {E V : Type 0} → Window → Item E V → Type 0
 FitsOn w (Run f []) = ⊤
 FitsOn w (Run f (e ∷ es)) = IsFalse (is_past w f)
@@ -69,7 +67,7 @@ FitsOn w (Compact c) = ⊤
 FitsOn w (Put k v) = ⊤
 FitsOn w (Del k) = ⊤
 
--- none of the items leaves a hole, the first of them after that standing run
+-- none of the items leaves a hole after this current run
 abbrev pub NoHole : {E V : Type 0} → Window → List (Item E V) → Type 0
 NoHole w [] = ⊤
 NoHole w (x ∷ xs) = FitsOn w x × NoHole (next_window w x) xs
@@ -91,7 +89,7 @@ abbrev pub least : ℕ → Option ℕ → ℕ
 least n None = n
 least n (Some b) = min n b
 
--- the least start of a run, none without one
+-- the least start of a run, `None` without one
 abbrev pub high : {E V : Type 0} → List (Item E V) → Option ℕ
 high [] = None
 high (Run f [] ∷ xs) = high xs
@@ -103,20 +101,20 @@ abbrev pub is_below : ℕ → Option ℕ → Bool
 is_below i None = true
 is_below i (Some b) = nat_lt i b
 
--- the items say nothing of an index: no Clean, at or above the greatest Compact index, below the least start
--- of a run
+-- the items don't touch an index: there is no Clean, and it is at or above the greatest Compact index and below the
+-- least start of a run
 abbrev pub is_silent : {E V : Type 0} → List (Item E V) → ℕ → Bool
 is_silent xs i = not (has_clean xs) && (nat_le (low xs) i && is_below i (high xs))
 
--- what is left of Rewrite's standing run under these items of Append ends below Append's first entry
+-- what these items of Append leave of Rewrite's current run ends below Append's first entry
 abbrev pub has_gap : {E V : Type 0} → Window → List (Item E V) → Bool
 has_gap w append =
     nat_lt (max w.first (low append)) (least w.end (high append))
     && (nat_lt (window nothing append).first (window nothing append).end
     && nat_lt (least w.end (high append)) (window nothing append).first)
 
--- what stands at an index of a directory, told by intervals: Append's entries, over what Rewrite keeps under
--- Append's items, which is nothing where a gap would stay
+-- The content of an index of a directory, by intervals: Append's entry, otherwise Rewrite's if Append's items keep it.
+-- Rewrite keeps nothing if a gap would remain.
 abbrev pub directory_by_intervals : {E V : Type 0} → ℕ → List (Item E V) → List (Item E V)
     → Option (Content E V)
 directory_by_intervals i rewrite append =
@@ -125,7 +123,7 @@ directory_by_intervals i rewrite append =
     then holds_past (Index i) rewrite
     else None)
 
--- what is between two entries that stand stands too
+-- each slot between two entries has an entry too
 abbrev pub IsSolid : {E V : Type 0} → (ℕ → Option (Content E V)) → Type 0
 IsSolid {E} {V} m =
     (i j k : ℕ) (a b : Content E V) → i ≤ j → j ≤ k → m i ≡ Some a → m k ≡ Some b

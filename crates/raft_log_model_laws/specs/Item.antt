@@ -1,20 +1,20 @@
--- What a log is made of: items, each of one group, in records, some of which are parts of an atomic group.
+-- The items of a log: each is of one group, and written in a record, which may be a part of an atomic group.
 use Rattle.std.specs.Prelude.{ℕ, List}
 
--- E is what stands for an entry (its place in a file, or its length), V what stands for a key's value
+-- E represents an entry (its place in a file, or its length), V represents a key's value
 pub data Item (E V : Type 0) : Type 0 where
-  -- entries one after another, the first of them at this index; all entries from there on give way
+  -- consecutive entries, the first of them at this index; they replace all entries from there on
   Run : ℕ → List E → Item E V
-  -- all entries and keys of the group are gone
+  -- all entries and keys of the group are deleted
   Clean : Item E V
-  -- all entries below this index are gone
+  -- all entries below this index are deleted
   Compact : ℕ → Item E V
   -- the key, a list of bytes, has this value
   Put : List ℕ → V → Item E V
-  -- the key is gone
+  -- the key is deleted
   Del : List ℕ → Item E V
 
--- an item and the group that it is of
+-- an item with its group
 pub record Tagged (E V : Type 0) : Type 0 where
   pub group : ℕ
   pub item : Item E V

@@ -1,22 +1,22 @@
--- What a list of items of one group means, oldest first: of each slot the last word stands.
+-- What a list of items of one group means, oldest first: the last word on each slot counts.
 use Rattle.std.specs.Prelude.{ℕ, ◌-◌, List, [], ◌∷◌, Option, Some, None, option_map, unwrap_or, if◌then◌else◌, nat_le, nat_lt, slice_get, bytes_eq}
 use Rattle.std.specs.Option.{option_or}
 use Rattle.raft_log_model_laws.specs.Item.{Item}
 use Rattle.raft_log_model_laws.specs.Item.Item.{Run, Clean, Compact, Put, Del}
 
--- where something may stand in a group: at an index, or under a key
+-- a slot of a group: an index, or a key
 pub data Slot : Type 0 where
   Index : ℕ → Slot
   Key : List ℕ → Slot
 
--- what may stand in a slot: an entry at an index, a value under a key
+-- the content of a slot: an entry at an index, a value under a key
 pub data Content (E V : Type 0) : Type 0 where
   Entry : E → Content E V
   Value : V → Content E V
 
--- the word of one item on a slot: None, it says nothing; Some None, nothing stands there from now on; Some
--- (Some x), x stands there. A run speaks of each index from its first on, so also of those past its last; a
--- run without entries says nothing.
+-- The word of one item on a slot. `None`: it doesn't touch the slot. `Some None`: it empties the slot. `Some (Some x)`:
+-- it puts x there. A run touches each index from its first on, so also those past its last. A run without entries
+-- touches nothing.
 abbrev pub write : {E V : Type 0} → Slot → Item E V → Option (Option (Content E V))
 write (Index i) (Run f []) = None
 write (Index i) (Run f (e ∷ es)) =
@@ -40,15 +40,15 @@ last_word w (x ∷ xs) = option_or (last_word w xs) (w x)
 abbrev pub says : {E V : Type 0} → Slot → List (Item E V) → Option (Option (Content E V))
 says s xs = last_word (write s) xs
 
--- what stands in the slot after the items
+-- the content of the slot after the items
 abbrev pub holds : {E V : Type 0} → Slot → List (Item E V) → Option (Content E V)
 holds s xs = unwrap_or (says s xs) None
 
--- what stands in the slot of a directory: Append answers for what it speaks of, Rewrite for the rest
+-- the content of the slot of a directory: Append decides the slots that it touches, Rewrite the others
 abbrev pub directory : {E V : Type 0} → Slot → List (Item E V) → List (Item E V) → Option (Content E V)
 directory s rewrite append = unwrap_or (says s append) (holds s rewrite)
 
--- what stands in each slot once more items came
+-- the contents of the slots after more items
 abbrev pub after : {E V : Type 0} → (Slot → Option (Content E V)) → List (Item E V) → Slot
     → Option (Content E V)
 after m xs s = unwrap_or (says s xs) (m s)

@@ -1,5 +1,4 @@
--- A log with something else in the place of each entry: a table holds the places of entries, a writer their
--- bytes.
+-- A log in which something else represents each entry: a table has the places of entries, a writer their bytes.
 use Rattle.std.specs.Prelude.{map, Option, option_map}
 use Rattle.raft_log_model_laws.specs.Item.{Item, Tagged, Record}
 use Rattle.raft_log_model_laws.specs.Item.Item.{Run, Clean, Compact, Put, Del}
@@ -8,7 +7,7 @@ use Rattle.raft_log_model_laws.specs.Meaning.{Content}
 use Rattle.raft_log_model_laws.specs.Meaning.Content.{Entry, Value}
 use Rattle.raft_log_model_laws.specs.Groups.{Map}
 
--- the item, with what the function says in the place of each entry
+-- the item, with the function applied to each entry
 abbrev pub renamed : {E F V : Type 0} → (E → F) → Item E V → Item F V
 renamed f (Run first es) = Run first (map f es)
 renamed f Clean = Clean
@@ -16,25 +15,25 @@ renamed f (Compact c) = Compact c
 renamed f (Put k v) = Put k v
 renamed f (Del k) = Del k
 
--- the item with its group, and with what the function says in the place of each entry
+-- the item with its group, with the function applied to each entry
 abbrev pub renamed_tagged : {E F V : Type 0} → (E → F) → Tagged E V → Tagged F V
 renamed_tagged f x = record { group = x.group; item = renamed f x.item }
 
--- the record, with what the function says in the place of each entry
+-- the record, with the function applied to each entry
 abbrev pub renamed_record : {E F V : Type 0} → (E → F) → Record E V → Record F V
 renamed_record f (Plain xs) = Plain (map (renamed_tagged f) xs)
 renamed_record f (Part m xs) = Part m (map (renamed_tagged f) xs)
 
--- what stands in a slot, with what the function says in the place of an entry: a value stays
+-- the content of a slot, with the function applied to an entry; a value is unchanged
 abbrev pub renamed_content : {E F V : Type 0} → (E → F) → Content E V → Content F V
 renamed_content f (Entry e) = Entry (f e)
 renamed_content f (Value v) = Value v
 
--- what items say of a slot, with what the function says in the place of an entry
+-- what items say of a slot, with the function applied to an entry
 abbrev pub renamed_word : {E F V : Type 0} → (E → F) → Option (Option (Content E V))
     → Option (Option (Content F V))
 renamed_word f word = option_map (option_map (renamed_content f)) word
 
--- all that stands, with what the function says in the place of each entry
+-- the map, with the function applied to each entry
 abbrev pub renamed_map : {E F V : Type 0} → (E → F) → Map E V → Map F V
 renamed_map f m g s = option_map (renamed_content f) (m g s)

@@ -1,5 +1,4 @@
--- A segment's items of one group in short: a table of what stands, and what the items do to what stood before
--- them.
+-- A summary of a segment's items of one group: a table of their contents, and what the items do to earlier contents.
 use Rattle.std.specs.Prelude.{ℕ, ◌≡◌, ◌<◌, max, Bool, true, false, ◌&&◌, ◌||◌, not, List, [], ◌∷◌, Option, Some, None, option_map, if◌then◌else◌, nat_le, nat_lt, bytes_eq, length}
 use Rattle.std.specs.Option.{option_or}
 use Rattle.raft_log_model_laws.specs.Item.{Item}
@@ -12,8 +11,7 @@ use Rattle.raft_log_model_laws.specs.Table.{Table, content, span_of, no_table, c
 use Rattle.raft_log_model_laws.specs.Fragments.{Bracketing}
 use Rattle.raft_log_model_laws.specs.Fragments.Bracketing.{One, Both}
 
--- the table; whether the items had a Clean; their greatest Compact index, least start of a run, and deleted
--- keys
+-- the table; whether the items had a Clean; their greatest Compact index, least start of a run, and deleted keys
 pub record Summary (E V : Type 0) : Type 0 where
   pub table : Table E V
   pub cleaned : Bool
@@ -43,7 +41,7 @@ summary_after z (x ∷ xs) = summary_after (step z x) xs
 abbrev pub summary : {E V : Type 0} → List (Item E V) → Summary E V
 summary xs = summary_after no_summary xs
 
--- an index that the items say nothing of
+-- an index that the items don't touch
 abbrev pub is_left : {E V : Type 0} → Summary E V → ℕ → Bool
 is_left z i = not z.cleaned && (nat_le z.low i && is_below i z.high)
 
@@ -58,7 +56,7 @@ word z (Key k) =
 abbrev pub values_over : {E V : Type 0} → Table E V → Summary E V → List ℕ → Option V
 values_over t z k = option_or (z.table.values k) (if z.cleaned || z.deleted k then None else t.values k)
 
--- the table of two summaries: what the later one leaves of the earlier table, and the later run behind it
+-- the table of two summaries: what the later one keeps of the earlier table, with the later run appended
 abbrev pub entries_over : {E V : Type 0} → Table E V → Summary E V → Table E V
 entries_over t z =
     if z.cleaned then z.table
@@ -85,7 +83,7 @@ join a z = record {
   deleted = λ k. z.deleted k || a.deleted k;
 }
 
--- consecutive segments, each summed up by itself, then joined in that order
+-- consecutive segments, each summarized by itself, then joined in that order
 abbrev pub join_all : {E V : Type 0} → Bracketing (Item E V) → Summary E V
 join_all (One xs) = summary xs
 join_all (Both s t) = join (join_all s) (join_all t)
@@ -94,7 +92,7 @@ join_all (Both s t) = join (join_all s) (join_all t)
 abbrev pub IsSummarySound : {E V : Type 0} → Summary E V → Type 0
 IsSummarySound z = 0 < length z.table.entries → is_below z.table.first z.high ≡ false
 
--- the summary of a segment, however it was made: its word is the segment's
+-- a summary of a segment, however it was made: its word is the segment's
 pub record IsSummary {E V : Type 0} (z : Summary E V) (xs : List (Item E V)) : Type 0 where
   pub sound : IsSummarySound z
   pub says : (s : Slot) → word z s ≡ says s xs

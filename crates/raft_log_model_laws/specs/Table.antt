@@ -1,4 +1,4 @@
--- A table of one group, entries one after another and the values of keys, and what each item makes of it.
+-- A table of one group, with consecutive entries and the values of keys, and what each item does to it.
 use Rattle.std.specs.Prelude.{◌≡◌, ℕ, ◌+◌, ◌-◌, min, ◌&&◌, List, [], ◌∷◌, ◌++◌, Option, Some, None, option_map, if◌then◌else◌, nat_le, nat_lt, slice_get, bytes_eq, length, take, drop}
 use Rattle.raft_log_model_laws.specs.Item.{Item}
 use Rattle.raft_log_model_laws.specs.Item.Item.{Run, Clean, Compact, Put, Del}
@@ -7,13 +7,13 @@ use Rattle.raft_log_model_laws.specs.Meaning.Slot.{Index, Key}
 use Rattle.raft_log_model_laws.specs.Meaning.Content.{Entry, Value}
 use Rattle.raft_log_model_laws.specs.Holes.{Window, is_past}
 
--- entries one after another from a first index on, and the values of keys
+-- consecutive entries from a first index on, and the values of keys
 pub record Table (E V : Type 0) : Type 0 where
   pub first : ℕ
   pub entries : List E
   pub values : List ℕ → Option V
 
--- what the table has in a slot
+-- the content of a slot of the table
 abbrev pub content : {E V : Type 0} → Table E V → Slot → Option (Content E V)
 content t (Index i) = if nat_le t.first i then option_map Entry (slice_get t.entries (i - t.first)) else None
 content t (Key k) = option_map Value (t.values k)
@@ -39,7 +39,7 @@ abbrev pub cut_from : {E V : Type 0} → Table E V → Option ℕ → Table E V
 cut_from t None = t
 cut_from t (Some h) = record t { entries = take (h - t.first) t.entries }
 
--- with a run, in place of the entries from its first index on
+-- with a run that replaces the entries from its first index on
 abbrev pub run_onto : {E V : Type 0} → Table E V → ℕ → List E → Table E V
 run_onto t f es = record t {
   first = if nat_lt t.first f && nat_lt 0 (length t.entries) then t.first else f;
@@ -68,7 +68,7 @@ abbrev pub table_after : {E V : Type 0} → Table E V → List (Item E V) → Ta
 table_after t [] = t
 table_after t (x ∷ xs) = table_after (table_step t x) xs
 
--- the table after one more item, where a run past the end drops what stood
+-- the table after one more item, if a run past the end drops the earlier entries
 abbrev pub table_step_past : {E V : Type 0} → Table E V → Item E V → Table E V
 table_step_past t (Run f []) = t
 table_step_past t (Run f (e ∷ es)) =
@@ -83,6 +83,6 @@ abbrev pub table_after_past : {E V : Type 0} → Table E V → List (Item E V) �
 table_after_past t [] = t
 table_after_past t (x ∷ xs) = table_after_past (table_step_past t x) xs
 
--- the table has in each slot what stands there after the items
+-- each slot of the table has its content after the items
 abbrev pub IsTableOf : {E V : Type 0} → Table E V → List (Item E V) → Type 0
 IsTableOf t xs = (s : Slot) → content t s ≡ holds s xs

@@ -1,5 +1,5 @@
--- Atomic groups that nothing disturbs: what counts between a group's begin and its end touches no raft group
--- that it touches.
+-- Tidy records: atomic groups that nothing disturbs. The items that count between a group's begin and its end are of
+-- other raft groups than its own.
 use Rattle.std.specs.Prelude.{ℕ, List, [], ◌∷◌, ◌++◌, ◌≡◌, ◌⊎◌, ◌==◌, MatchBool, ⊤}
 use Rattle.raft_log_model_laws.specs.Item.{Tagged, Record}
 use Rattle.raft_log_model_laws.specs.Item.Record.{Plain, Part}
@@ -10,8 +10,8 @@ use Rattle.raft_log_model_laws.specs.Groups.{of_group, Open, none_open, counts, 
 abbrev pub Apart : {E V : Type 0} → List (Tagged E V) → List (Tagged E V) → Type 0
 Apart xs ys = (g : ℕ) → (of_group g xs ≡ []) ⊎ (of_group g ys ≡ [])
 
--- atomic group n has xs so far, `said` counted since its begin, and the groups o have begun since: if it
--- ends, the two are apart. A group that never ends asks nothing.
+-- Atomic group n has the items xs so far. Since its begin, `said` counted, and the groups o have begun. If it ends, its
+-- items and what counted are of different raft groups. Nothing is required of a group that never ends.
 abbrev pub Undisturbed : {E V : Type 0} → ℕ → List (Tagged E V) → List (Tagged E V) → Open E V
     → List (Record E V) → Type 0
 Undisturbed n xs said o [] = ⊤
@@ -46,7 +46,7 @@ abbrev pub middles : {E V : Type 0} → ℕ → List (List (Tagged E V)) → Lis
 middles n [] = []
 middles n (xs ∷ xss) = Part (Middle n) xs ∷ middles n xss
 
--- an atomic group as it is written: its records stand with none between
+-- an atomic group as it is written: its records without others between them
 abbrev pub whole_group : {E V : Type 0} → ℕ → List (Tagged E V) → List (List (Tagged E V)) → List (Tagged E V)
     → List (Record E V)
 whole_group n first between last = Part (Begin n) first ∷ (middles n between ++ (Part (End n) last ∷ []))

@@ -1,4 +1,4 @@
-//! What the definitions say of short logs: each line is computed.
+//! The definitions at work on short logs: each line is computed.
 
 ghost use Rattle.std.specs.Prelude.{◌≡◌, ◌++◌, ◌∷◌, [], Some, None, true, false, replicate};
 ghost use Rattle.raft_log_model_laws.specs.Item.Item.{Run, Compact, Put, Del, Clean};
@@ -24,25 +24,24 @@ ghost use Rattle.raft_log_model_laws.specs.Examples.{
   four_and_five,
 };
 
-/// Entries 1 to 20, all rewritten; then two entries in place of the 15th and all behind it, and a compaction
-/// below 17: nothing stands, before the purge, after it, and from a start that still reads the old Append
-/// file.
+/// Entries 1 to 20, all rewritten; then two entries replace the 15th and all after it, and a compaction below 17. No
+/// entry is left: not before the purge, not after it, and not from a start that still reads the old Append file.
 pub fn overwritten_then_compacted()
     ensures before { shown 0 25 twenty overwritten ≡ replicate 25 None }
     ensures after { shown 0 25 (twenty ++ Compact top ∷ []) [] ≡ replicate 25 None }
     ensures between { shown 0 25 (twenty ++ Compact top ∷ []) overwritten ≡ replicate 25 None }
 {}
 
-/// Entries 1 to 20, two entries in place of the 15th and all behind it, and a compaction below 16: entry 16
-/// stands, and nothing else.
+/// Entries 1 to 20; then two entries replace the 15th and all after it, and a compaction below 16. Only entry 16 is
+/// left.
 pub fn overwritten_then_compacted_inside()
     ensures before { shown 14 4 twenty truncated ≡ None ∷ None ∷ Some (Entry 116) ∷ None ∷ [] }
     ensures rewritten { shown 14 4 (twenty ++ Compact top ∷ Run 16 (116 ∷ []) ∷ []) []
         ≡ None ∷ None ∷ Some (Entry 116) ∷ None ∷ [] }
 {}
 
-/// Three runs of which each later one cuts the earlier off: ten entries of the first file, five of the
-/// second, ten of the third.
+/// Three runs, each of which truncates the one before: ten entries of the first file, five of the second, ten of the
+/// third.
 pub fn later_runs_cut()
     ensures entries { shown 9 27 three_files []
         ≡ None ∷ (replicate 10 (Some (Entry 1)) ++ (replicate 5 (Some (Entry 2))
@@ -50,7 +49,7 @@ pub fn later_runs_cut()
     ensures run { run_of three_files ≡ record { first = 10; end = 35 } }
 {}
 
-/// One purge, step by step: entries 4 and 5 stand, whatever is written so far and from whichever file Append
+/// One purge, step by step: entries 4 and 5 are there, however much is written so far, and from whichever file Append
 /// is read.
 pub fn one_purge()
     ensures before { shown 0 7 rewrite_before append_from_4 ≡ four_and_five }
@@ -70,14 +69,14 @@ pub fn compactions()
         ≡ record { first = 20; end = 25 } }
 {}
 
-/// A key has its last value; a deleted key has none, and neither has a key of a group that was cleaned.
+/// A key has its last value. A deleted key has none, nor has a key of a group that was cleaned.
 pub fn keys()
     ensures last { voter_in [] (Put voter 1 ∷ Del voter ∷ Put voter 2 ∷ []) ≡ Some (Value 2) }
     ensures deleted { voter_in [] (Put voter 1 ∷ Del voter ∷ []) ≡ None }
     ensures cleaned { voter_in (Put voter 1 ∷ []) (Clean ∷ []) ≡ None }
 {}
 
-/// A run that starts at the index after the last leaves no hole, one that starts past it does.
+/// A run that starts at the index after the last leaves no hole; one that starts past it does.
 pub fn past_the_end()
     ensures at_the_end { is_past (record { first = 1; end = 4 }) 4 ≡ false }
     ensures past { is_past (record { first = 1; end = 4 }) 5 ≡ true }

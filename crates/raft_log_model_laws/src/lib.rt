@@ -1,9 +1,8 @@
-//! What a log means, as mathematics: definitions in `specs/`, and here the laws on them.
+//! The meaning of a log: definitions in `specs/`, and here the laws about them.
 //!
-//! Each law is a function without a body. What it ensures is proved, and holds for every kind of content: `E`
-//! is what stands for an entry, as its bytes, its length in a record or its place in a file, and `V` is what
-//! stands for a key's value.
-//! * [`meaning`]: of each slot the last word stands; [`renaming`]: whatever stands for an entry;
+//! Each law is a function without a body. What it ensures is proved, and holds for every kind of content. `E`
+//! represents an entry, as its bytes, its length in a record or its place in a file. `V` represents a key's value.
+//! * [`meaning`]: the last word on each slot counts; [`renaming`]: whatever represents an entry;
 //! * [`groups`]: many groups in one queue, and atomic groups of records;
 //! * [`segments`], [`tables`]: what is read apart and joined, and kept in memory, means the same;
 //! * [`hostile`]: runs past the end, and gaps; [`examples`], [`wrong_rules`]: short logs.

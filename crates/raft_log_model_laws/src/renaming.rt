@@ -1,4 +1,4 @@
-//! Meaning doesn't care what stands for an entry: a table holds the places of entries, a writer their bytes.
+//! The meaning doesn't depend on what represents an entry: a table has the places of entries, a writer their bytes.
 
 ghost use Rattle.std.specs.Prelude.{◌≡◌, ℕ, List, map, option_map};
 ghost use Rattle.raft_log_model_laws.specs.Item.{Item, Record};
@@ -6,9 +6,9 @@ ghost use Rattle.raft_log_model_laws.specs.Meaning.{Slot, says, directory};
 ghost use Rattle.raft_log_model_laws.specs.Groups.{Map, appended, rewritten, directory_meaning, taken};
 ghost use Rattle.raft_log_model_laws.specs.Renamed.{renamed, renamed_record, renamed_content, renamed_word, renamed_map};
 
-/// Reading each entry otherwise and then asking what a log says, or asking first and then reading: it is the
-/// same, for a list of items, for what either queue says of a group, for a directory, and for what Append
-/// puts on a map.
+/// Applying a function to each entry and then asking for a log's meaning is the same as asking first and then applying
+/// it. This holds for a list of items, for a group's items in either queue, for a directory, and for what Append
+/// changes in a map.
 pub fn meaning_of_renamed<E, F, V>()
     ensures word { (f : E → F) (s : Slot) (xs : List (Item E V))
         → says s (map (renamed f) xs) ≡ renamed_word f (says s xs) }
@@ -26,8 +26,8 @@ pub fn meaning_of_renamed<E, F, V>()
         → taken (renamed_map f m) (map (renamed_record f) rs) g s ≡ renamed_map f (taken m rs) g s }
 {}
 
-/// Entries read otherwise twice are read by the one reading after the other: so what is said of places is
-/// said of bytes wherever a record of places and a record of bytes come from the same entries.
+/// Applying two functions in turn to the entries is the same as applying one after the other at once. What holds for
+/// places thus holds for bytes, if a record of places and a record of bytes come from the same entries.
 pub fn renamed_twice<E, F, H, V>()
     ensures { (f : E → F) (h : F → H) (r : Record E V)
         → renamed_record h (renamed_record f r) ≡ renamed_record (λ e. h (f e)) r }

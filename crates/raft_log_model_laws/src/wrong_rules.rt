@@ -1,5 +1,5 @@
-//! Rules that a log store might follow, and short logs for which they are wrong: what the log means, what the
-//! right rule makes of it, and what the wrong one would.
+//! Rules that a log store might follow, and short logs for which they are wrong: the meaning of the log, the result of
+//! the right rule, and that of the wrong one.
 
 ghost use Rattle.std.specs.Prelude.{◌≡◌, ◌++◌, ◌∷◌, [], Some, None, true};
 ghost use Rattle.raft_log_model_laws.specs.Item.Item.{Put};
@@ -30,14 +30,14 @@ ghost use Rattle.raft_log_model_laws.specs.Examples.{
   six_and_seven,
 };
 
-/// Rewritten keys go over appended ones: an old value is back.
+/// Rewritten keys override appended ones: an old value is back.
 pub fn rewritten_key_overrides()
     ensures right { voter_in (Put voter 1 ∷ []) (Put voter 2 ∷ []) ≡ Some (Value 2) }
     ensures wrong { voter_if_rewrite_last (Put voter 1 ∷ []) (Put voter 2 ∷ []) ≡ Some (Value 1) }
 {}
 
-/// Rewritten entries are written again in two records with no atomic group: after the first of them the
-/// second half is gone.
+/// Rewritten entries are written again in two records without an atomic group: after the first record the second half
+/// is gone.
 pub fn half_a_rewrite()
     ensures right { entry_in 3 (old_file ++ first_part) ≡ Some (Entry 3) }
     ensures wrong { entry_in 3 (old_file ++ half) ≡ None }
@@ -51,7 +51,7 @@ pub fn chunk_drops_open_group()
     ensures wrong { holds (Index 3) (rewritten 1 first_part ++ rewritten 1 second_part) ≡ None }
 {}
 
-/// A group that a border cuts is put behind all of the later segment: it goes over what is newer.
+/// A group that a border cuts is put after all of the later segment: it overrides what is newer.
 pub fn completed_group_last()
     ensures whole { value_in (begun ++ ended_then_newer) ≡ Some (Value 2) }
     ensures right { holds (Key voter) (of_group 1 (merge (segment begun) (segment ended_then_newer)).counted)
@@ -61,9 +61,9 @@ pub fn completed_group_last()
         ≡ Some (Value 1) }
 {}
 
-/// Append's items are read on behind Rewrite's table, in their order: Rewrite has entry 6, the files that
-/// Append still has begin with 8 to 11 and then have 7. Neither queue has a hole and 6 and 7 stand, yet 8
-/// would be past the end of Rewrite's entry, so that such an open is refused or drops entry 6.
+/// Append's items are applied to Rewrite's table, in their order. Rewrite has entry 6; the remaining files of Append
+/// begin with 8 to 11 and then have 7. Neither queue has a hole, and the directory has entries 6 and 7. Yet 8 is past
+/// the end of Rewrite's entry, so that such an open fails or drops entry 6.
 pub fn append_read_on_in_order()
     ensures whole { NoHole nothing six × NoHole nothing eight_then_seven }
     ensures means { shown 5 7 six eight_then_seven ≡ six_and_seven }

@@ -1,4 +1,4 @@
--- Files are cut behind what was read of them.
+-- Files are truncated after what was read of them.
 use Rattle.std.specs.Prelude.{◌≡◌, ℕ, Bool, true, false, List, [], ◌∷◌, take, slice_index_or, unwrap_or}
 use Rattle.std.specs.declared.io.ErrorKind.{ErrorKind}
 use Rattle.raft_log_disk.specs.Disk.{Disk}
@@ -6,29 +6,29 @@ use Rattle.raft_log_file_queue.specs.TakingUp.{TrimMakes, Trims}
 use Rattle.raft_log_file_queue.specs.declared.format.File.{File}
 use Rattle.raft_log_open_found.specs.declared.file_ending.FileEnding.{FileEnding}
 
--- where damage stands behind its last good record, or behind nothing, the file is cut there and synced
+-- a file that is damaged is truncated after its last good record, or to nothing without a header, and synced
 abbrev pub CutsIf : Bool → File → FileEnding → Disk → Disk → Type 0
 CutsIf true file ending old new = Trims file.handle (unwrap_or ending.end 0) old new
 CutsIf false file ending old new = new ≡ old
 
--- a file whose ending tells of damage is cut behind its last good record, or behind nothing, and synced
+-- the same, by whether the file's ending says damage
 abbrev pub CutsOne : File → FileEnding → Disk → Disk → Type 0
 CutsOne file ending old new = CutsIf ending.is_damaged file ending old new
 
--- a file that is damaged wasn't cut, or not synced then
+-- a damaged file wasn't truncated, or not synced then
 pub record FailsToCutOne (file : File) (ending : FileEnding) (kind : ErrorKind) (old new : Disk)
     : Type 0 where
   pub damaged : ending.is_damaged ≡ true
   pub makes : TrimMakes file.handle (unwrap_or ending.end 0) kind old new
 
--- of these files, in order, each whose ending tells of damage is cut so and synced
+-- each of these files that has damage is truncated so and synced, in order
 abbrev pub CutsEach : List File → List FileEnding → Disk → Disk → Type 0
 CutsEach [] endings old new = new ≡ old
 CutsEach (file ∷ files) [] old new = new ≡ old
 CutsEach (file ∷ files) (ending ∷ endings) old new =
     (mid : Disk) × CutsOne file ending old mid × CutsEach files endings mid new
 
--- the file in some place wasn't cut; those before it are
+-- the file in some place wasn't truncated; those before it are
 pub record FailsToCutEach (files : List File) (endings : List FileEnding) (kind : ErrorKind)
     (old new : Disk) : Type 0 where
   pub at : ℕ

@@ -9,13 +9,13 @@ use Rattle.raft_log_file_format.specs.Name.{IsNameRefusal}
 use Rattle.raft_log_file_queue.specs.Layout.{FilePaths, path_of}
 use Rattle.raft_log_file_queue.specs.declared.format.File.{File}
 
--- a file was deleted, or the file system refused that
+-- a file was deleted, or its deletion failed
 pub data DropsOrNot (paths : FilePaths) (file : File) (old new : Disk) : Type 0 where
   dropped : Deletes (path_of paths file) old new → DropsOrNot paths file old new
   refused : (kind : ErrorKind) → FailsToDelete (path_of paths file) kind old new
       → DropsOrNot paths file old new
 
--- each of these files was deleted, or the file system refused that, one after the other
+-- each of these files was deleted, or its deletion failed, one after another
 abbrev pub DropsEach : FilePaths → List File → Disk → Disk → Type 0
 DropsEach paths [] old new = new ≡ old
 DropsEach paths (file ∷ files) old new =

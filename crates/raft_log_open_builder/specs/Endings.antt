@@ -1,4 +1,4 @@
--- The files of a queue, with what is told of each.
+-- The files of a queue, with the result of reading each.
 use Rattle.std.specs.Prelude.{ℕ, Option, None, List, [], ◌∷◌}
 use Rattle.raft_log_file_queue.specs.declared.format.File.{File}
 use Rattle.raft_log_open_found.specs.declared.file_ending.FileEnding.{FileEnding}

@@ -7,13 +7,12 @@ use Rattle.raft_log_file_settings.specs.declared.config.Config.{Config}
 use Rattle.raft_log_open_builder.specs.Scanning.{ScansLog}
 use Rattle.raft_log_open_builder.specs.declared.builder.DualPipesBuilder.{DualPipesBuilder}
 
--- the settings have no fault, and the builder has them, made whole
+-- the settings have no fault, and the builder has them, sanitized
 pub record IsBegun (config : Config) (b : DualPipesBuilder) : Type 0 where
   pub sound : HasNoFault (settings_of config)
   pub whole : settings_of b.config ≡ sanitized (settings_of config)
 
--- the settings have no fault, and the log's directories were scanned: the builder has the files that were
--- found
+-- the settings have no fault, and the log's directories were scanned: the builder has the files that were found
 pub record FindsLog (config : Config) (b : DualPipesBuilder) (old new : Disk) : Type 0 where
   pub begun : DualPipesBuilder
   pub begins : IsBegun config begun

@@ -1,4 +1,4 @@
--- What opening the pipes of a recovered log leaves, answered and refused.
+-- What opening the pipes of a recovered log leaves, whether it succeeds or fails.
 use Rattle.std.specs.Prelude.{◌≡◌, ℕ, List, [], length, codes}
 use Rattle.std.specs.String.{string_bytes}
 use Rattle.std.specs.declared.io.ErrorKind.{ErrorKind}
@@ -21,13 +21,13 @@ use Rattle.raft_log_open_builder.specs.Syncing.{FailsToSyncEach, SyncsEach}
 use Rattle.raft_log_open_builder.specs.declared.builder.DualPipesBuilder.{DualPipesBuilder}
 use Rattle.raft_log_open_builder.specs.declared.recovered_queue.RecoveredQueue.{RecoveredQueue}
 
--- how many files the pipe of a queue may have before a purge deletes some: of Rewrite none is kept for use
+-- how many files the pipe of a queue may have before a purge deletes some; Rewrite keeps none for recycling
 abbrev pub capacity_of : LogQueue → Config → ℕ
 capacity_of Append config = recycle_capacity (settings_of config)
 capacity_of Rewrite config = 0
 
--- The pipe that the settings want of a queue: in the log's directories, with new files in their format and of
--- their size.
+-- The pipe that the settings want for a queue: in the log's directories, with new files in their format and of their
+-- size.
 pub record IsWantedAs (queue : LogQueue) (config : Config) (pipe : FoundPipe) : Type 0 where
   pub lies : IsFoundAs queue (paths_of config) pipe
   pub version : pipe.settings.new_files.format.version ≡ config.format_version
@@ -35,8 +35,10 @@ pub record IsWantedAs (queue : LogQueue) (config : Config) (pipe : FoundPipe) : 
   pub size : pipe.settings.new_files.target_size ≡ config.target_file_size.0
   pub capacity : pipe.settings.capacity ≡ capacity_of queue config
 
--- A queue as it was recovered, for its pipe: each file in the format that was read of it, how far the last one
--- was read, and the files that are kept for use.
+-- A queue as it was recovered, for its pipe:
+-- - each file in the format that was read of it
+-- - how far the last one was read
+-- - the files that are kept for recycling
 pub record IsPipeRecovered (queue : LogQueue) (config : Config) (read : RecoveredQueue) (kept : List File)
     (pipe : FoundPipe) : Type 0 where
   pub wanted : IsWantedAs queue config pipe
@@ -44,12 +46,12 @@ pub record IsPipeRecovered (queue : LogQueue) (config : Config) (read : Recovere
   pub end : pipe.found.end ≡ end_of_last read.endings.items
   pub spares : pipe.found.recycled.items ≡ kept
 
--- something is told of each file of both queues
+-- each file of both queues has a result
 pub record IsAllRead (b : DualPipesBuilder) : Type 0 where
   pub append : length b.append.endings.items ≡ length (append_files b)
   pub rewrite : length b.rewrite.endings.items ≡ length (rewrite_files b)
 
--- the files of both queues were synced, Append's first, and behind them those that are kept for use
+-- the files of both queues were synced, Append's first, and after them those that are kept for recycling
 pub record SyncsLog (b : DualPipesBuilder) (old new : Disk) : Type 0 where
   pub between : Disk
   pub behind : Disk
@@ -77,11 +79,11 @@ pub record OpensRecovered (b : DualPipesBuilder) (old : Disk) (v : LogPipes) : T
   pub rewrite_is : IsPipeRecovered Rewrite b.config b.rewrite [] rewrite
   pub opens : OpensLog append rewrite synced v
 
--- how it is told that files weren't recovered
+-- the message if files weren't recovered
 abbrev pub told_unread : List ℕ
 told_unread = codes "the log's files weren't recovered"
 
--- files weren't recovered, or memory ran out for saying so
+-- files weren't recovered; `Memory` if there was none for the message
 abbrev pub TellsUnread : Error → Type 0
 TellsUnread (errors.InvalidArgument text) = string_bytes text ≡ told_unread
 TellsUnread errors.Memory = Unit {0}

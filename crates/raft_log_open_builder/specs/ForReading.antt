@@ -1,4 +1,4 @@
--- What a log that is only read leaves, answered and refused: its files may have an alignment.
+-- What reading a log without opening it leaves, whether it succeeds or fails: its files may have an alignment.
 use Rattle.std.specs.Prelude.{◌≡◌, List}
 use Rattle.std.specs.declared.io.ErrorKind.{ErrorKind}
 use Rattle.raft_log_record_base.specs.declared.errors.Error.{Error}
@@ -12,7 +12,7 @@ use Rattle.raft_log_open_builder.specs.Cutting.{CutsEach, FailsToCutEach}
 use Rattle.raft_log_open_builder.specs.Recovering.{append_config, append_files, rewrite_config, rewrite_files}
 use Rattle.raft_log_open_builder.specs.declared.builder.DualPipesBuilder.{DualPipesBuilder}
 
--- the machines have read both queues, as they stand on the disk, and this is told of their files
+-- the machines have read both queues from the disk, with these results for their files
 pub record HasReadQueues {M : Type 0} (reads : LogQueue → List Batch → M → Type 0) (b : DualPipesBuilder)
     (d : Disk) (append rewrite : M) (append_endings rewrite_endings : List FileEnding) : Type 0 where
   pub append_read : HasReadFiles reads (append_config b) (append_files b) d append append_endings
@@ -29,14 +29,14 @@ pub data QueuesAreUnread {M : Type 0} (reads : LogQueue → List Batch → M →
       → FilesAreUnread declines (rewrite_config b) (rewrite_files b) d error
       → QueuesAreUnread reads declines b d error
 
--- the damaged files of both queues were cut, Append's first
+-- the damaged files of both queues were truncated, Append's first
 pub record CutsBoth (b : DualPipesBuilder) (append_endings rewrite_endings : List FileEnding)
     (old new : Disk) : Type 0 where
   pub between : Disk
   pub append_cut : CutsEach (append_files b) append_endings old between
   pub rewrite_cut : CutsEach (rewrite_files b) rewrite_endings between new
 
--- a damaged file wasn't cut, of Append, or of Rewrite, when those of Append were
+-- a damaged file wasn't truncated: one of Append's; or one of Rewrite's, after those of Append were
 pub data FailsToCutBoth (b : DualPipesBuilder) (append_endings rewrite_endings : List FileEnding)
     (kind : ErrorKind) (old new : Disk) : Type 0 where
   append : FailsToCutEach (append_files b) append_endings kind old new
@@ -45,7 +45,7 @@ pub data FailsToCutBoth (b : DualPipesBuilder) (append_endings rewrite_endings :
       → FailsToCutEach (rewrite_files b) rewrite_endings kind between new
       → FailsToCutBoth b append_endings rewrite_endings kind old new
 
--- both queues were read, and then their damaged files were cut
+-- both queues were read, and then their damaged files were truncated
 pub record ReadsLog {M : Type 0} (reads : LogQueue → List Batch → M → Type 0) (append rewrite : M)
     (b : DualPipesBuilder) (old new : Disk) : Type 0 where
   pub append_endings : List FileEnding
@@ -53,7 +53,7 @@ pub record ReadsLog {M : Type 0} (reads : LogQueue → List Batch → M → Type
   pub read : HasReadQueues reads b old append rewrite append_endings rewrite_endings
   pub cut : CutsBoth b append_endings rewrite_endings old new
 
--- why the log wasn't read: a queue wasn't, and nothing is cut then; or a damaged file wasn't cut
+-- why the log wasn't read: a queue wasn't, and then nothing is truncated; or a damaged file wasn't truncated
 pub data FailsToReadLog {M : Type 0} (reads : LogQueue → List Batch → M → Type 0)
     (declines : LogQueue → List Batch → Error → Type 0) (b : DualPipesBuilder) (error : Error)
     (old new : Disk) : Type 0 where

@@ -1,5 +1,5 @@
--- Reserved files are made, and filled with zeros. What is said of a file system's states is told by what is
--- on its disk, and by what it may tell of a directory's space.
+-- Reserved files are made, and filled with zeros. A file system's state is given by its disk, and by what it may
+-- return for a directory's space.
 use Rattle.std.specs.Prelude.{◌≡◌, ◌+◌, ◌<◌, ◌≤◌, ◌^◌, ℕ, suc, Bool, true, false, ◌||◌, List, [], ◌∷◌, length}
 use Rattle.raft_log_record_base.specs.declared.errors.Error.{Error}
 use Rattle.raft_log_record_base.specs.declared.errors.Error.TheVariants as errors
@@ -13,15 +13,14 @@ use Rattle.raft_log_file_queue.specs.declared.format.File.{File}
 use Rattle.raft_log_file_pipe.specs.Placing.{IsChosen}
 use Rattle.raft_log_open_builder.specs.Filling.{FillsOrNot}
 
--- As one wasn't made, fewer were than were asked for; but for want of memory for the list, all may have been.
+-- How many files were made if one failed: fewer than requested; or perhaps all, if memory ran out for the list.
 abbrev pub AreFewer : Error → ℕ → ℕ → Type 0
 AreFewer errors.Memory made count = made ≤ count
 AreFewer _ made count = made < count
 
 module _ {F : Type 0} (disk : F → Disk) (tells : F → List ℕ → ℕ → Type 0) where
-  -- A file was made under the reserved name of a number, in the first directory with room for it as the file
-  -- system stood before, and filled with zeros up to a size, as far as that was let; and whether there was no
-  -- space.
+  -- A file was made under the reserved name of a number, in the first directory that had room for it before. It was
+  -- filled with zeros up to a size, as far as writes succeeded; and whether there was no space.
   pub record Makes (paths : FilePaths) (bytes : List ℕ) (size seq : ℕ) (file : File) (full : Bool)
       (old new : F) : Type 0 where
     pub number : file.seq ≡ seq
@@ -34,8 +33,7 @@ module _ {F : Type 0} (disk : F → Disk) (tells : F → List ℕ → ℕ → Ty
     pub creates : Creates (path_of paths file) file.handle.file (disk old) created
     pub fills : FillsOrNot file.handle bytes size full created (disk new)
 
-  -- Why a file wasn't made: for want of memory, or of a number; or its creation was refused in that
-  -- directory.
+  -- Why a file wasn't made: memory ran out, its number has no name, or its creation failed in that directory.
   abbrev pub FailsToMake : FilePaths → ℕ → ℕ → Error → F → F → Type 0
   FailsToMake paths size seq errors.Memory old new = disk new ≡ disk old
   FailsToMake paths size seq errors.NumberRange old new = (10 ^ 16 ≤ seq) × (disk new ≡ disk old)

@@ -1,4 +1,4 @@
--- The reserved files of a log, as an open readies them.
+-- The reserved files of a log, as an open prepares them.
 use Rattle.std.specs.Prelude.{◌≡◌, ◌-◌, ◌⊎◌, ◌^◌, ◌++◌, ℕ, suc, min, max, Bool, if◌then◌else◌, Option, Some, None, List, length, take, drop, reverse}
 use Rattle.std.specs.List.{last_or}
 use Rattle.raft_log_record_base.specs.declared.errors.Error.{Error}
@@ -8,24 +8,24 @@ use Rattle.raft_log_file_queue.specs.declared.format.File.{File}
 use Rattle.raft_log_open_builder.specs.Dropping.{DropsEach, FailsToDropEach}
 use Rattle.raft_log_open_builder.specs.Making.{FailsToMakeEach, MakesEach}
 
--- the number behind that of a file, or the greatest that there is; the first one where there is no file
+-- the number after that of a file, or the greatest that there is; the first one if there is no file
 abbrev pub number_behind : Option File → ℕ
 number_behind None = 1
 number_behind (Some file) = min (suc file.seq) (2 ^ 64 - 1)
 
--- the number behind that of the last of these
+-- the number after that of the last of these
 abbrev pub next_number : List File → ℕ
 next_number files = number_behind (last_or None files)
 
--- the zeros that are written at a time: of the size of a file, and 16 MiB at most
+-- the zeros that are written at a time: of the size of a file, at most 16 MiB
 abbrev pub piece : ℕ → List ℕ
 piece size = zeros (max 1 (min size (2 ^ 24)))
 
--- how many files are kept: none where there was no space for one
+-- how many files are kept: none if there was no space for one
 abbrev pub kept_of : Bool → ℕ → ℕ
 kept_of full wanted = if full then 0 else wanted
 
--- The states of a file system, by what is on its disk, and by what it may tell of a directory's space.
+-- The states of a file system, by its disk, and by what it may return for a directory's space.
 module _ {F : Type 0} (disk : F → Disk) (tells : F → List ℕ → ℕ → Type 0) where
   -- files were made until there were as many as are wanted
   pub record MakesMissing (paths : FilePaths) (size wanted : ℕ) (files all : List File) (full : Bool)
@@ -35,8 +35,8 @@ module _ {F : Type 0} (disk : F → Disk) (tells : F → List ℕ → ℕ → Ty
     pub all_is : all ≡ files ++ made
     pub makes : MakesEach disk tells paths (piece size) size (next_number files) made full old new
 
-  -- Files were made until there were as many as are wanted; then those past what is kept were deleted, from
-  -- the newest on.
+  -- Files were made until there were as many as are wanted; then those past what is kept were deleted, from the
+  -- newest on.
   pub record Readies (paths : FilePaths) (size wanted : ℕ) (files kept : List File) (old new : F)
       : Type 0 where
     pub all : List File

@@ -1,4 +1,4 @@
--- What a recovery of both queues leaves, answered and refused.
+-- What a recovery of both queues leaves, whether it succeeds or fails.
 use Rattle.std.specs.Prelude.{◌≡◌, ◌+◌, ℕ, min, length, List}
 use Rattle.std.specs.declared.io.ErrorKind.{ErrorKind}
 use Rattle.raft_log_record_base.specs.declared.errors.Error.{Error}
@@ -18,7 +18,7 @@ use Rattle.raft_log_open_builder.specs.Cutting.{CutsEach, FailsToCutEach}
 use Rattle.raft_log_open_builder.specs.Unaligned.{AreUnaligned, TellsAligned}
 use Rattle.raft_log_open_builder.specs.declared.builder.DualPipesBuilder.{DualPipesBuilder}
 
--- how the settings have a queue's files recovered, by so many workers
+-- how a queue's files are recovered by these settings, with so many workers
 abbrev pub recovery_of : Config → LogQueue → ℕ → RecoveryConfig
 recovery_of config queue workers = record {
   queue = queue;
@@ -50,8 +50,7 @@ abbrev pub rewrite_config : DualPipesBuilder → RecoveryConfig
 rewrite_config b = recovery_of b.config Rewrite
     (rewrite_share (all_workers b) (length (append_files b)) (length (rewrite_files b)))
 
--- The machines have read both queues, as they stand on the disk, and this is told of their files, none of
--- which has an alignment.
+-- The machines have read both queues from the disk, with these results for their files. No file has an alignment.
 pub record HasReadBoth {M : Type 0} (reads : LogQueue → List Batch → M → Type 0) (b : DualPipesBuilder)
     (d : Disk) (append rewrite : M) (append_endings rewrite_endings : List FileEnding) : Type 0 where
   pub append_read : HasReadFiles reads (append_config b) (append_files b) d append append_endings
@@ -59,7 +58,7 @@ pub record HasReadBoth {M : Type 0} (reads : LogQueue → List Batch → M → T
   pub append_unaligned : AreUnaligned append_endings
   pub rewrite_unaligned : AreUnaligned rewrite_endings
 
--- both queues were read, and then their damaged files were cut, Append's first
+-- both queues were read, and then their damaged files were truncated, Append's first
 pub record RecoversLog {M : Type 0} (reads : LogQueue → List Batch → M → Type 0) (append rewrite : M)
     (b after : DualPipesBuilder) (old new : Disk) : Type 0 where
   pub read : HasReadBoth reads b old append rewrite after.append.endings.items after.rewrite.endings.items
@@ -69,8 +68,10 @@ pub record RecoversLog {M : Type 0} (reads : LogQueue → List Batch → M → T
   pub same : (after.config ≡ b.config) × (after.append.files ≡ b.append.files)
       × (after.rewrite.files ≡ b.rewrite.files) × (after.reserved ≡ b.reserved)
 
--- Why the queues weren't recovered: a queue wasn't read, or one of the files that were read has an alignment,
--- and nothing is cut then; or a damaged file wasn't cut.
+-- Why the queues weren't recovered:
+-- - a queue wasn't read, and nothing is truncated
+-- - one of the files that were read has an alignment, and nothing is truncated
+-- - a damaged file wasn't truncated
 pub data FailsToRecoverLog {M : Type 0} (reads : LogQueue → List Batch → M → Type 0)
     (declines : LogQueue → List Batch → Error → Type 0) (b : DualPipesBuilder) (error : Error)
     (old new : Disk) : Type 0 where

@@ -1,4 +1,4 @@
--- What a recovery of one queue leaves, answered and refused.
+-- What a recovery of one queue leaves, whether it succeeds or fails.
 use Rattle.std.specs.Prelude.{◌≡◌, List}
 use Rattle.std.specs.declared.io.ErrorKind.{ErrorKind}
 use Rattle.raft_log_record_base.specs.declared.errors.Error.{Error}
@@ -15,8 +15,8 @@ use Rattle.raft_log_open_builder.specs.Unaligned.{AreUnaligned, TellsAligned}
 use Rattle.raft_log_open_builder.specs.declared.builder.DualPipesBuilder.{DualPipesBuilder}
 use Rattle.raft_log_open_builder.specs.declared.recovered_queue.RecoveredQueue.{RecoveredQueue}
 
--- The machine has read the queue, as it stood on the disk; none of its files has an alignment; and then those
--- that are damaged were cut.
+-- The machine has read the queue from the disk, and none of its files has an alignment. Then its damaged files were
+-- truncated.
 pub record RecoversFiles {M : Type 0} (reads : LogQueue → List Batch → M → Type 0) (config : RecoveryConfig)
     (machine : M) (q after : RecoveredQueue) (old new : Disk) : Type 0 where
   pub read : HasReadFiles reads config q.files.items old machine after.endings.items
@@ -24,8 +24,10 @@ pub record RecoversFiles {M : Type 0} (reads : LogQueue → List Batch → M →
   pub cut : CutsEach q.files.items after.endings.items old new
   pub same : after.files ≡ q.files
 
--- Why a queue wasn't recovered: it wasn't read, or one of the files has an alignment, and nothing is cut
--- then; or a damaged file wasn't cut.
+-- Why a queue wasn't recovered:
+-- - it wasn't read, and nothing is truncated
+-- - one of the files has an alignment, and nothing is truncated
+-- - a damaged file wasn't truncated
 pub data FailsToRecoverFiles {M : Type 0} (reads : LogQueue → List Batch → M → Type 0)
     (declines : LogQueue → List Batch → Error → Type 0) (config : RecoveryConfig) (q : RecoveredQueue)
     (error : Error) (old new : Disk) : Type 0 where
@@ -46,7 +48,7 @@ abbrev pub queue_files : LogQueue → DualPipesBuilder → RecoveredQueue
 queue_files Append b = b.append
 queue_files Rewrite b = b.rewrite
 
--- the builder, but for what it has of one queue
+-- only what the builder has of one queue changed
 abbrev pub OtherQueueIsKept : LogQueue → DualPipesBuilder → DualPipesBuilder → Type 0
 OtherQueueIsKept Append b after = after ≡ record b { append = after.append }
 OtherQueueIsKept Rewrite b after = after ≡ record b { rewrite = after.rewrite }

@@ -1,4 +1,4 @@
--- What a builder has once the directories of its log were scanned.
+-- What a builder has after the directories of its log were scanned.
 use Rattle.std.specs.Prelude.{◌≡◌, []}
 use Rattle.raft_log_record_base.specs.declared.errors.Error.{Error}
 use Rattle.raft_log_record_base.specs.declared.errors.Error.TheVariants as errors
@@ -17,8 +17,8 @@ pub record HasFound (b : DualPipesBuilder) (found : ScannedFiles) : Type 0 where
   pub append_unread : b.append.endings.items ≡ []
   pub rewrite_unread : b.rewrite.endings.items ≡ []
 
--- The directories are there, and their files were found; then what the file system kept beside older files
--- was deleted, as far as it let it be. No file changed.
+-- The directories are there, and their files were found. Then what the file system kept beside older files was
+-- deleted, as far as the deletions succeeded. No file changed.
 pub record ScansLog (b after : DualPipesBuilder) (old new : Disk) : Type 0 where
   pub found : ScannedFiles
   pub scanned : Disk
@@ -27,8 +27,8 @@ pub record ScansLog (b after : DualPipesBuilder) (old new : Disk) : Type 0 where
   pub has : HasFound after found
   pub same : after.config ≡ b.config
 
--- Why the directories weren't scanned: memory ran out, and nothing was done; or as the scan itself is
--- refused; or memory ran out behind it. No file changed.
+-- Why the directories weren't scanned: memory ran out, and nothing was done; the scan itself failed; or memory ran
+-- out after it. No file changed.
 pub data FailsToScanLog (b : DualPipesBuilder) (error : Error) (old new : Disk) : Type 0 where
   unready : error ≡ errors.Memory → new ≡ old → FailsToScanLog b error old new
   unscanned : FailsToScan (paths_of b.config) error old new → FailsToScanLog b error old new

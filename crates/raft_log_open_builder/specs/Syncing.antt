@@ -1,4 +1,4 @@
--- Files are synced, one behind the other.
+-- Files are synced, one after another.
 use Rattle.std.specs.Prelude.{◌≡◌, List, [], ◌∷◌, ◌++◌}
 use Rattle.std.specs.declared.io.ErrorKind.{ErrorKind}
 use Rattle.raft_log_disk.specs.Disk.{Disk}

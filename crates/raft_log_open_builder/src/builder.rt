@@ -1,4 +1,4 @@
-//! From a log's directories to what its files say.
+//! From a log's directories to the contents of its files.
 
 ghost use Rattle.std.specs.Prelude.{◌≡◌, ◌≤◌, ◌↔◌, length, IfErr, IfOk, IsTrue, OnErr, OnOk, []};
 
@@ -28,8 +28,7 @@ use std::marker::Send;
 use std::mem;
 use std::thread::Threads;
 
-/// Scans the directories of a log, and recovers what its files say, in this order. The file system is lent to
-/// each call.
+/// Scans the directories of a log, and recovers its files, in this order. Each call borrows the file system.
 #[derive(Drop)]
 pub struct DualPipesBuilder {
     config: Config,
@@ -69,12 +68,14 @@ impl DualPipesBuilder {
         &self.config
     }
 
-    /// Finds and opens the log's files; a directory that isn't there is made, and no file is changed. What the
-    /// file system keeps beside files below the first ones is deleted; a refusal of that is logged.
+    /// Finds and opens the log's files. Makes missing directories, and changes no file. Deletes what the file system
+    /// keeps beside files below the first ones; a failure of that is logged.
     ///
-    /// `Other` where a file has the path of a directory, `Corruption` where a name says a number and isn't
-    /// the one that is built for it, `Io` where a directory isn't made or the file system has stopped,
-    /// `Memory`: the builder is as it was.
+    /// If it fails, the builder is unchanged. Fails:
+    /// - with `Other` if a file has the path of a directory
+    /// - with `Corruption` if a name begins with a number and has more between it and the end
+    /// - with `Io` if a directory isn't made or the file system has stopped
+    /// - with `Memory`
     pub fn scan<F: FileSystem, L: Log>(
         &mut self,
         alloc: Global,
@@ -102,14 +103,15 @@ impl DualPipesBuilder {
         Ok(())
     }
 
-    /// Reads both queues at once, each by its share of the workers, into machines, that of Append and that of
-    /// Rewrite; then cuts the files that are damaged, Append's first, each behind its last good record, and
-    /// syncs them.
+    /// Reads both queues at once, each by its share of the workers, into machines, Append's and Rewrite's. Then
+    /// truncates the damaged files, Append's first, each after its last good record, and syncs them.
     ///
-    /// Nothing is cut unless all files of both queues could be read and none has an alignment. `Io` where a
-    /// read is refused, which is never taken for damage; `Corruption` or `Codec` for damage that isn't
-    /// tolerated; why a machine declines a record; `InvalidArgument` for an alignment; `Memory`. `Io` where a
-    /// file isn't cut or synced: those before it are.
+    /// Truncates nothing unless all files of both queues could be read and none has an alignment. Fails:
+    /// - with `Io` if a read fails, which is never taken for damage
+    /// - with `Corruption` or `Codec` for damage that isn't tolerated
+    /// - with a machine's error if it declines a record
+    /// - with `InvalidArgument` for an alignment, or with `Memory`
+    /// - with `Io` if a file isn't truncated or synced; those before it are
     pub fn recover<
         R: Threads + Log + Sync,
         F: FileSystem + Sync,
@@ -125,10 +127,10 @@ impl DualPipesBuilder {
         self.recover_by(rt, alloc, ReplayThreads::Rayon, file_system, factory)
     }
 
-    /// Recovers the log as `recover` does, but reads it by scoped threads: one for each chunk of both queues,
-    /// however many processors there are.
+    /// Recovers the log as `recover` does, but reads it by scoped threads: one for each chunk of both queues, however
+    /// many processors there are.
     ///
-    /// Refused as `recover` is.
+    /// Fails as `recover` does.
     pub fn recover_scoped<
         R: Threads + Log + Sync,
         F: FileSystem + Sync,
@@ -146,7 +148,7 @@ impl DualPipesBuilder {
 
     /// Recovers the log as `recover` does, by these threads.
     ///
-    /// Refused as `recover` is.
+    /// Fails as `recover` does.
     pub fn recover_by<
         R: Threads + Log + Sync,
         F: FileSystem + Sync,
@@ -176,10 +178,10 @@ impl DualPipesBuilder {
         Ok((append.machine, rewrite.machine))
     }
 
-    /// Reads both queues and cuts the files that are damaged, as `recover` does, files with an alignment too: for
-    /// who reads the log, and opens no pipe over it. The builder takes no file for recovered.
+    /// Reads both queues and truncates the damaged files, as `recover` does; takes files with an alignment too. It is
+    /// for callers that read the log and open no pipe over it: the builder counts no file as recovered.
     ///
-    /// Refused as `recover` is, but for an alignment.
+    /// Fails as `recover` does, except for an alignment.
     pub fn recover_for_reading<
         R: Threads + Log + Sync,
         F: FileSystem + Sync,
@@ -197,9 +199,9 @@ impl DualPipesBuilder {
         Ok((append.machine, rewrite.machine))
     }
 
-    /// Reads both queues at once, each by its share of the workers, by these threads. Nothing is changed.
+    /// Reads both queues at once, each by its share of the workers, by these threads. Changes nothing.
     ///
-    /// The error told is that of Append, if it is refused.
+    /// Fails with Append's error if Append isn't read, else with Rewrite's.
     fn read_both<R: Threads + Sync, F: FileSystem + Sync, M: ReplayMachine + Send, FA: Factory<M>>(
         &self,
         rt: &R,
@@ -233,8 +235,8 @@ impl DualPipesBuilder {
         Ok((append, rewrite))
     }
 
-    /// Cuts the files of both queues that are damaged, Append's first, and syncs them. Refused, those before one
-    /// are cut.
+    /// Truncates the damaged files of both queues, Append's first, and syncs them. If it fails, those before the
+    /// failed one are truncated.
     fn cut_both<F: FileSystem, L: Log>(
         &self,
         rt: &L,
@@ -253,8 +255,8 @@ impl DualPipesBuilder {
         cut_files(rt, file_system, &self.rewrite.files, rewrite)
     }
 
-    /// Reads one queue by workers into a machine, as this says; then cuts its files that are damaged, each
-    /// behind its last good record, and syncs them. Refused as `recover` is.
+    /// Reads one queue by workers into a machine, as `config` requires. Then truncates its damaged files, each after
+    /// its last good record, and syncs them. Fails as `recover` does.
     pub fn recover_queue<
         R: Threads + Log + Sync,
         F: FileSystem + Sync,
@@ -284,13 +286,16 @@ impl DualPipesBuilder {
         }
     }
 
-    /// Readies the files that are kept for use under reserved names: with `prefill_for_recycle` there are made
-    /// as many as the settings want beside the files of Append, filled with zeros; those past that are deleted,
-    /// from the newest on. To be called before `finish`, behind `scan`.
+    /// Prepares the reserved files. With `prefill_for_recycle`, makes as many as the settings want in addition to the
+    /// files of Append, filled with zeros. Deletes those past that, from the newest on. Call it after `scan` and
+    /// before `finish`.
     ///
-    /// `Memory` before anything is done: the builder is as it was. Then `Io` where a file isn't made,
-    /// `NumberRange` where there is no name for one that is to be made or deleted, `Memory`: those before it were
-    /// made or deleted, and the builder knows of none.
+    /// Fails with `Memory` before anything is done, and leaves the builder unchanged. Later it fails:
+    /// - with `Io` if a file isn't made
+    /// - with `NumberRange` if there is no name for one that is to be made or deleted
+    /// - with `Memory`
+    ///
+    /// Then those before it were made or deleted, and the builder has none.
     pub fn initialize_files<F: FileSystem, L: Log>(
         &mut self,
         alloc: Global,
@@ -318,14 +323,15 @@ impl DualPipesBuilder {
         Ok(())
     }
 
-    /// Opens the pipes of the log over its files as they were recovered, that of Append first; before that all
-    /// files are synced, so that nothing that was recovered is lost behind a stop, and those that are kept for
-    /// use, so that no record that one may hold counts under its next number. The file system is the pipes'
-    /// from then on.
+    /// Opens the pipes of the log over its files as they were recovered, Append's first. The file system moves to the
+    /// pipes.
     ///
-    /// Refused, it is handed back. `InvalidArgument` where not all files were recovered, `Memory`: nothing was
-    /// done. `Io` where a file isn't synced, or as either pipe is refused: all that was recovered is there
-    /// still, and may be scanned again.
+    /// Before that, syncs all files, so that a stop loses nothing that was recovered. It also syncs those that are
+    /// kept for recycling, so that no record that one may contain counts under its next number.
+    ///
+    /// If it fails, the file system is returned. Fails with `InvalidArgument` if not all files were recovered, or
+    /// with `Memory`: then nothing was done. Fails with `Io` if a file isn't synced, or as the open of either pipe
+    /// does. Then all that was recovered is still there, and may be scanned again.
     pub fn finish<F: FileSystem, L: Log>(
         self,
         alloc: Global,
@@ -364,8 +370,8 @@ impl DualPipesBuilder {
         self.append.is_read() && self.rewrite.is_read()
     }
 
-    /// The pipes that the settings want, where all files were recovered. `InvalidArgument` where some weren't;
-    /// `Memory`.
+    /// The pipes that the settings want, if all files were recovered. Fails with `InvalidArgument` if some weren't,
+    /// or with `Memory`.
     fn wanted_pipes(&self, alloc: Global) -> Result<(FoundPipe, FoundPipe)>
         ensures ok { IfOk result (λ pipes. IsAllRead self.now × IsWantedAs Append self.now.config pipes.0
             × IsWantedAs Rewrite self.now.config pipes.1) }
@@ -379,8 +385,8 @@ impl DualPipesBuilder {
         Ok((append, rewrite))
     }
 
-    /// Syncs the files of both queues, Append's first, and behind them those that are kept for use. Refused,
-    /// those before one are synced.
+    /// Syncs the files of both queues, Append's first, and after them those that are kept for recycling. If it fails,
+    /// those before the failed one are synced.
     fn sync_all<F: FileSystem>(&self, file_system: &mut F) -> Result<(), ErrorKind>
         ensures ok { OnOk result
             (SyncsLog self.now (F.disk file_system.old) (F.disk file_system.new)) }

@@ -1,4 +1,4 @@
-//! What a file system keeps beside files that a log has no more is deleted.
+//! Deletes what a file system keeps beside files that a log no longer has.
 
 ghost use Rattle.std.specs.Prelude.{◌≡◌, ◌<◌, ◌^◌, All, IfErr};
 ghost use Rattle.raft_log_record_base.specs.declared.errors.Error.TheVariants.{Memory};
@@ -13,8 +13,8 @@ use raft_log_open_scan::scanning::metadata::clear_metadata;
 use raft_log_record_base::Result;
 use std::alloc::Global;
 
-/// Deletes what the file system keeps beside files below the first ones of both queues; a refusal is logged.
-/// `Memory`: not all were asked for.
+/// Deletes what the file system keeps beside files below the first ones of both queues; a failure is logged. Fails
+/// only with `Memory`; then not all were deleted.
 pub(crate) fn clear_old<F: FileSystem, L: Log>(
     alloc: Global,
     rt: &L,

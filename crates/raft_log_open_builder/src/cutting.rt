@@ -1,4 +1,4 @@
-//! Files are cut behind what was read of them.
+//! Files are truncated after what was read of them.
 
 ghost use Rattle.std.specs.Prelude.{◌≡◌, ◌≤◌, length, IfErr, OnOk};
 ghost use Rattle.raft_log_open_builder.specs.Cutting.{CutsEach, CutsOne, FailsToCutEach, FailsToCutOne};
@@ -9,8 +9,8 @@ use raft_log_file_queue::File;
 use raft_log_open_found::FileEnding;
 use std::io::ErrorKind;
 
-/// Cuts each of these files that is damaged behind its last good record, or to nothing where it has no
-/// header, and syncs it, in order. Refused, those before one are cut.
+/// Truncates each damaged one of these files after its last good record, or to nothing if it has no header, and syncs
+/// it, in order. If it fails, those before the failed one are truncated.
 pub fn cut_files<F: FileSystem, L: Log>(
     rt: &L,
     file_system: &mut F,
@@ -29,7 +29,7 @@ pub fn cut_files<F: FileSystem, L: Log>(
     Ok(())
 }
 
-/// Cuts a file that is damaged, and syncs it.
+/// Truncates a damaged file, and syncs it.
 fn cut_file<F: FileSystem, L: Log>(
     rt: &L,
     file_system: &mut F,

@@ -10,8 +10,8 @@ use raft_log_file_queue::{File, PipeFormat};
 use raft_log_record_base::Result;
 use std::alloc::Global;
 
-/// Deletes a file; where the file system refuses it, that is logged. Refused where the file has no name, or
-/// for want of memory: nothing is done.
+/// Deletes a file; if the file system fails to, that is logged. Fails if the file has no name, or memory runs out;
+/// then nothing is done.
 fn drop_or_not<G: PipeFormat, F: FileSystem, L: Log>(
     alloc: Global,
     layout: &G,
@@ -34,8 +34,8 @@ fn drop_or_not<G: PipeFormat, F: FileSystem, L: Log>(
     }
 }
 
-/// Deletes these files from the newest on, all but so many of the oldest; what the file system refuses is
-/// passed over. Refused where one has no name, or for want of memory: those behind it are deleted so.
+/// Deletes these files from the newest on, all but so many of the oldest; continues after a deletion that fails.
+/// Fails if one has no name, or memory runs out; the newer ones were deleted so.
 pub(crate) fn drop_newest<G: PipeFormat, F: FileSystem, L: Log>(
     alloc: Global,
     layout: &G,

@@ -7,8 +7,8 @@ use log::{Log, warn};
 use raft_log_disk::{FileSystem, Handle};
 use std::io::ErrorKind;
 
-/// Writes these bytes into a file again and again, from its front on, until it reaches a size. Refused, the
-/// writes before that are done.
+/// Writes these bytes into a file again and again, from its start, until it reaches a size. If it fails, the writes
+/// before are done.
 fn fill<F: FileSystem>(
     file_system: &mut F,
     handle: Handle,
@@ -28,7 +28,7 @@ fn fill<F: FileSystem>(
     Ok(())
 }
 
-/// FillsFile a file so, as far as that is let; a refusal is logged. Answers whether there was no space.
+/// Fills a file so, as far as writes succeed; a failure is logged. Returns whether there was no space.
 pub(crate) fn fill_or_not<F: FileSystem, L: Log>(
     rt: &L,
     file_system: &mut F,
@@ -48,7 +48,7 @@ pub(crate) fn fill_or_not<F: FileSystem, L: Log>(
     }
 }
 
-/// Whether a write was refused for want of space.
+/// Whether a write failed for lack of space.
 fn is_no_space(kind: ErrorKind) -> bool
     ensures { IsTrue result ↔ HasNoSpace kind }
 {

@@ -1,4 +1,4 @@
-//! What was recovered of a queue, made ready for its pipe.
+//! What was recovered of a queue is put into its pipe.
 
 ghost use Rattle.std.specs.Prelude.{◌≡◌, IfErr, IfOk, length};
 ghost use Rattle.raft_log_record_base.specs.declared.errors.Error.TheVariants.{Memory};
@@ -18,7 +18,7 @@ use raft_log_record_base::{Error, LogQueue, Result};
 use std::alloc::Global;
 use std::collections::VecDeque;
 
-/// The pipe that the settings want of a queue of which no file is known. `Memory`.
+/// The pipe that the settings want for a queue without a known file. Fails only with `Memory`.
 pub(crate) fn wanted_pipe(alloc: Global, config: &Config, queue: LogQueue) -> Result<FoundPipe>
     ensures ok { IfOk result (IsWantedAs queue config.now) }
     ensures err { IfErr result (λ error. error ≡ Memory) }
@@ -45,8 +45,7 @@ pub(crate) fn wanted_pipe(alloc: Global, config: &Config, queue: LogQueue) -> Re
     })
 }
 
-/// Puts the files of a queue as they were recovered into the pipe that is wanted of it, with those that are
-/// kept for use.
+/// Puts the files of a queue as they were recovered into its pipe, with those that are kept for recycling.
 pub(crate) fn recovered_pipe(wanted: FoundPipe, read: RecoveredQueue, kept: Vec<File>) -> FoundPipe
     requires { length read.endings.items ≡ length read.files.items }
     ensures layout { result.layout ≡ wanted.layout }
@@ -94,7 +93,7 @@ fn set_formats(files: &mut [File], endings: &[FileEnding])
     }
 }
 
-/// How it is told that files weren't recovered.
+/// The error if files weren't recovered.
 pub(crate) fn unread(alloc: Global) -> Error
     ensures { TellsUnread result }
 {

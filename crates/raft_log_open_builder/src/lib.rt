@@ -1,5 +1,5 @@
-//! A directory that no engine has open is scanned and recovered: both queues are read by workers, nothing is cut
-//! before all could be read, and the files that the settings ask for are made ready for later records.
+//! Scans and recovers a directory that no engine has open. Workers read both queues, nothing is truncated before all
+//! could be read, and the files that the settings want are prepared for later records.
 #![tactic(auto)]
 
 pub mod builder;

@@ -13,11 +13,11 @@ use raft_log_file_queue::{File, PipeFormat};
 use raft_log_record_base::{Error, FileSeq, Result};
 use std::alloc::Global;
 
-/// Makes a file under the reserved name of a number, in the first directory with room for it, and fills it
-/// with zeros, as far as that is let. Answers it, and whether there was no space.
+/// Makes a file under the reserved name of a number, in the first directory with room for it. Fills it with zeros, as
+/// far as writes succeed. Returns it, and whether there was no space.
 ///
-/// `Memory`, or `NumberRange` where there is no such name: nothing is done. `Io` where its creation is
-/// refused.
+/// Fails with `Memory`, or with `NumberRange` if there is no such name: then nothing is done. Fails with `Io` if its
+/// creation fails.
 fn make_file<G: PipeFormat, F: FileSystem, L: Log>(
     alloc: Global,
     layout: &G,
@@ -49,8 +49,8 @@ fn make_file<G: PipeFormat, F: FileSystem, L: Log>(
     Ok((file, full))
 }
 
-/// Makes so many files with the numbers from one on, behind these. Answers whether there was no space for one
-/// of them. Refused as one of them is, those before it are there.
+/// Makes so many files with the numbers from one on, and appends them to these. Returns whether there was no space
+/// for one of them. If one fails, those before it are there.
 pub(crate) fn make_files<G: PipeFormat, F: FileSystem, L: Log>(
     alloc: Global,
     layout: &G,

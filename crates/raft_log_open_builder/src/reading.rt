@@ -16,12 +16,14 @@ use std::alloc::Global;
 use std::marker::Send;
 use std::thread::{Threads, join};
 
-/// Reads the files of a queue by workers, each a part of them in one of these threads, and puts together what
-/// they have read, in the order of the files. Nothing is changed; what is to be cut is told. Without a worker
-/// no file is read.
+/// Reads the files of a queue by workers, each a part of them in one of these threads. Joins what they have read, in
+/// the order of the files. Changes nothing; the result says where files are to be truncated. Without a worker no file
+/// is read.
 ///
-/// The error told is that of the first file that is refused: `Io` where a read is refused, `Corruption` or
-/// `Codec` for damage that isn't tolerated, or why the machine declines a record; or `Memory`.
+/// Fails with `Memory`, or with the error of the first file that isn't read:
+/// - `Io` if a read fails
+/// - `Corruption` or `Codec` for damage that isn't tolerated
+/// - the machine's error if it declines a record
 pub fn recover_files<F: FileSystem + Sync, M: ReplayMachine + Send, FA: Factory<M>>(
     rt: &(impl Threads + Sync),
     alloc: Global,
@@ -55,8 +57,8 @@ pub fn recover_files<F: FileSystem + Sync, M: ReplayMachine + Send, FA: Factory<
     answer
 }
 
-/// Reads both queues at once, each by its own workers as `recover_files` does: no worker of one queue waits for
-/// those of the other.
+/// Reads both queues at once, each by its own workers as `recover_files` does: no worker of one queue waits for those
+/// of the other.
 pub(crate) fn recover_both<
     R: Threads + Sync,
     F: FileSystem + Sync,

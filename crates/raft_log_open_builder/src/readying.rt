@@ -1,4 +1,4 @@
-//! The reserved files of a log are readied.
+//! The reserved files of a log are prepared.
 
 ghost use Rattle.std.specs.Prelude.{◌≡◌, IfErr, IfOk};
 ghost use Rattle.raft_log_record_base.specs.declared.errors.Error.TheVariants.{Memory};
@@ -15,12 +15,12 @@ use std::alloc::Global;
 /// How many zeros are written at a time, at most.
 const PREFILL_BUFFER_SIZE: usize = 16777216;
 
-/// Makes files under reserved names behind these, filled with zeros up to a size, until there are as many as
-/// are wanted; and deletes the newest of those past that. Where there is no space for filling one, all are
-/// deleted. What the file system refuses of a write or a deletion is logged, and no more.
+/// Makes files under reserved names after these, filled with zeros up to a size, until there are as many as are
+/// wanted. Deletes the newest of those past that; if there is no space for filling one, deletes all. A write or a
+/// deletion that fails is only logged.
 ///
-/// `Io` where a file isn't made, `Memory`, `NumberRange` where there is no name for one that is to be made or
-/// deleted: those before it are made or deleted.
+/// Fails with `Io` if a file isn't made, with `NumberRange` if one to be made or deleted has no name, or with
+/// `Memory`. If it fails, those before it are made or deleted.
 pub fn ready_reserved<G: PipeFormat, F: FileSystem, L: Log>(
     alloc: Global,
     layout: &G,
@@ -43,8 +43,7 @@ pub fn ready_reserved<G: PipeFormat, F: FileSystem, L: Log>(
     Ok(files)
 }
 
-/// Makes files behind these until there are as many as are wanted. Answers whether there was no space for
-/// one.
+/// Makes files after these until there are as many as are wanted. Returns whether there was no space for one.
 fn make_missing<G: PipeFormat, F: FileSystem, L: Log>(
     alloc: Global,
     layout: &G,
@@ -78,7 +77,7 @@ fn make_missing<G: PipeFormat, F: FileSystem, L: Log>(
     )
 }
 
-/// How many files are kept of those that are wanted: none where there was no space for one.
+/// How many files are kept of those that are wanted: none if there was no space for one.
 fn kept_of(full: bool, wanted: usize) -> usize
     ensures { result ≡ kept_of full wanted }
 {
@@ -95,7 +94,7 @@ fn zeros(alloc: Global, size: usize) -> Result<Vec<u8>>
     Ok(bytes)
 }
 
-/// The number behind that of the last of these files; the greatest that there is behind that.
+/// The number after that of the last of these files, or the greatest that there is.
 fn next_number(files: &[File]) -> FileSeq
     ensures { result ≡ next_number files.now }
 {

@@ -17,13 +17,13 @@ use std::alloc::Global;
 use std::marker::Send;
 use std::thread::Threads;
 
-/// The files of a queue that a scan found, open, in the order of their numbers, and what a recovery has told
-/// of them.
+/// The files of a queue that a scan found, open, in the order of their numbers, and the results of a recovery for
+/// them.
 #[derive(Drop, Debug)]
 pub struct RecoveredQueue {
     /// The files.
     pub files: Vec<File>,
-    /// What each reads as; none before they were read.
+    /// What each reads as; empty before they were read.
     pub endings: Vec<FileEnding>,
 }
 
@@ -39,20 +39,22 @@ impl RecoveredQueue {
         }
     }
 
-    /// Whether something is told of each file.
+    /// Whether each file has a result.
     pub fn is_read(&self) -> bool
         ensures { IsTrue result ↔ length self.now.endings.items ≡ length self.now.files.items }
     {
         self.endings.len() == self.files.len()
     }
 
-    /// Reads the files by workers into a machine; then cuts those that are damaged, each behind its last good
-    /// record, and syncs them, in order.
+    /// Reads the files by workers into a machine. Then truncates the damaged ones, each after its last good record,
+    /// and syncs them, in order.
     ///
-    /// Nothing is cut unless all could be read and none has an alignment. `Io` where a read is refused, which
-    /// is never taken for damage; `Corruption` or `Codec` for damage that isn't tolerated; why the machine
-    /// declines a record; `InvalidArgument` for an alignment; `Memory`. `Io` where a file isn't cut or synced:
-    /// those before it are.
+    /// Truncates nothing unless all could be read and none has an alignment. Fails:
+    /// - with `Io` if a read fails, which is never taken for damage
+    /// - with `Corruption` or `Codec` for damage that isn't tolerated
+    /// - with the machine's error if it declines a record
+    /// - with `InvalidArgument` for an alignment, or with `Memory`
+    /// - with `Io` if a file isn't truncated or synced; those before it are
     pub fn recover<
         R: Threads + Log + Sync,
         F: FileSystem + Sync,

@@ -7,7 +7,7 @@ use raft_log_disk::FileSystem;
 use raft_log_file_queue::File;
 use std::io::ErrorKind;
 
-/// Syncs each of these files, in order. Refused, those before one are synced.
+/// Syncs each of these files, in order. If it fails, those before the failed one are synced.
 pub fn sync_files<F: FileSystem>(file_system: &mut F, files: &[File]) -> Result<(), ErrorKind>
     ensures ok { OnOk result
         (SyncsEach files.now (F.disk file_system.old) (F.disk file_system.new)) }

@@ -1,4 +1,4 @@
-//! Files with an alignment, of which the log's pipes know nothing.
+//! Files with an alignment, which the log's pipes don't support.
 
 ghost use Rattle.std.specs.Prelude.{◌↔◌, IsTrue};
 ghost use Rattle.raft_log_open_builder.specs.Unaligned.{AreUnaligned, TellsAligned};
@@ -19,7 +19,7 @@ pub(crate) fn are_unaligned(endings: &[FileEnding]) -> bool
     true
 }
 
-/// How it is told that a file has an alignment.
+/// The error if a file has an alignment.
 pub(crate) fn aligned(alloc: Global) -> Error
     ensures { TellsAligned result }
 {

@@ -1,4 +1,4 @@
--- A log's files are found without padding: as it stood, or once the padding was taken out.
+-- Finding a log's files without padding: unchanged, or after the padding was removed.
 use Rattle.std.specs.Prelude.{◌≡◌, List, String}
 use Rattle.std.specs.declared.alloc.Global.{Global}
 use Rattle.raft_log_record_base.specs.declared.errors.Error.{Error}
@@ -18,8 +18,8 @@ use Rattle.raft_log_open_builder.specs.Unaligned.{AreUnaligned}
 use Rattle.raft_log_open_builder.specs.declared.builder.DualPipesBuilder.{DualPipesBuilder}
 use Rattle.raft_log_unpadded.specs.Unpadding.{FailsToUnpad, Unpads}
 
--- The files that a builder has were read, as they stand on the disk, and one of them has an alignment, so that
--- there may be padding between its records.
+-- The files that a builder found were read on the disk, and one of them has an alignment. There may be padding between
+-- its records.
 pub record HasPadding (b : DualPipesBuilder) (d : Disk) : Type 0 where
   pub append : MemTableRecoverContext
   pub rewrite : MemTableRecoverContext
@@ -29,20 +29,20 @@ pub record HasPadding (b : DualPipesBuilder) (d : Disk) : Type 0 where
   pub rewrite_read : HasReadFiles HasReadBatches (rewrite_config b) (rewrite_files b) d rewrite rewrite_endings
   pub aligned : AreUnaligned append_endings × AreUnaligned rewrite_endings → ⊥
 
--- the log of these settings was found, its files were read, and one of them has an alignment; nothing was cut
+-- the log of these settings was found, its files were read, and one of them has an alignment; nothing was truncated
 pub record FindsPadding (config : Config) (b : DualPipesBuilder) (old new : Disk) : Type 0 where
   pub finds : FindsLog config b old new
   pub has : HasPadding b new
 
--- the padding was taken out of the files of a builder's log, and then its directories were scanned again
+-- the padding was removed from the files of a builder's log, and then its directories were scanned again
 pub record FindsAnew (was b : DualPipesBuilder) (old new : Disk) : Type 0 where
   pub written : List FileId
   pub unpadded : Disk
   pub unpads : Unpads (directories_of (settings_of was.config)) written old unpadded
   pub scans : ScansLog was b unpadded new
 
--- the padding was taken out of the files of a builder's log; then these contexts read its queues, and damaged
--- files were cut
+-- the padding was removed from the files of a builder's log; then these contexts read its queues, and damaged files
+-- were truncated
 pub record ReadsAnew (was : DualPipesBuilder) (append rewrite : MemTableRecoverContext) (b : DualPipesBuilder)
     (old new : Disk) : Type 0 where
   pub found : DualPipesBuilder
@@ -50,19 +50,21 @@ pub record ReadsAnew (was : DualPipesBuilder) (append rewrite : MemTableRecoverC
   pub anew : FindsAnew was found old scanned
   pub recovers : RecoversLog HasReadBatches append rewrite found b scanned new
 
--- The files of the log of these settings were found: as the log stood; or, where one of them has an alignment,
--- once the padding was taken out.
+-- The files of the log of these settings were found: with the log unchanged, or after the padding was removed if one of
+-- them had an alignment.
 pub data FindsUnpadded (config : Config) (b : DualPipesBuilder) (old new : Disk) : Type 0 where
   as_it_stood : FindsLog config b old new → FindsUnpadded config b old new
   once_unpadded : (was : DualPipesBuilder) (padded : Disk) → FindsPadding config was old padded
       → FindsAnew was b padded new → FindsUnpadded config b old new
 
--- it isn't told that a file has an alignment
+-- the error isn't the one for a file with an alignment
 abbrev pub IsNoPadding : Error → Type 0
 IsNoPadding error = (text : String Global) → error ≡ errors.InvalidArgument text → ⊥
 
--- Why a builder's log wasn't read without its padding, and what stands on the disk then: not all of the padding
--- is out; or it is, and the files weren't found again; or they were, and a queue wasn't read, or not cut.
+-- Why reading a builder's log without its padding fails:
+-- - `still_padded`: not all of the padding was removed.
+-- - `unfound`: the padding was removed, and finding the files again failed.
+-- - `unread`: the files were found again, and reading or truncating a queue failed.
 pub data FailsToReadAnew (was : DualPipesBuilder) (error : Error) (old new : Disk) : Type 0 where
   still_padded : FailsToUnpad (directories_of (settings_of was.config)) error old new
       → FailsToReadAnew was error old new

@@ -1,4 +1,4 @@
--- What opening a log leaves, answered and refused.
+-- What opening a log leaves if it succeeds and if it fails.
 use Rattle.std.specs.Prelude.{◌≡◌, ℕ, true, List}
 use Rattle.std.specs.declared.io.ErrorKind.TheVariants.{Other}
 use Rattle.raft_log_record_base.specs.declared.errors.Error.{Error}
@@ -20,10 +20,9 @@ use Rattle.raft_log_open_builder.specs.Finding.{FindsLog, IsBegun}
 use Rattle.raft_log_open_directory.specs.Finding.{FailsToReadAnew, FindsPadding, IsNoPadding}
 use Rattle.raft_log_open_directory.specs.Reading.{ReadsLog, ReadsQueues}
 
--- The log of these settings was opened: its queues were read into these tables, once the padding was out of
--- files that had some, and then its pipes opened over its files as they were recovered, all of them synced
--- before. A file system's states are told by what is on its disk, and by what it may tell of a directory's
--- space.
+-- The log of these settings was opened. Files with padding were written anew, and both queues were read into these
+-- tables. All recovered files were synced before the pipes opened over them. The state of a file system is its disk,
+-- and what it may return for a directory's space.
 pub record OpensDirectory {F : Type 0} (disk : F → Disk) (tells : F → List ℕ → ℕ → Type 0) (config : Config)
     (old : F) (v : LogPipes) (tables : MemTables) : Type 0 where
   pub builder : DualPipesBuilder
@@ -31,11 +30,15 @@ pub record OpensDirectory {F : Type 0} (disk : F → Disk) (tells : F → List �
   pub reads : ReadsLog disk tells config tables builder old ready
   pub opens : OpensRecovered builder (disk ready) v
 
--- Why a log wasn't opened, and what stands on the disk then: the file system had stopped, which goes before all
--- else; or its settings have a fault; or its files weren't found; or a queue wasn't read, or not cut, and no
--- alignment is told then; or one of its files has an alignment, and the log wasn't read without its padding; or
--- memory ran out for the tables; or the files that are kept for use weren't readied; or not all files were
--- synced, or a pipe not opened.
+-- Why opening a log fails:
+-- - `ended`: the file system had stopped; this comes before all other reasons.
+-- - `unsound`: its settings have a fault.
+-- - `unfound`: its files weren't found.
+-- - `unread`: a queue wasn't read or not truncated; the error isn't the one for an alignment.
+-- - `unread_anew`: one of its files has an alignment, and reading the log without its padding failed.
+-- - `unmerged`: out of memory for the tables.
+-- - `unreadied`: readying the files that are kept for use failed.
+-- - `unfinished`: not all files were synced, or a pipe wasn't opened.
 pub data FailsToOpenDirectory {F : Type 0} (disk : F → Disk) (tells : F → List ℕ → ℕ → Type 0)
     (config : Config) (error : Error) (old new : F) : Type 0 where
   ended : (disk old).stopped ≡ true → error ≡ errors.Io Other → disk new ≡ disk old

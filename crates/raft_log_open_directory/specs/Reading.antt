@@ -1,4 +1,4 @@
--- The queues of a log are read into contexts, and its tables are made of both.
+-- Reading the queues of a log into contexts, and making its tables of both.
 use Rattle.std.specs.Prelude.{◌≡◌, ◌-◌, ◌^◌, ℕ, min, List, length}
 use Rattle.raft_log_record_base.specs.declared.pipe_log.LogQueue.{LogQueue}
 use Rattle.raft_log_record_base.specs.declared.pipe_log.LogQueue.TheVariants.{Append, Rewrite}
@@ -24,8 +24,7 @@ use Rattle.raft_log_open_builder.specs.Reserving.{ReadiesLog}
 use Rattle.raft_log_open_builder.specs.declared.builder.DualPipesBuilder.{DualPipesBuilder}
 use Rattle.raft_log_open_directory.specs.Finding.{FindsUnpadded}
 
--- The context has read all files of a queue as they stood on the disk, in order: the batches of each, of
--- which this is told.
+-- The context has read all files of a queue on this disk, in order: the batches of each, and how each ended.
 pub record HasReadAll (queue : LogQueue) (mode : RecoveryMode) (files : List File) (d : Disk)
     (context : MemTableRecoverContext) (endings : List FileEnding) : Type 0 where
   pub segments : List (List Batch)
@@ -33,8 +32,8 @@ pub record HasReadAll (queue : LogQueue) (mode : RecoveryMode) (files : List Fil
   pub all : length segments ≡ length files
   pub read : HasReadBatches queue (all_batches segments) context
 
--- The log's files were found, without padding; then a context read all files of Append and one all of Rewrite,
--- and after that the damaged files were cut.
+-- The log's files were found without padding; then one context read all files of Append and another all of Rewrite.
+-- After that the damaged files were truncated.
 pub record ReadsQueues (config : Config) (append rewrite : MemTableRecoverContext) (b : DualPipesBuilder)
     (old new : Disk) : Type 0 where
   pub found : DualPipesBuilder
@@ -46,9 +45,8 @@ pub record ReadsQueues (config : Config) (append rewrite : MemTableRecoverContex
   pub rewrite_all : HasReadAll Rewrite found.config.recovery_mode (rewrite_files found) scanned rewrite
       b.rewrite.endings.items
 
--- So many entries and values the files of Rewrite bring, as they stood on the disk when the log was found
--- without padding, or the greatest number of 64 bits where these are more: all that is read of them, whether it
--- stands still or not.
+-- How many entries and values were read from Rewrite's files when the log was found without padding, at most 2^64 - 1.
+-- All that is read counts, live or not.
 pub record BringsInRewrite (config : Config) (d : Disk) (n : ℕ) : Type 0 where
   pub found : DualPipesBuilder
   pub scanned : Disk
@@ -60,15 +58,15 @@ pub record BringsInRewrite (config : Config) (d : Disk) (n : ℕ) : Type 0 where
   pub all : length segments ≡ length (rewrite_files found)
   pub count : n ≡ min (written_by (all_batches segments)) (2 ^ 64 - 1)
 
--- the tables are what the context of Append came to over that of Rewrite, and nothing is prepared in them
+-- the tables are the context of Append merged over that of Rewrite, and nothing is prepared in them
 pub record AreMergedOf (append rewrite : MemTableRecoverContext) (tables : MemTables) : Type 0 where
   pub over : (first behind : List ReadRecord) → HasRead Rewrite first rewrite → HasRead Append behind append
       → ComesOver first behind tables
   pub rest : IsAtRest tables
 
--- Both queues were read and these tables made of them; then the files that are kept for use were readied, as
--- the settings have it. The builder has all that an opening of the pipes wants. A file system's states are told
--- by what is on its disk, and by what it may tell of a directory's space.
+-- Both queues were read and merged into these tables; then the files that are kept for use were readied, as the
+-- settings say. The builder has all that opening the pipes needs. The state of a file system is its disk, and what it
+-- may return for a directory's space.
 pub record ReadsLog {F : Type 0} (disk : F → Disk) (tells : F → List ℕ → ℕ → Type 0) (config : Config)
     (tables : MemTables) (b : DualPipesBuilder) (old new : F) : Type 0 where
   pub append : MemTableRecoverContext

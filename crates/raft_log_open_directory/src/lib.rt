@@ -1,4 +1,4 @@
-//! From a log's settings and its file system to the pipes and the tables of its engine.
+//! Opens a log: from its settings and its file system to the pipes and the tables of its engine.
 #![tactic(auto)]
 
 pub mod opening;

@@ -1,4 +1,4 @@
-//! A log is opened.
+//! Opens a log.
 
 ghost use Rattle.std.specs.Prelude.{◌≡◌, false, IfErr, IfOk};
 ghost use Rattle.raft_log_record_base.specs.declared.errors.Error.TheVariants as errors;
@@ -18,32 +18,41 @@ use std::alloc::Global;
 use std::io::ErrorKind;
 use std::thread::Threads;
 
-/// A log that was opened: its pipes, and the tables of all groups, in which nothing is prepared.
+/// A log that was opened: its pipes, and the tables of all groups, with nothing prepared in them.
 #[derive(Drop)]
 pub struct OpenedLog<F> {
     /// The log's pipes, which own its file system.
     pub pipes: DualPipes<F>,
     /// The tables of all groups.
     pub tables: MemTables,
-    /// How many entries and values were read of Rewrite, at most 2^64 - 1: with what stands no more.
+    /// How many entries and values were read from Rewrite, at most 2^64 - 1. Dead ones count too.
     pub written: u64,
     pub ghost rests: { IsAtRest tables },
 }
 
-/// Opens the log of these settings: they are checked and made whole, its directories scanned, both queues
-/// read by workers in these threads, damaged files cut, the files that are kept for use readied; all files are
-/// synced, and its pipes opened.
+/// Opens the log of these settings:
+/// - checks the settings and completes them,
+/// - scans the directories,
+/// - reads both queues with workers in these threads, and truncates damaged files,
+/// - readies the files that are kept for use, syncs all files, and opens the pipes.
 ///
-/// Where all files could be read and one of them has an alignment, as another program may write it, the padding is
-/// taken out of the log's files first (`unpad`), once and for all, and they are scanned and read again. A last file
-/// without a record has a torn header then, and is none of these.
+/// A file may have an alignment, as another program may write it. If one has, and all files could be read, `unpad`
+/// first removes the padding from the log's files for good. They are then scanned and read again. A last file without a
+/// record reads as one with a torn header, and isn't one of these.
 ///
-/// Refused, the file system is handed back, and the log may be opened again. `Io(Other)` of a file system that has
-/// stopped goes first, so that no stop is told as want of memory. `Other` where the settings have
-/// a fault; then what `DualPipesBuilder` refuses: `Other`, `Corruption`, `Io` of the directories, and of the
-/// files `Io` where one can't be read, `Corruption` or `Codec` for damage that isn't tolerated, `Hole` or
-/// `Corruption` where records can't be. Nothing is cut unless all files of both queues could be read. `Io`
-/// where a file isn't cut, written anew, made or synced, `NumberRange` where there is no name for one, `Memory`.
+/// If it fails, the file system is returned, and the log may be opened again. Nothing is truncated unless all files of
+/// both queues could be read.
+///
+/// # Errors
+///
+/// - `Io(Other)` if the file system has stopped. This is checked first, so that a stop never shows as `Memory`.
+/// - `Other` if the settings have a fault.
+/// - The errors of scanning with `DualPipesBuilder`: `Other`, `Corruption`, `Io` for a directory.
+/// - `Io` if a file can't be read; `Corruption` or `Codec` for damage that isn't tolerated.
+/// - `Hole` or `Corruption` for records that can't be.
+/// - `Io` if a file isn't truncated, written anew, created or synced.
+/// - `NumberRange` if there is no name for a file.
+/// - `Memory`.
 pub fn open_directory<R: Threads + Log + Sync, F: FileSystem + Sync>(
     rt: &R,
     alloc: Global,

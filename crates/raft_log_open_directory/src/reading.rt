@@ -1,4 +1,4 @@
-//! A log is read.
+//! Reads a log.
 
 ghost use Rattle.std.specs.Prelude.{◌≡◌, IfErr, IfOk, OnOk};
 ghost use Rattle.raft_log_record_base.specs.declared.errors.Error.TheVariants.{Memory};
@@ -21,12 +21,12 @@ use raft_log_unpadded::unpad;
 use std::alloc::Global;
 use std::thread::Threads;
 
-/// A log that was read: its files, ready for their pipes, and the tables of all groups.
+/// A log that was read: its files, ready to be opened as pipes, and the tables of all groups.
 #[derive(Drop)]
 pub struct ReadLog {
     pub builder: DualPipesBuilder,
     pub tables: MemTables,
-    /// How many entries and values were read of Rewrite.
+    /// How many entries and values were read from Rewrite.
     pub written: u64,
 }
 
@@ -38,7 +38,7 @@ pub struct ReadQueues {
     pub rewrite: MemTableRecoverContext,
 }
 
-/// Reads the log of these settings into tables, by these threads, and readies the files that are kept for use.
+/// Reads the log of these settings into tables with these threads, and readies the files that are kept for use.
 pub fn read_log<R: Threads + Log + Sync, F: FileSystem + Sync>(
     rt: &R,
     alloc: Global,
@@ -76,8 +76,8 @@ pub fn read_log<R: Threads + Log + Sync, F: FileSystem + Sync>(
     }
 }
 
-/// Reads both queues of the log of these settings by these threads, each into a context of its own, once the
-/// padding is out of files that have some; then cuts damaged files.
+/// Reads both queues of the log of these settings with these threads, each into its own context, after removing padding
+/// from files that have some. Then truncates damaged files.
 fn read_queues<R: Threads + Log + Sync, F: FileSystem + Sync>(
     rt: &R,
     alloc: Global,
@@ -108,7 +108,7 @@ fn read_queues<R: Threads + Log + Sync, F: FileSystem + Sync>(
     }
 }
 
-/// Takes the padding out of the files of a log, which a builder has found, and reads both queues by these threads.
+/// Removes the padding from the files of the log that a builder has found, and reads both queues with these threads.
 fn read_unpadded<R: Threads + Log + Sync, F: FileSystem + Sync>(
     rt: &R,
     alloc: Global,
@@ -134,7 +134,7 @@ fn read_unpadded<R: Threads + Log + Sync, F: FileSystem + Sync>(
     }
 }
 
-/// Takes the padding out of the files of a log, which a builder has found, and finds them again.
+/// Removes the padding from the files of the log that a builder has found, and finds them again.
 fn find_unpadded<R: Log, F: FileSystem>(
     rt: &R,
     alloc: Global,
@@ -173,7 +173,7 @@ fn find<R: Log, F: FileSystem>(
     }
 }
 
-/// Checks settings and makes them whole, for a log of which no file is known.
+/// Checks the settings and completes them, for a log of which no file is known.
 fn begin<R: Log>(rt: &R, alloc: Global, config: Config) -> Result<DualPipesBuilder>
     ensures ok { IfOk result (IsBegun config) }
     ensures err { IfErr result (IsRefusedFor (settings_of config)) }
@@ -185,7 +185,7 @@ fn begin<R: Log>(rt: &R, alloc: Global, config: Config) -> Result<DualPipesBuild
     }
 }
 
-/// The tables of both contexts, that of Append over that of Rewrite.
+/// Merges both contexts into tables, that of Append over that of Rewrite.
 fn merge(append: MemTableRecoverContext, rewrite: MemTableRecoverContext) -> Result<MemTables>
     ensures ok { IfOk result (AreMergedOf append rewrite) }
     ensures err { IfErr result (λ error. error ≡ Memory) }

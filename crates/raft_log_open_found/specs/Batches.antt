@@ -13,7 +13,7 @@ said id batches = map (batch_in id) batches
 abbrev pub TakesBatches : {M : Type 0} → (List Batch → M → Type 0) → List Batch → M → M → Type 0
 TakesBatches reads batches old new = (before : List Batch) → reads before old → reads (before ++ batches) new
 
--- why the machine doesn't take them all: it declines one of them, behind those that come before it
+-- why the machine doesn't take them all: it declines one of them, after it took those before
 pub record DeclinesSome {M : Type 0} (reads : List Batch → M → Type 0) (declines : List Batch → Error → Type 0)
     (batches : List Batch) (machine : M) (error : Error) : Type 0 where
   pub first : List Batch
@@ -21,7 +21,7 @@ pub record DeclinesSome {M : Type 0} (reads : List Batch → M → Type 0) (decl
   pub split : batches ≡ first ++ rest
   pub declined : (before : List Batch) → reads before machine → declines (before ++ first) error
 
--- a machine was handed these batches, one behind the other: it took them all, or declined one of them
+-- a machine was handed these batches, one after another: it took them all, or declined one of them
 abbrev pub HasTaken : {M : Type 0} → (List Batch → M → Type 0) → (List Batch → Error → Type 0) → List Batch
     → M → M → Option Error → Type 0
 HasTaken reads declines batches old new None = TakesBatches reads batches old new

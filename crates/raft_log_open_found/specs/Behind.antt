@@ -1,4 +1,4 @@
--- What was read behind the header of a file and handed on, and a reader at work on it.
+-- What was read after the header of a file and passed to a machine, and a reader at work on it.
 use Rattle.std.specs.Prelude.{◌≡◌, ◌↔◌, ℕ, ◌-◌, Bool, true, IsTrue, Option, Some, None, List, [], ◌∷◌, ◌++◌}
 use Rattle.raft_log_record_base.specs.Fault.{Fault}
 use Rattle.raft_log_record_base.specs.declared.errors.Error.{Error}
@@ -17,8 +17,10 @@ use Rattle.raft_log_open_found.specs.Records.{ReadsBehind}
 use Rattle.raft_log_open_found.specs.declared.behind.Behind.{Behind}
 use Rattle.raft_log_open_found.specs.declared.behind.LastRecord.{LastRecord}
 
--- This was read behind an offset of the file, which is the last one of its queue or not: batches, which a machine
--- was handed; where the last one ends, and what is wrong there. Of a last file is told whether there are none.
+-- What was read after an offset of the file, which is the last one of its queue or not:
+-- - batches, which a machine was handed
+-- - where the last one ends, and what is wrong there
+-- - for a last file, whether there are none
 pub record WasReadBehind {M : Type 0} (last : Bool) (reads : List Batch → M → Type 0)
     (declines : List Batch → Error → Type 0) (id : FileId) (old new : M) (d : Disk) (file : OpenFile) (offset : ℕ)
     (behind : Behind) : Type 0 where
@@ -33,7 +35,7 @@ pub record WasReadBehind {M : Type 0} (last : Bool) (reads : List Batch → M �
 abbrev pub HasFileOpen : LogItemBatchFileReader → Type 0
 HasFileOpen reader = (file : OpenFile) × (file_of reader ≡ Some file)
 
--- the reader went on in the file that it had open, from this offset
+-- the reader continued in the file that it had open, from this offset
 pub record IsAtWork (Has : OpenFile → List ℕ → ℕ → ℕ → Type 0) (d : Disk)
     (old reader : LogItemBatchFileReader) : Type 0 where
   pub reading : IsReading d reader
@@ -42,20 +44,20 @@ pub record IsAtWork (Has : OpenFile → List ℕ → ℕ → ℕ → Type 0) (d 
   pub opened : file_of reader ≡ Some file
   pub has : Has file (bytes_of file.source d) (end_of old) (end_of reader)
 
--- the batches, and the one that is noted behind them
+-- the batches, followed by the noted one
 abbrev pub with_noted : List (List LogItem) → Option LastRecord → List (List LogItem)
 with_noted before None = before
 with_noted before (Some last) = before ++ last.items.items ∷ []
 
--- these batches follow one another, and behind them comes the one that is noted, with its place, its block and its
--- items, up to an end; without one there are none
+-- These batches follow one another. After them comes the noted one, with its place, its block and its items, up to an
+-- end. If none is noted, there are no batches.
 abbrev pub StandsAtLast :
     OpenFile → List ℕ → ℕ → List (List LogItem) → Option LastRecord → ℕ → Type 0
 StandsAtLast file content offset before None end = (before ≡ []) × (end ≡ offset)
 StandsAtLast file content offset before (Some last) end = HasBatches file content offset before last.start
     × HasBatch file content last.start last.items.items end × HasBlock file content last.start last.block
 
--- the block that is noted lies in the file
+-- the noted block is inside the file
 abbrev pub LiesInside : Option LastRecord → LogItemBatchFileReader → Type 0
 LiesInside None reader = Unit {0}
 LiesInside (Some last) reader = IsInsideFile last.block reader

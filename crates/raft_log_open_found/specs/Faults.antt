@@ -1,4 +1,4 @@
--- Which refusals say what is wrong with bytes that were read.
+-- Which errors describe what is wrong with bytes that were read.
 use Rattle.std.specs.Prelude.{◌≡◌, Option, Some, None}
 use Rattle.std.specs.String.{string_bytes}
 use Rattle.raft_log_record_base.specs.Fault.{Fault}
@@ -6,19 +6,19 @@ use Rattle.raft_log_record_base.specs.Fault.Fault.{number, corrupt}
 use Rattle.raft_log_record_base.specs.declared.errors.Error.{Error}
 use Rattle.raft_log_record_base.specs.declared.errors.Error.TheVariants as errors
 
--- the refusal is of bytes that were read
+-- the error is about bytes that were read
 abbrev pub IsDamage : Error → Type 0
 IsDamage (errors.Codec fault) = Unit {0}
 IsDamage (errors.Corruption text) = Unit {0}
 IsDamage _ = ⊥
 
--- the refusal tells this fault
+-- the error describes this fault
 abbrev pub TellsFault : Error → Fault → Type 0
 TellsFault (errors.Codec c) fault = fault ≡ number c
 TellsFault (errors.Corruption text) fault = fault ≡ corrupt (string_bytes text)
 TellsFault _ fault = ⊥
 
--- this fault is told, or there is none and none is told
+-- the error describes this fault, or there is neither
 abbrev pub TellsIfAny : Option Error → Option Fault → Type 0
 TellsIfAny None fault = fault ≡ None
 TellsIfAny (Some error) fault = (f : Fault) × (fault ≡ Some f) × TellsFault error f

@@ -1,5 +1,5 @@
--- The records that a log file's bytes hold, their entry blocks with them; and of files before a queue's last
--- one, whose records were durable before the next file began, frames alone and one record at the end.
+-- The records in a log file's bytes, with their entry blocks. In a file before a queue's last one only the frames are
+-- read, and the last record: all were durable before the next file began.
 use Rattle.std.specs.Prelude.{◌≡◌, ℕ, ◌<◌, ◌⊎◌, Bool, true, false, Option, Some, None, List, [], ◌∷◌, ◌++◌, length, drop, Result, Err, IsOk}
 use Rattle.raft_log_record_base.specs.Files.{signature_of}
 use Rattle.raft_log_record_base.specs.Fault.{Fault}
@@ -9,39 +9,38 @@ use Rattle.raft_log_file_reader.specs.Batches.{GoesOnAt, HasBatch, HasBatches, H
 use Rattle.raft_log_file_reader.specs.Laws.{EndsBehind}
 use Rattle.raft_log_file_reader.specs.declared.open_file.OpenFile.{OpenFile}
 
--- behind an offset stands a whole record: a frame, and its entry block
+-- a whole record follows an offset: a frame, and its entry block
 pub record IsWhole (file : OpenFile) (content : List ℕ) (offset : ℕ) : Type 0 where
   pub at : ℕ
   pub goes_on : GoesOnAt file.format.alignment content offset at
   pub record_there : IsOk (record_at (signature_of (context_of file)) (drop at content))
 
--- behind an offset there are bytes, and this is what is wrong with the record there: with its frame, or with
--- its entry block
+-- bytes follow an offset, and this is what is wrong with the record there: with its frame, or with its entry block
 pub record IsRecordTorn (file : OpenFile) (content : List ℕ) (offset : ℕ) (fault : Fault) : Type 0 where
   pub at : ℕ
   pub goes_on : GoesOnAt file.format.alignment content offset at
   pub inside : at < length content
   pub wrong : record_at (signature_of (context_of file)) (drop at content) ≡ Err fault
 
--- behind an offset the next batch has these items and ends at the other offset, and its record is whole
+-- the next batch after an offset has these items and ends at the other offset, and its record is whole
 pub record HasRecord (file : OpenFile) (content : List ℕ) (offset : ℕ) (items : List LogItem) (end : ℕ)
     : Type 0 where
   pub batch : HasBatch file content offset items end
   pub whole : IsWhole file content offset
 
--- behind an offset these records follow one another, and the last one ends at the other offset
+-- these records follow one another after an offset, and the last one ends at the other offset
 abbrev pub HasRecords : OpenFile → List ℕ → ℕ → List (List LogItem) → ℕ → Type 0
 HasRecords file content offset [] end = end ≡ offset
 HasRecords file content offset (items ∷ more) end =
     (next : ℕ) × HasRecord file content offset items next × HasRecords file content next more end
 
--- The last file of a queue: each of its records is whole, and behind them it holds no more, or this is what
--- is wrong with the next one.
+-- The last file of a queue: each of its records is whole. It has no more after them, or this is what is wrong with
+-- the next one.
 abbrev pub StopsWhole : OpenFile → List ℕ → ℕ → Option Fault → Type 0
 StopsWhole file content end None = HasNoMore file content end
 StopsWhole file content end (Some fault) = IsRecordTorn file content end fault
 
--- behind an offset the file holds no more batches, or this is what is wrong with the next one
+-- the file has no more batches after an offset, or this is what is wrong with the next one
 abbrev pub StopsGood : OpenFile → List ℕ → ℕ → Option Fault → Type 0
 StopsGood file content end None = HasNoMore file content end
 StopsGood file content end (Some fault) = IsBroken file content end fault
@@ -56,8 +55,8 @@ pub record EndsWhole (file : OpenFile) (content : List ℕ) (offset : ℕ) (batc
   pub first : HasBatches file content offset before between
   pub record_last : HasRecord file content between last end
 
--- What is read behind an offset of a file before the last: its batches, the last of which has a whole record,
--- up to the end or to a broken frame; or, where the last one's record is torn, those before it.
+-- What is read after an offset of a file before the last. It is the batches up to the end or to a broken frame, if
+-- the last one's record is whole. If the last one's record is torn, it is those before it.
 pub data ReadsEarlier (file : OpenFile) (content : List ℕ) (offset : ℕ) (batches : List (List LogItem))
     (end : ℕ) (fault : Option Fault) : Type 0 where
   none : batches ≡ [] → end ≡ offset → StopsGood file content end fault
@@ -68,12 +67,12 @@ pub data ReadsEarlier (file : OpenFile) (content : List ℕ) (offset : ℕ) (bat
       → HasBatch file content end items next → EndsBehind file content next
       → IsRecordTorn file content end f → fault ≡ Some f → ReadsEarlier file content offset batches end fault
 
--- what is read behind an offset of the last file: its records, up to the end or to a torn one
+-- what is read after an offset of the last file: its records, up to the end or to a torn one
 abbrev pub ReadsLastFile : OpenFile → List ℕ → ℕ → List (List LogItem) → ℕ → Option Fault → Type 0
 ReadsLastFile file content offset batches end fault =
     HasRecords file content offset batches end × StopsWhole file content end fault
 
--- what is read behind an offset of a file, which is the last one of its queue, or not
+-- what is read after an offset of a file, which is the last one of its queue, or not
 abbrev pub ReadsBehind :
     Bool → OpenFile → List ℕ → ℕ → List (List LogItem) → ℕ → Option Fault → Type 0
 ReadsBehind true = ReadsLastFile

@@ -1,4 +1,4 @@
--- The files of a queue that were found, as segments: what each holds, and why it isn't read.
+-- The files of a queue that were found, as segments: what each contains, and why it isn't read.
 use Rattle.std.specs.Prelude.{◌≡◌, ℕ, ◌-◌, ◌<◌, Bool, List, ◌++◌, length, slice_index_or, ◌==◌, is_some}
 use Rattle.raft_log_record_base.specs.declared.errors.Error.{Error}
 use Rattle.raft_log_record_base.specs.declared.pipe_log.FileId.{FileId}
@@ -35,7 +35,7 @@ pub record EndsAs (read : FileReading) (ending : FileEnding) : Type 0 where
   pub end : ending.end ≡ read.end
   pub damaged : ending.is_damaged ≡ is_some read.fault
 
--- the file in this place holds these batches, and this is to be done with it
+-- the file in this place has these batches, and this is to be done with it
 pub record HoldsFile (mode : RecoveryMode) (queue : LogQueue) (files : List File) (d : Disk) (index : ℕ)
     (batches : List Batch) (ending : FileEnding) : Type 0 where
   pub file : File

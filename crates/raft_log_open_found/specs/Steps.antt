@@ -14,13 +14,13 @@ use Rattle.raft_log_open_found.specs.Records.{HasRecord, IsRecordTorn, IsWhole}
 use Rattle.raft_log_open_found.specs.declared.steps.Next.{Next}
 use Rattle.raft_log_open_found.specs.declared.steps.Next.TheVariants as nexts
 
--- a reader stands where another one stood, in the same file
+-- a reader is at the same offset as another one, in the same file
 pub record StandsAs (d : Disk) (old new : LogItemBatchFileReader) : Type 0 where
   pub reading : IsReading d new
   pub file : file_of new ≡ file_of old
   pub end : end_of new ≡ end_of old
 
--- the reader took a batch behind what it had read, with its entry block, and what it took has these items
+-- the reader took a batch after what it had read, with its entry block, and what it took has these items
 pub record TakesBatchOf (d : Disk) (file : OpenFile) (old new : LogItemBatchFileReader) (items : List LogItem)
     : Type 0 where
   pub batch : HasBatch file (bytes_of file.source d) (end_of old) items (end_of new)
@@ -28,8 +28,8 @@ pub record TakesBatchOf (d : Disk) (file : OpenFile) (old new : LogItemBatchFile
   pub inside : IsInsideFile (last_block new) new
   pub further : end_of old < end_of new
 
--- What stands behind what was read: a batch, which was taken; nothing more; or what is wrong with its frame,
--- and nothing was taken.
+-- What follows what was read: a batch, which was taken; nothing more; or a broken frame with this fault, and nothing
+-- was taken.
 abbrev pub TakesNextBatch : Disk → OpenFile → LogItemBatchFileReader → LogItemBatchFileReader → Next → Type 0
 TakesNextBatch d file old new (nexts.Batch items) = TakesBatchOf d file old new items.items
 TakesNextBatch d file old new nexts.End =
@@ -37,13 +37,13 @@ TakesNextBatch d file old new nexts.End =
 TakesNextBatch d file old new (nexts.Fault error) = (f : Fault) × TellsFault error f
     × IsBroken file (bytes_of file.source d) (end_of old) f × (end_of new ≡ end_of old)
 
--- what is wrong with the record behind an offset, whose frame is good; or nothing is
+-- what is wrong with the record after an offset, whose frame is good, if anything is
 abbrev pub ChecksBlock : OpenFile → List ℕ → ℕ → Option Error → Type 0
 ChecksBlock file content offset None = IsWhole file content offset
 ChecksBlock file content offset (Some error) =
     (f : Fault) × TellsFault error f × IsRecordTorn file content offset f
 
--- a whole record was taken behind what was read; nothing more stands there; or this is what is wrong with it
+-- a whole record was taken after what was read; nothing more follows; or this is what is wrong with it
 abbrev pub TakesWholeRecord : Disk → OpenFile → LogItemBatchFileReader → LogItemBatchFileReader → Next → Type 0
 TakesWholeRecord d file old new (nexts.Batch items) =
     HasRecord file (bytes_of file.source d) (end_of old) items.items (end_of new)

@@ -8,7 +8,7 @@ use Rattle.raft_log_file_settings.specs.declared.recovery_mode.RecoveryMode.{Rec
 use Rattle.raft_log_file_settings.specs.declared.recovery_mode.RecoveryMode.TheVariants.{AbsoluteConsistency, TolerateTailCorruption, TolerateAnyCorruption}
 use Rattle.raft_log_open_found.specs.Reading.{FailsToRead, FileReading, ReadsFileAs}
 
--- whether damage is tolerated of a file, which is the last one of its queue or not
+-- whether damage is tolerated in a file, which is the last one of its queue or not
 abbrev pub tolerates : RecoveryMode → Bool → Bool
 tolerates AbsoluteConsistency last = false
 tolerates TolerateTailCorruption last = last
@@ -24,7 +24,7 @@ pub record ReadsFound (mode : RecoveryMode) (last : Bool) (id : FileId) (handle 
   pub reads : ReadsFileAs last id handle d read
   pub tolerated : IsTolerated mode last read.fault
 
--- the file is damaged, as is told, and that isn't tolerated
+-- the file has this damage, and it isn't tolerated
 pub record IsDamaged (mode : RecoveryMode) (last : Bool) (id : FileId) (handle : Handle) (d : Disk)
     (error : Error) : Type 0 where
   pub read : FileReading

@@ -1,5 +1,5 @@
-//! Reading what stands behind the header of a log file. Each record is handed on once the next one is read, so that
-//! no more than two of them are held.
+//! Reads what follows the header of a log file. Passes each record on after the next one is read, so that at most two
+//! records are held.
 
 ghost use Rattle.std.specs.Prelude.{◌≡◌, ℕ, false, true, List, Option, Some, IfOk, IfErr};
 ghost use Rattle.raft_log_record_base.specs.Fault.{Fault};
@@ -21,33 +21,33 @@ use raft_log_record_items::LogItem;
 use raft_log_table_segments::ReplayMachine;
 use std::alloc::Global;
 
-/// What stands behind the header of a log file whose good records were handed to a machine: where the last one
-/// ends, and what is wrong behind that.
+/// What follows the header of a log file: where the last good record ends, and what is wrong after it. The good
+/// records were handed to a machine.
 #[derive(Drop)]
 pub(crate) struct Behind {
-    /// Where the last good record ends, or the header.
+    /// The end of the last good record, or of the header.
     pub(crate) end: usize,
     /// What is wrong there.
     pub(crate) fault: Option<Error>,
-    /// Whether no good record stands there. It is told of the last file of a queue alone.
+    /// Whether no good record was found; set only for the last file of a queue.
     pub(crate) is_bare: bool,
-    /// What the machine declined a record with.
+    /// The error with which the machine declined a record.
     pub(crate) declined: Option<Error>,
 }
 
 /// The last record that was read.
 #[derive(Drop)]
 pub(crate) struct LastRecord {
-    /// Where the record before that one ends, or the header.
+    /// The end of the record before that one, or of the header.
     pub(crate) start: usize,
-    /// Where that record's entry block lies.
+    /// The location of that record's entry block.
     pub(crate) block: FileBlockHandle,
     /// Its items.
     pub(crate) items: Vec<LogItem>,
 }
 
-/// The records of the last file of a queue are handed on, up to the first one that isn't whole. What the machine
-/// declines ends nothing: the file is read to its end, and the first refusal is told.
+/// Passes the records of a queue's last file to the machine, up to the first one that isn't whole. If the machine
+/// declines one, the file is still read to its end, and the first error is returned in `declined`.
 pub(crate) fn read_last<F: FileSystem, M: ReplayMachine>(
     alloc: Global,
     file_system: &F,
@@ -94,8 +94,8 @@ pub(crate) fn read_last<F: FileSystem, M: ReplayMachine>(
     }
 }
 
-/// The records of a file before the last one of a queue are handed on. Their entry blocks aren't looked at, but for
-/// the one of the last record. What the machine declines ends nothing, as in [`read_last`].
+/// Passes the records of a file before a queue's last one to the machine. Checks no entry block but the last
+/// record's. If the machine declines a record, continues as [`read_last`] does.
 pub(crate) fn read_earlier<F: FileSystem, M: ReplayMachine>(
     alloc: Global,
     file_system: &F,
@@ -147,8 +147,8 @@ pub(crate) fn read_earlier<F: FileSystem, M: ReplayMachine>(
     }
 }
 
-/// What was read, where the entry block of its last record is whole, which is handed on then; else what stands
-/// before that record.
+/// Returns what was read, if the entry block of its last record is whole, and passes that record on; else what was
+/// read before it.
 fn check_last<F: FileSystem, M: ReplayMachine>(
     alloc: Global,
     file_system: &F,

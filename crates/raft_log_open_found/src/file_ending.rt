@@ -5,11 +5,10 @@ use raft_log_file_format::LogFileFormat;
 /// What a recovery does with a file that it has read.
 #[derive(Clone, Copy, Debug)]
 pub struct FileEnding {
-    /// What the file's header says; the format of a file without a header, where it has none.
+    /// The format in the file's header; the format of a file without a header, if it has none.
     pub format: LogFileFormat,
-    /// Where the file's last good record ends, in bytes from the front on, or its header; `None` where it has
-    /// no header.
+    /// The end of the file's last good record, in bytes from its start, or of its header; `None` if it has no header.
     pub end: Option<usize>,
-    /// Whether the file is to be cut there, as damage stands behind that.
+    /// Whether the file is to be truncated there, because damage follows.
     pub is_damaged: bool,
 }

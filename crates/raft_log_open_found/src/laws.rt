@@ -1,4 +1,4 @@
-//! What the files of a queue hold: the law is a function without a body.
+//! What the files of a queue contain: the law is a function without a body.
 
 ghost use Rattle.std.specs.Prelude.{List};
 ghost use Rattle.raft_log_record_base.specs.declared.pipe_log.LogQueue.{LogQueue};
@@ -8,8 +8,8 @@ ghost use Rattle.raft_log_file_settings.specs.declared.recovery_mode.RecoveryMod
 ghost use Rattle.raft_log_table_segments.specs.Segments.{HoldsOne};
 ghost use Rattle.raft_log_open_found.specs.Segments.{HoldsFile};
 
-/// Each file of a queue holds one list of batches, and one thing is to be done with it: so the number of
-/// workers that read the files doesn't show.
+/// Each file of a queue has one list of batches, and one thing is to be done with it. The number of workers that read
+/// the files makes no difference.
 pub fn files_hold_one()
     ensures { (mode : RecoveryMode) (queue : LogQueue) (files : List File) (d : Disk)
         → HoldsOne (HoldsFile mode queue files d) }

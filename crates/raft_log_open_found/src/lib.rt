@@ -1,6 +1,5 @@
-//! Reading the log files that were found where no engine has them open: the records of each, where the last
-//! good one ends, and what is wrong behind it; and the files of a queue as segments that workers read side by
-//! side.
+//! Reads the log files that were found while no engine has them open. Finds the records of each, where the last good
+//! one ends, and what is wrong after it. The files of a queue are segments, which workers read side by side.
 #![tactic(auto)]
 
 mod behind;

@@ -15,12 +15,11 @@ use raft_log_record_base::{FileId, LogQueue, Result};
 use raft_log_table_segments::{ReplayMachine, ReplaySource};
 use std::alloc::Global;
 
-/// The files of a queue that were found, in the order of their numbers. Each is a segment; nothing of it is
-/// changed while it is read.
+/// The files of a queue that were found, in the order of their numbers. Each is a segment; reading changes nothing.
 pub struct QueueSegments<'a, F: FileSystem> {
-    /// Where a reader takes its memory.
+    /// The allocator of the readers.
     pub alloc: Global,
-    /// What has the files.
+    /// The file system.
     pub file_system: &'a F,
     /// Which queue.
     pub queue: LogQueue,

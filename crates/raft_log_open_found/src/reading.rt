@@ -22,15 +22,17 @@ use raft_log_record_base::{Error, FileId, Result};
 use raft_log_table_segments::ReplayMachine;
 use std::alloc::Global;
 
-/// Reads a log file, and hands a machine its records up to its end, or to the first one that is damaged, each once
-/// the next one is read. Of the last file of a queue each record's entry block is looked at, of the others that of
-/// the last record alone, as their records were durable before the next file began. Nothing is changed.
+/// Reads a log file, and hands a machine its records up to its end, or to the first damaged one. Hands each on after
+/// the next one is read. Changes nothing.
 ///
-/// A last file whose header has an alignment, and no record behind it, reads as one without a header: a power
-/// cut tore the header's write.
+/// In the last file of a queue, it checks each record's entry block. In the others, it checks only the last record's,
+/// since their records were durable before the next file began.
 ///
-/// `Io` where a read is refused, which is never told as damage; `Memory`. What the machine declines is told with
-/// what was found.
+/// A last file whose header has an alignment, and no record after it, reads as one without a header. A power failure
+/// tore the header's write.
+///
+/// Fails with `Io` if a read fails, which is never reported as damage, or with `Memory`. An error of the machine is
+/// returned in `declined`.
 pub fn read_file<F: FileSystem, M: ReplayMachine>(
     alloc: Global,
     file_system: &F,
@@ -65,15 +67,15 @@ pub fn read_file<F: FileSystem, M: ReplayMachine>(
     }
 }
 
-/// Whether what reads as a header is what a torn write left of one: in the last file of a queue, with an
-/// alignment, and without a record behind it.
+/// Whether what reads as a header is a torn one: in the last file of a queue, with an alignment, and without a record
+/// after it.
 fn has_torn_header(is_last: bool, format: LogFileFormat, is_bare: bool) -> bool
     ensures { IsTrue result ↔ HasTornHeader is_last format is_bare }
 {
     is_last && format.alignment != 0 && is_bare
 }
 
-/// What is wrong with such a header. `Memory`.
+/// The error for such a header. Fails only with `Memory`.
 fn torn_header(alloc: Global) -> Result<Error>
     ensures ok { IfOk result (λ error. TellsFault error (corrupt torn_header)) }
     ensures err { IfErr result (λ error. error ≡ Memory) }
@@ -97,7 +99,7 @@ fn without_header(fault: Error, declined: Option<Error>) -> FoundFile
     }
 }
 
-/// The records behind the header of the file that is open are handed on.
+/// Passes the records after the header of the open file to the machine.
 fn read_behind<F: FileSystem, M: ReplayMachine>(
     alloc: Global,
     file_system: &F,

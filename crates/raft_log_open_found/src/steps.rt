@@ -14,7 +14,7 @@ use raft_log_record_base::{Error, FileBlockHandle, Result};
 use raft_log_record_items::LogItem;
 use std::alloc::Global;
 
-/// What stands behind what was read of a file.
+/// What follows what was read of a file.
 #[derive(Drop)]
 pub(crate) enum Next {
     /// A record, with these items.
@@ -25,7 +25,7 @@ pub(crate) enum Next {
     Fault(Error),
 }
 
-/// What stands behind what was read. The entry block isn't looked at.
+/// Reads what follows what was read. The entry block isn't checked.
 pub(crate) fn next_batch<F: FileSystem>(
     alloc: Global,
     file_system: &F,
@@ -46,7 +46,7 @@ pub(crate) fn next_batch<F: FileSystem>(
     }
 }
 
-/// What is wrong with the entry block of a record that was read.
+/// Checks the entry block of a record that was read, and returns what is wrong with it.
 pub(crate) fn check_block<F: FileSystem>(
     alloc: Global,
     file_system: &F,
@@ -68,7 +68,7 @@ pub(crate) fn check_block<F: FileSystem>(
     }
 }
 
-/// What stands behind what was read, the entry block with it.
+/// Reads what follows what was read, with its entry block.
 pub(crate) fn next_record<F: FileSystem>(
     alloc: Global,
     file_system: &F,

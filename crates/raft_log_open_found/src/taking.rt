@@ -1,4 +1,4 @@
-//! A machine is handed the records of a file, one behind the other.
+//! A machine is handed the records of a file, one after another.
 
 ghost use Rattle.std.specs.Prelude.{List, ◌++◌, ◌∷◌, []};
 ghost use Rattle.raft_log_record_items.specs.declared.item.LogItem.{LogItem};
@@ -10,7 +10,7 @@ use raft_log_record_base::{Error, FileId};
 use raft_log_record_items::LogItem;
 use raft_log_table_segments::ReplayMachine;
 
-/// A machine is handed the items of a record, unless it declined one before. Answered is what it declined with.
+/// Hands a machine the items of a record, unless it declined one before. Returns the error with which it declined.
 pub(crate) fn take<M: ReplayMachine>(
     machine: &mut M,
     id: FileId,
@@ -31,7 +31,7 @@ pub(crate) fn take<M: ReplayMachine>(
     }
 }
 
-/// A machine is handed the record that is noted, if one is.
+/// Hands a machine the noted record, if there is one.
 pub(crate) fn take_noted<M: ReplayMachine>(
     machine: &mut M,
     id: FileId,

@@ -14,7 +14,7 @@ use raft_log_record_base::Result;
 use raft_log_table_segments::ReplayMachine;
 use std::alloc::Global;
 
-/// Whether a recovery goes on behind a damaged file, which is the last one of its queue or not.
+/// Whether a recovery continues after a damaged file, which is the last one of its queue or not.
 pub fn tolerates(mode: RecoveryMode, is_last: bool) -> bool
     ensures { result ≡ tolerates mode is_last }
 {
@@ -25,11 +25,10 @@ pub fn tolerates(mode: RecoveryMode, is_last: bool) -> bool
     }
 }
 
-/// Reads a log file, and hands a machine its records up to its end, or to the first one that is damaged. Nothing is
-/// changed.
+/// Reads a log file, and hands a machine its records up to its end, or to the first damaged one. Changes nothing.
 ///
-/// `Io` where a read is refused, which is never told as damage; `Corruption` or `Codec` for damage that isn't
-/// tolerated; `Memory`. What the machine declines is told with what was found.
+/// Fails with `Io` if a read fails, which is never reported as damage; with `Corruption` or `Codec` for damage that
+/// isn't tolerated; or with `Memory`. An error of the machine is returned in `declined`.
 pub fn read_found<F: FileSystem, M: ReplayMachine>(
     alloc: Global,
     file_system: &F,
@@ -48,7 +47,7 @@ pub fn read_found<F: FileSystem, M: ReplayMachine>(
     accept(mode, file.is_last, found)
 }
 
-/// What was found of a file, where it isn't damaged or that is tolerated; else its damage is refused with.
+/// Returns what was found of a file, if it isn't damaged or that is tolerated; else fails with its damage.
 fn accept(mode: RecoveryMode, is_last: bool, found: FoundFile) -> Result<FoundFile>
     ensures ok { IfOk result (λ same. (same ≡ found) × IsTolerated mode is_last found.fault) }
     ensures err { IfErr result

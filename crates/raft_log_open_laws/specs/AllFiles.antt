@@ -1,4 +1,4 @@
--- That a scan of a log's directories finds all files of a queue that lies there.
+-- A scan of a log's directories finds all files of a queue that was left there.
 use Rattle.std.specs.Prelude.{◌≡◌, ℕ, ◌<◌, suc, List, [], ◌∷◌, ◌++◌}
 use Rattle.raft_log_record_base.specs.declared.pipe_log.LogQueue.{LogQueue}
 use Rattle.raft_log_disk.specs.Disk.{Disk}
@@ -15,7 +15,7 @@ use Rattle.raft_log_open_scan.specs.Found.{AreDistinct}
 use Rattle.raft_log_open_scan.specs.Scanned.{IsQueueIn}
 use Rattle.raft_log_open_laws.specs.Scanned.{AreSpanned, kind_of}
 
--- These are all files of a queue up to its last one, which has this number, that no gap parts from it.
+-- These are all files of a queue up to its last one, which has this number, back to the first gap before it.
 pub record AreAllFound (queue : LogQueue) (directories : List (List ℕ)) (number : ℕ) (d : Disk)
     (files : List Listed) : Type 0 where
   pub earlier : List Listed
@@ -25,8 +25,7 @@ pub record AreAllFound (queue : LogQueue) (directories : List (List ℕ)) (numbe
   pub spanned : AreSpanned queue directories earlier last d
   pub begins : (m : ℕ) → suc m ≡ first_number earlier last → IsAbsent (log_format queue directories) m d
 
--- Where a queue lies as a stop left it, in directories none of which comes twice, a scan of these answers all
--- of its files.
+-- If a stop left a queue in distinct directories, a scan of these returns all of its files.
 abbrev pub ScannedFilesAreAll : Type 0
 ScannedFilesAreAll = (queue : LogQueue) (directories : List (List ℕ)) → AreDistinct directories
     → (mode : RecoveryMode) (d : Disk) → IsSound d
@@ -36,7 +35,7 @@ ScannedFilesAreAll = (queue : LogQueue) (directories : List (List ℕ)) → AreD
     → (files : List Listed) → IsQueueIn (kind_of queue) directories d mode files
     → AreAllFound queue directories q.last d files
 
--- Where no number has a file, a scan of a queue answers none.
+-- If no number has a file, a scan of a queue returns none.
 abbrev pub NoFilesAreScanned : Type 0
 NoFilesAreScanned = (queue : LogQueue) (directories : List (List ℕ)) (mode : RecoveryMode) (d : Disk)
     → ((m : ℕ) → m < (log_format queue directories).limit → IsAbsent (log_format queue directories) m d)

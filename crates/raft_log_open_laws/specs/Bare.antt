@@ -1,4 +1,4 @@
--- A log's directories are opened for the first time.
+-- Opening a log's directories for the first time.
 use Rattle.std.specs.Prelude.{◌≡◌, ◌⊎◌, ℕ, None, List, [], Contains}
 use Rattle.raft_log_record_base.specs.declared.errors.Error.{Error}
 use Rattle.raft_log_record_base.specs.declared.pipe_log.LogQueue.{LogQueue}
@@ -18,8 +18,8 @@ use Rattle.raft_log_open_directory.specs.Opening.{FailsToOpenDirectory, OpensDir
 use Rattle.raft_log_open_laws.specs.Opened.{HoldsFresh}
 use Rattle.raft_log_open_laws.specs.ByCalls.{home_of}
 
--- Nothing has the path of a file of either queue, no file is kept for later use, and none has the path of a
--- directory; the directories may be there or not.
+-- Nothing has the path of a file of either queue, no file is kept for later use, and none has the path of a directory.
+-- The directories may exist or not.
 pub record IsBare (config : Config) (d : Disk) : Type 0 where
   pub numbered : (queue : LogQueue) (n : ℕ) (path : List ℕ)
       → IsPathWith (suffix_of queue) (paths_of config) n path → IsFreePath path d
@@ -27,8 +27,8 @@ pub record IsBare (config : Config) (d : Disk) : Type 0 where
       → IsPathWith (reserved_suffix_of Append) (paths_of config) n path → d.names path ≡ None
   pub unnamed : (path : List ℕ) → Contains (paths_of config) path → d.names path ≡ None
 
--- An engine that is opened there holds nothing; and where it isn't opened, whyever, the directories are bare
--- as before, or a log in which nothing stands is left there.
+-- If the open succeeds, the engine holds the empty map. If it fails, for any reason, the directories are still bare, or
+-- have a log with the empty map.
 pub record OpensFirst {F : Type 0} (disk : F → Disk) (tells : F → List ℕ → ℕ → Type 0) (config : Config)
     (old : F) : Type 0 where
   pub answered : (v : LogPipes) (tables : MemTables) → OpensDirectory disk tells config old v tables
@@ -36,7 +36,8 @@ pub record OpensFirst {F : Type 0} (disk : F → Disk) (tells : F → List ℕ �
   pub refused : (error : Error) (new : F) → FailsToOpenDirectory disk tells config error old new
       → IsBare config (disk new) ⊎ IsLeftAt (home_of config) (disk new) nothing_stands []
 
--- an engine that is opened over bare directories holds nothing; refused, nothing stands in them still
+-- an engine that is opened over bare directories holds the empty map; if the open fails, they are bare or have an empty
+-- log
 abbrev pub BareDirectoriesOpen : {F : Type 0} → (F → Disk) → (F → List ℕ → ℕ → Type 0) → Type 0
 BareDirectoriesOpen {F} disk tells = (config : Config) (old : F) → IsSound (disk old)
     → IsBare config (disk old) → OpensFirst disk tells config old

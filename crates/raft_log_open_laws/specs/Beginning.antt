@@ -1,4 +1,4 @@
--- Where the files of a queue that a scan answered begin.
+-- The first of a queue's files that a scan returns.
 use Rattle.std.specs.Prelude.{◌≡◌, ℕ, ◌⊎◌, suc, List, [], ◌∷◌, ◌++◌}
 use Rattle.raft_log_record_base.specs.declared.pipe_log.LogQueue.{LogQueue}
 use Rattle.raft_log_disk.specs.Disk.{Disk}
@@ -13,7 +13,7 @@ use Rattle.raft_log_open_scan.specs.declared.file_kind.FileKind.{FileKind}
 use Rattle.raft_log_open_scan.specs.declared.scanning.found.FoundFile.{FoundFile}
 use Rattle.raft_log_open_laws.specs.Scanned.{kind_of}
 
--- two files of this number lie in the directories: in two of them, or one of them has a sign in its name
+-- two files in the directories have this number: in two of them, or one has a sign in its name
 pub record IsTwice (kind : FileKind) (directories : List (List ℕ)) (d : Disk) (n : ℕ) : Type 0 where
   pub here : FoundFile
   pub there : FoundFile
@@ -23,15 +23,14 @@ pub record IsTwice (kind : FileKind) (directories : List (List ℕ)) (d : Disk) 
   pub there_number : there.seq ≡ n
   pub apart : here ≡ there → ⊥
 
--- files that begin with this number begin behind a gap: no file has the number below it; or two files have
--- this number
+-- files that begin with this number begin after a gap: no file has the number below it; or two files have this number
 abbrev pub BeginsBehindGap : LogQueue → List (List ℕ) → Disk → ℕ → Type 0
 BeginsBehindGap queue directories d first =
     ((m : ℕ) → suc m ≡ first → IsAbsent (log_format queue directories) m d)
     ⊎ IsTwice (kind_of queue) directories d first
 
--- The files of a queue that a scan answered begin behind a gap. (Of a number that two files have, that in the
--- later directory, or with a sign, is kept with those behind it, also where the number below is there.)
+-- The files of a queue that a scan returns begin after a gap. If two files have a number, the scan keeps the one in the
+-- later directory, or with a sign. It then keeps only that and the later ones, even if the number below exists.
 abbrev pub ScannedFilesBegin : Type 0
 ScannedFilesBegin = (queue : LogQueue) (directories : List (List ℕ)) (mode : RecoveryMode) (d : Disk)
     (earlier : List Listed) (last : Listed)

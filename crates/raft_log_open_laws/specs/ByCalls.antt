@@ -1,4 +1,4 @@
--- A log that rests on a disk is scanned, recovered and opened, call by call, as an engine does it.
+-- Scanning, recovering and opening a log that rests on a disk, call by call, as an engine does it.
 use Rattle.std.specs.Prelude.{◌≡◌, ℕ, List}
 use Rattle.raft_log_record_base.specs.declared.pipe_log.LogQueue.{LogQueue}
 use Rattle.raft_log_record_base.specs.declared.pipe_log.LogQueue.TheVariants.{Append, Rewrite}
@@ -24,24 +24,24 @@ use Rattle.raft_log_open_builder.specs.declared.builder.DualPipesBuilder.{DualPi
 use Rattle.raft_log_open_builder.specs.Finding.{FindsLog}
 use Rattle.raft_log_open_laws.specs.Files.{AreQueueFiles}
 
--- the home of a log whose directories the settings name
+-- the home of a log in the directories that the settings name
 abbrev pub home_of : Config → Home
 home_of config = record { append = paths_of config; rewrite = paths_of config }
 
--- this holds of all settings that name these directories, whatever else they say: any number of workers, too
+-- this holds for all settings that name these directories, whatever else they have: for any number of workers, too
 abbrev pub ForAllNaming : Home → (Config → Type 0) → Type 0
 ForAllNaming home P = (config : Config) → home_of config ≡ home → P config
 
--- what a context has read of a queue, in the words of a builder
+-- `HasReadBatches`, as a builder takes it
 abbrev pub reads : LogQueue → List Batch → MemTableRecoverContext → Type 0
 reads queue batches context = HasReadBatches queue batches context
 
--- The tables are what the context of Append came to over that of Rewrite.
+-- The tables are the context of Append merged over that of Rewrite.
 pub record ComeOver (append rewrite : MemTableRecoverContext) (tables : MemTables) : Type 0 where
   pub over : (first behind : List ReadRecord) → HasRead Rewrite first rewrite → HasRead Append behind append
       → ComesOver first behind tables
 
--- Files for later use were readied on a file system with these disks, which may tell so much of a directory's
+-- Files for later use were readied on a file system with these disks, which may return these values for a directory's
 -- space.
 pub record ReadiesOn {F : Type 0} (disk : F → Disk) (tells : F → List ℕ → ℕ → Type 0)
     (b ready : DualPipesBuilder) (old new : Disk) : Type 0 where
@@ -51,8 +51,8 @@ pub record ReadiesOn {F : Type 0} (disk : F → Disk) (tells : F → List ℕ �
   pub to_is : disk to ≡ new
   pub readies : ReadiesLog disk tells b ready from to
 
--- The log of these settings was found on a disk, read by any number of workers into these contexts, and cut;
--- and files for later use were readied.
+-- The log of these settings was found on a disk, read by any number of workers into these contexts, and truncated; and
+-- files for later use were readied.
 pub record LogIsRecovered {F : Type 0} (disk : F → Disk) (tells : F → List ℕ → ℕ → Type 0) (config : Config)
     (d : Disk) (append rewrite : MemTableRecoverContext) (ready : DualPipesBuilder) (readied : Disk)
     : Type 0 where
@@ -64,8 +64,8 @@ pub record LogIsRecovered {F : Type 0} (disk : F → Disk) (tells : F → List �
   pub recovers : RecoversLog reads append rewrite found read scanned cut
   pub readies : ReadiesOn disk tells read ready cut readied
 
--- An engine's pipes and tables were made of the log of these settings: it was recovered from the disk, all
--- files were synced, and the pipes opened; and what was read of Append came over what was read of Rewrite.
+-- An engine's pipes and tables were made of the log of these settings. The log was recovered from the disk, all files
+-- were synced, and the pipes opened. What was read of Append was merged over what was read of Rewrite.
 pub record OpensByCalls {F : Type 0} (disk : F → Disk) (tells : F → List ℕ → ℕ → Type 0) (config : Config)
     (d : Disk) (v : LogPipes) (tables : MemTables) : Type 0 where
   pub ready : DualPipesBuilder
@@ -76,8 +76,8 @@ pub record OpensByCalls {F : Type 0} (disk : F → Disk) (tells : F → List ℕ
   pub opens : OpensRecovered ready readied v
   pub comes : ComeOver append rewrite tables
 
--- Where a log rests, a scan of the directories that its settings name finds all files of either queue that no
--- gap parts from its last one.
+-- If a log rests, a scan of the directories that its settings name finds all files of either queue from the last gap
+-- on.
 abbrev pub ScansFindAllFiles : Type 0
 ScansFindAllFiles = (config : Config) (d : Disk) (m : LogMap) → IsSound d
     → (rests : LogRestsOn (log_in (home_of config)) d m) → (found : DualPipesBuilder) (scanned : Disk)
@@ -85,8 +85,8 @@ ScansFindAllFiles = (config : Config) (d : Disk) (m : LogMap) → IsSound d
     → AreQueueFiles (log_in (home_of config)).append rests.state.append scanned (append_files found)
     × AreQueueFiles (log_in (home_of config)).rewrite rests.state.rewrite scanned (rewrite_files found)
 
--- All files that are kept for use by an engine that is opened there can be used, once all is synced: each holds
--- no record of whatever number it gets.
+-- After all files are synced, an engine that is opened over a log at rest can use all files that are kept for use: none
+-- holds a record, whatever number it gets.
 abbrev pub SyncedSparesCanBeUsed : {F : Type 0} → (F → Disk) → (F → List ℕ → ℕ → Type 0) → Type 0
 SyncedSparesCanBeUsed disk tells = (config : Config) (d : Disk) (m : LogMap) → IsSound d
     → LogRestsOn (log_in (home_of config)) d m

@@ -1,4 +1,4 @@
--- A log's directories are opened by the call that does all of it, over a log at rest.
+-- Opening a log's directories with the one call that does all of it, over a log at rest.
 use Rattle.std.specs.Prelude.{ℕ, ◌<◌, List, [], length}
 use Rattle.raft_log_record_base.specs.declared.errors.Error.{Error}
 use Rattle.raft_log_disk.specs.Disk.{Disk}
@@ -14,9 +14,8 @@ use Rattle.raft_log_open_laws.specs.Left.{IsCrashOf, RestsAfterSome}
 use Rattle.raft_log_open_laws.specs.Opened.{HoldsFresh}
 use Rattle.raft_log_open_laws.specs.ByCalls.{home_of, ForAllNaming}
 
--- Where the directories are opened that these settings name, an engine of them holds this map, and nothing is
--- pending, whatever the number of workers was; and where they aren't, whyever, the log is left there with the
--- map, and nothing is pending.
+-- If opening the directories of these settings succeeds, the engine holds this map and nothing is pending, for any
+-- number of workers. If it fails, for any reason, the log is left there with the map, and nothing is pending.
 pub record OpensAs {F : Type 0} (disk : F → Disk) (tells : F → List ℕ → ℕ → Type 0) (config : Config)
     (old : F) (m : LogMap) : Type 0 where
   pub answered : (v : LogPipes) (tables : MemTables) → OpensDirectory disk tells config old v tables
@@ -24,13 +23,13 @@ pub record OpensAs {F : Type 0} (disk : F → Disk) (tells : F → List ℕ → 
   pub refused : (error : Error) (new : F) → FailsToOpenDirectory disk tells config error old new
       → IsLeftAt (home_of config) (disk new) m []
 
--- The directories of a log that rests there are opened as its map; refused, it is left there with the map.
+-- Opening the directories of a log that rests there gives its map; if it fails, the log is left with the map.
 abbrev pub RestingDirectoriesOpen : {F : Type 0} → (F → Disk) → (F → List ℕ → ℕ → Type 0) → Type 0
 RestingDirectoriesOpen {F} disk tells = (config : Config) (old : F) (m : LogMap) → IsSound (disk old)
     → LogRestsOn (log_in (home_of config)) (disk old) m → OpensAs disk tells config old m
 
--- The directories of whatever a crash leaves of what an engine left, which rests there, are opened as the map
--- after some first pending batches, the same by all settings that name them.
+-- After a crash of what an engine left, opening the directories gives the map after some first pending batches: the
+-- same ones for all settings that name the directories.
 abbrev pub CrashedDirectoriesOpen : {F : Type 0} → (F → Disk) → (F → List ℕ → ℕ → Type 0) → Type 0
 CrashedDirectoriesOpen {F} disk tells = (home : Home) → 0 < length home.append → 0 < length home.rewrite
     → (d : Disk) (old : F) (m : LogMap) (pending : List Said) → IsSound (disk old)

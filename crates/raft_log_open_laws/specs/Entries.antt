@@ -1,4 +1,4 @@
--- What holds of each entry that items say.
+-- A property of each entry in a list of items.
 use Rattle.std.specs.Prelude.{List, [], ◌∷◌}
 use Rattle.raft_log_model_laws.specs.Item.{Item, Record, Tagged, items_of}
 use Rattle.raft_log_model_laws.specs.Item.Item.{Run}
@@ -6,7 +6,7 @@ use Rattle.raft_log_table_lists.specs.Shown.{KeyValue}
 use Rattle.raft_log_table_lists.specs.Bridge.{Located}
 use Rattle.raft_log_engine_laws.specs.raft_log_file_blocks.specs.Stored.{Each}
 
--- of each item, whatever group it is of
+-- of each item, of any group
 abbrev pub ItemsHave : {E V : Type 0} → (Item E V → Type 0) → List (Tagged E V) → Type 0
 ItemsHave P [] = Unit {0}
 ItemsHave P (x ∷ xs) = P x.item × ItemsHave P xs

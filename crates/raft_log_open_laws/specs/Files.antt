@@ -1,4 +1,4 @@
--- The files of a queue at rest, as a scan finds them, and once they were read and cut.
+-- The files of a queue at rest, as a scan finds them, and after they were read and truncated.
 use Rattle.std.specs.Prelude.{◌≡◌, ℕ, false, Some, List, [], ◌∷◌, ◌++◌, length, suc}
 use Rattle.raft_log_disk.specs.Disk.{Disk}
 use Rattle.raft_log_file_laws.specs.LogQueue.{IsAbsent}
@@ -17,8 +17,8 @@ use Rattle.raft_log_file_pair.specs.Lying.{IsUnbegun}
 use Rattle.raft_log_engine_laws.specs.raft_log_file_blocks.specs.Stored.{Each}
 use Rattle.raft_log_open_laws.specs.Found.{AreListed}
 
--- The files of a queue, as a stop left them: up to its last one, which may be written, each under its path,
--- and none is there below them.
+-- The files of a queue, as a stop left them: up to its last one, which is open for writing, each under its path, and
+-- none below the first.
 pub record AreAll (layout : QueueLayout LogRecord) (q : Spanned LogRecord) (d : Disk) (earlier : List File)
     (last : File) : Type 0 where
   pub stops : IsStopped layout q.files d
@@ -26,21 +26,21 @@ pub record AreAll (layout : QueueLayout LogRecord) (q : Spanned LogRecord) (d : 
   pub permitted : last.handle.permission ≡ ReadWrite
   pub begins : (m : ℕ) → suc m ≡ first_number earlier last → IsAbsent layout.format m d
 
--- these are all files of a queue at rest; or it has none, as none was made yet
+-- these are all files of a queue at rest; or it has none, since none was created yet
 pub data AreQueueFiles (layout : QueueLayout LogRecord) (q : Spanned LogRecord) (d : Disk) (files : List File)
     : Type 0 where
   some_made : (earlier : List File) (last : File) → files ≡ earlier ++ last ∷ []
       → AreAll layout q d earlier last → AreQueueFiles layout q d files
   none_made : files ≡ [] → IsUnbegun layout q d → AreQueueFiles layout q d files
 
--- The last file reads as was told of it: up to this end, behind the header of this format, if it has one.
+-- The last file reads up to this end. If the end is known, the file begins with the header of this format.
 pub record ReadsAsTold (layout : QueueLayout LogRecord) (q : Spanned LogRecord) (d : Disk) (last : File)
     (ending : FileEnding) : Type 0 where
   pub read : HasFile last.handle.file (IsReadTo layout.format q.files.last ending.end) d
   pub headed : (end : ℕ) → ending.end ≡ Some end
       → HandleBeginsWith layout.format last.handle (header_bytes ending.format) d
 
--- All files of a queue at rest, with what was told of each: those before the last one aren't damaged.
+-- All files of a queue at rest, with the ending of each: those before the last one aren't damaged.
 pub data AreToldOf (layout : QueueLayout LogRecord) (q : Spanned LogRecord) (d : Disk) (files : List File)
     (endings : List FileEnding) : Type 0 where
   some_told : (earlier : List File) (last : File) (front : List FileEnding) (ending : FileEnding)

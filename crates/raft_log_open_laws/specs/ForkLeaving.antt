@@ -14,16 +14,15 @@ use Rattle.raft_log_open_laws.specs.Keeping.{RestsStill}
 use Rattle.raft_log_open_laws.specs.ByCalls.{home_of}
 use Rattle.raft_log_closed.specs.Forks.{FailsToFork, Forks}
 
--- a fork of the log of these settings ended, with an answer or without
+-- a fork of the log of these settings ended: it succeeded or failed
 pub data EndsFork (config : Config) (target : List ℕ) (old new : Disk) : Type 0 where
   answered : (copied : List (List ℕ)) → Forks (settings_of config) target copied old new
       → EndsFork config target old new
   refused : (error : Error) → FailsToFork (settings_of config) target error old new
       → EndsFork config target old new
 
--- What rested in the directories of these settings rests there still, with the same files and records; what
--- an engine left there is there still, with the same map and the same batches pending; and directories in
--- which no log began are so still.
+-- What rested in the directories of these settings still rests there, with the same files and records. What an engine
+-- left there is still there, with the same map and the same pending batches. Bare directories are still bare.
 pub record LeavesSource (config : Config) (old new : Disk) : Type 0 where
   pub rests : (m : LogMap) (h : LogRestsOn (log_in (home_of config)) old m)
       → RestsStill (log_in (home_of config)) old m h new
@@ -31,7 +30,7 @@ pub record LeavesSource (config : Config) (old new : Disk) : Type 0 where
       → IsLeftAt (home_of config) new m pending
   pub bare : IsBare config old → IsBare config new
 
--- wherever a fork ends, it leaves what lay in the directories of its source
+-- however a fork ends, it leaves its source as `LeavesSource` says
 abbrev pub ForksLeaveTheSource : Type 0
 ForksLeaveTheSource = (config : Config) (target : List ℕ) (old new : Disk) → IsSound old
     → EndsFork config target old new → LeavesSource config old new

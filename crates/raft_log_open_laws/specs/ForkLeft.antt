@@ -1,4 +1,4 @@
--- What an engine left is forked, with no crash and no open between.
+-- Forking what an engine left, without a crash or an open in between.
 use Rattle.std.specs.Prelude.{ℕ, ◌<◌, List, length}
 use Rattle.raft_log_disk.specs.Disk.{Disk}
 use Rattle.raft_log_disk.specs.Image.{as_it_stands, IsSound}
@@ -15,27 +15,27 @@ use Rattle.raft_log_open_laws.specs.InPlace.{OpensStanding, StandsWithoutChance}
 use Rattle.raft_log_closed.specs.Forks.{Forks}
 use Rattle.raft_log_open_laws.specs.ForkResting.{IsClear, NamesOnly}
 
--- The log that a fork left in its target rests there as this map, and is opened so.
+-- The log that a fork left in its target rests there with this map, and opens with it.
 pub record ForkedAs {F : Type 0} (disk : F → Disk) (tells : F → List ℕ → ℕ → Type 0) (to : Config) (after : F)
     (m : LogMap) : Type 0 where
   pub rests : LogRestsOn (log_in (home_of to)) (disk after) m
   pub opens : OpensAs disk tells to after m
 
--- Whoever forks the log that these settings name, for settings that name the target alone, gets such a log.
+-- Any fork of the log that these settings name gives such a log, for settings that name only the target.
 abbrev pub IsForkedAs : {F : Type 0} → (F → Disk) → (F → List ℕ → ℕ → Type 0) → F → LogMap → Config → Type 0
 IsForkedAs {F} disk tells old m config = (to : Config) (target : List ℕ) (copied : List (List ℕ)) (after : F)
     → IsSound (disk after) → NamesOnly to target → IsClear target (disk old)
     → Forks (settings_of config) target copied (disk old) (disk after) → ForkedAs disk tells to after m
 
--- Opened in place and forked, by any settings that name its directories, the log shows the same map.
+-- The log shows the same map opened in place and forked, by any settings that name its directories.
 pub record ShowsAlike {F : Type 0} (disk : F → Disk) (tells : F → List ℕ → ℕ → Type 0) (home : Home) (old : F)
     (m : LogMap) (pending : List Said) (now : LogMap) : Type 0 where
   pub opens : ForAllNaming home (λ config. OpensStanding disk tells config old m pending now)
   pub forks : ForAllNaming home (IsForkedAs disk tells old now)
 
--- What an engine left, closed or failed, is opened and forked as its files stand, synced or not: both show the
--- map after the same first pending batches, where nothing was pending its map. As at a crash, no checksum is
--- met by chance in the last file of either queue.
+-- What an engine left, closed or failed, is opened and forked with its files as they are, synced or not. Both show the
+-- map after the same first pending batches; if nothing was pending, the map. As for a crash, this requires that there
+-- is no CRC collision in either queue's active file.
 abbrev pub LeftLogsShowAlike : {F : Type 0} → (F → Disk) → (F → List ℕ → ℕ → Type 0) → Type 0
 LeftLogsShowAlike {F} disk tells = (home : Home) → 0 < length home.append → 0 < length home.rewrite
     → (old : F) (m : LogMap) (pending : List Said) → IsSound (disk old)

@@ -1,4 +1,4 @@
--- What an open of a fork answers, and one of its source.
+-- What opening a fork and opening its source return.
 use Rattle.std.specs.Prelude.{ℕ, List}
 use Rattle.raft_log_disk.specs.Disk.{Disk}
 use Rattle.raft_log_disk.specs.Image.{IsSound}
@@ -11,15 +11,15 @@ use Rattle.raft_log_open_laws.specs.Directory.{OpensAs}
 use Rattle.raft_log_closed.specs.Forks.{Forks}
 use Rattle.raft_log_open_laws.specs.ForkResting.{IsClear, NamesOnly}
 
--- An engine that is opened over the fork holds this map, and nothing is pending; so does one that is opened
--- over the source, before and after. And where either isn't opened, whyever, the log is left there with the map.
+-- An engine that is opened over the fork holds this map, and nothing is pending. The same is true of one opened over
+-- the source, before and after. If an open fails, for any reason, the log is left there with the map.
 pub record OpenAlike {F : Type 0} (disk : F → Disk) (tells : F → List ℕ → ℕ → Type 0) (config to : Config)
     (old now : F) (m : LogMap) : Type 0 where
   pub fork : OpensAs disk tells to now m
   pub source : OpensAs disk tells config now m
   pub before : OpensAs disk tells config old m
 
--- The fork of a log that rests, and its source, before and after, are opened as the same map.
+-- The fork of a log that rests opens with the same map as its source does before and after.
 abbrev pub ForksOpenAsTheirSource : {F : Type 0} → (F → Disk) → (F → List ℕ → ℕ → Type 0) → Type 0
 ForksOpenAsTheirSource {F} disk tells = (config to : Config) (target : List ℕ) (copied : List (List ℕ))
     (old now : F) (m : LogMap) → IsSound (disk old) → IsSound (disk now) → NamesOnly to target

@@ -16,15 +16,15 @@ abbrev pub HoldsNoDirectory : List ℕ → Disk → Type 0
 HoldsNoDirectory target d = (name : List ℕ) → IsPlain name → IsFileName name
     → d.directories (target ++ 47 ∷ name) ≡ false
 
--- Where the target isn't there, no log file lies in it (of one that is there a fork looks for itself), and no
--- directory has the path of a log file in it. So it is of a directory that is empty, or not there.
+-- If the target doesn't exist, no log file is in it; if it does, the fork checks this itself. No directory has the path
+-- of a log file in it. Both are true of a directory that is empty or doesn't exist.
 pub record IsClear (target : List ℕ) (d : Disk) : Type 0 where
   pub absent : d.directories target ≡ false → (name : List ℕ) → IsPlain name → IsFileName name
       → d.names (target ++ 47 ∷ name) ≡ None
   pub apart : HoldsNoDirectory target d
 
--- On a sound disk no file lies in a directory that isn't there, so any target is clear in which no directory
--- has the path of a log file.
+-- On a sound disk no file is in a directory that doesn't exist. Any target is therefore clear if no directory has the
+-- path of a log file in it.
 abbrev pub TargetsAreClear : Type 0
 TargetsAreClear = (target : List ℕ) (d : Disk) → IsSound d → HoldsNoDirectory target d → IsClear target d
 
@@ -32,13 +32,13 @@ TargetsAreClear = (target : List ℕ) (d : Disk) → IsSound d → HoldsNoDirect
 abbrev pub NamesOnly : Config → List ℕ → Type 0
 NamesOnly config directory = paths_of config ≡ directory ∷ []
 
--- the log of the other settings rests on another disk with the same files and records, and is the same map
+-- the log of the other settings rests on another disk with the same files and records, and has the same map
 abbrev pub RestsThere : (config to : Config) (old : Disk) (m : LogMap)
     → LogRestsOn (log_in (home_of config)) old m → Disk → Type 0
 RestsThere config to old m h new =
     (t : LogRestsOn (log_in (home_of to)) new m) × (t.state ≡ record h.state { disk = new })
 
--- A log that rests is forked: what the fork made rests in the target, for settings that name this alone.
+-- If a log that rests is forked, the fork rests in the target, for settings that name only the target.
 abbrev pub ForkedLogsRest : Type 0
 ForkedLogsRest = (config to : Config) (target : List ℕ) (copied : List (List ℕ)) (old new : Disk) (m : LogMap)
     → NamesOnly to target → IsClear target old → (h : LogRestsOn (log_in (home_of config)) old m)

@@ -1,5 +1,5 @@
--- A log whose engine failed is opened in place: no crash came between, so its last files may have bytes that
--- aren't synced, which the open reads as they stand.
+-- Opening a log in place after its engine failed. No crash came in between, so the active files may have bytes that
+-- aren't synced, and the open reads them as they are.
 use Rattle.std.specs.Prelude.{◌≡◌, ℕ, ◌<◌, ◌⊎◌, List, [], length}
 use Rattle.std.specs.declared.io.ErrorKind.{ErrorKind}
 use Rattle.raft_log_record_base.specs.declared.errors.Error.{Error}
@@ -31,13 +31,12 @@ use Rattle.raft_log_open_laws.specs.Opened.{HoldsFresh}
 use Rattle.raft_log_open_laws.specs.RefusedByCalls.{FailsToOpenByCalls}
 use Rattle.raft_log_open_laws.specs.ByCalls.{home_of, ForAllNaming, LogIsRecovered, OpensByCalls}
 
--- No checksum is met by chance in the last file of either queue, as its bytes stand: what is read there now
--- is what a crash may leave that keeps all of them.
+-- There is no CRC collision in either queue's active file, with its bytes as they are. What is read there now is what a
+-- crash may leave that keeps all bytes.
 abbrev pub StandsWithoutChance : Home → State → Disk → Type 0
 StandsWithoutChance home s d = IsCrashOf home s d (as_it_stands d)
 
--- An open was refused behind the syncs: the log was recovered, all files were synced, and a pipe wasn't
--- opened.
+-- An open failed after the syncs: the log was recovered, all files were synced, and opening a pipe failed.
 pub record StopsSynced {F : Type 0} (disk : F → Disk) (tells : F → List ℕ → ℕ → Type 0) (config : Config)
     (d new : Disk) : Type 0 where
   pub append : MemTableRecoverContext
@@ -55,15 +54,15 @@ pub record StopsSynced {F : Type 0} (disk : F → Disk) (tells : F → List ℕ 
   pub error : Error
   pub fails : FailsToOpenLog append_pipe rewrite_pipe error synced new
 
--- The log is left as it was, with the batches that were pending, or some first ones of them synced; or with
--- the map that an open that is answered gives, and nothing pending.
+-- The log is left unchanged, with the batches that were pending, or some first ones of them synced. Or it is left with
+-- the map that an open returns, and nothing pending.
 abbrev pub IsLeftEither : Home → Disk → LogMap → List Said → LogMap → Type 0
 IsLeftEither home d m pending now = IsLeftAt home d m pending ⊎ IsLeftAt home d now []
 
--- Where the log is scanned, read, cut, synced and opened call by call, without a crash, an engine of what was
--- read holds this map, and nothing is pending. Where that is refused behind the syncs, the log is left with
--- it; and wherever it is refused or given up, before a file is cut, at a cut or behind it, the log is left
--- with it or as it was.
+-- The log is scanned, read, truncated, synced and opened call by call, without a crash.
+-- - If that succeeds, an engine of what was read holds this map, and nothing is pending.
+-- - If it fails after the syncs, the log is left with that map.
+-- - If it fails or is abandoned anywhere, the log is left with that map or unchanged.
 pub record OpensStandingByCalls {F : Type 0} (disk : F → Disk) (tells : F → List ℕ → ℕ → Type 0) (config : Config)
     (d : Disk) (m : LogMap) (pending : List Said) (now : LogMap) : Type 0 where
   pub answered : (v : LogPipes) (tables : MemTables) → OpensByCalls disk tells config d v tables
@@ -72,9 +71,8 @@ pub record OpensStandingByCalls {F : Type 0} (disk : F → Disk) (tells : F → 
   pub refused : (new : Disk) → FailsToOpenByCalls disk tells config d new
       → IsLeftEither (home_of config) new m pending now
 
--- A log that an engine left is opened call by call as its map after some first pending batches: those with
--- which it would rest if a crash kept all that stands there, the same by all settings that name its
--- directories.
+-- Opening a log that an engine left, call by call, gives its map after some first pending batches. They are those with
+-- which the log would rest if a crash kept all its bytes, the same ones for all settings that name its directories.
 abbrev pub StandingLogsOpenByCalls : {F : Type 0} → (F → Disk) → (F → List ℕ → ℕ → Type 0) → Type 0
 StandingLogsOpenByCalls {F} disk tells = (home : Home) → 0 < length home.append → 0 < length home.rewrite
     → (d : Disk) (m : LogMap) (pending : List Said) → IsSound d → (left : IsLeftAt home d m pending)
@@ -82,8 +80,8 @@ StandingLogsOpenByCalls {F} disk tells = (home : Home) → 0 < length home.appen
     → RestsAfterSome home (as_it_stands d) m pending
     (λ now. ForAllNaming home (λ config. OpensStandingByCalls disk tells config d m pending now))
 
--- Where the directories are opened without a crash, by the call that does all of it, an engine of them holds
--- this map, and nothing is pending; where that is refused, the log is left with the map or as it was.
+-- If opening the directories without a crash, with the one call, succeeds, the engine holds this map, and nothing is
+-- pending. If it fails, the log is left with the map or unchanged.
 pub record OpensStanding {F : Type 0} (disk : F → Disk) (tells : F → List ℕ → ℕ → Type 0) (config : Config)
     (old : F) (m : LogMap) (pending : List Said) (now : LogMap) : Type 0 where
   pub answered : (v : LogPipes) (tables : MemTables) → OpensDirectory disk tells config old v tables
@@ -91,8 +89,8 @@ pub record OpensStanding {F : Type 0} (disk : F → Disk) (tells : F → List �
   pub refused : (error : Error) (new : F) → FailsToOpenDirectory disk tells config error old new
       → IsLeftEither (home_of config) (disk new) m pending now
 
--- the directories of a log that an engine left are opened as its map after some first pending batches, the
--- same by all settings that name them
+-- opening the directories of a log that an engine left gives its map after some first pending batches: the same ones
+-- for all settings that name them
 abbrev pub StandingDirectoriesOpen : {F : Type 0} → (F → Disk) → (F → List ℕ → ℕ → Type 0) → Type 0
 StandingDirectoriesOpen {F} disk tells = (home : Home) → 0 < length home.append → 0 < length home.rewrite
     → (old : F) (m : LogMap) (pending : List Said) → IsSound (disk old)
@@ -100,23 +98,22 @@ StandingDirectoriesOpen {F} disk tells = (home : Home) → 0 < length home.appen
     → RestsAfterSome home (as_it_stands (disk old)) m pending
     (λ now. ForAllNaming home (λ config. OpensStanding disk tells config old m pending now))
 
--- An open went no further than this, so that nothing of the log was cut: nothing was done; its directories
--- weren't scanned; or they were, and no more.
+-- How far an open went that truncated nothing of the log: nothing was done; scanning its directories failed; or they
+-- were scanned, and nothing more was done.
 pub data StopsUncut (config : Config) (d new : Disk) : Type 0 where
   undone : new ≡ d → StopsUncut config d new
   unscanned : (b : DualPipesBuilder) (error : Error) → IsBegun config b → FailsToScanLog b error d new
       → StopsUncut config d new
   unread : (found : DualPipesBuilder) → FindsLog config found d new → StopsUncut config d new
 
--- An open that cut nothing of the log leaves it as it was, whatever its bytes are, with the batches that were
--- pending.
+-- An open that truncated nothing leaves the log unchanged, whatever its bytes are, with the batches that were pending.
 abbrev pub UncutLogsStay : Type 0
 UncutLogsStay = (config : Config) (d : Disk) (m : LogMap) (pending : List Said)
     → IsLeftAt (home_of config) d m pending → (new : Disk) → StopsUncut config d new
     → IsLeftAt (home_of config) new m pending
 
--- A sync of the last file of a queue, as it stands without a checksum met by chance, takes no record back:
--- the file holds what was durable and what was pending still, however much of that was read.
+-- Syncing a queue's active file, as it is and without a CRC collision, loses no record: the file still holds what was
+-- durable and what was pending, however much of that was read.
 abbrev pub SyncedFilesHoldStill : Type 0
 SyncedFilesHoldStill = (queue : LogQueue) (directories : List (List ℕ)) → 0 < length directories
     → (q : LogFiles LogRecord) (file : File) → IsSoundFile file
@@ -124,8 +121,8 @@ SyncedFilesHoldStill = (queue : LogQueue) (directories : List (List ℕ)) → 0 
     → HoldsLast (log_format queue directories) q file
     → HoldsLast (log_format queue directories) q (flushed file)
 
--- Where such files are synced, without a cut before it, and one of the syncs is refused, the log is left with
--- the batches that were pending.
+-- If one of the syncs of such files fails, with no truncation before it, the log is left with the batches that were
+-- pending.
 abbrev pub UnsyncedLogsStay : Type 0
 UnsyncedLogsStay = (home : Home) → 0 < length home.append → 0 < length home.rewrite → (d : Disk) (m : LogMap)
     (pending : List Said) → IsSound d → (left : IsLeftAt home d m pending)

@@ -22,7 +22,7 @@ pub mod Outcomes
 pub mod Directory
 pub mod Bare
 pub mod Keeping
--- libraries below, passed on to who stands on this one
+-- libraries below, re-exported to crates above
 pub use Rattle.raft_log_engine_laws.specs.raft_log_table_all
 pub use Rattle.raft_log_table_contexts
 pub use Rattle.raft_log_engine_laws.specs.raft_log_file_pair

@@ -16,8 +16,8 @@ use Rattle.raft_log_engine_laws.specs.Shows.{Home, LogMap, log_in, sense, shows}
 use Rattle.raft_log_engine_laws.specs.Holding.{Holds}
 use Rattle.raft_log_open_laws.specs.Reading.{AreOfQueue}
 
--- The tables are what a context that had read these batches of Append came to over one that had read those of
--- Rewrite.
+-- A context that had read these batches of Append was merged over one that had read those of Rewrite; the tables are
+-- the result.
 pub record AreMerged (append_batches rewrite_batches : List Batch) (tables : MemTables) : Type 0 where
   pub append : MemTableRecoverContext
   pub rewrite : MemTableRecoverContext
@@ -37,12 +37,12 @@ pub record IsOpenedOver (home : Home) (was : State) (v : LogPipes) (tables : Mem
   pub of_rewrite : AreOfQueue Rewrite state.rewrite rewrite_batches
   pub merged : AreMerged append_batches rewrite_batches tables
 
--- An engine of these pipes and tables that keeps no block yet holds the map, and nothing is pending.
+-- An engine of these pipes and tables that has cached no block yet holds the map, and nothing is pending.
 abbrev pub HoldsFresh : Home → LogPipes → MemTables → LogMap → Type 0
 HoldsFresh home v tables m =
     (cache : BlockCache) → cache.place ≡ None → Holds home (shows v tables cache) m []
 
--- An engine of the pipes and tables that a log was opened as holds the map that the log was.
+-- An engine of the pipes and tables that a log was opened as holds the map of the log.
 abbrev pub OpenedEnginesHold : Type 0
 OpenedEnginesHold = (home : Home) (was : State) (m : LogMap) (v : LogPipes) (tables : MemTables)
     → IsLog (Ties (log_in home) was) m [] → IsOpenedOver home was v tables → HoldsFresh home v tables m

@@ -1,4 +1,4 @@
--- What an engine has that is opened over a log at rest, call by call, and what is left where it isn't.
+-- What an engine opened call by call over a log at rest holds, and what is left if the open fails.
 use Rattle.std.specs.Prelude.{ℕ, ◌<◌, List, [], length}
 use Rattle.raft_log_disk.specs.Disk.{Disk}
 use Rattle.raft_log_disk.specs.Image.{IsSound}
@@ -13,23 +13,22 @@ use Rattle.raft_log_open_laws.specs.Opened.{HoldsFresh}
 use Rattle.raft_log_open_laws.specs.ByCalls.{home_of, ForAllNaming, OpensByCalls}
 use Rattle.raft_log_open_laws.specs.RefusedByCalls.{FailsToOpenByCalls}
 
--- An engine that is opened over what is on the disk holds this map, and nothing is pending, whatever the
--- number of workers was; and wherever an open is refused, or given up, the log is left there with the map,
--- and nothing is pending.
+-- If an open over what is on the disk succeeds, the engine holds this map and nothing is pending, for any number of
+-- workers. If it fails or is abandoned, the log is left there with the map, and nothing is pending.
 pub record OpensByCallsAs {F : Type 0} (disk : F → Disk) (tells : F → List ℕ → ℕ → Type 0) (config : Config)
     (d : Disk) (m : LogMap) : Type 0 where
   pub answered : (v : LogPipes) (tables : MemTables) → OpensByCalls disk tells config d v tables
       → HoldsFresh (home_of config) v tables m
   pub refused : (new : Disk) → FailsToOpenByCalls disk tells config d new → IsLeftAt (home_of config) new m []
 
--- A log that rests there, where its settings name it, is opened call by call as its map; refused, it is left
--- with the map.
+-- Opening a log that rests where its settings name it, call by call, gives its map. If it fails, the log is left with
+-- the map.
 abbrev pub RestingLogsOpenByCalls : {F : Type 0} → (F → Disk) → (F → List ℕ → ℕ → Type 0) → Type 0
 RestingLogsOpenByCalls disk tells = (config : Config) (d : Disk) (m : LogMap) → IsSound d
     → LogRestsOn (log_in (home_of config)) d m → OpensByCallsAs disk tells config d m
 
--- Whatever a crash leaves of what an engine left, which rests there, is opened call by call as the map after
--- some first pending batches, the same by all settings that name its directories.
+-- Opening any crash image of what an engine left, call by call, gives the map after some first pending batches: the
+-- same ones for all settings that name its directories.
 abbrev pub CrashedLogsOpenByCalls : {F : Type 0} → (F → Disk) → (F → List ℕ → ℕ → Type 0) → Type 0
 CrashedLogsOpenByCalls disk tells = (home : Home) → 0 < length home.append → 0 < length home.rewrite
     → (d image : Disk) (m : LogMap) (pending : List Said) → IsSound image

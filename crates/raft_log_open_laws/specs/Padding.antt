@@ -1,4 +1,4 @@
--- No log that an engine left has padding, so an open takes none out of it.
+-- No log that an engine left has padding, so opening it removes none.
 use Rattle.std.specs.Prelude.{◌<◌, List, length}
 use Rattle.raft_log_disk.specs.Disk.{Disk}
 use Rattle.raft_log_disk.specs.Image.{IsSound}
@@ -17,16 +17,16 @@ use Rattle.raft_log_open_laws.specs.InPlace.{StandsWithoutChance}
 abbrev pub FindsNoPadding : Config → Disk → Type 0
 FindsNoPadding config d = (b : DualPipesBuilder) (scanned : Disk) → FindsPadding config b d scanned → ⊥
 
--- so it is where nothing of a log is there yet
+-- this is true of bare directories
 abbrev pub BareDirectoriesHaveNoPadding : Type 0
 BareDirectoriesHaveNoPadding = (config : Config) (d : Disk) → IsSound d → IsBare config d → FindsNoPadding config d
 
--- where a log rests, as whatever a crash leaves of one does with no checksum met by chance
+-- this is true if a log rests there, as any crash image of one without a CRC collision does
 abbrev pub RestingLogsHaveNoPadding : Type 0
 RestingLogsHaveNoPadding = (config : Config) (d : Disk) (m : LogMap) → IsSound d
     → LogRestsOn (log_in (home_of config)) d m → FindsNoPadding config d
 
--- and where an engine left one, which is opened without a crash
+-- this is true if an engine left a log there, which is opened without a crash
 abbrev pub StandingLogsHaveNoPadding : Type 0
 StandingLogsHaveNoPadding = (home : Home) → 0 < length home.append → 0 < length home.rewrite → (d : Disk)
     (m : LogMap) (pending : List Said) → IsSound d → (left : IsLeftAt home d m pending)

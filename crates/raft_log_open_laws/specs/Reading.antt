@@ -1,4 +1,4 @@
--- What recovery read of a log's queues: batches that are the records of their files, in order.
+-- What recovery reads of a log's queues: batches that are the records of their files, in order.
 use Rattle.std.specs.Prelude.{◌≡◌, ℕ, zero, suc, ◌+◌, Bool, true, false, List, [], ◌∷◌, ◌++◌, length, map}
 use Rattle.raft_log_model_laws.specs.Item.{items_of}
 use Rattle.raft_log_model_laws.specs.Item.Record.{Plain}
@@ -20,8 +20,8 @@ abbrev pub batches_in : ℕ → List (List LogItem) → List Batch
 batches_in n [] = []
 batches_in n (items ∷ more) = record { file = n; items = items } ∷ batches_in n more
 
--- These are the batches of a queue's file of that number: each is the record that stands behind the one
--- before it, the first one behind the file's header, with the places of its entries.
+-- These are the batches of the file of a queue with that number: one for each record after the header, in order, with
+-- the places of its entries.
 pub record AreOfFile (queue : LogQueue) (n : ℕ) (header : List ℕ) (records : List (Written LogRecord))
     (batches : List Batch) : Type 0 where
   pub format : LogFileFormat
@@ -29,14 +29,14 @@ pub record AreOfFile (queue : LogQueue) (n : ℕ) (header : List ℕ) (records :
   pub is : batches ≡ batches_in n items
   pub are : AreBatchesOf (context_in (record { queue = queue; seq = n }) format) (length header) items records
 
--- of so many finished files from that number on, file after file
+-- the batches of `count` finished files from that number on, file after file
 abbrev pub AreOfFiles : LogQueue → (ℕ → Past LogRecord) → ℕ → ℕ → List Batch → Type 0
 AreOfFiles queue older n zero batches = batches ≡ []
 AreOfFiles queue older n (suc count) batches = (first : List Batch) × (more : List Batch)
     × (batches ≡ first ++ more) × AreOfFile queue n (older n).header (older n).records first
     × AreOfFiles queue older (suc n) count more
 
--- of all files of a queue's span: of those that are finished, and then of the last one
+-- the batches of all files of a queue's live range: the finished ones, then the last one
 pub record AreOfQueue (queue : LogQueue) (q : Spanned LogRecord) (batches : List Batch) : Type 0 where
   pub finished : List Batch
   pub last : List Batch
@@ -46,7 +46,7 @@ pub record AreOfQueue (queue : LogQueue) (q : Spanned LogRecord) (batches : List
   pub of_finished : AreOfFiles queue q.files.older q.first count finished
   pub of_last : AreOfFile queue q.files.last q.files.header (recent q.files) last
 
--- a record as it counts: in Append at once, with whatever mark
+-- a record as it counts: in Append at once, whatever its mark
 abbrev pub as_counted : Bool → Said → Said
 as_counted true y = Plain (items_of y)
 as_counted false y = y

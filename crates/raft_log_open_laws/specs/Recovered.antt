@@ -28,14 +28,13 @@ AreInFormats (file ∷ files) [] found = ⊥
 AreInFormats (file ∷ files) (ending ∷ endings) found = (more : List File)
     × (found ≡ record file { format = ending.format } ∷ more) × AreInFormats files endings more
 
--- A pipe is told of the files that were read, in the formats that were read of them, and how far the last one
--- was.
+-- A pipe gets the files that were read, in the formats that were read, and the end of the last one.
 pub record AreFoundAsRead (files : List File) (endings : List FileEnding) (found : FoundFiles) : Type 0 where
   pub formats : AreInFormats files endings found.files.items
   pub end : (front : List FileEnding) (ending : FileEnding) → endings ≡ front ++ ending ∷ []
       → found.end ≡ ending.end
 
--- These batches were read of each queue's files, as they rest on the disk, and that is what its pipe is told.
+-- These batches were read of each queue's files, as they rest on the disk, and its pipe gets what was read.
 pub record WereRead (mode : RecoveryMode) (append rewrite : FoundPipe) (d : Disk) (tables : MemTables)
     : Type 0 where
   pub append_files : List File
@@ -50,7 +49,7 @@ pub record WereRead (mode : RecoveryMode) (append rewrite : FoundPipe) (d : Disk
   pub rewrite_found : AreFoundAsRead rewrite_files rewrite_endings rewrite.found
   pub merged : AreMerged append_batches rewrite_batches tables
 
--- Where a log that rests is opened, an engine of what was read of it holds its map, and nothing is pending.
+-- If a log that rests is opened, an engine of what was read of it holds its map, and nothing is pending.
 abbrev pub ReadLogsAreHeld : Type 0
 ReadLogsAreHeld = (home : Home) (m : LogMap) (mode : RecoveryMode) (append rewrite : FoundPipe) (old : Disk)
     (v : LogPipes) (tables : MemTables) → OpensLog append rewrite old v
@@ -64,13 +63,13 @@ pub record AreFoundAt (home : Home) (s : State) (append rewrite : FoundPipe) (d 
   pub append_found : IsFoundOf (log_in home).append append.found s.append d
   pub rewrite_found : IsFoundOf (log_in home).rewrite rewrite.found s.rewrite d
 
--- An engine that is made of what a log's files say there holds this map, and nothing is pending.
+-- An engine that is made of what a log's files have there holds this map, and nothing is pending.
 abbrev pub OpensAs : Home → Disk → LogMap → State → Type 0
 OpensAs home d m s = (mode : RecoveryMode) (append rewrite : FoundPipe) (v : LogPipes) (tables : MemTables)
     → AreFoundAt home s append rewrite d → OpensLog append rewrite d v
     → WereRead mode append rewrite d tables → HoldsFresh home v tables m
 
--- Whatever a crash leaves of what an engine left is opened as the map after some first pending batches.
+-- Opening any crash image of what an engine left gives the map after some first pending batches.
 abbrev pub CrashedLogsOpen : Type 0
 CrashedLogsOpen = (home : Home) → 0 < length home.append → 0 < length home.rewrite → (d image : Disk)
     (m : LogMap) (pending : List Said) → (left : IsLeftAt home d m pending)

@@ -1,4 +1,4 @@
--- Why a log that rests on a disk wasn't opened, and how far that went.
+-- Why opening a log that rests on a disk fails, and how far the open went.
 use Rattle.std.specs.Prelude.{◌≡◌, ℕ, List}
 use Rattle.raft_log_record_base.specs.declared.errors.Error.{Error}
 use Rattle.raft_log_record_base.specs.declared.pipe_log.LogQueue.{LogQueue}
@@ -15,11 +15,11 @@ use Rattle.raft_log_open_builder.specs.declared.builder.DualPipesBuilder.{DualPi
 use Rattle.raft_log_open_builder.specs.Finding.{FindsLog, IsBegun}
 use Rattle.raft_log_open_laws.specs.ByCalls.{reads, LogIsRecovered}
 
--- why a context doesn't read batches, in the words of a builder
+-- `Declines`, as a builder takes it
 abbrev pub declines : LogQueue → List Batch → Error → Type 0
 declines queue batches error = Declines queue batches error
 
--- Files for later use weren't readied on a file system with these disks, which may tell so much of a
+-- Readying files for later use failed on a file system with these disks, which may return these values for a
 -- directory's space.
 pub record FailsToReadyOn {F : Type 0} (disk : F → Disk) (tells : F → List ℕ → ℕ → Type 0)
     (b : DualPipesBuilder) (error : Error) (old new : Disk) : Type 0 where
@@ -29,9 +29,14 @@ pub record FailsToReadyOn {F : Type 0} (disk : F → Disk) (tells : F → List �
   pub to_is : disk to ≡ new
   pub fails : FailsToReadyLog disk tells b error from to
 
--- Nothing was done; its directories weren't scanned; its files weren't recovered, or not cut; it was given
--- up once they were, as where memory ran out for the tables; files for later use weren't readied; it was
--- given up once they were; or its files weren't synced, or its pipes not opened.
+-- How far the open went:
+-- - `undone`: nothing was done.
+-- - `unscanned`: scanning its directories failed.
+-- - `unrecovered`: recovering or truncating its files failed.
+-- - `unmerged`: it was abandoned after the recovery, for example for lack of memory for the tables.
+-- - `unreadied`: readying the files for later use failed.
+-- - `given_up`: it was abandoned after they were readied.
+-- - `unopened`: syncing its files or opening its pipes failed.
 pub data FailsToOpenByCalls {F : Type 0} (disk : F → Disk) (tells : F → List ℕ → ℕ → Type 0) (config : Config)
     (d new : Disk) : Type 0 where
   undone : new ≡ d → FailsToOpenByCalls disk tells config d new

@@ -1,38 +1,37 @@
-//! A log is opened in place.
+//! Opening a log in place.
 
 ghost use Rattle.raft_log_open_laws.specs.InPlace.{StandingDirectoriesOpen, StandingLogsOpenByCalls};
 ghost use Rattle.raft_log_open_laws.specs.InPlace.{SyncedFilesHoldStill, UncutLogsStay, UnsyncedLogsStay};
 
 use raft_log_disk::FileSystem;
 
-/// What an engine left, failed or closed, is opened without a crash as the map after some first pending
-/// batches, and nothing is pending: the bytes that weren't synced are read as they stand, and synced. Where a
-/// pipe isn't opened behind the syncs, the log is left with that map; wherever it is refused before, at a cut
-/// or behind one too, it is left as it was, with the batches that were pending.
+/// Opening what an engine left, failed or closed, without a crash gives the map after some first pending batches, and
+/// nothing is pending. The bytes that weren't synced are read as they are, and synced. If opening a pipe fails after
+/// the syncs, the log is left with that map. If it fails earlier, the log is left with that map or unchanged, with the
+/// batches that were pending.
 pub fn standing_logs_open_by_calls<F: FileSystem>()
     ensures { StandingLogsOpenByCalls F.disk F.tells_space }
 {}
 
-/// What an engine left is opened without a crash by `open_directory` of `raft_log_open_directory` as the map
-/// after some first pending batches, and nothing is pending; refused, it is left with that map, or as it was.
+/// Opening what an engine left without a crash, with `open_directory` of `raft_log_open_directory`, gives the map after
+/// some first pending batches, and nothing is pending. If it fails, the log is left with that map, or unchanged.
 pub fn standing_directories_open<F: FileSystem>()
     ensures { StandingDirectoriesOpen F.disk F.tells_space }
 {}
 
-/// Where an open is refused before anything was cut, in the scan or in the reading of its files, the log is
-/// left as it was, with the batches that were pending.
+/// If an open fails in the scan or in the reading of its files, before anything was truncated, the log is left
+/// unchanged. Its pending batches are still pending.
 pub fn uncut_logs_stay()
     ensures { UncutLogsStay }
 {}
 
-/// A sync of a queue's last file, as it stands, takes none of its records back, those that were pending
-/// neither.
+/// Syncing a queue's active file, as it is, loses none of its records, including the pending ones.
 pub fn synced_files_hold_still()
     ensures { SyncedFilesHoldStill }
 {}
 
-/// Where the files of a log that an engine left are synced as they stand, and one sync is refused, the log is
-/// left with the batches that were pending.
+/// The files of a log that an engine left are synced as they are. If one sync fails, the log is left with the batches
+/// that were pending.
 pub fn unsynced_logs_stay()
     ensures { UnsyncedLogsStay }
 {}

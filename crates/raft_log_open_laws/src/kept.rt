@@ -1,10 +1,10 @@
-//! What a recovery's calls leave of a log at rest.
+//! What the calls of a recovery leave of a log at rest.
 
 ghost use Rattle.raft_log_open_laws.specs.Keeping.{KeptLogsStay};
 
 use raft_log_file_pair::queues::LogQueues;
 
-/// A log whose files are as they were rests, or lies, where it did, whatever else changed on the disk.
+/// A log whose files are unchanged still rests, or is left, where it was, whatever else changed on the disk.
 pub fn kept_logs_stay<G: LogQueues>()
     ensures { (log : G) → KeptLogsStay (G.queues log) }
 {}

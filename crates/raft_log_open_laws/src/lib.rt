@@ -1,6 +1,6 @@
-//! The opening of a log, told for whoever proves something of it: what an open finds of the files that an engine
-//! left, that the engine that is made of it holds the map, in place, behind a crash and of a fork, and what a
-//! refused open leaves.
+//! Laws of opening a log, for use in proofs. They say what an open finds of the files that an engine left, and that the
+//! engine that is made of it holds the map: in place, after a crash, and from a fork. They also say what an open that
+//! fails leaves.
 //!
 //! Each public function here is a law over the definitions of `specs/`: it does nothing, and its contract is
 //! what is proved.

@@ -1,4 +1,4 @@
--- The log's directories: that they are there, and what is listed of them.
+-- The log's directories: making them, and listing them.
 use Rattle.std.specs.Prelude.{◌≡◌, ℕ, ◌⊎◌, Bool, Some, None, true, false, List, ◌∷◌, ◌++◌, codes, Contains}
 use Rattle.std.specs.declared.io.ErrorKind.{ErrorKind}
 use Rattle.std.specs.declared.io.ErrorKind.TheVariants.{OutOfMemory}
@@ -20,18 +20,20 @@ IsFreePath path d = (d.names path ≡ None) × (d.directories path ≡ false)
 abbrev pub MakesIfAbsent : List ℕ → Disk → Disk → Type 0
 MakesIfAbsent path old new = ((old.directories path ≡ true) × (new ≡ old)) ⊎ MakesDirectory path old new
 
--- how a path is told that isn't a directory's
+-- the message for a path that isn't a directory's
 abbrev pub told_no_directory : List ℕ → List ℕ
 told_no_directory path = codes "Not directory: " ++ path
 
--- A damage of these directories that isn't one: their path is told, or memory ran out.
+-- The error for a path that isn't a directory's: its message has the path; or memory ran out.
 abbrev pub TellsNoDirectory : List ℕ → Error → Type 0
 TellsNoDirectory path (errors.Other why) = HasMessage (Some (told_no_directory path)) why.value
 TellsNoDirectory path errors.Memory = Unit {0}
 TellsNoDirectory path _ = ⊥
 
--- Why a directory isn't there, and what stands then: a file has its path, and that is told; it wasn't made,
--- or the file system had stopped; or memory ran out.
+-- Why a directory isn't there, and the disk then:
+-- - a file has its path, which the message has
+-- - it wasn't made, or the file system had stopped
+-- - memory ran out
 abbrev pub FailsToHave : List ℕ → Error → Disk → Disk → Type 0
 FailsToHave path (errors.Other why) old new = (old.stopped ≡ false) × (old.names path ≡ None → ⊥)
     × HasMessage (Some (told_no_directory path)) why.value × (new ≡ old)
@@ -58,19 +60,19 @@ pub record FailsToHaveAll (directories : List (List ℕ)) (error : Error) (old n
 
 -- Reading them.
 
--- why the file system refused a call that changes nothing: memory ran out, or another cause
+-- why the file system failed a call that changes nothing: memory ran out, or another cause
 abbrev pub TellsRefusal : Bool → ErrorKind → Error → Type 0
 TellsRefusal stopped kind (errors.Io told) = (told ≡ kind) × ((stopped ≡ true) ⊎ (kind ≡ OutOfMemory → ⊥))
 TellsRefusal stopped kind errors.Memory = stopped ≡ false
 TellsRefusal stopped kind _ = ⊥
 
--- why a directory wasn't listed: the file system has stopped; or it runs, and there is no such directory, or
--- memory ran out
+-- why a directory wasn't listed: the file system has stopped; or it runs, and there is no such directory, or memory
+-- ran out
 abbrev pub FailsToList : List ℕ → Disk → Error → Type 0
 FailsToList path d (errors.Io kind) = IsAfterStop d kind ⊎ ((d.stopped ≡ false) × WrongListing path d kind)
 FailsToList path d errors.Memory = d.stopped ≡ false
 FailsToList path d _ = ⊥
 
--- why one of these directories wasn't
+-- why one of these directories wasn't listed
 abbrev pub FailsToListAll : List (List ℕ) → Disk → Error → Type 0
 FailsToListAll directories d error = (path : List ℕ) × Contains directories path × FailsToList path d error

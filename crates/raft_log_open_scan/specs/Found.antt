@@ -1,4 +1,4 @@
--- Which files of a log its directories hold.
+-- Which files of a log its directories have.
 use Rattle.std.specs.Prelude.{◌≡◌, ℕ, ◌<◌, ◌⊎◌, None, List, [], ◌∷◌, ◌++◌, suc, length, slice_index_or, Contains}
 use Rattle.std.specs.String.{string_bytes}
 use Rattle.raft_log_record_base.specs.declared.errors.Error.{Error}
@@ -25,7 +25,7 @@ AreAmongAll kind place [] files = files ≡ []
 AreAmongAll kind place (names ∷ listings) files = (first : List FoundFile) × (more : List FoundFile)
     × AreAmong kind place names first × AreAmongAll kind (suc place) listings more × (files ≡ first ++ more)
 
--- one of these names is a misnamed file's, and it is told
+-- the message names a misnamed file, one of these names
 abbrev pub TellsOneOf : FileKind → List (List ℕ) → List ℕ → Type 0
 TellsOneOf kind names text =
     (name : List ℕ) × Contains names name × IsMisnamed kind name × (text ≡ told_misnamed name)
@@ -50,7 +50,7 @@ abbrev pub found_path : FileKind → List (List ℕ) → FoundFile → List ℕ
 found_path kind directories file =
     slice_index_or directories file.path_id [] ++ 47 ∷ name_of kind file.signed file.seq
 
--- the file lies in one of these directories, under the name of its number, with a sign or without one
+-- the file is in one of these directories, under the name of its number, with a sign or without one
 pub record FileLiesIn (kind : FileKind) (directories : List (List ℕ)) (d : Disk) (file : FoundFile) : Type 0 where
   pub listed : file.path_id < length directories
   pub small : file.seq < name_limit file.signed
@@ -68,7 +68,7 @@ abbrev pub AreDistinct : {X : Type 0} → List X → Type 0
 AreDistinct [] = Unit {0}
 AreDistinct (x ∷ xs) = (Contains xs x → ⊥) × AreDistinct xs
 
--- exactly the files of this kind that lie in these directories, each once; no other file's name says a number
+-- exactly the files of this kind in these directories, each once; no name in them is misnamed
 pub record AreFilesIn (kind : FileKind) (directories : List (List ℕ)) (d : Disk) (files : List FoundFile)
     : Type 0 where
   pub found : (file : FoundFile) → Contains files file → FileLiesIn kind directories d file

@@ -14,7 +14,7 @@ end_of Append = suffix_of queues.Append
 end_of Rewrite = suffix_of queues.Rewrite
 end_of Reserved = reserved_suffix
 
--- the name with a number, with a sign in front or without one
+-- the name with a number, with a sign before it or without one
 abbrev pub name_of : FileKind → Bool → ℕ → List ℕ
 name_of kind signed n = number_text signed n ++ end_of kind
 
@@ -30,25 +30,24 @@ IsNameOf kind signed n name = (n < name_limit signed) × (name ≡ name_of kind 
 abbrev pub IsOther : FileKind → List ℕ → Type 0
 IsOther kind name = (n : ℕ) → IsNamed (end_of kind) name n → ⊥
 
--- the name says a number, and isn't the number's with a sign or without one: between the number and the end
--- there is more
+-- the name begins with a number, and isn't that number's with a sign or without one: it has more between the number
+-- and the end
 abbrev pub IsMisnamed : FileKind → List ℕ → Type 0
 IsMisnamed kind name =
     (n : ℕ) × IsNamed (end_of kind) name n × ((signed : Bool) → IsNameOf kind signed n name → ⊥)
 
--- how such a name is told
+-- the message for such a name
 abbrev pub told_misnamed : List ℕ → List ℕ
 told_misnamed name = codes "misnamed log file: " ++ name
 
--- why it isn't known which file has the name: the name is a misnamed one's, and that is told, or memory ran
--- out
+-- why it isn't known which file has the name: the name is misnamed, and the message has it; or memory ran out
 abbrev pub FailsToName : FileKind → List ℕ → Error → Type 0
 FailsToName kind name (errors.Corruption text) =
     IsMisnamed kind name × (string_bytes text ≡ told_misnamed name)
 FailsToName kind name errors.Memory = Unit {0}
 FailsToName kind name _ = ⊥
 
--- a damage that tells the name, or memory ran out
+-- the error for a misnamed name: its message has the name; or memory ran out
 abbrev pub TellsMisnamed : List ℕ → Error → Type 0
 TellsMisnamed name (errors.Corruption text) = string_bytes text ≡ told_misnamed name
 TellsMisnamed name errors.Memory = Unit {0}

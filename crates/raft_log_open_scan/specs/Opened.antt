@@ -23,8 +23,8 @@ abbrev pub is_reserved : FileKind → Bool
 is_reserved Reserved = true
 is_reserved _ = false
 
--- The file that was found, open: the handle leads to the file that has the path. Its format isn't read yet:
--- it is that of a file without a header.
+-- The file that was found, open: the handle is of the file with that path. Its format isn't read yet: it is that of a
+-- file without a header.
 pub record IsOpenFile (kind : FileKind) (directories : List (List ℕ)) (d : Disk) (permission : Permission)
     (found : FoundFile) (file : File) : Type 0 where
   pub seq : file.seq ≡ found.seq
@@ -38,12 +38,12 @@ abbrev pub AreOpen : FileKind → List (List ℕ) → Disk → Permission → Li
 AreOpen kind directories d permission found files =
     AllZip (IsOpenFile kind directories d permission) found files
 
--- what the files before a queue's last one are opened for: to be read, and under this mode to be cut too
+-- the permission for the files before a queue's last one: to read, and under `TolerateAnyCorruption` to truncate too
 abbrev pub permission_before : RecoveryMode → Permission
 permission_before TolerateAnyCorruption = ReadWrite
 permission_before _ = ReadOnly
 
--- the last of these is open to be written, and those before it as the mode has it
+-- the last of these is open for writing, and those before it as the mode requires
 pub record IsOpenBehind (kind : FileKind) (directories : List (List ℕ)) (d : Disk) (mode : RecoveryMode)
     (found : List FoundFile) (files : List File) : Type 0 where
   pub before : List FoundFile
@@ -61,7 +61,7 @@ abbrev pub IsOpenQueue :
 IsOpenQueue kind directories d mode found files =
     ((found ≡ []) × (files ≡ [])) ⊎ IsOpenBehind kind directories d mode found files
 
--- why it isn't known what has a path, or what is there wasn't opened: the file system has stopped, or memory ran out
+-- why it isn't known what has a path, or the file there wasn't opened: the file system has stopped, or memory ran out
 abbrev pub FailsToLook : Disk → Error → Type 0
 FailsToLook d (errors.Io kind) = IsAfterStop d kind
 FailsToLook d errors.Memory = Unit {0}

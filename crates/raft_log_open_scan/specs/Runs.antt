@@ -6,22 +6,20 @@ use Rattle.std.specs.List.Sorted.{IsPermutation, IsSorted}
 use Rattle.std.specs.Ordering.{bool_cmp, nat_cmp, ordering_then}
 use Rattle.raft_log_open_scan.specs.declared.scanning.found.FoundFile.{FoundFile}
 
--- by their numbers, of two with one number that of the earlier directory first, and of two in one that without
--- a sign
+-- by their numbers; then the one in the earlier directory first; in one directory the one without a sign first
 abbrev pub found_cmp : FoundFile → FoundFile → Ordering
 found_cmp a b = ordering_then (ordering_then (nat_cmp a.seq b.seq) (nat_cmp a.path_id b.path_id))
     (bool_cmp a.signed b.signed)
 
--- the second has the number behind the first one's
+-- the second has the number after the first one's
 abbrev pub FollowsNumber : FoundFile → FoundFile → Type 0
 FollowsNumber a b = suc a.seq ≡ b.seq
 
--- each has the number behind that of the one before it
+-- each has the number after that of the one before it
 abbrev pub IsConsecutive : List FoundFile → Type 0
 IsConsecutive files = AllAdjacentBelow FollowsNumber files (length files)
 
--- the first of these doesn't have the number behind that of the last of those: a number is missing between
--- the two, or both have one number
+-- the first of these doesn't follow the last of those: a number is missing between the two, or both have one number
 pub record IsBreak (those these : List FoundFile) : Type 0 where
   pub before : List FoundFile
   pub last : FoundFile
@@ -31,7 +29,7 @@ pub record IsBreak (those these : List FoundFile) : Type 0 where
   pub begins : these ≡ first ∷ behind
   pub breaks : FollowsNumber last first → ⊥
 
--- What is kept of the files that were found: in their order, all that stand behind the last break.
+-- Which of the files that were found are kept: in their order, all after the last break.
 pub record IsRunOf (found kept : List FoundFile) : Type 0 where
   pub dropped : List FoundFile
   pub same : IsPermutation found (dropped ++ kept)
@@ -39,7 +37,7 @@ pub record IsRunOf (found kept : List FoundFile) : Type 0 where
   pub consecutive : IsConsecutive kept
   pub broken : (dropped ≡ []) ⊎ IsBreak dropped kept
 
--- a break stands before this place
+-- a break is before this place
 abbrev pub IsBrokenAt : List FoundFile → ℕ → Type 0
 IsBrokenAt files at = (0 < at) × (at < length files)
     × ((d : FoundFile) → FollowsNumber (slice_index_or files (at - 1) d) (slice_index_or files at d) → ⊥)

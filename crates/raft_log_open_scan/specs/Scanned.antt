@@ -1,4 +1,4 @@
--- What a scan of the log's directories answers.
+-- What a scan of the log's directories returns.
 use Rattle.std.specs.Prelude.{◌≡◌, ℕ, ◌⊎◌, List}
 use Rattle.std.specs.String.{string_bytes}
 use Rattle.raft_log_record_base.specs.declared.errors.Error.{Error}
@@ -18,14 +18,14 @@ use Rattle.raft_log_open_scan.specs.declared.file_kind.FileKind.TheVariants.{App
 use Rattle.raft_log_open_scan.specs.declared.scanning.found.FoundFile.{FoundFile}
 use Rattle.raft_log_open_scan.specs.declared.scanning.ScannedFiles.{ScannedFiles}
 
--- of the files of a kind among those with these names, those that are kept
+-- the files of a kind that are kept, among those with these names
 pub record IsRunAmong (kind : FileKind) (listings : List (List (List ℕ))) (kept : List FoundFile)
     : Type 0 where
   pub found : List FoundFile
   pub among : AreAmongAll kind 0 listings found
   pub run : IsRunOf found kept
 
--- of exactly the files of a kind in these directories, those that are kept
+-- the files of a kind that are kept, among exactly those in these directories
 pub record IsRunIn (kind : FileKind) (directories : List (List ℕ)) (d : Disk) (kept : List FoundFile)
     : Type 0 where
   pub found : List FoundFile
@@ -52,27 +52,26 @@ pub record IsScanned (directories : List (List ℕ)) (d : Disk) (mode : Recovery
   pub rewrite : IsQueueIn Rewrite directories d mode scanned.rewrite.items
   pub reserved : IsReserveIn directories d scanned.reserved.items
 
--- some file in these directories is misnamed, and that is told
+-- the message names a misnamed file in these directories
 abbrev pub TellsMisnamedIn : List (List ℕ) → Disk → List ℕ → Type 0
 TellsMisnamedIn directories d text = (kind : FileKind) × (name : List ℕ) × HasName directories d name
     × IsMisnamed kind name × (text ≡ told_misnamed name)
 
--- why files that are there weren't found and opened: the file system has stopped, one is misnamed, or
--- memory ran out
+-- why files that are there weren't found and opened: the file system has stopped, one is misnamed, or memory ran out
 abbrev pub FailsToFindFiles : List (List ℕ) → Disk → Error → Type 0
 FailsToFindFiles directories d (errors.Io kind) = IsAfterStop d kind
 FailsToFindFiles directories d (errors.Corruption text) = TellsMisnamedIn directories d (string_bytes text)
 FailsToFindFiles directories d errors.Memory = Unit {0}
 FailsToFindFiles directories d _ = ⊥
 
--- the directories are there, and nothing else changed; and what they hold
+-- the directories are there, and nothing else changed; and their files
 pub record Scans (directories : List (List ℕ)) (mode : RecoveryMode) (scanned : ScannedFiles)
     (old new : Disk) : Type 0 where
   pub made : HasDirectories directories old new
   pub is : IsScanned directories new mode scanned
 
--- why there is no answer: a directory isn't there, or they are, and their files aren't found or opened;
--- nothing else changed
+-- why a scan fails: a directory isn't there; or they are, and their files aren't found or opened; nothing else
+-- changed
 abbrev pub FailsToScan : List (List ℕ) → Error → Disk → Disk → Type 0
 FailsToScan directories error old new = FailsToHaveAll directories error old new
     ⊎ (HasDirectories directories old new × FailsToFindFiles directories new error)

@@ -1,4 +1,4 @@
-//! How the files are shared among workers: how many of these each queue gets.
+//! How the files are shared among workers: how many workers each queue gets.
 
 ghost use Rattle.std.specs.Prelude.{◌≡◌, ◌<◌, ◌≤◌, ◌+◌, ◌*◌, ◌/◌, min, max};
 ghost use Rattle.raft_log_open_scan.specs.Chunks.{append_share, rewrite_share};
@@ -12,9 +12,9 @@ pub struct Workers {
     pub rewrite: usize,
 }
 
-/// How many workers each queue gets of so many threads, by how many files it has. There are no more of them
-/// than files in all. Where both queues have files, each has its share by their number, and one worker at
-/// least; else the queue that has files gets all.
+/// How many workers each queue gets of so many threads, by how many files it has. There are no more workers than
+/// files. If both queues have files, each gets its share by their number, at least one worker. Else the queue with
+/// files gets all.
 pub fn share_workers(threads: usize, append_files: usize, rewrite_files: usize) -> Workers
     ensures append { result.append
         ≡ append_share (min threads (append_files + rewrite_files)) append_files rewrite_files }
@@ -36,7 +36,7 @@ pub fn share_workers(threads: usize, append_files: usize, rewrite_files: usize) 
     }
 }
 
-/// A share of all workers by this part of the files, and one at least.
+/// A share of all workers by this part of the files, at least one.
 fn share(all: usize, part: usize, files: u128) -> usize
     requires some { 0 < files }
     requires within { part ≤ files }

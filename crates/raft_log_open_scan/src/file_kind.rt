@@ -19,24 +19,24 @@ pub enum FileKind {
     Append,
     /// The files of Rewrite.
     Rewrite,
-    /// The files that are kept to be used.
+    /// The reserved files, kept for recycling.
     Reserved,
 }
 
-/// What the name of a file says.
+/// What a file's name contains.
 #[derive(Clone, Copy, Debug, PartialEq, Eq)]
 pub struct FileName {
     /// The file's number.
     pub seq: FileSeq,
-    /// Whether a sign stands in front of it.
+    /// Whether a sign is before it.
     pub signed: bool,
 }
 
 impl FileKind {
     ghost use Rattle.raft_log_open_scan.specs.Names.{end_of, name_of, IsNameOf, IsOther, FailsToName};
 
-    /// What this name says, if it is that of a file of this kind; none for other names. `Corruption` for a
-    /// name that says a number and has more between it and the end: the file couldn't be found again.
+    /// Parses this name, if it is that of a file of this kind; `None` for other names. Fails with `Corruption` for a
+    /// name that begins with a number and has more between it and the end: the file couldn't be found again.
     pub fn read_name(self, alloc: Global, name: &str) -> Result<Option<FileName>>
         ensures ok { IfOk result (λ found. MatchOption found
             (IsOther self name.now) (λ said. IsNameOf self said.signed said.seq name.now)) }
@@ -56,7 +56,7 @@ impl FileKind {
         Err(misnamed(alloc, name))
     }
 
-    /// The number that a name says, if it is that of a file of this kind.
+    /// The number in a name, if it is that of a file of this kind.
     pub fn parse_name(self, name: &str) -> Option<FileSeq>
         ensures { (n : ℕ) → (result ≡ Some n) ↔ IsNamed (end_of self) name.now n }
     {
@@ -67,8 +67,7 @@ impl FileKind {
         }
     }
 
-    /// The name of the file with this number. A number of more than sixteen digits is refused as
-    /// `NumberRange`.
+    /// The name of the file with this number. Fails with `NumberRange` for a number of more than sixteen digits.
     pub fn build_name(self, alloc: Global, seq: FileSeq) -> Result<String>
         ensures ok { IfOk result (λ name. IsNameOf self false seq (string_bytes name)) }
         ensures err { IfErr result (λ error. IsNameRefusal seq error) }
@@ -80,8 +79,8 @@ impl FileKind {
         }
     }
 
-    /// The name that says this; a number of sixteen digits leaves no room for a sign. A number of more is
-    /// refused as `NumberRange`.
+    /// The name with this content; a number of sixteen digits leaves no room for a sign. Fails with `NumberRange` for
+    /// a number of more digits.
     pub fn name_with(self, alloc: Global, said: FileName) -> Result<String>
         ensures ok { IfOk result (λ name. string_bytes name ≡ name_of self said.signed said.seq) }
         ensures small { OnOk result (said.seq < 10 ^ 16) }
@@ -93,7 +92,7 @@ impl FileKind {
         self.build_signed_name(alloc, said.seq)
     }
 
-    /// The name with this number and a sign in front, where the number leaves room for one.
+    /// The name with this number and a sign before it, if the number leaves room for one.
     fn build_signed_name(self, alloc: Global, seq: FileSeq) -> Result<String>
         ensures ok { IfOk result (λ name. string_bytes name ≡ name_of self true seq) }
         ensures small { OnOk result (seq < 10 ^ 16) }
@@ -118,7 +117,7 @@ fn has_plus(name: &str) -> bool
     name.as_bytes().first() == Some(&b'+')
 }
 
-/// The number that a name says, if it is that of a queue's file.
+/// The number in a name, if it is that of a queue's file.
 fn parse_name_in(queue: LogQueue, name: &str) -> Option<FileSeq>
     ensures { (n : ℕ) → (result ≡ Some n) ↔ IsNamed (suffix_of queue) name.now n }
 {
@@ -131,7 +130,7 @@ fn parse_name_in(queue: LogQueue, name: &str) -> Option<FileSeq>
     None
 }
 
-/// The refusal of a name that says a number and has more between it and the end.
+/// The error for a name that begins with a number and has more between it and the end.
 fn misnamed(alloc: Global, name: &str) -> Error
     ensures { TellsMisnamed name.now result }
 {

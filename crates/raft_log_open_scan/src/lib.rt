@@ -1,5 +1,5 @@
-//! A log's directories before any engine opens them: which files there are, which of them are read, and by
-//! how many workers.
+//! A log's directories before any engine opens them: which files there are, which of them are read, and by how many
+//! workers.
 #![tactic(auto)]
 
 pub mod chunks;

@@ -20,7 +20,7 @@ pub struct RecoveryConfig {
 }
 
 impl RecoveryConfig {
-    /// How the settings have a queue's files recovered, by so many workers.
+    /// How a queue's files are recovered by these settings, with so many workers.
     pub fn new(config: &Config, queue: LogQueue, concurrency: usize) -> RecoveryConfig
         ensures queue { result.queue ≡ queue }
         ensures mode { result.mode ≡ (settings_of config.now).recovery_mode }

@@ -1,5 +1,4 @@
-//! What a log's directories hold: they are made where they aren't there, their files found, sorted and
-//! opened.
+//! Scans a log's directories: makes missing ones, and finds, sorts and opens their files.
 
 ghost use Rattle.std.specs.Prelude.{◌≡◌, true, All, IfOk, IfErr, map};
 ghost use Rattle.std.specs.List.{AllZip};
@@ -25,28 +24,30 @@ use raft_log_record_base::Result;
 use runs::keep_run;
 use std::alloc::Global;
 
-/// The files that a log's directories hold, open.
+/// The files in a log's directories, open.
 #[derive(Drop, Debug)]
 pub struct ScannedFiles {
     /// Append's files, in the order of their numbers.
     pub append: Vec<File>,
     /// Rewrite's files, in the order of their numbers.
     pub rewrite: Vec<File>,
-    /// The files that are kept to be used.
+    /// The reserved files, kept for recycling.
     pub reserved: Vec<File>,
 }
 
-/// Finds and opens the files of both queues, and the reserved ones, in these directories, the main one
-/// first; those that aren't there are made. The last file of a queue is opened to be written, under
-/// `TolerateAnyCorruption` each of them, and the others to be read. No file is changed.
+/// Finds and opens the files of both queues, and the reserved ones, in these directories, the main one first. Makes
+/// missing directories; changes no file.
+/// - The last file of a queue is opened for writing, and under `TolerateAnyCorruption` each of its files; the others
+///   for reading.
+/// - For each kind, only the files after the last gap are kept. The others stay in their directories. A gap is a
+///   missing number, or two files with one number.
+/// - A file keeps its name, with a sign before the number or without one.
 ///
-/// Of each kind the files are kept behind the last place where a number is missing, or where two files have
-/// one number; the others stay where they are.
-///
-/// A file keeps its name, with a sign in front of the number or without one.
-///
-/// `Other` where a file has the path of a directory, `Corruption` where a name says a number and has more
-/// between it and the end, `Io` where a directory isn't made or the file system has stopped.
+/// Fails:
+/// - with `Other` if a file has the path of a directory
+/// - with `Corruption` if a name begins with a number and has more between it and the end
+/// - with `Io` if a directory isn't made or the file system has stopped
+/// - with `Memory`
 pub fn scan<F: FileSystem>(
     alloc: Global,
     file_system: &mut F,

@@ -1,4 +1,4 @@
--- What `Sound` says of a log, and what an inspection of it found.
+-- What `Sound` means for a log, and what an inspection of it found.
 use Rattle.std.specs.Prelude.{◌≡◌, ℕ, List, []}
 use Rattle.raft_log_record_base.specs.declared.pipe_log.LogQueue.{LogQueue}
 use Rattle.raft_log_record_base.specs.declared.pipe_log.LogQueue.TheVariants as queues
@@ -18,7 +18,7 @@ use Rattle.raft_log_operator.specs.declared.place.Place.{Place}
 abbrev pub directories_in : Place → List (List ℕ)
 directories_in place = directories_of (kept_settings place)
 
--- in each queue of the log the numbers of the files are consecutive, and no file is damaged
+-- both queues of the log have consecutive file numbers, and no file is damaged
 abbrev pub HasIntactFiles : Place → Disk → Type 0
 HasIntactFiles place d =
     (queue : LogQueue) → (batches : List Batch) × IsIntactQueue queue (directories_in place) d batches
@@ -27,19 +27,19 @@ HasIntactFiles place d =
 abbrev pub HaveNoHole : List Batch → Type 0
 HaveNoHole batches = (group : ℕ) → HasNoHole (runs_of group batches)
 
--- in each queue of the log the numbers of the files are consecutive, no file is damaged, and no group has a hole
+-- both queues of the log have consecutive file numbers, no file is damaged, and no group has a hole
 abbrev pub IsIntactLog : Place → Disk → Type 0
 IsIntactLog place d = (queue : LogQueue) → (batches : List Batch)
     × IsIntactQueue queue (directories_in place) d batches × HaveNoHole batches
 
--- what `Sound` says of the log after a task
+-- what `Sound` means for the log after a task
 abbrev pub IsSoundFor : Place → Task → Disk → Type 0
 IsSoundFor place Check d = IsIntactLog place d
 IsSoundFor place Stat d = HasIntactFiles place d
 IsSoundFor place _ d = Unit {0}
 
--- A queue was inspected: if nothing wrong with its files was found, they are intact; if no hole was found, their
--- records have none.
+-- A queue was inspected. If no fault was found in its files, they are intact; if no hole was found, their records have
+-- none.
 pub record InspectsOne (queue : LogQueue) (directories : List (List ℕ)) (d : Disk) (faults : QueueFaults)
     : Type 0 where
   pub batches : List Batch
@@ -51,10 +51,10 @@ pub record InspectsLog (place : Place) (d : Disk) (faults : LogFaults) : Type 0 
   pub append : InspectsOne queues.Append (directories_in place) d faults.append
   pub rewrite : InspectsOne queues.Rewrite (directories_in place) d faults.rewrite
 
--- nothing wrong with the log's files was found
+-- no fault was found in the log's files
 abbrev pub HasCleanFiles : LogFaults → Type 0
 HasCleanFiles faults = IsClean faults.append.files × IsClean faults.rewrite.files
 
--- nothing wrong with the log was found
+-- no fault was found in the log
 abbrev pub AreNone : LogFaults → Type 0
 AreNone faults = HasCleanFiles faults × (faults.append.holes.items ≡ []) × (faults.rewrite.holes.items ≡ [])

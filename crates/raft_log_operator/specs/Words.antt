@@ -7,7 +7,7 @@ use Rattle.raft_log_operator.specs.declared.command.Task.{Task}
 use Rattle.raft_log_operator.specs.declared.command.Task.TheVariants.{Check, Dump, Fork, Stat, Unpad}
 use Rattle.raft_log_operator.specs.declared.place.Place.{Place}
 
--- the words that name a log's second directory, where it has one
+-- the words that name a log's second directory, if it has one
 abbrev pub spill_words : Option (String Global) → List (List ℕ)
 spill_words None = []
 spill_words (Some directory) = codes "--spill-dir" ∷ string_bytes directory ∷ []
@@ -16,11 +16,11 @@ spill_words (Some directory) = codes "--spill-dir" ∷ string_bytes directory �
 abbrev pub place_words : Place → List (List ℕ)
 place_words place = string_bytes place.directory ∷ spill_words place.spill_directory
 
--- the words that name a log and where it is copied
+-- the words that name a log and the target of its copy
 abbrev pub fork_words : Place → String Global → List (List ℕ)
 fork_words place target = string_bytes place.directory ∷ string_bytes target ∷ spill_words place.spill_directory
 
--- the words that ask for a task on a log
+-- the words that request a task on a log
 abbrev pub task_words : Place → Task → List (List ℕ)
 task_words place Dump = codes "dump" ∷ place_words place
 task_words place Check = codes "check" ∷ place_words place
@@ -28,7 +28,7 @@ task_words place Stat = codes "stat" ∷ place_words place
 task_words place (Fork target) = codes "fork" ∷ fork_words place target
 task_words place Unpad = codes "unpad" ∷ place_words place
 
--- how a command is spelled, behind the program's name
+-- how a command is spelled, after the program's name
 abbrev pub words_of : Command → List (List ℕ)
 words_of Help = codes "--help" ∷ []
 words_of (On place task) = task_words place task

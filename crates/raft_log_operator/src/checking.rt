@@ -1,4 +1,4 @@
-//! A log is checked for damage, gaps and holes.
+//! Checks a log for damage, gaps and holes.
 ghost use Rattle.std.specs.Prelude.{◌≡◌, IfOk};
 ghost use Rattle.raft_log_operator.specs.Sound.{IsIntactLog};
 
@@ -10,10 +10,12 @@ use std::alloc::Global;
 use std::io;
 use std::io::Write;
 
-/// Writes a line for each gap in the numbers of a queue's files, for each file that an open would cut or refuse, and
-/// for each group that has a hole in its entries; or that there is none of these. Nothing is changed.
+/// Writes a line for each of these, or that there is none:
+/// - a gap in a queue's file numbers,
+/// - a file that an open would truncate or reject,
+/// - a group that has a hole in its entries.
 ///
-/// Fails as `inspect` does, and if the output isn't written.
+/// Changes nothing. Fails as `inspect` does, and if writing the output fails.
 pub fn check<F: FileSystem, W: Write>(
     alloc: Global,
     files: &F,

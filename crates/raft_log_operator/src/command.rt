@@ -1,4 +1,4 @@
-//! What the program is asked for, and how that is spelled.
+//! The program's commands, and how they are spelled.
 ghost use Rattle.std.specs.Prelude.{◌≡◌, ◌≢◌, ◌↔◌, IsTrue, IfOk, Option, String, map, string_bytes};
 ghost use Rattle.std.specs.declared.alloc.Global.{Global};
 ghost use Rattle.raft_log_operator.specs.Words.{fork_words, place_words, spill_words};
@@ -7,7 +7,7 @@ use crate::place::{Place, trimmed};
 use std::alloc::{AllocError, Global};
 use thiserror::Error;
 
-/// How the program is called.
+/// The program's usage.
 pub const USAGE: &str = "usage: raft_log_ctl COMMAND
 
   dump PATH         each item of the log in the directory PATH, or of the one log file PATH
@@ -25,27 +25,27 @@ is refused. Only fork and unpad change anything: fork makes TARGET, unpad writes
 status: 0 done; 1 done, and a hole, a missing or a damaged file was found; 2 wrong arguments; 3 refused
 ";
 
-/// What the program is asked for.
+/// What the program is to do.
 #[derive(Debug, Drop, PartialEq, Eq)]
 pub enum Command {
-    /// How the program is called is told.
+    /// Prints the usage.
     Help,
-    /// Something is done with a log.
+    /// Does a task on a log.
     On(Place, Task),
 }
 
-/// What is done with a log.
+/// A task on a log.
 #[derive(Debug, Drop, PartialEq, Eq)]
 pub enum Task {
-    /// The log's items are listed, or those of one file.
+    /// Lists the log's items, or those of one file.
     Dump,
-    /// The log is checked for damage, gaps and holes.
+    /// Checks the log for damage, gaps and holes.
     Check,
-    /// What the log holds is told in numbers.
+    /// Counts what the log holds.
     Stat,
-    /// The log is copied into the directory with this path.
+    /// Copies the log into the directory with this path.
     Fork(String),
-    /// The log's files that have an alignment are written anew without it.
+    /// Writes the log's files that have an alignment anew without it.
     Unpad,
 }
 
@@ -64,7 +64,7 @@ impl Task {
         }
     }
 
-    /// The word that asks for it.
+    /// The word that requests it.
     pub fn word(&self) -> &'static str {
         match self {
             Task::Dump => "dump",
@@ -76,13 +76,13 @@ impl Task {
     }
 }
 
-/// Why arguments are no command.
+/// Why arguments are not a command.
 #[derive(Clone, Copy, Debug, PartialEq, Eq, Error)]
 pub enum Unread {
     /// No command is spelled so.
     #[error("no command is spelled so")]
     Usage,
-    /// Memory is short.
+    /// Out of memory.
     #[error("out of memory")]
     Memory,
 }
@@ -100,8 +100,8 @@ impl From<AllocError> for Unread {
 impl Command {
     ghost use Rattle.raft_log_operator.specs.Words.{words_of};
 
-    /// The command that is spelled by these arguments, which come behind the program's name. `Usage` where none
-    /// is spelled so, or `Memory`.
+    /// The command in these arguments, which follow the program's name. Fails with `Usage` if no command is spelled so,
+    /// or with `Memory`.
     pub fn parse(alloc: Global, arguments: &[String]) -> Result<Command, Unread>
         ensures ok { IfOk result (λ command. map string_bytes arguments.now ≡ words_of command) }
         ensures usage { result ≡ Err Unread.Usage →
@@ -144,7 +144,7 @@ fn is(word: &String, text: &str) -> bool
     word.as_str() == text
 }
 
-/// The log that is copied and where, as these words spell it.
+/// The log to copy and the target, in these words.
 fn parse_fork(alloc: Global, words: &[String]) -> Result<(Place, String), Unread>
     ensures ok { IfOk result (λ asked. map string_bytes words.now ≡ fork_words asked.0 asked.1) }
     ensures usage { result ≡ Err Unread.Usage →
@@ -161,7 +161,7 @@ fn parse_fork(alloc: Global, words: &[String]) -> Result<(Place, String), Unread
     Ok((place, target))
 }
 
-/// The log that these words spell.
+/// The log in these words.
 fn parse_place(alloc: Global, words: &[String]) -> Result<Place, Unread>
     ensures ok { IfOk result (λ place. map string_bytes words.now ≡ place_words place) }
     ensures usage { result ≡ Err Unread.Usage →
@@ -173,7 +173,7 @@ fn parse_place(alloc: Global, words: &[String]) -> Result<Place, Unread>
     }
 }
 
-/// The log whose main directory this is, and whose second one the rest of the words spells.
+/// The log with this main directory, and with the second one that is in the rest of the words.
 fn place_of(alloc: Global, directory: &str, rest: &[String]) -> Result<Place, Unread>
     ensures directory { IfOk result (λ place. string_bytes place.directory ≡ directory.now) }
     ensures ok { IfOk result (λ place. map string_bytes rest.now ≡ spill_words place.spill_directory) }
@@ -188,7 +188,7 @@ fn place_of(alloc: Global, directory: &str, rest: &[String]) -> Result<Place, Un
     })
 }
 
-/// The second directory that these words spell, if they spell any.
+/// The second directory in these words, if there is one.
 fn parse_spill(alloc: Global, words: &[String]) -> Result<Option<String>, Unread>
     ensures ok { IfOk result (λ spill. map string_bytes words.now ≡ spill_words spill) }
     ensures usage { result ≡ Err Unread.Usage →

@@ -1,4 +1,4 @@
-//! A log's directories are copied into memory.
+//! Copies a log's directories into memory.
 use crate::fault::CommandFault;
 use crate::place::Place;
 use raft_log_engine::{Error, FileSystem, Handle, MemoryFileSystem, Permission};
@@ -8,8 +8,8 @@ use std::io::ErrorKind;
 /// How many bytes are copied at a time.
 const PIECE: usize = 1 << 20;
 
-/// A file system in memory that holds a log's directories with all their files, synced. What is done with it doesn't
-/// touch the log. Fails if a directory isn't listed, if a file isn't opened or read, and if memory is short.
+/// A file system in memory with a log's directories and all their files, synced. Calls on it don't touch the log. Fails
+/// if a directory isn't listed, if a file isn't opened or read, and if memory runs out.
 pub fn copy_of<F: FileSystem>(
     alloc: Global,
     files: &F,

@@ -1,4 +1,4 @@
-//! The items of a log are listed.
+//! Lists the items of a log.
 use crate::fault::{CommandFault, Outcome};
 use crate::found_file::{FoundFile, find_files};
 use crate::place::Place;
@@ -7,11 +7,11 @@ use raft_log_engine::{Error, FileSystem, LogItemReader};
 use std::alloc::Global;
 use std::io::Write;
 
-/// Writes a line for each item of a log, or of the one file whose path is the main one: the files in the order of
-/// `find_files`, and of each its items in order, up to its end or up to what is broken in it, which is told in the
-/// place of the rest and is `Faulty`. Nothing is changed.
+/// Writes a line for each item of a log, or of the one file whose path is the main one. The files are in the order of
+/// `find_files`. The items of each file are in order, up to its end or to what is broken in it. For broken bytes it
+/// writes a line instead of the rest, and returns `Faulty`. Changes nothing.
 ///
-/// Fails if the files aren't found, if a file isn't read, if memory is short, and if the output isn't written; what was
+/// Fails if the files aren't found, if a file isn't read, if memory runs out, and if writing the output fails; what was
 /// written stays.
 pub fn dump<F: FileSystem, W: Write>(
     alloc: Global,

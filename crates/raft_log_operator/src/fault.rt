@@ -1,4 +1,4 @@
-//! Why a command isn't done.
+//! Why a command fails.
 use raft_log_engine::Error as LogError;
 use raft_log_inspection::InspectFault;
 use std::alloc::{AllocError, AllocFailed, Global};
@@ -6,10 +6,10 @@ use std::io;
 use std::io::ErrorKind;
 use thiserror::Error;
 
-/// Why a command isn't done.
+/// Why a command fails.
 #[derive(Debug, Drop, Error)]
 pub enum CommandFault {
-    /// The log refused, or the file system below it.
+    /// A call of the log failed, or one of the file system below it.
     #[error("{0}")]
     Log(LogError),
     /// A call on the file or the directory with this path failed.
@@ -20,12 +20,12 @@ pub enum CommandFault {
         /// Why the call failed.
         error: LogError,
     },
-    /// What was to be told wasn't written.
+    /// Writing the output failed.
     #[error("the output was refused: {0}")]
     Output(io::Error),
 }
 
-/// What a command came to that was done.
+/// The result of a command that succeeded.
 #[derive(Clone, Copy, Debug, PartialEq, Eq)]
 pub enum Outcome {
     /// Nothing is wrong.
@@ -35,7 +35,7 @@ pub enum Outcome {
 }
 
 impl CommandFault {
-    /// The failure of a call on a path: `Log` if memory is short, else `File`.
+    /// The failure of a call on a path: `Log` if memory ran out, else `File`.
     pub(crate) fn at(alloc: Global, path: &str, error: LogError) -> CommandFault {
         if matches!(
             error,

@@ -1,4 +1,4 @@
-//! A log is copied into a directory.
+//! Copies a log into a directory.
 ghost use Rattle.std.specs.Prelude.{IfErr, IfOk, OnOk, map};
 ghost use Rattle.std.specs.String.{string_bytes};
 ghost use Rattle.raft_log_closed.specs.Forks.{FailsToFork, Forks};
@@ -13,9 +13,9 @@ use std::alloc::Global;
 use std::io;
 use std::io::Write;
 
-/// Copies a log into a directory, which is made, and writes the path of each copy. Nothing of the log changes.
+/// Copies a log into a directory, which is created, and writes the path of each copy. Nothing of the log changes.
 ///
-/// Refused as `fork` is, where nothing is written, and where the output is refused, once all is copied.
+/// Fails as `fork` does, and then writes nothing. Also fails if writing the output fails, after all files were copied.
 pub fn fork_into<R: Log, F: FileSystem, W: Write>(
     rt: &R,
     alloc: Global,
@@ -38,7 +38,7 @@ pub fn fork_into<R: Log, F: FileSystem, W: Write>(
     }
 }
 
-/// Copies a log into a directory, and answers the paths of the copies.
+/// Copies a log into a directory, and returns the paths of the copies.
 fn copy_log<R: Log, F: FileSystem>(
     rt: &R,
     alloc: Global,

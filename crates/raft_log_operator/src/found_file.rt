@@ -1,4 +1,4 @@
-//! The log files that lie in a log's directories.
+//! The log files in a log's directories.
 use crate::fault::CommandFault;
 use crate::place::{Place, parted};
 use raft_log_engine::{Error, FileId, FileSystem};
@@ -6,7 +6,7 @@ use raft_log_file_format::FileNameExt;
 use std::alloc::Global;
 use std::io::ErrorKind;
 
-/// A log file that lies in one of a log's directories.
+/// A log file in one of a log's directories.
 #[derive(Debug, Drop)]
 pub struct FoundFile {
     /// The file's queue and its number.
@@ -15,8 +15,8 @@ pub struct FoundFile {
     pub path: String,
 }
 
-/// The log files of a log: Rewrite's first, each queue's by their numbers, and of two with one number first that of
-/// the main directory. If the main path is a file's, it is that one. Fails if a directory isn't listed, or if the one
+/// The log files of a log: Rewrite's first, each queue's by number. If two have one number, that of the main directory
+/// comes first. If the main path is a file's, returns only that file. Fails if a directory isn't listed, or if the one
 /// file doesn't have a log file's name.
 pub fn find_files<F: FileSystem>(
     alloc: Global,
@@ -41,7 +41,7 @@ pub fn find_files<F: FileSystem>(
     Ok(found)
 }
 
-/// Adds the log files among those with these names in a directory.
+/// Appends the log files among those with these names in a directory.
 fn add_files(
     alloc: Global,
     directory: &str,

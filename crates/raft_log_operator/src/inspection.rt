@@ -1,4 +1,4 @@
-//! What is wrong with a log.
+//! Inspects a log for faults.
 ghost use Rattle.std.specs.Prelude.{◌≡◌, ◌↔◌, IsTrue, IfOk, map};
 ghost use Rattle.std.specs.String.{string_bytes};
 ghost use Rattle.raft_log_operator.specs.Sound.{InspectsLog, InspectsOne, directories_in};
@@ -14,12 +14,12 @@ use std::alloc::{AllocError, Global};
 use std::io;
 use std::io::Write;
 
-/// What is wrong with a queue of a log.
+/// The faults of a queue of a log.
 #[derive(Drop)]
 pub(crate) struct QueueFaults {
     /// The queue.
     pub(crate) queue: LogQueue,
-    /// What is wrong with its files.
+    /// The faults of its files.
     pub(crate) files: QueueInspection,
     /// Its groups with holes, by group, each with the last entry before its first hole.
     pub(crate) holes: Vec<Finding>,
@@ -28,7 +28,7 @@ pub(crate) struct QueueFaults {
 impl QueueFaults {
     ghost use Rattle.raft_log_inspection.specs.Intact.{IsClean};
 
-    /// Whether nothing is wrong with the files.
+    /// Whether the files have no fault.
     pub(crate) fn has_clean_files(&self) -> bool
         ensures { IsTrue result ↔ IsClean self.now.files }
     {
@@ -36,26 +36,26 @@ impl QueueFaults {
     }
 }
 
-/// What is wrong with a log.
+/// The faults of a log.
 #[derive(Drop)]
 pub(crate) struct LogFaults {
-    /// What is wrong with Append.
+    /// The faults of Append.
     pub(crate) append: QueueFaults,
-    /// What is wrong with Rewrite.
+    /// The faults of Rewrite.
     pub(crate) rewrite: QueueFaults,
 }
 
 impl LogFaults {
     ghost use Rattle.raft_log_operator.specs.Sound.{AreNone, HasCleanFiles};
 
-    /// Whether nothing is wrong with the files.
+    /// Whether the files have no fault.
     pub(crate) fn has_clean_files(&self) -> bool
         ensures { IsTrue result ↔ HasCleanFiles self.now }
     {
         self.append.has_clean_files() && self.rewrite.has_clean_files()
     }
 
-    /// Whether nothing is wrong.
+    /// Whether there is no fault.
     pub(crate) fn are_none(&self) -> bool
         ensures { IsTrue result ↔ AreNone self.now }
     {
@@ -63,12 +63,12 @@ impl LogFaults {
     }
 }
 
-/// Reads all files of a log as an open reads them, and returns what is wrong with them: gaps in their numbers, files
-/// that an open would cut or refuse, and groups with holes in a queue. The step from Rewrite to Append is no hole.
-/// Nothing is changed.
+/// Reads all files of a log as an open reads them, and returns its faults: gaps in their numbers, files that an open
+/// would truncate or reject, and groups with holes in a queue. The step from Rewrite to Append isn't a hole. Changes
+/// nothing.
 ///
-/// Fails if a directory isn't listed, if a file isn't opened or read, if a file's name says a number and isn't that
-/// number's, and if memory is short.
+/// Fails if a directory isn't listed, if a file isn't opened or read, or if memory runs out. Also fails if a file's
+/// name begins with a number and isn't that number's.
 pub(crate) fn inspect<F: FileSystem>(
     alloc: Global,
     files: &F,
@@ -94,7 +94,7 @@ fn paths_of(alloc: Global, place: &Place) -> Result<Vec<String>, AllocError>
     Ok(paths)
 }
 
-/// What is wrong with a queue of the log in these directories.
+/// The faults of a queue of the log in these directories.
 fn inspect_one<F: FileSystem>(
     alloc: Global,
     files: &F,

@@ -1,7 +1,7 @@
-//! What an operator does with a log that nobody has open: its items are listed, it is checked for damage, gaps and
-//! holes, copied, told in numbers, and rid of padding.
+//! What an operator does with a log that nobody has open: list its items, check it for damage, gaps and holes, copy it,
+//! count what it holds, and remove its padding.
 //!
-//! [`Command::parse`] reads what is asked for, and [`run`] does it over a file system that is lent.
+//! [`Command::parse`] parses a command, and [`run`] runs it over a borrowed file system.
 #![tactic(auto)]
 
 mod checking;

@@ -1,12 +1,12 @@
-//! Where a log lies.
+//! The directories of a log.
 use std::alloc::{AllocError, Global};
 
-/// Where a log lies.
+/// The directories of a log.
 #[derive(Debug, Drop, PartialEq, Eq)]
 pub struct Place {
-    /// The log's main directory; for a dump the path of one file, maybe.
+    /// The log's main directory; for a dump, it may be the path of one file.
     pub directory: String,
-    /// The log's second directory, where it has one.
+    /// The log's second directory, if it has one.
     pub spill_directory: Option<String>,
 }
 
@@ -24,8 +24,7 @@ impl Place {
         })
     }
 
-    /// The directory in which the file lies whose path is the main one, and that file's path as it is spelled by
-    /// this directory.
+    /// The directory of the file whose path is the main one, and that file's path under this directory's spelling.
     pub fn file_in(&self, alloc: Global) -> Result<(String, String), AllocError> {
         let (home, name) = parted(self.directory.as_str());
         let home = String::from_str(alloc, home)?;
@@ -34,7 +33,7 @@ impl Place {
     }
 }
 
-/// A path without the slashes at its end; the root's stays.
+/// A path without the slashes at its end; the root's slash stays.
 pub fn trimmed(path: &str) -> &str {
     let rest = path.trim_end_matches('/');
     if rest.is_empty() { path } else { rest }

@@ -1,4 +1,4 @@
-//! A task is done.
+//! Runs a task.
 ghost use Rattle.std.specs.Prelude.{◌≡◌, IfErr, IfOk, OnOk};
 ghost use Rattle.raft_log_operator.specs.Sound.{IsSoundFor};
 ghost use Rattle.raft_log_operator.specs.Tasks.{Does, FailsToDo};
@@ -17,11 +17,11 @@ use std::alloc::Global;
 use std::io::Write;
 use std::thread::Threads;
 
-/// Does a task on the log in these directories of a file system, and writes what it tells. Only a copy and the taking
-/// out of padding change anything. Fails as the task does.
+/// Runs a task on the log in these directories of a file system, and writes its output. Only a fork and an unpadding
+/// change anything. Fails as the task does.
 ///
-/// `Sound` of a check says that the log is intact: no file is damaged, no number is missing, and no group has a hole.
-/// `Sound` of `Stat` says so of the files alone.
+/// `Sound` of a check means that the log is intact: no file is damaged, no number is missing, and no group has a hole.
+/// `Sound` of `Stat` means this for the files alone.
 pub fn run<R: Threads + Log + Sync, F: FileSystem, W: Write>(
     rt: &R,
     alloc: Global,

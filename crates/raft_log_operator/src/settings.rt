@@ -1,4 +1,4 @@
-//! The settings by which a log is read that somebody else keeps.
+//! The settings for reading a log that another program owns.
 ghost use Rattle.std.specs.Prelude.{◌≡◌, IfOk};
 ghost use Rattle.raft_log_file_settings.specs.Settings.{settings_of};
 ghost use Rattle.raft_log_operator.specs.Tasks.{kept_settings};
@@ -7,7 +7,7 @@ use crate::place::Place;
 use raft_log_engine::Config;
 use std::alloc::{AllocError, Global};
 
-/// The usual settings of a log in these directories, but that no file is used again.
+/// The usual settings of a log in these directories, except that no file is used again.
 pub fn kept_settings(alloc: Global, place: &Place) -> Result<Config, AllocError>
     ensures { IfOk result (λ config. settings_of config ≡ kept_settings place.now) }
 {

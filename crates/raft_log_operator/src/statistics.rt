@@ -1,4 +1,4 @@
-//! What a log holds, in numbers.
+//! Counts what a log holds.
 ghost use Rattle.std.specs.Prelude.{◌≡◌, IfOk};
 ghost use Rattle.raft_log_operator.specs.Sound.{HasIntactFiles};
 
@@ -19,7 +19,7 @@ use std::alloc::Global;
 use std::io::{ErrorKind, Write};
 use std::thread::Threads;
 
-/// How much there is of something.
+/// A count and a sum of bytes.
 #[derive(Clone, Copy, Debug, PartialEq, Eq)]
 struct Amount {
     count: u64,
@@ -39,14 +39,16 @@ impl Amount {
     }
 }
 
-/// Writes what a log holds: the gaps between its files and the damaged ones, as a check does; of each queue its files,
-/// of each group its entries and keys; and of the bytes of all files how many are of entries, keys and values that
-/// stand, and how many of ones that are gone, damaged or stand twice.
+/// Writes what a log holds:
+/// - the gaps between its files and the damaged ones, as a check does;
+/// - the files of each queue, and the entries and keys of each group;
+/// - of the bytes of all files, how many are live entries, keys and values, and how many are garbage: dead, damaged or
+///   duplicate ones.
 ///
-/// The groups are those of an engine that is opened, by the usual settings, over a copy in memory. If it isn't opened,
-/// a line tells why, and all bytes of files are told alone. The log isn't touched.
+/// The groups are those of an engine that is opened, with the usual settings, over a copy in memory. If opening it
+/// fails, a line says why, and then only the bytes of all files are written. The log isn't touched.
 ///
-/// Fails as `inspect` and `copy_of` do, if the engine doesn't read an entry, and if the output isn't written.
+/// Fails as `inspect` and `copy_of` do, if the engine doesn't read an entry, and if writing the output fails.
 pub fn stat<R: Threads + Log + Sync, F: FileSystem, W: Write>(
     rt: &R,
     alloc: Global,
@@ -66,7 +68,7 @@ pub fn stat<R: Threads + Log + Sync, F: FileSystem, W: Write>(
     Ok(Outcome::Faulty)
 }
 
-/// Writes the numbers. `Faulty` if no engine is opened over the copy.
+/// Writes the numbers. Returns `Faulty` if opening an engine over the copy fails.
 fn tell_all<R: Threads + Log + Sync, F: FileSystem, W: Write>(
     rt: &R,
     alloc: Global,
@@ -91,7 +93,7 @@ fn tell_all<R: Threads + Log + Sync, F: FileSystem, W: Write>(
     Ok(Outcome::Sound)
 }
 
-/// Writes that no engine is opened, and how many bytes all files have. Want of memory is a failure.
+/// Writes that opening an engine failed, and how many bytes all files have. Fails if the error is lack of memory.
 fn tell_refusal<W: Write>(error: &Error, all: u64, out: &mut W) -> Result<Outcome, CommandFault> {
     if matches!(error, Error::Memory) {
         return Err(CommandFault::Log(Error::Memory));
@@ -101,7 +103,7 @@ fn tell_refusal<W: Write>(error: &Error, all: u64, out: &mut W) -> Result<Outcom
     Ok(Outcome::Faulty)
 }
 
-/// Writes the files of a queue, and answers how many bytes they have.
+/// Writes the files of a queue, and returns how many bytes they have.
 fn tell_queue<W: Write>(
     alloc: Global,
     files: &MemoryFileSystem,
@@ -140,7 +142,7 @@ fn size_of(files: &MemoryFileSystem, path: &str) -> Result<usize, ErrorKind> {
     files.file_size(handle)
 }
 
-/// How many bytes of entries, keys and values stand in files, whether they are still meant or not.
+/// How many bytes of entries, keys and values are in files, live or not.
 fn bytes_held(
     alloc: Global,
     files: &MemoryFileSystem,
@@ -153,7 +155,7 @@ fn bytes_held(
     Ok(held)
 }
 
-/// How many bytes of entries, keys and values stand in a file, up to what is broken in it.
+/// How many bytes of entries, keys and values are in a file, up to what is broken in it.
 fn bytes_in(alloc: Global, files: &MemoryFileSystem, path: &str) -> Result<u64, CommandFault> {
     let mut held = 0u64;
     let items = match LogItemReader::new_file_reader(alloc, files, path) {
@@ -182,7 +184,7 @@ fn bytes_of(item: &LogItem) -> u64 {
     }
 }
 
-/// Writes what each group of an engine has, and answers how many bytes all of them have.
+/// Writes what each group of an engine has, and returns how many bytes all of them have.
 fn tell_groups<W: Write>(
     engine: &mut Engine<MemoryFileSystem>,
     out: &mut W,
@@ -195,7 +197,7 @@ fn tell_groups<W: Write>(
     Ok(live)
 }
 
-/// Writes what a group has, and answers how many bytes that is.
+/// Writes what a group has, and returns how many bytes that is.
 fn tell_group<W: Write>(
     engine: &mut Engine<MemoryFileSystem>,
     group: u64,
@@ -221,7 +223,7 @@ fn tell_group<W: Write>(
     Ok(entries.saturating_add(bytes))
 }
 
-/// The entries of a group from one index to another, but for those whose bytes are damaged.
+/// Counts the entries of a group from one index to another, except those whose bytes are damaged.
 fn entries_of(
     engine: &mut Engine<MemoryFileSystem>,
     group: u64,
@@ -243,12 +245,12 @@ fn entries_of(
     Ok(entries)
 }
 
-/// Whether a call failed as the bytes of an entry are damaged.
+/// Whether a call failed because the bytes of an entry are damaged.
 fn is_damage(error: &Error) -> bool {
     matches!(error, Error::Corruption(_))
 }
 
-/// The keys of a group, with their values.
+/// Counts the keys of a group, with their values.
 fn keys_of(engine: &Engine<MemoryFileSystem>, group: u64) -> Result<Amount, CommandFault> {
     let mut keys = Amount::none();
     for (key, value) in engine.pairs_within(group, None, None)? {

@@ -1,10 +1,10 @@
-//! How items of a log are told, and what is wrong with its files.
+//! The lines for the items of a log, and for the faults of its files.
 use raft_log_engine::{Command, FileId, LogItem, LogItemContent, LogQueue};
 use raft_log_inspection::{Damage, Gap};
 use raft_log_record_items::{EntryIndexes, KeyValue, OpType};
 use std::fmt;
 
-/// An item and the file that it stands in, as the line that tells it.
+/// The line for an item and its file.
 #[derive(Clone, Copy)]
 pub struct ItemLine<'a> {
     /// The file.
@@ -52,7 +52,7 @@ fn write_pair<W: fmt::Write>(f: &mut fmt::Formatter<W>, pair: &KeyValue) -> fmt:
     }
 }
 
-/// A file by its queue and its number.
+/// The text for a file: its queue and its number.
 #[derive(Clone, Copy)]
 pub struct FileText(pub FileId);
 
@@ -64,7 +64,7 @@ impl fmt::Display for FileText {
     }
 }
 
-/// A gap between files of a queue, as the line that tells it.
+/// The line for a gap between files of a queue.
 #[derive(Clone, Copy)]
 pub struct GapLine {
     /// The queue.
@@ -90,7 +90,7 @@ impl fmt::Display for GapLine {
     }
 }
 
-/// A damaged file, as the line that tells it.
+/// The line for a damaged file.
 #[derive(Clone, Copy)]
 pub struct DamageLine<'a>(pub &'a Damage);
 
@@ -112,7 +112,7 @@ pub fn queue_word(queue: LogQueue) -> &'static str {
     }
 }
 
-/// A key: as text in quotes where each byte is a letter, a digit, a blank or a sign of ASCII but a quote or a
+/// The text for a key: in quotes if each byte is a letter, a digit, a blank or a sign of ASCII except a quote or a
 /// backslash; else in hex.
 #[derive(Clone, Copy)]
 pub struct KeyText<'a>(pub &'a [u8]);
@@ -126,7 +126,7 @@ impl fmt::Display for KeyText<'_> {
     }
 }
 
-/// Whether bytes are told as text.
+/// Whether bytes are written as text.
 fn is_plain(bytes: &[u8]) -> bool {
     bytes.iter().all(|byte| matches!(byte, b' '..=b'~') && !matches!(byte, b'"' | b'\\'))
 }

@@ -1,4 +1,4 @@
-//! The padding is taken out of a log.
+//! Removes the padding from a log.
 ghost use Rattle.std.specs.Prelude.{IfErr, IfOk, OnOk};
 ghost use Rattle.raft_log_file_settings.specs.Settings.{directories_of};
 ghost use Rattle.raft_log_unpadded.specs.Unpadding.{FailsToUnpad, Unpads};
@@ -16,7 +16,7 @@ use std::io::Write;
 
 /// Writes each file of a log that has an alignment anew without it, and writes a line for each, or that there was none.
 ///
-/// Refused as `unpad` is, where nothing is written, and where the output is refused, once all is done.
+/// Fails as `unpad` does, and then writes nothing. Also fails if writing the output fails, after all files were done.
 pub fn unpad_log<F: FileSystem, W: Write>(
     alloc: Global,
     files: &mut F,
@@ -37,7 +37,7 @@ pub fn unpad_log<F: FileSystem, W: Write>(
     }
 }
 
-/// Takes the padding out of a log, and answers which files were written anew.
+/// Removes the padding from a log, and returns which files were written anew.
 fn take_padding<F: FileSystem>(
     alloc: Global,
     files: &mut F,

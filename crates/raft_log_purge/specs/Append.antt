@@ -26,7 +26,7 @@ use Rattle.raft_log_purge_parts.specs.Syncing.{CountsEach}
 
 -- The gate.
 
--- the file that was asked for, but none after the last; the last one where none was
+-- the requested file, but none after the last; the last one if none was requested
 abbrev pub up_to : Option ℕ → ℕ → ℕ
 up_to None last = last
 up_to (Some w) last = min w last
@@ -35,13 +35,12 @@ up_to (Some w) last = min w last
 abbrev pub gate_of : Option ℕ → LogPipes → ℕ
 gate_of watermark v = up_to watermark (last_of InAppend v)
 
--- Append goes on past the gate: in its next file, where the gate is the file that was being written; else
--- nothing is done
+-- Append is past the gate: it rotates if the gate is its active file; else nothing is done
 abbrev pub GoesOnPast : ℕ → LogPipes → LogPipes → Type 0
 GoesOnPast gate v w = ((gate ≡ last_of InAppend v) × RotatesQueue InAppend v w)
     ⊎ ((gate < last_of InAppend v) × (w ≡ v))
 
--- the gate was settled, and Append goes on past it
+-- the gate was chosen, and Append is past it
 pub record PassesGate (watermark : Option ℕ) (gate : ℕ) (v w : LogPipes) : Type 0 where
   pub is : gate ≡ gate_of watermark v
   pub goes : GoesOnPast gate v w
@@ -54,9 +53,9 @@ pub record PassesGate (watermark : Option ℕ) (gate : ℕ) (v w : LogPipes) : T
 abbrev pub AreRewrittenTo : ℕ → Shows → Type 0
 AreRewrittenTo gate s = (g : ℕ) → IsRewrittenTo gate (s.tables g)
 
--- Each group that passes the test was rewritten up to the gate, and Rewrite was synced, meanwhile where that was due
--- by the bytes of all these groups, and at the end: whatever the log was, with nothing pending, it is so, if no mark is
--- owed.
+-- Each group that passes the test was rewritten up to the gate. Rewrite was synced at the end, and before whenever
+-- that was due by the bytes of all these groups. If the log's map was held with nothing pending and no tombstone
+-- owed, the log is settled with that map.
 pub record RewritesSynced (test : ℕ → Bool) (gate : ℕ) (s t : Shows) : Type 0 where
   pub copied : Shows
   pub copies : Rewrites test gate s copied
@@ -78,13 +77,13 @@ RewritesAll gate s t = RewritesSynced (λ g. true) gate s t
 
 -- Append's files.
 
--- where Append begins once the files up to the gate are gone, and those that nothing is in: never earlier than
--- before
+-- the first file of Append's live range after the files up to the gate are gone, and those with nothing in use; never
+-- earlier than before
 abbrev pub beginning : ℕ → ℕ → LogPipes → ℕ
 beginning gate least v = max (first_at InAppend v) (max (suc gate) least)
 
--- Append lost its files up to the gate, and all others below the least that is in use: where nothing was in
--- the files up to the gate and no mark is owed, whatever the log was, with nothing pending, it is so.
+-- Append lost its files up to the gate, and all others below the least in use. If the files up to the gate had
+-- nothing in use and no tombstone is owed, a settled log stays settled, with its map.
 pub record LosesTo (gate : ℕ) (m : MemTables) (s t : Shows) : Type 0 where
   pub least : ℕ
   pub is : IsLeastOf Append (last_of InAppend s.pipes) m least
@@ -100,11 +99,11 @@ pub record LosesTo (gate : ℕ) (m : MemTables) (s t : Shows) : Type 0 where
 
 -- The whole.
 
--- Append's span has one file
+-- Append's live range has one file
 abbrev pub HasOneFile : LogPipes → Type 0
 HasOneFile v = first_at InAppend v ≡ last_of InAppend v
 
--- a call is to end behind this step
+-- a call is to end after this step
 abbrev pub ends_after : ℕ → Option ℕ → Bool
 ends_after step None = false
 ends_after step (Some n) = n == step
@@ -113,15 +112,18 @@ ends_after step (Some n) = n == step
 abbrev pub RewritesAndLoses : ℕ → MemTables → Shows → Shows → Type 0
 RewritesAndLoses gate m s t = (mid : Shows) × RewritesAll gate s mid × LosesTo gate m mid t
 
--- what is done behind the marks: nothing, where the call is to end with them; all groups are rewritten; and
--- unless it is to end with these, files go
+-- what is done after the tombstones:
+-- - nothing, if the call is to end with them
+-- - else all groups are rewritten
+-- - then files go, unless the call is to end with the groups
 abbrev pub GoesOnBehindMarks : Option ℕ → ℕ → MemTables → Shows → Shows → Type 0
 GoesOnBehindMarks exit gate m s t = MatchBool (ends_after 1 exit) (t ≡ s)
     (MatchBool (ends_after 2 exit) (RewritesAll gate s t) (RewritesAndLoses gate m s t))
 
--- Append was rewritten: it was synced, went on past the gate, and the marks were carried; then all groups were
--- rewritten and files went, as far as the call was to go. The map stays, nothing is pending, and no mark is
--- owed. Without a watermark and a step to end with, one file is left in Append's span.
+-- Append was rewritten. It was synced, it rotated if its active file was the gate, and the owed tombstones were
+-- written. Then all groups were rewritten and files went, as far as the call was to go. The map is kept, nothing is
+-- pending, and no tombstone is owed. Without a watermark and a step to end with, one file is left in Append's live
+-- range.
 pub record RewritesAppend (watermark exit : Option ℕ) (m : MemTables) (s t : Shows) : Type 0 where
   pub synced : LogPipes
   pub syncs : SyncsQueue InAppend s.pipes synced
@@ -139,16 +141,15 @@ pub record RewritesAppend (watermark exit : Option ℕ) (m : MemTables) (s t : S
   pub one : watermark ≡ None → exit ≡ None → (home : Home) (log : LogMap) (pending : List Said)
       → Holds home s log pending → HasOneFile t.pipes
 
--- Refusals.
+-- Failures.
 
--- a purge is refused: the map stays, with nothing pending; or the engine has failed, and its log is held
+-- a purge failed: the map is kept, with nothing pending; or the engine has failed, and left its log on the disk
 abbrev pub StaysOrIsLeftSettled : Error → Shows → Shows → Type 0
 StaysOrIsLeftSettled error s t = OweNothing s.tables → (home : Home) (m : LogMap) → HoldsSettled home s m
     → Holds home t m [] ⊎ ((error ≡ errors.Failed) × IsLeftAt home t.pipes.disk m [])
 
--- Append's files below the gate don't go: where it is rewritten up to there, the map stays, with nothing
--- pending, or the engine has failed, and its log is held; and why, where the gate lies below Append's last
--- file
+-- Append's files below the gate don't go. If it is rewritten up to there, the map is kept with nothing pending, or
+-- the failed engine left its log on the disk. The reason is known if the gate is below Append's last file.
 pub record FailsToLoseTo (gate : ℕ) (error : Error) (s t : Shows) : Type 0 where
   pub tells : has_failed s ≡ false → IsTrue (has_failed t) ↔ (error ≡ errors.Failed)
   pub later : IsLater s.pipes.disk t.pipes.disk
@@ -156,8 +157,8 @@ pub record FailsToLoseTo (gate : ℕ) (error : Error) (s t : Shows) : Type 0 whe
   pub cause : gate < last_of InAppend s.pipes → (home : Home) (log : LogMap) → HoldsSettled home s log
       → HasFileReason error s t
 
--- what is done behind the marks is refused: the map stays, with nothing pending, or the engine has failed,
--- and its log is held; and why, where the gate lies below Append's last file
+-- What is done after the tombstones failed. The map is kept with nothing pending, or the failed engine left its log
+-- on the disk. The reason is known if the gate is below Append's last file, and no tombstone is owed.
 pub record StopsGoingOn (gate : ℕ) (error : Error) (s t : Shows) : Type 0 where
   pub tells : has_failed s ≡ false → IsTrue (has_failed t) ↔ (error ≡ errors.Failed)
   pub later : IsLater s.pipes.disk t.pipes.disk
@@ -165,8 +166,9 @@ pub record StopsGoingOn (gate : ℕ) (error : Error) (s t : Shows) : Type 0 wher
   pub cause : gate < last_of InAppend s.pipes → OweNothing s.tables → (home : Home) (log : LogMap)
       → HoldsSettled home s log → HasReason home log error s t
 
--- The whole was refused, and why: the map stays, with nothing pending; or the engine has failed, and its log is
--- held, with the batches on the map, or pending as they were.
+-- The whole failed, and why:
+-- - the map is kept, with nothing pending
+-- - or the engine has failed, and left its log on the disk, with the batches in the map or still pending
 pub record FailsToRewriteAppend (error : Error) (s t : Shows) : Type 0 where
   pub tells : has_failed s ≡ false → IsTrue (has_failed t) ↔ (error ≡ errors.Failed)
   pub later : IsLater s.pipes.disk t.pipes.disk

@@ -1,4 +1,4 @@
--- Purges with what stands in Rewrite counted before, and behind.
+-- Purges that count what is live in Rewrite before them, and after them.
 use Rattle.std.specs.Prelude.{◌≡◌, ◌↔◌, IsTrue, ℕ, Bool, List, Option}
 use Rattle.raft_log_table_all.specs.declared.mem_tables.MemTables.{MemTables}
 use Rattle.raft_log_file_pair.specs.Pipes.{LogPipes}
@@ -10,8 +10,8 @@ use Rattle.raft_log_purge.specs.Counting.{CountsIf, CountsStanding}
 use Rattle.raft_log_purge.specs.ExpiredFiles.{KeepsCounts, PurgesExpired, StopsAtRewrite}
 use Rattle.raft_log_purge.specs.declared.expired_files.PurgeCounts.{PurgeCounts}
 
--- Expired files were purged, and just these groups are answered: where a queue is past its threshold, what stands
--- in Rewrite was counted before, so that the rules know what of it is garbage, and behind; else nothing was.
+-- Expired files were purged, and just these groups are returned. If a queue is past its threshold, what is live in
+-- Rewrite was counted before and after; else nothing was. The rules use the first count to know what is garbage.
 pub record PurgesAndCounts (hold_back : LogPipes → Option ℕ → Type 0) (thresholds : Thresholds)
     (before after : MemTables) (old new : PurgeCounts) (groups : List ℕ) (s t : Shows) : Type 0 where
   pub past : Bool
@@ -22,7 +22,7 @@ pub record PurgesAndCounts (hold_back : LogPipes → Option ℕ → Type 0) (thr
   pub purges : PurgesExpired hold_back thresholds before after counted purged groups s t
   pub second : CountsIf past after purged new
 
--- what is counted where that was refused
+-- what is counted if that failed
 pub record CountsIfPast (thresholds : Thresholds) (before : MemTables) (old new : PurgeCounts) (s t : Shows)
     : Type 0 where
   pub past : Bool
@@ -31,15 +31,14 @@ pub record CountsIfPast (thresholds : Thresholds) (before : MemTables) (old new 
   pub first : CountsIf past before old counted
   pub kept : KeepsCounts thresholds before counted new s t
 
--- Where Rewrite was rewritten: what stood there was counted before, and then what stands no more was counted no
--- more.
+-- Rewrite was rewritten: what was live there was counted before, and then the garbage was taken off the counts.
 pub record CountsAndResets (before : MemTables) (old new : PurgeCounts) : Type 0 where
   pub counted : PurgeCounts
   pub first : CountsStanding before old counted
   pub stats : new.stats ≡ reset_counts counted.stats
   pub rounds : new.rounds ≡ old.rounds
 
--- what is counted where Rewrite wasn't
+-- what is counted if Rewrite wasn't rewritten
 pub record CountsAndKeeps (before : MemTables) (old new : PurgeCounts) (s t : Shows) : Type 0 where
   pub counted : PurgeCounts
   pub first : CountsStanding before old counted

@@ -1,4 +1,4 @@
--- What a purge does of Append once its files are past their threshold.
+-- What a purge does with Append if its files are past their threshold.
 use Rattle.std.specs.Prelude.{◌≡◌, ◌⊎◌, ◌↔◌, IsTrue, ℕ, max, Bool, true, false, List, [], Option, Some, None}
 use Rattle.raft_log_disk.specs.Causes.{IsLater}
 use Rattle.raft_log_record_base.specs.declared.errors.Error.{Error}
@@ -27,13 +27,13 @@ use Rattle.raft_log_purge.specs.Append.{RewritesSynced, StaysOrIsLeftSettled, up
 
 -- The groups.
 
--- one round more was counted: of each group whether it was asked again
+-- one more round was counted: for each group whether it was asked again
 abbrev pub CountsRound : Watermarks → MemTables → Rounds → Rounds → Type 0
 CountsRound marks m old new =
     (g : ℕ) → count_of new g ≡ round_behind (asks_at marks m g) (count_of old g)
 
--- the groups were picked by the rules, of what the tables had, with so many rounds before, and the marks are those
--- that were owed
+-- the groups were picked by the rules, from the tables and the rounds before, and the tombstones are those that were
+-- owed
 pub record PicksGroups (marks : Watermarks) (restated : Bool) (m : MemTables) (old : Rounds)
     (picked : PickedGroups) : Type 0 where
   pub answered : ListsGroups (answers_at (Some marks) restated m) picked.answered.items
@@ -43,9 +43,8 @@ pub record PicksGroups (marks : Watermarks) (restated : Bool) (m : MemTables) (o
 
 -- Append's files.
 
--- Append lost its files below the least of what is held back, its last file, and the least in use, and begins
--- there, but never earlier than before: where no mark is owed, whatever the log was, with nothing pending, it
--- is so.
+-- Append lost its files below the least of three: the first pinned file, its last file, and the least in use. It
+-- begins there, but never earlier than before. If no tombstone is owed, a settled log stays settled, with its map.
 pub record LosesBelow (held : Option ℕ) (m : MemTables) (s t : Shows) : Type 0 where
   pub least : ℕ
   pub is : IsLeastOf Append (up_to held (last_of InAppend s.pipes)) m least
@@ -58,17 +57,17 @@ pub record LosesBelow (held : Option ℕ) (m : MemTables) (s t : Shows) : Type 0
   pub keeps : OweNothing s.tables → (home : Home) (log : LogMap) → HoldsSettled home s log
       → HoldsSettled home t log
 
--- Append's files didn't go, and why: where no mark is owed, whatever the log was, with nothing pending, it is
--- so; or the engine has failed, and its log is held
+-- Append's files didn't go, and why. If no tombstone is owed and the log was settled, the map is kept with nothing
+-- pending, or the failed engine left its log on the disk.
 pub record FailsToLoseBelow (error : Error) (s t : Shows) : Type 0 where
   pub tells : has_failed s ≡ false → IsTrue (has_failed t) ↔ (error ≡ errors.Failed)
   pub later : IsLater s.pipes.disk t.pipes.disk
   pub remains : StaysOrIsLeftSettled error s t
   pub cause : (home : Home) (log : LogMap) → HoldsSettled home s log → HasFileReason error s t
 
--- The groups that pass the test were rewritten, and then files went: the marks were carried before, and
--- Rewrite synced between. Nothing of these groups is left in Append up to the gate, no mark is owed, and
--- whatever the log was, with nothing pending, it is so.
+-- The groups that pass the test were rewritten, and then files went. The owed tombstones were written before, and
+-- Rewrite was synced between. Nothing of these groups is left in Append up to the gate, and no tombstone is owed. If
+-- the log's map was held with nothing pending, the log is settled with that map.
 pub record RewritesPicked (test : ℕ → Bool) (gate : ℕ) (held : Option ℕ) (m : MemTables) (s t : Shows)
     : Type 0 where
   pub carried : Shows
@@ -84,9 +83,9 @@ pub record RewritesPicked (test : ℕ → Bool) (gate : ℕ) (held : Option ℕ)
 
 -- The whole.
 
--- Append was purged: just these groups are answered, one round more was counted of those that are asked to be
--- compacted, and the groups that the rules have were rewritten before files went. The rules speak of the
--- tables as they were.
+-- Append was purged. Just these groups are returned, and one more round was counted for those that are asked to be
+-- compacted. The groups that the rules pick were rewritten before files went. The rules use the tables before the
+-- purge.
 pub record PurgesAppend (held : Option ℕ) (restated : Bool) (before after : MemTables) (old new : Rounds)
     (groups : List ℕ) (s t : Shows) : Type 0 where
   pub answered : ListsGroups (answers_at (Some (watermarks_of s.pipes)) restated before) groups
@@ -94,22 +93,22 @@ pub record PurgesAppend (held : Option ℕ) (restated : Bool) (before after : Me
   pub rewrites : RewritesPicked (rewrites_at (watermarks_of s.pipes) (count_of old) before)
       (watermarks_of s.pipes).rewrite held after s t
 
--- Append was let be: no group is asked to be compacted, and no round counted
+-- Append was left alone: no group is asked to be compacted, and no round counted
 pub record LeavesAppend (restated : Bool) (before : MemTables) (old new : Rounds) (groups : List ℕ)
     (s t : Shows) : Type 0 where
   pub answered : ListsGroups (answers_at None restated before) groups
   pub rounds : new ≡ old
   pub same : t ≡ s
 
--- Append was purged exactly where it is past its threshold
+-- Append was purged exactly if it is past its threshold
 abbrev pub PurgesIfPast : Thresholds → Option ℕ → Bool → MemTables → MemTables → Rounds → Rounds → List ℕ
     → Shows → Shows → Type 0
 PurgesIfPast thresholds held restated before after old new groups s t =
     (TakesAppend thresholds s.pipes × PurgesAppend held restated before after old new groups s t)
     ⊎ ((TakesAppend thresholds s.pipes → ⊥) × LeavesAppend restated before old new groups s t)
 
--- Append's purge was refused, and why: whatever the log was, with nothing pending, it is so; or the engine has
--- failed, and its log is held
+-- Append's purge failed, and why. If the log's map was held with nothing pending, it still is; or the engine has
+-- failed, and left its log on the disk.
 pub record FailsToPurgeAppend (error : Error) (s t : Shows) : Type 0 where
   pub tells : has_failed s ≡ false → IsTrue (has_failed t) ↔ (error ≡ errors.Failed)
   pub later : IsLater s.pipes.disk t.pipes.disk

@@ -1,4 +1,4 @@
--- What a purge does of both queues once their files are past their thresholds.
+-- What a purge does with both queues if their files are past their thresholds.
 use Rattle.std.specs.Prelude.{◌≡◌, ◌⊎◌, ℕ, Bool, true, false, List, [], Option}
 use Rattle.raft_log_model_laws.specs.Groups.{taken}
 use Rattle.raft_log_disk.specs.Causes.{IsLater}
@@ -20,8 +20,8 @@ use Rattle.raft_log_purge.specs.Append.{FailsToRewriteAppend}
 use Rattle.raft_log_purge.specs.Expired.{PurgesIfPast}
 use Rattle.raft_log_purge.specs.Garbage.{CountsRefused}
 
--- Rewrite was rewritten exactly where it is past its threshold and enough of it is garbage; else nothing is
--- done. The tables are those before and after.
+-- Rewrite was rewritten exactly if it is past its threshold and enough of it is garbage; else nothing is done. The
+-- tables are those before and after.
 abbrev pub RewritesIfPast : Thresholds → GlobalStats → GlobalStats → MemTables → MemTables → Bool → Shows
     → Shows → Type 0
 RewritesIfPast thresholds old new before after true s t =
@@ -29,8 +29,8 @@ RewritesIfPast thresholds old new before after true s t =
 RewritesIfPast thresholds old new before after false s t =
     (TakesRewrite thresholds old s.pipes → ⊥) × (after ≡ before) × (t ≡ s) × (new ≡ old)
 
--- Append was synced, and Rewrite rewritten, whatever its size is: the map stays, and nothing is pending in
--- either queue.
+-- Append was synced, and Rewrite rewritten, whatever its size is. The map is kept, and nothing is pending in either
+-- queue.
 pub record SyncsAndRewrites (m : MemTables) (s t : Shows) : Type 0 where
   pub synced : LogPipes
   pub syncs : SyncsQueue InAppend s.pipes synced
@@ -40,9 +40,9 @@ pub record SyncsAndRewrites (m : MemTables) (s t : Shows) : Type 0 where
   pub settles : (home : Home) (log : LogMap) (pending : List Said) → Holds home s log pending
       → HoldsSettled home t (taken log pending)
 
--- Expired files were purged, and just these groups are answered: Append was synced; Rewrite was rewritten
--- where it is to be; then Append was purged where it is to be, but for what the pipes held back then. The map
--- stays, and nothing is pending.
+-- Expired files were purged, and just these groups are returned. Append was synced; Rewrite was rewritten if that was
+-- due; then Append was purged if that was due, except for files that were pinned then. The map is kept, and nothing
+-- is pending.
 pub record PurgesExpired (hold_back : LogPipes → Option ℕ → Type 0) (thresholds : Thresholds)
     (before after : MemTables) (old new : PurgeCounts) (groups : List ℕ) (s t : Shows) : Type 0 where
   pub synced : LogPipes
@@ -62,21 +62,22 @@ pub record PurgesExpired (hold_back : LogPipes → Option ℕ → Type 0) (thres
   pub holds : (home : Home) (log : LogMap) (pending : List Said) → Holds home s log pending
       → Holds home t (taken log pending) []
 
--- Either was refused, and why: the map stays, with nothing pending; or the engine has failed, and its log is
--- held, with the batches on the map, or pending as they were.
+-- Either failed, and why:
+-- - the map is kept, with nothing pending
+-- - or the engine has failed, and left its log on the disk, with the batches in the map or still pending
 abbrev pub FailsToPurgeExpired : Error → Shows → Shows → Type 0
 FailsToPurgeExpired error s t = FailsToRewriteAppend error s t
 
--- What is counted where it was refused.
+-- What is counted if it failed.
 
--- what is counted of Rewrite where Append wasn't synced, or was, and then Rewrite's rewrite was refused: `before`
--- are the tables before that
+-- what is counted of Rewrite if Append wasn't synced, or was, and then Rewrite's rewrite failed: `before` are the
+-- tables before that
 abbrev pub StopsAtRewrite : MemTables → GlobalStats → GlobalStats → Shows → Shows → Type 0
 StopsAtRewrite before old new s t = ((t.tables ≡ s.tables) × (new ≡ old))
     ⊎ ((synced : LogPipes) × SyncsQueue InAppend s.pipes synced
     × CountsRefused before old new (record s { pipes = synced }) t)
 
--- what is counted of Rewrite where Append's purge was refused: Rewrite was rewritten before, where it is to be
+-- what is counted of Rewrite if Append's purge failed: Rewrite was rewritten before, if that was due
 pub record StopsAtAppend (thresholds : Thresholds) (before : MemTables) (old new : GlobalStats) (s : Shows)
     : Type 0 where
   pub synced : LogPipes
@@ -88,7 +89,7 @@ pub record StopsAtAppend (thresholds : Thresholds) (before : MemTables) (old new
   pub rewrites : RewritesIfPast thresholds old new before between restated
       (record s { pipes = synced }) (shows pipes between cache)
 
--- what is counted where a purge was refused: no round; and of Rewrite by where it was
+-- what is counted if a purge failed: no round; and of Rewrite by the step that failed
 pub record KeepsCounts (thresholds : Thresholds) (before : MemTables) (old new : PurgeCounts) (s t : Shows)
     : Type 0 where
   pub rounds : new.rounds ≡ old.rounds

@@ -1,4 +1,4 @@
--- Files that nobody holds back.
+-- Files that nobody pins.
 use Rattle.std.specs.Prelude.{ℕ, List, Option, None}
 use Rattle.raft_log_table_all.specs.declared.mem_tables.MemTables.{MemTables}
 use Rattle.raft_log_file_pair.specs.HoldingBack.{NothingIsHeldBack}
@@ -10,8 +10,8 @@ use Rattle.raft_log_purge.specs.declared.expired_files.PurgeCounts.{PurgeCounts}
 use Rattle.raft_log_purge.specs.Expired.{LosesBelow}
 use Rattle.raft_log_purge.specs.ExpiredFiles.{PurgesExpired}
 
--- where nothing is held back, an Append that is past its threshold loses all files below the least of its last
--- file and the least in use
+-- if nothing is pinned, an Append past its threshold loses all files below the least of its last file and the least
+-- in use
 abbrev pub FreeFilesGo : (LogPipes → Option ℕ → Type 0) → Type 0
 FreeFilesGo hold_back = NothingIsHeldBack hold_back → (thresholds : Thresholds) (before after : MemTables)
     (old new : PurgeCounts) (groups : List ℕ) (s t : Shows)

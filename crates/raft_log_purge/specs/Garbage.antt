@@ -1,4 +1,4 @@
--- What is counted of Rewrite where its rewrite was refused: old copies of what was written again are garbage.
+-- What is counted of Rewrite if its rewrite failed: old copies of what was written again are garbage.
 use Rattle.std.specs.Prelude.{◌≡◌, ◌⊎◌, ◌<◌, ◌≤◌, ℕ, List, [], ◌∷◌, Option, Some, None}
 use Rattle.raft_log_record_base.specs.declared.pipe_log.LogQueue.TheVariants.{Rewrite}
 use Rattle.raft_log_directory_laws.specs.Calls.Which.{InRewrite}
@@ -16,30 +16,28 @@ use Rattle.raft_log_purge_parts.specs.raft_log_engine_laws.specs.Shows.{Shows}
 use Rattle.raft_log_purge_parts.specs.Restated.{last_file}
 use Rattle.raft_log_purge.specs.RewriteQueue.{RestatesAll, reset_counts}
 
--- so many entries and values of a group count, by the least file of Rewrite in use: all that stand there where
--- that one lies past a file, else none
+-- how many entries and values of a group count: all live ones if its least file of Rewrite is past `file`, else none
 abbrev pub CountsFrom : ℕ → Option ℕ → Shown → ℕ → Type 0
 CountsFrom file None v n = n ≡ 0
 CountsFrom file (Some least) v n = ((file < least) × StandIn v n) ⊎ ((least ≤ file) × (n ≡ 0))
 
--- so many entries and values of a group stand in Rewrite, all of them past a file; none count where not all do
+-- so many live entries and values of a group are in Rewrite, all of them past a file; 0 if not all are
 abbrev pub StandsPast : ℕ → Shown → ℕ → Type 0
 StandsPast file v n = (least : Option ℕ) × IsMinFile Rewrite v least × CountsFrom file least v n
 
--- so many of all these groups do, or the greatest number of 64 bits where these are more
+-- the sum over all these groups, or the greatest number of 64 bits if it is more
 abbrev pub CountsPast : ℕ → (ℕ → Shown) → List ℕ → ℕ → Type 0
 CountsPast file v [] n = n ≡ 0
 CountsPast file v (g ∷ gs) n =
     (one rest : ℕ) × StandsPast file (v g) one × CountsPast file v gs rest × (n ≡ plus one rest)
 
--- as much as stands of these groups past a file was counted as written to Rewrite again: as much stands there no
--- more
+-- what these groups have live past a file was counted as written to Rewrite again, and as much was counted as garbage
 pub record CountsGarbage (file : ℕ) (v : ℕ → Shown) (groups : List ℕ) (old new : GlobalStats) : Type 0 where
   pub count : ℕ
   pub past : CountsPast file v groups count
   pub stats : new ≡ deleted Rewrite count (added Rewrite count old)
 
--- all groups were restated, and Rewrite was synced: what stands there no more is counted no more
+-- all groups were restated, and Rewrite was synced: the garbage was taken off the counts
 pub record ResetsCounts (old new : GlobalStats) (s t : Shows) : Type 0 where
   pub turned : LogPipes
   pub turns : RotatesQueue InRewrite s.pipes turned
@@ -48,9 +46,10 @@ pub record ResetsCounts (old new : GlobalStats) (s t : Shows) : Type 0 where
   pub tables : t.tables ≡ restated.tables
   pub stats : new ≡ reset_counts old
 
--- What is counted where a rewrite of Rewrite was refused, and the groups had these tables before: nothing, where the
--- tables show what they did; or what was restated, which is what stands past the former last file; or, where all
--- was, what stands no more is counted no more.
+-- What is counted after a rewrite of Rewrite failed, if the groups had these tables before:
+-- - nothing, and the tables are unchanged
+-- - what was restated, which is live past the former last file
+-- - all groups were restated, and the garbage is taken off the counts
 abbrev pub CountsRefused : MemTables → GlobalStats → GlobalStats → Shows → Shows → Type 0
 CountsRefused before old new s t = ((t.tables ≡ s.tables) × (new ≡ old))
     ⊎ (((groups : List ℕ) × ListsGroups (has_table before) groups

@@ -7,7 +7,7 @@ pub mod Standing
 pub mod Free
 pub mod Garbage
 pub mod RewriteQueue
--- libraries below, passed on to who stands on this one
+-- libraries below, passed on to the crates above
 pub use Rattle.raft_log_purge_parts.specs.raft_log_file_pair
 pub use Rattle.raft_log_purge_parts.specs.raft_log_file_blocks
 pub use Rattle.raft_log_purge_parts.specs.raft_log_engine_laws

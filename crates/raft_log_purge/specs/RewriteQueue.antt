@@ -1,4 +1,4 @@
--- Rewrite is rewritten: what stands there is written again, and its old files go.
+-- Rewrite is rewritten: what is live there is written again, and its old files go.
 use Rattle.std.specs.Prelude.{◌≡◌, ◌↔◌, ◌+◌, ◌-◌, ◌<◌, IsTrue, ℕ, max, Bool, true, false, []}
 use Rattle.raft_log_disk.specs.Causes.{IsLater}
 use Rattle.raft_log_record_base.specs.declared.errors.Error.{Error}
@@ -23,8 +23,8 @@ use Rattle.raft_log_purge_parts.specs.Restated.{IsRestatedFrom, Restates, StaysO
 abbrev pub every : ℕ → Bool
 every g = true
 
--- All groups were restated, and Rewrite was synced, meanwhile where that was due by the bytes of all of them, and at
--- the end: whatever the log was, with nothing pending, it is so, and nothing of Rewrite is pending either.
+-- All groups were restated, and Rewrite was synced: during this whenever it was due by the bytes of all of them, and
+-- at the end. If the log's map was held with nothing pending, the log is settled with that map.
 pub record RestatesAll (s t : Shows) : Type 0 where
   pub restated : Shows
   pub restates : Restates every s restated
@@ -35,14 +35,13 @@ pub record RestatesAll (s t : Shows) : Type 0 where
   pub later : IsLater s.pipes.disk t.pipes.disk
   pub settles : (home : Home) (m : LogMap) → Holds home s m [] → HoldsSettled home t m
 
--- the file with which Rewrite's span begins
+-- the first file of Rewrite's live range
 abbrev pub first_file : Shows → ℕ
 first_file s = (pipe_at InRewrite (files_of s.pipes)).first_seq
 
--- Rewrite was rewritten: it went on in its next file; all groups were restated, and it was synced; then the
--- files below the least that is in use left its span, which begins at that one or as before, past the former
--- last file. All that each group has in Rewrite lies behind that one. The map stays, and nothing is pending in
--- either queue.
+-- Rewrite was rewritten. It rotated; all groups were restated, and it was synced. Then the files below the least in
+-- use left its live range, which begins at that one or as before, past the former last file. All that each group has
+-- in Rewrite is after that file. The map is kept, and nothing is pending in either queue.
 pub record RewritesRewrite (m : MemTables) (s t : Shows) : Type 0 where
   pub turned : LogPipes
   pub turns : RotatesQueue InRewrite s.pipes turned
@@ -61,8 +60,8 @@ pub record RewritesRewrite (m : MemTables) (s t : Shows) : Type 0 where
       → IsRestatedFrom (last_file s + 1) (s.tables g) (t.tables g)
   pub settles : (home : Home) (log : LogMap) → Holds home s log [] → HoldsSettled home t log
 
--- A rewrite of Rewrite was refused, and why: the map stays, with nothing pending; or the engine has failed,
--- and its log is held.
+-- A rewrite of Rewrite failed, and why. The map is kept, with nothing pending; or the engine has failed, and left its
+-- log on the disk.
 pub record FailsToRewriteRewrite (error : Error) (s t : Shows) : Type 0 where
   pub counts : t.counts ≡ s.counts
   pub tells : has_failed s ≡ false → IsTrue (has_failed t) ↔ (error ≡ errors.Failed)
@@ -70,7 +69,7 @@ pub record FailsToRewriteRewrite (error : Error) (s t : Shows) : Type 0 where
   pub remains : StaysOrIsLeft error s t
   pub cause : GivesReason error s t
 
--- what stands no more in Rewrite is counted no more
+-- the garbage in Rewrite is taken off the counts
 abbrev pub reset_counts : GlobalStats → GlobalStats
 reset_counts s = record s {
   rewrite_entries = s.rewrite_entries - s.deleted_rewrite_entries;

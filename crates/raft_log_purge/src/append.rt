@@ -31,12 +31,14 @@ use raft_log_record_base::{Error, FileId, FileSeq, LogQueue, Result};
 use raft_log_table_all::MemTables;
 use std::alloc::Global;
 
-/// Rewrites Append up to a file, the watermark: none after the last, and the last where there is none. Append
-/// is synced, goes on in its next file where the last one is to be rewritten, and marks are carried; then all
-/// groups are rewritten, and Rewrite is synced; then the files up to the watermark leave Append's span, and
-/// all others below the least in use. It ends behind the first or the second of these steps if asked.
+/// Rewrites Append up to a file, the watermark, but none after the last; up to the last if there is no watermark. Can
+/// end early, after the first or the second step:
+/// - syncs Append, rotates it if the last file is to be rewritten, and writes the owed tombstones
+/// - rewrites all groups, and syncs Rewrite
+/// - takes the files up to the watermark, and all others below the least in use, out of Append's live range
 ///
-/// Refused, the map stays: what a sync, a rotation, `rewrite_marks`, `rewrite_groups` and files that go refuse.
+/// Fails as a sync, a rotation, `rewrite_marks`, `rewrite_groups` or the last step does. If it fails, the map is
+/// kept.
 pub fn rewrite_append_queue<P: PipeLog, L: Log>(
     alloc: Global,
     rt: &L,
@@ -59,7 +61,7 @@ pub fn rewrite_append_queue<P: PipeLog, L: Log>(
     go_on(alloc, rt, pipes, tables, cache, gate, exit_after_step)
 }
 
-/// Up to which file Append is rewritten; it goes on in its next file where that is the last one.
+/// Returns up to which file Append is rewritten, and rotates Append if that is the last one.
 fn pass_gate<P: PipeLog, L: Log>(
     alloc: Global,
     rt: &L,
@@ -84,7 +86,7 @@ fn pass_gate<P: PipeLog, L: Log>(
     }
 }
 
-/// The file that was asked for, but none after the last; the last one where none was.
+/// The requested file, but none after the last; the last one if none was requested.
 pub(crate) fn up_to(watermark: Option<FileSeq>, last: FileSeq) -> FileSeq
     ensures { result ≡ up_to watermark last }
 {
@@ -94,7 +96,7 @@ pub(crate) fn up_to(watermark: Option<FileSeq>, last: FileSeq) -> FileSeq
     }
 }
 
-/// Whether a call is to end behind a step.
+/// Whether a call is to end after a step.
 fn ends_after(step: u64, exit_after_step: Option<u64>) -> bool
     ensures { result ≡ ends_after step exit_after_step }
 {
@@ -104,7 +106,7 @@ fn ends_after(step: u64, exit_after_step: Option<u64>) -> bool
     }
 }
 
-/// What is done behind the marks, as far as the call is to go.
+/// What is done after the tombstones, as far as the call is to go.
 fn go_on<P: PipeLog, L: Log>(
     alloc: Global,
     rt: &L,
@@ -172,10 +174,13 @@ pub(crate) fn rewrite_synced<P: PipeLog, L: Log>(
     pipes.sync(rt, LogQueue::Rewrite)
 }
 
-/// Takes the files up to the gate out of Append's span, and all others below the least that is in use.
+/// Takes the files up to the gate out of Append's live range, and all others below the least in use.
 ///
-/// `Memory`, or `Other` where the file behind the gate is none of the span's: nothing is done.
-/// `NumberRange`: there is none. `Failed`: a file wasn't deleted.
+/// Fails:
+/// - with `Memory`
+/// - with `Other` if the file after the gate isn't in the live range
+/// - with `NumberRange` if there is no next number
+/// - with `Failed` if a file call failed
 fn purge_past<P: PipeLog, L: Log>(
     alloc: Global,
     rt: &L,

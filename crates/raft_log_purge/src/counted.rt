@@ -1,6 +1,6 @@
-//! Purges with what stands in Rewrite counted before them, and behind where they are answered: what of Rewrite
-//! is garbage is known by no other way. A purge that has nothing to do counts nothing: nothing is written to Rewrite
-//! between two that have, so that the next one finds the same.
+//! Purges that count what is live in Rewrite before them, and after them if they succeed. Nothing else shows what of
+//! Rewrite is garbage. A purge that has nothing to do counts nothing. Between two that have, nothing is written to
+//! Rewrite, so the next one finds the same.
 
 ghost use Rattle.std.specs.Prelude.{◌≤◌, IfErr, IfOk, OnErr, OnOk};
 ghost use Rattle.raft_log_record_base.specs.declared.pipe_log.LogQueue.TheVariants.{Append};
@@ -29,9 +29,9 @@ use raft_log_record_base::{FileSeq, Result};
 use raft_log_table_all::MemTables;
 use std::alloc::Global;
 
-/// Purges both queues as `purge_expired_files` does. Where neither is past its threshold, nothing is counted.
+/// Purges both queues as `purge_expired_files` does. If neither is past its threshold, nothing is counted.
 ///
-/// Refused, what stands in Rewrite was counted before where a queue is past its threshold, and then no more than
+/// If it fails and a queue is past its threshold, what is live in Rewrite was counted before, and then only what
 /// `purge_expired_files` counts.
 pub fn purge_and_count<P: PipeLog, L: Log>(
     alloc: Global,
@@ -64,7 +64,7 @@ pub fn purge_and_count<P: PipeLog, L: Log>(
 
 /// Syncs Append and rewrites Rewrite as `sync_and_rewrite` does.
 ///
-/// Refused, what stands in Rewrite was counted before, and then what `sync_and_rewrite` counts.
+/// If it fails, what is live in Rewrite was counted before, and then what `sync_and_rewrite` counts.
 pub fn rewrite_and_count<P: PipeLog, L: Log>(
     alloc: Global,
     rt: &L,
@@ -91,7 +91,7 @@ pub fn rewrite_and_count<P: PipeLog, L: Log>(
 
 /// Rewrites Append as `rewrite_append_queue` does.
 ///
-/// Refused, what stands in Rewrite was counted before.
+/// If it fails, what is live in Rewrite was counted before.
 pub fn rewrite_append_and_count<P: PipeLog, L: Log>(
     alloc: Global,
     rt: &L,

@@ -1,4 +1,4 @@
-//! Append is purged once its files are past their threshold: some groups are asked to be compacted, others are
+//! Append is purged if its files are past their threshold: some groups are asked to be compacted, others are
 //! rewritten, and then files go.
 
 ghost use Rattle.std.specs.Prelude.{◌≡◌, ◌==◌, false, IfErr, IfOk, IsSome, OnErr, OnOk};
@@ -36,38 +36,42 @@ use raft_log_record_items::LogItem;
 use raft_log_table_all::MemTables;
 use std::alloc::{AllocError, Global};
 
-/// What a purge answers, and what it counted on its way.
+/// What a purge returns, and what it counted on its way.
 #[derive(Drop)]
 pub struct Purged {
-    /// The groups that it answers, from the least up.
+    /// The groups that it returns to its caller, from the least up.
     pub answered: Vec<u64>,
-    /// How many entries and values stand in Rewrite behind it, where it counted them.
+    /// How many entries and values are live in Rewrite after it, if it counted them.
     pub standing: Option<u64>,
 }
 
-/// The groups that a purge of Append picks, from the least up, and the marks that it carries.
+/// The groups that a purge of Append picks, from the least up, and the tombstones that it writes.
 #[derive(Drop)]
 pub struct PickedGroups {
-    /// The groups that the purge answers: it asks them to be compacted, or they have many entries in Rewrite.
+    /// The groups that the purge returns: it asks them to be compacted, or they have many entries in Rewrite.
     pub answered: Vec<u64>,
     /// The groups that the purge rewrites itself.
     pub rewritten: Vec<u64>,
-    /// The marks that are owed to Rewrite.
+    /// The tombstones owed to Rewrite.
     pub marks: Vec<LogItem>,
-    /// In how many purges in a row each group was asked, this one among them.
+    /// In how many purges in a row each group was asked, including this one.
     pub rounds: Rounds,
 }
 
-/// Purges Append where it is past its threshold, else nothing is done: the marks are carried; the groups that
-/// the rules have are rewritten up to the watermark, and Rewrite is synced; then the files below the least in
-/// use leave Append's span, none from the last one on, nor from the one that is held back. The answer is the
-/// groups that are asked to be compacted, from the least up, and the round is counted; and where Rewrite was
-/// rewritten before, the groups that have many entries there too.
+/// Purges Append if it is past its threshold, else does nothing.
+/// - Writes the owed tombstones.
+/// - Rewrites the groups that the rules pick, up to the watermark, and syncs Rewrite.
+/// - Takes the files below the least in use out of Append's live range, but none from its last one or the first
+///   pinned one on.
 ///
-/// A survey that was made of the tables before spares a walk over the groups, where Rewrite wasn't rewritten since.
+/// Returns the groups that are asked to be compacted, from the least up, and counts the round. If Rewrite was
+/// rewritten before, also returns the groups that have many entries there.
 ///
-/// Refused is `Memory` before anything is done, then what `rewrite_marks`, `rewrite_groups`, a sync and files
-/// that go refuse: the map stays, and no round is counted.
+/// If the caller has already surveyed the tables, and Rewrite wasn't rewritten since, that survey is reused instead
+/// of a walk over the groups.
+///
+/// Fails with `Memory` before anything is done, or as `rewrite_marks`, `rewrite_groups`, a sync or the last step
+/// does. If it fails, the map is kept, and no round is counted.
 pub fn purge_append<P: PipeLog, L: Log>(
     alloc: Global,
     rt: &L,
@@ -103,8 +107,8 @@ pub fn purge_append<P: PipeLog, L: Log>(
     )
 }
 
-/// What a purge of Append has to know of all groups, where Append is past its threshold and Rewrite wasn't
-/// rewritten: none where memory is short.
+/// What a purge of Append has to know of all groups, if Append is past its threshold and Rewrite wasn't rewritten.
+/// `None` also if memory ran out.
 pub(crate) fn survey_if_past<P: PipeLog>(
     alloc: Global,
     thresholds: &Thresholds,
@@ -167,8 +171,8 @@ fn purge_by_rules<P: PipeLog, L: Log>(
     })
 }
 
-/// Picks groups by the rules, and takes the marks that are owed: by what was seen of the groups before, or by one
-/// walk over them.
+/// Picks groups by the rules, and takes the owed tombstones: from a survey made before, or from one walk over the
+/// groups.
 fn pick_groups(
     alloc: Global,
     tables: &MemTables,
@@ -197,8 +201,8 @@ fn pick_groups(
     })
 }
 
-/// Carries the marks that are owed, rewrites these groups up to a file, syncs Rewrite, and takes files out of
-/// Append's span. The answer is how many entries and values stand in Rewrite then.
+/// Writes the owed tombstones, rewrites these groups up to a file, syncs Rewrite, and takes files out of Append's
+/// live range. Returns how many entries and values are live in Rewrite then.
 fn rewrite_picked<P: PipeLog, L: Log>(
     alloc: Global,
     rt: &L,
@@ -224,10 +228,10 @@ fn rewrite_picked<P: PipeLog, L: Log>(
     purge_below(alloc, rt, pipes, tables, cache, held)
 }
 
-/// Takes Append's files below the least that is in use out of its span, none from the last one on, nor from the
-/// one that is held back. The answer is how many entries and values stand in Rewrite, counted by the same walk.
+/// Takes Append's files below the least in use out of its live range; none from the last one on, or from the first
+/// pinned one. Returns how many entries and values are live in Rewrite, counted by the same walk.
 ///
-/// `Memory`: nothing is done. `Failed`: a file wasn't deleted.
+/// Fails with `Memory`, with `NumberRange` if a queue is at its last number, or with `Failed` if a file call failed.
 fn purge_below<P: PipeLog, L: Log>(
     alloc: Global,
     rt: &L,

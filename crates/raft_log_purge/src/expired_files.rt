@@ -1,4 +1,4 @@
-//! Both queues are purged once their files are past their thresholds.
+//! Both queues are purged if their files are past their thresholds.
 
 ghost use Rattle.std.specs.Prelude.{◌≡◌, ◌≤◌, ℕ, IfErr, IfOk, OnErr, OnOk};
 ghost use Rattle.raft_log_record_base.specs.declared.pipe_log.LogQueue.TheVariants.{Append};
@@ -36,7 +36,7 @@ use std::alloc::Global;
 pub struct PurgeCounts {
     /// In how many purges in a row each group was asked to be compacted.
     pub rounds: Rounds,
-    /// What was written to Rewrite, and how much of that stands no more.
+    /// What was written to Rewrite, and how much of that is garbage.
     pub stats: GlobalStats,
     /// The number of the next atomic group in Rewrite.
     pub number: u64,
@@ -50,7 +50,7 @@ impl PurgeCounts {
     ghost use Rattle.raft_log_purge.specs.Standing.{StandIfTold};
     ghost use Rattle.raft_log_purge_rules.specs.Surveying.{SurveysIfTold};
 
-    /// So many entries and values were written to Rewrite before; nothing else was counted yet.
+    /// This many entries and values were written to Rewrite before; nothing else was counted yet.
     pub fn new(alloc: Global, written: u64) -> PurgeCounts
         ensures rounds { (g : ℕ) → count_of result.rounds g ≡ 0 }
         ensures stats { result.stats ≡ added Rewrite written no_entries }
@@ -65,8 +65,8 @@ impl PurgeCounts {
         }
     }
 
-    /// Brings the counts to what stands in Rewrite: what stands there and wasn't counted was written, and what
-    /// was counted and doesn't stand is garbage.
+    /// Brings the counts to what is live in Rewrite. What is live there and wasn't counted was written; what was
+    /// counted and isn't live is garbage.
     pub fn count_standing(&mut self, tables: &MemTables)
         ensures { CountsStanding tables.now self.old self.new }
     {
@@ -74,7 +74,7 @@ impl PurgeCounts {
         self.count_to(standing);
     }
 
-    /// Brings the counts to so much that stands in Rewrite.
+    /// Brings the counts to so much that is live in Rewrite.
     fn count_to(&mut self, standing: u64)
         ensures stats { self.new.stats ≡ counted standing self.old.stats }
         ensures rounds { self.new.rounds ≡ self.old.rounds }
@@ -87,7 +87,7 @@ impl PurgeCounts {
             .delete(LogQueue::Rewrite, live.saturating_sub(standing));
     }
 
-    /// Brings the counts to what stands in Rewrite, if that is wanted.
+    /// Brings the counts to what is live in Rewrite, if that is wanted.
     pub(crate) fn count_if(&mut self, wanted: bool, tables: &MemTables)
         ensures { CountsIf wanted tables.now self.old self.new }
     {
@@ -96,9 +96,9 @@ impl PurgeCounts {
         }
     }
 
-    /// Brings the counts to what stands in Rewrite, if that is wanted. Where Append is past its threshold, the same
-    /// walk over the groups makes the survey for its purge, which is answered; else, and where memory is short,
-    /// there is none.
+    /// Brings the counts to what is live in Rewrite, if that is wanted. If Append is past its threshold, the same
+    /// walk over the groups makes the survey for its purge, and returns it. Else, and if memory ran out, returns
+    /// none.
     pub(crate) fn count_and_survey<P: PipeLog>(
         &mut self,
         alloc: Global,
@@ -122,7 +122,7 @@ impl PurgeCounts {
         }
     }
 
-    /// Brings the counts to what stands in Rewrite, if that is wanted: to so much, where it was counted before.
+    /// Brings the counts to what is live in Rewrite, if that is wanted: to `standing`, if it was counted before.
     pub(crate) fn count_behind(&mut self, wanted: bool, standing: Option<u64>, tables: &MemTables)
         requires { StandIfTold standing tables.now }
         ensures { CountsIf wanted tables.now self.old self.new }
@@ -134,16 +134,21 @@ impl PurgeCounts {
     }
 }
 
-/// Purges both queues where they are past their thresholds: Append is synced; Rewrite is rewritten where enough
-/// of it is garbage; then Append's marks are carried, the groups that the rules have are rewritten, and files
-/// go, none that whoever listens holds back. The answer is the groups that are asked to be compacted, from the
-/// least up; where Rewrite was rewritten, those that have many entries there too; and how much stands in Rewrite
-/// then, where Append was purged. The map stays, and nothing is pending.
+/// Purges both queues if they are past their thresholds. The map is kept, and nothing is pending.
+/// - Syncs Append.
+/// - Rewrites Rewrite if enough of it is garbage.
+/// - Writes Append's owed tombstones, rewrites the groups that the rules pick, and lets files go that no listener
+///   pins.
 ///
-/// A survey that was made of the tables before spares a walk over the groups, where Rewrite isn't rewritten.
+/// Returns the groups that are asked to be compacted, from the least up; if Rewrite was rewritten, also those that
+/// have many entries there. Returns how much is live in Rewrite then, if Append was purged.
 ///
-/// Refused is what a sync, a rotation, the marks, what is copied, and files that go refuse: the map stays, no
-/// round is counted, and the old copies of what was written to Rewrite again are counted as garbage.
+/// If the caller has already surveyed the tables, and Rewrite isn't rewritten, that survey is reused instead of a
+/// walk over the groups.
+///
+/// Fails as one of its steps does: a sync, a rotation, a write of tombstones or copies, or files that go. If it
+/// fails, the map is kept, and no round is counted. The old copies of what was written to Rewrite again are counted
+/// as garbage.
 pub fn purge_expired_files<P: PipeLog, L: Log>(
     alloc: Global,
     rt: &L,
@@ -177,7 +182,7 @@ pub fn purge_expired_files<P: PipeLog, L: Log>(
     )
 }
 
-/// Rewrites Rewrite where it is past its threshold and enough of it is garbage, and answers whether it was.
+/// Rewrites Rewrite if it is past its threshold and enough of it is garbage, and returns whether it was.
 fn purge_rewrite<P: PipeLog, L: Log>(
     alloc: Global,
     rt: &L,
@@ -206,11 +211,11 @@ fn purge_rewrite<P: PipeLog, L: Log>(
     Ok(true)
 }
 
-/// Syncs Append, and rewrites Rewrite, whatever its size is: what stands there is written again, and its old
-/// files go.
+/// Syncs Append, and rewrites Rewrite, whatever its size is: what is live there is written again, and its old files
+/// go.
 ///
-/// Refused is what a sync, a rotation, what is written again, and files that go refuse: the map stays, and the old
-/// copies of the groups that were written again are counted as garbage.
+/// Fails as one of its steps does: a sync, a rotation, a write, or files that go. If it fails, the map is kept, and
+/// the old copies of the groups that were written again are counted as garbage.
 pub fn sync_and_rewrite<P: PipeLog, L: Log>(
     alloc: Global,
     rt: &L,

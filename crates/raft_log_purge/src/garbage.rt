@@ -1,4 +1,4 @@
-//! What a refused rewrite of Rewrite leaves is counted: of a group that was restated the old copies are garbage.
+//! Counts what a failed rewrite of Rewrite leaves: the old copies of a group that was restated are garbage.
 
 ghost use Rattle.raft_log_table_all.specs.Tables.{shown_of};
 ghost use Rattle.raft_log_purge.specs.Garbage.{CountsGarbage, CountsPast, StandsPast};
@@ -7,7 +7,7 @@ use raft_log_record_base::{FileSeq, LogQueue};
 use raft_log_table_all::MemTables;
 use raft_log_table_one::GlobalStats;
 
-/// Counts what stands of these groups past a file of Rewrite as written there again: as much is garbage.
+/// Counts what these groups have live past a file of Rewrite as written there again, and as much as garbage.
 pub(crate) fn count_restated(
     stats: &mut GlobalStats,
     tables: &MemTables,
@@ -21,7 +21,7 @@ pub(crate) fn count_restated(
     stats.delete(LogQueue::Rewrite, count);
 }
 
-/// How many entries and values stand in Rewrite of these groups as `standing_past` counts them, at most 2^64 - 1.
+/// How many live entries and values these groups have in Rewrite, as `standing_past` counts them, at most 2^64 - 1.
 fn count_past(tables: &MemTables, groups: &[u64], file: FileSeq) -> u64
     ensures { CountsPast file (shown_of tables.now) groups.now result }
 {
@@ -32,7 +32,7 @@ fn count_past(tables: &MemTables, groups: &[u64], file: FileSeq) -> u64
     count
 }
 
-/// How many entries and values of a group stand in Rewrite, if all of them lie past this file there; else 0.
+/// How many live entries and values a group has in Rewrite, if all of them are past this file there; else 0.
 fn standing_past(tables: &MemTables, group: u64, file: FileSeq) -> u64
     ensures { StandsPast file (shown_of tables.now group) result }
 {

@@ -1,4 +1,4 @@
-//! Rewrite is rewritten: what stands there is written again, and its old files go.
+//! Rewrite is rewritten: what is live there is written again, and its old files go.
 
 ghost use Rattle.std.specs.Prelude.{◌≡◌, ◌≤◌, IfErr, OnErr, OnOk};
 ghost use Rattle.raft_log_purge_parts.specs.raft_log_engine_laws.specs.Shows.{shows};
@@ -19,14 +19,14 @@ use raft_log_table_all::MemTables;
 use raft_log_table_one::GlobalStats;
 use std::alloc::Global;
 
-/// Rewrites Rewrite: it goes on in its next file; all groups are restated, and it is synced; the counts of
-/// what was written there and stands no more are reset; then its files below the least that is in use go. The
-/// number is the one that the next atomic group gets, and is counted on.
+/// Rewrites Rewrite. It rotates; all groups are restated, and it is synced. The garbage is taken off the counts; then
+/// its files below the least in use go. `number` is the number of the next atomic group, and is counted up.
 ///
-/// Nothing of Append may be pending, for the map to stay: its caller has synced it. Refused, the map stays
-/// too: `Memory` before anything is done, then what a rotation, `restate_groups`, a sync and `purge_stale`
-/// refuse. The counts are reset once all is synced; where it isn't, the old copies of the groups that were
-/// restated are counted as garbage, and what was written of a group that wasn't is not.
+/// The map is kept only if nothing of Append is pending: the caller has synced it.
+///
+/// Fails with `Memory` before anything is done, or as a rotation, `restate_groups`, a sync or `purge_stale` does. If
+/// it fails, the map is kept too. If all was synced, the garbage is off the counts. Else the old copies of the groups
+/// that were restated are counted as garbage; what was written of a group that wasn't restated isn't counted.
 pub fn rewrite_rewrite_queue<P: PipeLog, L: Log>(
     alloc: Global,
     rt: &L,

@@ -1,4 +1,4 @@
--- Copies are written to Rewrite, and what they are of lies there from then on.
+-- Copies are written to Rewrite, and the tables then have the copied items there.
 use Rattle.std.specs.Prelude.{◌≡◌, ◌⊎◌, ◌↔◌, IsTrue, ℕ, Option, [], false}
 use Rattle.raft_log_disk.specs.Causes.{IsLater}
 use Rattle.raft_log_record_base.specs.declared.errors.Error.{Error}
@@ -14,9 +14,8 @@ use Rattle.raft_log_purge_parts.specs.Parts.{Remains, StaysInFile}
 use Rattle.raft_log_purge_parts.specs.Reasons.{HasReason}
 use Rattle.raft_log_purge_parts.specs.Refusals.{IsOverlong}
 
--- A batch that isn't empty was written to Rewrite, and the tables took it in the file of its place: whatever
--- the log was, with nothing pending, it is so, if the batch has copies of what it had, and is no part of an
--- atomic group.
+-- A batch that isn't empty was written to Rewrite, and the tables applied it in the file of its place. The map stays
+-- held with nothing pending, if the batch has copies of it, and is no part of an atomic group.
 pub record MovesCopies (gate : Option ℕ) (b : Batch) (s t : Shows) : Type 0 where
   pub block : FileBlockHandle
   pub alive : has_failed t ≡ false
@@ -32,9 +31,9 @@ pub record MovesCopies (gate : Option ℕ) (b : Batch) (s t : Shows) : Type 0 wh
 abbrev pub WritesCopies : Option ℕ → Batch → Shows → Shows → Type 0
 WritesCopies gate b s t = ((b.items ≡ []) × (t ≡ s)) ⊎ (((b.items ≡ []) → ⊥) × MovesCopies gate b s t)
 
--- A batch of copies was refused: all that shows shows as it did; and whatever the log was, it is so, if the
--- batch has copies; where the engine has failed, its log is held. Why is told of a batch that is no part of
--- an atomic group: its record is too long, or as of any part.
+-- A batch of copies wasn't written: the tables are unchanged. If it is no part of an atomic group:
+-- - if it has copies, the map is kept with nothing pending, or the engine has failed and left its log on the disk
+-- - its record is too long, or the reason is one of any part
 pub record FailsToCopy (gate : Option ℕ) (b : Batch) (error : Error) (s t : Shows) : Type 0 where
   pub same : t ≡ record s { pipes = t.pipes }
   pub tells : has_failed s ≡ false → IsTrue (has_failed t) ↔ (error ≡ errors.Failed)

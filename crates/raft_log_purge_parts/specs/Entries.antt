@@ -14,12 +14,12 @@ use Rattle.raft_log_engine_laws.specs.raft_log_table_one.specs.Reads.{entries_fr
 use Rattle.raft_log_engine_laws.specs.Shows.{LogMap}
 use Rattle.raft_log_record_items.specs.declared.raw_message.RawMessage.{RawMessage}
 
--- how many bytes of entries a record has that is written to Rewrite, but for an entry that has more
+-- the most bytes of entries in a record that is written to Rewrite, unless it has a single longer entry
 abbrev pub max_piece : ℕ
 max_piece = 131072
 
--- how many of these places are copied at once: up to the first in a file past the gate, and as many as a
--- batch may have, which is one at least
+-- how many of these places are copied at once: those before the first one past the gate, at most one batch's, which
+-- is at least one
 abbrev pub copied_count : ℕ → List Place → ℕ
 copied_count gate ps = min (sized (Some max_piece) ps) (passing gate ps)
 
@@ -31,7 +31,7 @@ next_places gate v = take (copied_count gate (drop v.rewritten v.places)) (drop 
 abbrev pub AreNext : ℕ → Shown → List EntryIndex → Type 0
 AreNext gate v es = es ≡ entries_from v v.rewritten (next_places gate v)
 
--- what is read of an entry's bytes
+-- how an entry's bytes are read
 abbrev pub as_bytes : List ℕ → Option RawMessage
 as_bytes bytes = Some (record { bytes = bytes })
 

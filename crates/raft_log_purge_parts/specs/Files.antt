@@ -1,4 +1,4 @@
--- Files that are no longer needed go.
+-- Files that are no longer needed leave a queue.
 use Rattle.std.specs.Prelude.{◌≡◌, ◌↔◌, ◌⊎◌, ◌-◌, IsTrue, ℕ, max, None, false, []}
 use Rattle.raft_log_disk.specs.Causes.{IsLater}
 use Rattle.raft_log_record_base.specs.declared.errors.Error.{Error}
@@ -18,14 +18,13 @@ use Rattle.raft_log_engine_laws.specs.Holding.{IsLeftAt}
 use Rattle.raft_log_engine_laws.specs.Settled.{HoldsSettled}
 use Rattle.raft_log_purge_parts.specs.Reasons.{HasFileReason}
 
--- what is asked of the tables before files of a queue go: of Append, that no mark is owed
+-- what the tables must show before files of a queue go: for Append, that no tombstone is owed
 abbrev pub MayLoseFiles : Which → (ℕ → Shown) → Type 0
 MayLoseFiles InAppend v = (g : ℕ) → OwesNothing (whereabouts (v g))
 MayLoseFiles InRewrite v = Unit {0}
 
--- The files of a queue below the least one that is in use, and below the limit, have left its span, which
--- begins at that one, but never earlier than before: whatever the log was, with nothing pending, it is so. No block
--- is kept.
+-- The files of a queue below the least one in use, and below the limit, have left its live range. It begins at that
+-- one, but never earlier than before. A settled log stays settled, with its map. No block is cached.
 pub record LosesFiles (queue : LogQueue) (limit : ℕ) (m : MemTables) (count : ℕ) (s t : Shows) : Type 0 where
   pub least : ℕ
   pub is : IsLeastOf queue limit m least
@@ -39,19 +38,19 @@ pub record LosesFiles (queue : LogQueue) (limit : ℕ) (m : MemTables) (count : 
   pub keeps : (home : Home) (log : LogMap) → HoldsSettled home s log
       → MayLoseFiles (which_of queue) s.tables → HoldsSettled home t log
 
--- what is true where files don't go: nothing was done; or the engine has failed, and its log is held
+-- what is true if files don't go: the log is settled with its map; or the engine has failed, and left it on the disk
 abbrev pub RemainsSettled : Home → LogMap → Shows → Error → Type 0
 RemainsSettled home m t errors.Failed = IsLeftAt home t.pipes.disk m []
 RemainsSettled home m t _ = HoldsSettled home t m
 
--- the limit is none of the queue's files: for nothing else is the error of another kind
+-- the limit is not in the queue's live range: only then is the error of another kind
 abbrev pub IsNoLimit : LogQueue → ℕ → Error → Shows → Type 0
 IsNoLimit queue limit (errors.Other fault) s =
     IsInSpan limit (pipe_at (which_of queue) (files_of s.pipes)) → ⊥
 IsNoLimit queue limit _ s = ⊥
 
--- Files of a queue below a limit don't go, and why: whatever the log was, with nothing pending, it is so; or
--- the engine has failed, and its log is held.
+-- Files of a queue below a limit don't go, and why. A settled log stays settled, with its map; or the engine has
+-- failed, and left it on the disk.
 pub record FailsToLoseFiles (queue : LogQueue) (limit : ℕ) (error : Error) (s t : Shows) : Type 0 where
   pub tells : has_failed s ≡ false → IsTrue (has_failed t) ↔ (error ≡ errors.Failed)
   pub later : IsLater s.pipes.disk t.pipes.disk

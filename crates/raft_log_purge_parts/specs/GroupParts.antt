@@ -1,4 +1,4 @@
--- The parts of an atomic group in which a group is restated.
+-- The parts of an atomic group that restates a group.
 use Rattle.std.specs.Prelude.{◌≡◌, ◌+◌, ◌<◌, ◌≤◌, ℕ, false, List, [], ◌∷◌, ◌++◌, length}
 use Rattle.raft_log_disk.specs.Causes.{IsLater}
 use Rattle.raft_log_record_items.specs.declared.item.LogItem.{LogItem}
@@ -18,7 +18,7 @@ use Rattle.raft_log_purge_parts.specs.declared.parts.RestatedPart.{RestatedPart}
 use Rattle.raft_log_purge_parts.specs.Pieces.{IsPiece}
 use Rattle.raft_log_purge_parts.specs.Restated.{last_file}
 
--- the parts say these entries of a group, piece by piece, from an index on; none is empty
+-- the parts say these entries of a group, piece by piece, from an index on; no piece is empty
 abbrev pub SayPieces : ℕ → ℕ → List (List (List ℕ)) → List WrittenPart → Type 0
 SayPieces g f [] [] = Unit {0}
 SayPieces g f (es ∷ more) (p ∷ ps) =
@@ -33,13 +33,12 @@ ArePartsKept (x ∷ xs) (p ∷ ps) =
     × ArePartsKept xs ps
 ArePartsKept xs ps = ⊥
 
--- the items of all of them
+-- the items of all parts
 abbrev pub items_of_all : List RestatedPart → List LogItem
 items_of_all [] = []
 items_of_all (x ∷ xs) = x.items.items ++ items_of_all xs
 
--- the batch is this part of the atomic group, is being filled, and says entries of a group and its keys; its
--- items are these, and the mark
+-- the batch is being filled as this part of the atomic group: its items are a group's entries, its keys, and the mark
 pub record IsMarkedPiece (g f number : ℕ) (status : AtomicGroupStatus) (bytes : List (List ℕ))
     (pairs : List (List ℕ × List ℕ)) (b : Batch) : Type 0 where
   pub state : b.state ≡ Filling
@@ -48,8 +47,8 @@ pub record IsMarkedPiece (g f number : ℕ) (status : AtomicGroupStatus) (bytes 
   pub part : marking_of_items b.items ≡ Part number status
   pub some : b.items ≡ [] → ⊥
 
--- An atomic group stands open whose parts say a group's first rewritten entries, so many; nothing of it
--- counts yet, and the tables show what they showed.
+-- An atomic group is open, and its parts say the first `done` rewritten entries of a group. Nothing of it counts yet,
+-- and the tables are unchanged.
 pub record HasParts (g number done : ℕ) (parts : List RestatedPart) (s t : Shows) : Type 0 where
   pub group : UnendedGroup
   pub numbered : group.number ≡ number

@@ -14,8 +14,8 @@ use Rattle.raft_log_purge_parts.specs.Moving.{IsPartlyRewritten, IsRewrittenTo}
 use Rattle.raft_log_purge_parts.specs.Reasons.{GivesReason}
 use Rattle.raft_log_purge_parts.specs.Rewriting.{OweNothing, StaysHeld, StaysOrIsLeft}
 
--- Of each group that passes the test a part of what it had in Append, in files up to the gate, is in Rewrite
--- now. Other groups show as they did.
+-- A part of what each group that passes the test had in Append, in files up to the gate, is in Rewrite now. Other
+-- groups are unchanged.
 pub record RewritesPart (test : ℕ → Bool) (gate : ℕ) (s t : Shows) : Type 0 where
   pub parts : (g : ℕ) → IsPartlyRewritten gate (s.tables g) (t.tables g)
   pub others : (g : ℕ) → test g ≡ false → t.tables g ≡ s.tables g
@@ -30,7 +30,7 @@ pub record Rewrites (test : ℕ → Bool) (gate : ℕ) (s t : Shows) : Type 0 wh
   pub stays : StaysInFile s.pipes t.pipes
   pub holds : StaysHeld s t
 
--- rewriting was refused, with a part done; and why, where no mark is owed
+-- rewriting failed, with a part done; and why, if no tombstone is owed
 pub record StopsRewriting (test : ℕ → Bool) (gate : ℕ) (error : Error) (s t : Shows) : Type 0 where
   pub part : RewritesPart test gate s t
   pub tells : has_failed s ≡ false → IsTrue (has_failed t) ↔ (error ≡ errors.Failed)
@@ -49,7 +49,7 @@ pub record RewritesEntries (group gate : ℕ) (s t : Shows) : Type 0 where
 abbrev pub RewritesGroup : ℕ → ℕ → Shows → Shows → Type 0
 RewritesGroup group gate s t = Rewrites (λ g. group == g) gate s t
 
--- rewriting one group was refused, with a part done
+-- rewriting one group failed, with a part done
 abbrev pub StopsAtGroup : ℕ → ℕ → Error → Shows → Shows → Type 0
 StopsAtGroup group gate error s t = StopsRewriting (λ g. group == g) gate error s t
 
@@ -57,12 +57,14 @@ StopsAtGroup group gate error s t = StopsRewriting (λ g. group == g) gate error
 abbrev pub RewritesGroups : List ℕ → ℕ → Shows → Shows → Type 0
 RewritesGroups groups gate s t = Rewrites (λ g. list_any (λ k. k == g) groups) gate s t
 
--- rewriting each of these groups was refused, with a part done
+-- rewriting these groups failed, with a part done
 abbrev pub StopsAtGroups : List ℕ → ℕ → Error → Shows → Shows → Type 0
 StopsAtGroups groups gate error s t = StopsRewriting (λ g. list_any (λ k. k == g) groups) gate error s t
 
--- Where all groups were rewritten up to a file and no mark is owed, and files don't fall along entries,
--- Append may begin behind that file: no entry and no value that is in use lies up to it.
+-- No entry and no value in use is in Append up to a file, and Append may begin after it, if:
+-- - all groups were rewritten up to the file
+-- - no tombstone is owed
+-- - no entry of a queue is in an earlier file than the first one there
 abbrev pub RewrittenGroupsArePast : Type 0
 RewrittenGroupsArePast = (gate : ℕ) (v : ℕ → Shown) → ((g : ℕ) → IsRewrittenTo gate (v g))
     → ((g : ℕ) → FrontIsLeast (v g)) → OweNothing v

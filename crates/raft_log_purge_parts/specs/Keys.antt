@@ -21,8 +21,8 @@ pub record IsKeysBatch (g : ℕ) (pairs : List (List ℕ × List ℕ)) (b : Batc
   pub items : b.items ≡ map (λ e. put_item g e.0 e.1) pairs
   pub plain : AreNoMarks b.items
 
--- All values that the group has in Append in files up to the gate were copied as one record, and stand in
--- Rewrite; all else shows as it did. Where there are none, nothing was written.
+-- All values that the group has in Append in files up to the gate were copied as one record, and are in Rewrite.
+-- Nothing else changed in the tables. If there are no such values, nothing was written.
 pub record CopiesKeys (group gate : ℕ) (s t : Shows) : Type 0 where
   pub pairs : List (List ℕ × List ℕ)
   pub all : ListsAll (appended_values gate (s.tables group)) pairs
@@ -35,7 +35,7 @@ pub record CopiesKeys (group gate : ℕ) (s t : Shows) : Type 0 where
   pub later : IsLater s.pipes.disk t.pipes.disk
   pub holds : StaysHeld s t
 
--- the copies of the group's values were refused, and why: all that shows of the tables shows as it did
+-- the group's values weren't copied, and why: the tables are unchanged
 pub record FailsToCopyKeys (error : Error) (s t : Shows) : Type 0 where
   pub same : t ≡ record s { pipes = t.pipes }
   pub tells : has_failed s ≡ false → IsTrue (has_failed t) ↔ (error ≡ errors.Failed)

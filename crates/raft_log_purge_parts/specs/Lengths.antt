@@ -1,5 +1,5 @@
--- Records that a purge can't make, as they would be too long: of what a group has in the map, or of the marks
--- that are owed.
+-- Records that a purge can't make because they would be too long: of what a group has in the map, or of the owed
+-- tombstones.
 use Rattle.std.specs.Prelude.{◌≡◌, ◌⊎◌, ◌<◌, ◌≤◌, ◌^◌, ℕ, List, [], ◌∷◌, ◌++◌, length, map, Some}
 use Rattle.std.specs.Cmp.Lexicographic.{slice_cmp}
 use Rattle.std.specs.List.Sorted.{IsStrictlySortedBy}
@@ -30,8 +30,10 @@ abbrev pub IsOneMark : List LogItem → Type 0
 IsOneMark mark = (mark ≡ [])
     ⊎ ((number : ℕ) × (status : AtomicGroupStatus) × (mark ≡ mark_item number status ∷ []))
 
--- The items, and the bytes of their entries, are these of a group: entries from an index on, one behind
--- another, then keys with their values, then the mark.
+-- The items, and the bytes of their entries, are these of a group, in this order:
+-- - entries from an index on, one after another
+-- - keys with their values
+-- - the mark
 pub record AreOfGroup (g first : ℕ) (bytes : List (List ℕ)) (pairs : List (List ℕ × List ℕ)) (mark : List LogItem)
     (items : List LogItem) (entries : List ℕ) : Type 0 where
   pub indexes : List ℕ
@@ -39,7 +41,7 @@ pub record AreOfGroup (g first : ℕ) (bytes : List (List ℕ)) (pairs : List (L
   pub are : items ≡ (entries_items g 0 indexes bytes ++ map (λ e. put_item g e.0 e.1) pairs) ++ mark
   pub joins : entries ≡ joined bytes
 
--- the bytes of entries of one record: 131,072 together at most, or those of a single entry
+-- the bytes of entries of one record: at most 131,072 together, or those of a single entry
 abbrev pub AreOnePiece : List (List ℕ) → Type 0
 AreOnePiece bytes = (length bytes ≤ 1) ⊎ (bytes_len bytes ≤ max_piece)
 
@@ -47,9 +49,10 @@ AreOnePiece bytes = (length bytes ≤ 1) ⊎ (bytes_len bytes ≤ max_piece)
 abbrev pub HasOnePiece : Batch → Type 0
 HasOnePiece b = AreOnePiece (bytes_in b)
 
--- The items, and the bytes of their entries, are those of one record of what one group has in the map: its
--- entries there from an index on, no more than one record has, values there, no key twice, and at most one mark
--- of an atomic group.
+-- The items, and the bytes of their entries, make one record of what one group has in the map:
+-- - its entries there from an index on, no more than one record has
+-- - values there, no key twice
+-- - at most one mark of an atomic group
 pub record AreOfMap (m : LogMap) (items : List LogItem) (entries : List ℕ) : Type 0 where
   pub group : ℕ
   pub first : ℕ
@@ -63,8 +66,7 @@ pub record AreOfMap (m : LogMap) (items : List LogItem) (entries : List ℕ) : T
   pub values : AreValuesIn m group pairs
   pub once : IsStrictlySortedBy (slice_cmp nat_cmp) (keys_of pairs)
 
--- a record of these items would be too long: more bytes of entries than a batch may have, or a length of more
--- than 56 bits
+-- a record of these items would be too long: more bytes of entries than a batch may have, or a length of over 56 bits
 abbrev pub IsTooLong : List LogItem → List ℕ → Type 0
 IsTooLong items entries = (max_entries_len < length entries) ⊎ (2 ^ 56 ≤ record_len items entries)
 
@@ -73,6 +75,6 @@ abbrev pub HasLongGroup : LogMap → Type 0
 HasLongGroup m =
     (items : List LogItem) × (entries : List ℕ) × AreOfMap m items entries × IsTooLong items entries
 
--- the record of the marks that are owed would be too long: it would have 2 ^ 56 bytes or more
+-- the record of the owed tombstones would be too long: it would have 2 ^ 56 bytes or more
 abbrev pub OwesTooMuch : (ℕ → Shown) → Type 0
 OwesTooMuch v = (b : Batch) × SaysMarks v b × (2 ^ 56 ≤ record_len b.items b.entries)

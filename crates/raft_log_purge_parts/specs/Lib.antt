@@ -20,7 +20,7 @@ pub mod Moving
 pub mod Rewriting
 pub mod Keys
 pub mod Groups
--- libraries below, passed on to who stands on this one
+-- libraries below, passed on to the crates above
 pub use Rattle.raft_log_engine_laws.specs.raft_log_file_pair
 pub use Rattle.raft_log_engine_laws.specs.raft_log_file_blocks
 pub use Rattle.raft_log_engine_laws

@@ -1,4 +1,4 @@
--- Marks that are owed to Rewrite are carried there.
+-- Tombstones that are owed to Rewrite are written there.
 use Rattle.std.specs.Prelude.{◌≡◌, ℕ, Bool, false, List, []}
 use Rattle.raft_log_disk.specs.Causes.{IsLater}
 use Rattle.raft_log_record_base.specs.declared.errors.Error.{Error}
@@ -19,7 +19,7 @@ use Rattle.raft_log_purge_parts.specs.Parts.{PartIsRefused, StaysInFile}
 abbrev pub showing : LogPipes → (ℕ → Shown) → (ℕ → Bool) → BlockCache → Shows
 showing v tables counts cache = record { tables = tables; counts = counts; pipes = v; cache = cache }
 
--- The marks stand in Rewrite: whatever the log was, it is so with tables that owe none.
+-- The tombstones are in Rewrite: if the log's map was held with nothing pending, it is with tables that owe none.
 pub record WritesMarks (tables : ℕ → Shown) (v w : LogPipes) : Type 0 where
   pub alive : is_failed v ≡ false → is_failed w ≡ false
   pub later : IsLater v.disk w.disk
@@ -28,17 +28,17 @@ pub record WritesMarks (tables : ℕ → Shown) (v w : LogPipes) : Type 0 where
       → Holds home (showing v tables counts cache) m []
       → Holds home (showing w (λ g. unmarked (tables g)) counts cache) m []
 
--- the marks of tables that owe just these stand in Rewrite
+-- the tombstones of tables that owe just these are in Rewrite
 abbrev pub WritesItems : List LogItem → LogPipes → LogPipes → Type 0
 WritesItems items v w = (m : MemTables) → AreOwed m items → WritesMarks (shown_of m) v w
 
--- the marks of tables that owe just these were refused
+-- the tombstones of tables that owe just these weren't written
 abbrev pub ItemsAreRefused : List LogItem → Error → LogPipes → LogPipes → Type 0
 ItemsAreRefused items error v w = (m : MemTables) → AreOwed m items → (cache : BlockCache)
     → PartIsRefused error (shows v m cache) (shows w m cache)
 
--- The marks are carried: they stand in Rewrite, synced, and no group owes one any more. The map stays, and
--- nothing of the log is pending.
+-- The tombstones are in Rewrite, synced, and no group owes one any more. The map is kept, and nothing of the log is
+-- pending.
 pub record CarriesMarks (s t : Shows) : Type 0 where
   pub alive : has_failed t ≡ false
   pub tables : t.tables ≡ (λ g. unmarked (s.tables g))

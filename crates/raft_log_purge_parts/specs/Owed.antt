@@ -1,4 +1,4 @@
--- The marks that are owed, as a batch, and where they stay.
+-- The owed tombstones as a batch, and calls that add none.
 use Rattle.std.specs.Prelude.{◌≡◌, ℕ, true, false, List, [], ◌∷◌, ◌++◌}
 use Rattle.raft_log_record_items.specs.declared.entry.EntryIndex.{EntryIndex}
 use Rattle.raft_log_record_items.specs.declared.item.LogItem.{LogItem}
@@ -34,7 +34,7 @@ pub record AddsSame (old new : Batch) (x : LogItem) : Type 0 where
   pub none : has_mark_key x ≡ false
   pub same : tagged {E = EntryIndex} (λ e. e) added ≡ tagged (λ e. e) x
 
--- the batch is being filled, has no entries, is no part of an atomic group, and says the marks that the groups
+-- the batch is being filled, has no entries, is no part of an atomic group, and says the tombstones that the groups
 -- owe
 pub record SaysMarks (v : ℕ → Shown) (b : Batch) : Type 0 where
   pub state : b.state ≡ Filling
@@ -42,22 +42,22 @@ pub record SaysMarks (v : ℕ → Shown) (b : Batch) : Type 0 where
   pub plain : AreNoMarks b.items
   pub owed : (g : ℕ) → AreOwedAt (v g) (of_group g (tagged_items (λ e. e) b.items))
 
--- the group owes the marks that it owed: the Clean, the Compact of the same index, and the same deletions
+-- the group owes the same tombstones: the Clean, the Compact of the same index, and the same deletions
 pub record OwesSame (v w : Shown) : Type 0 where
   pub cleaned : w.cleaned ≡ v.cleaned
   pub compact : owed_compact w ≡ owed_compact v
   pub deleted : w.deleted ≡ v.deleted
 
--- the group owes no mark that it didn't owe: no Clean, no Compact, and the deletion of no key
+-- the group owes no tombstone that it didn't owe: no Clean, no Compact, and the deletion of no key
 pub record OwesNoMore (v w : Shown) : Type 0 where
   pub cleaned : w.cleaned ≡ true → v.cleaned ≡ true
   pub compacted : w.compacted ≡ true → v.compacted ≡ true
   pub deleted : (k : List ℕ) → w.deleted k ≡ true → v.deleted k ≡ true
 
--- so it is of each group
+-- this is true of each group
 abbrev pub OweNoMore : (ℕ → Shown) → (ℕ → Shown) → Type 0
 OweNoMore v w = (g : ℕ) → OwesNoMore (v g) (w g)
 
--- no mark is owed that wasn't: whatever all those were among that were owed, those are that are owed now
+-- no tombstone is owed that wasn't: if all that were owed before are owed in `v`, all that are owed now are too
 abbrev pub AddsNoMarks : MemTables → MemTables → Type 0
 AddsNoMarks old new = (v : ℕ → Shown) → OweNoMore v (shown_of old) → OweNoMore v (shown_of new)

@@ -1,4 +1,4 @@
--- What a part of a purge leaves where it is refused, and what is known of a record that it writes.
+-- What a part of a purge leaves if it fails, and what is known of a record that it writes.
 use Rattle.std.specs.Prelude.{◌≡◌, ◌↔◌, IsTrue, ℕ, false, []}
 use Rattle.raft_log_disk.specs.Causes.{IsLater}
 use Rattle.raft_log_record_base.specs.declared.errors.Error.{Error}
@@ -12,14 +12,14 @@ use Rattle.raft_log_engine_laws.specs.Shows.{Home, IsLaidOut, LogMap, Shows, has
 use Rattle.raft_log_engine_laws.specs.Holding.{Holds, IsLeftAt}
 use Rattle.raft_log_purge_parts.specs.Reasons.{HasPurgeReason}
 
--- What is true where a part was refused, by the error: the engine's log is what it was, and nothing is
--- pending; and where the engine has failed, its log is held.
+-- What is true after a part failed, by the error. The engine's log keeps its map, with nothing pending; or the engine
+-- has failed, and left its log on the disk.
 abbrev pub Remains : Home → LogMap → Shows → Error → Type 0
 Remains home m t errors.Failed = IsLeftAt home t.pipes.disk m []
 Remains home m t _ = Holds home t m []
 
--- The part that carries the marks was refused: the engine has failed now exactly where that is told, and whatever
--- its log was, it is; and why.
+-- The part that writes the owed tombstones failed, and why. The engine has failed now exactly if the error is
+-- `Failed`. The log keeps its map.
 pub record PartIsRefused (error : Error) (s t : Shows) : Type 0 where
   pub tells : has_failed s ≡ false → IsTrue (has_failed t) ↔ (error ≡ errors.Failed)
   pub later : IsLater s.pipes.disk t.pipes.disk
@@ -33,12 +33,11 @@ pub record IsRecordMade (b made : Batch) : Type 0 where
   pub says : SaysItself (signed_for b) b
   pub laid : IsLaidOut b
 
--- the number of the file that Append is written in
+-- the number of Append's active file
 abbrev pub append_file : LogPipes → ℕ
 append_file v = (pipe_at InAppend (files_of v)).active.seq
 
--- Append is written in the file that it was written in: whatever log the pipes ran over, they run over one
--- still.
+-- Append's active file is the same, and pipes that ran over a log still run over one.
 abbrev pub StaysInFile : LogPipes → LogPipes → Type 0
 StaysInFile v w = (home : Home) (s : State) → RunsOn (sense home) v s
     → ((next : State) × RunsOn (sense home) w next) × (append_file w ≡ append_file v)

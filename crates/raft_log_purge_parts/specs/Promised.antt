@@ -15,7 +15,7 @@ use Rattle.raft_log_purge_parts.specs.GroupParts.{items_of_all}
 abbrev pub PromisesNoMoves : MemTables → Type 0
 PromisesNoMoves m = (g : ℕ) → (promise_of m g).moves ≡ 0
 
--- a call leaves no such promise, answered or refused, unless it was refused and the pipes have failed
+-- a call leaves no such promise, whether it succeeds or fails, unless it fails and the pipes have failed
 abbrev pub LeavesNoMoves : {A E : Type 0} → Result A E → LogPipes → MemTables → MemTables → Type 0
 LeavesNoMoves result w old new = OnErr result (is_failed w ≡ false) → PromisesNoMoves old → PromisesNoMoves new
 
@@ -29,6 +29,6 @@ abbrev pub IsInAllOrNone : ℕ → List RestatedPart → List LogItem → Type 0
 IsInAllOrNone g parts items = (AllMention g parts × (mentions g items ≡ true))
     ⊎ (entries_of g (tagged_items {E = EntryIndex} (λ e. e) (items_of_all parts ++ items)) ≡ 0)
 
--- so it is of each group: of parts that restate one group, and these items behind them
+-- this is true of each group, for the parts that restate one group, followed by these items
 abbrev pub AreOfOne : List RestatedPart → List LogItem → Type 0
 AreOfOne parts items = (g : ℕ) → IsInAllOrNone g parts items

@@ -1,4 +1,4 @@
--- A record is written to Rewrite, where that is due behind a sync.
+-- A record is written to Rewrite, after a sync if one is due.
 use Rattle.std.specs.Prelude.{◌≡◌, ◌⊎◌, ◌↔◌, IsTrue, false, List}
 use Rattle.raft_log_disk.specs.Causes.{IsLater}
 use Rattle.raft_log_record_base.specs.declared.errors.Error.{Error}
@@ -17,7 +17,7 @@ use Rattle.raft_log_engine_laws.specs.Shows.{IsLaidOut}
 use Rattle.raft_log_purge_parts.specs.Refusals.{IsUnrecorded}
 use Rattle.raft_log_purge_parts.specs.Syncing.{MaySync}
 
--- The batch's record was written to Rewrite, maybe behind a sync: these are its items there.
+-- The batch's record was written to Rewrite, perhaps after a sync: these are its items there.
 pub record WritesToRewrite (b : Batch) (block : FileBlockHandle) (items : List LogItem) (v w : LogPipes)
     : Type 0 where
   pub synced : LogPipes
@@ -29,7 +29,7 @@ pub record WritesToRewrite (b : Batch) (block : FileBlockHandle) (items : List L
   pub alive : is_failed w ≡ false
   pub later : IsLater v.disk w.disk
 
--- Rewrite refused it, behind what may have been a sync
+-- Rewrite failed to write the record, perhaps after a sync
 pub record RefusesRecord (b : Batch) (error : Error) (v w : LogPipes) : Type 0 where
   pub synced : LogPipes
   pub syncs : MaySync v synced
@@ -40,14 +40,16 @@ pub record RefusesRecord (b : Batch) (error : Error) (v w : LogPipes) : Type 0 w
   pub told : PipeFailsToAppend InRewrite (signed_for b) error synced w
   pub before : IsLater v.disk synced.disk
 
--- why a batch's record wasn't written: it isn't made, as it would be too long or for want of memory; or the
--- sync failed; or Rewrite refused it
+-- why a batch's record wasn't written:
+-- - it can't be made: it would be too long, or memory ran out
+-- - the sync failed
+-- - the write failed
 abbrev pub IsUnwritten : Batch → Error → LogPipes → LogPipes → Type 0
 IsUnwritten b error v w = (IsUnrecorded b error × (w ≡ v))
     ⊎ (((error ≡ errors.Failed) × FailsToSyncQueue InRewrite v w)
     ⊎ RefusesRecord b error v w)
 
--- a batch's record wasn't written: the pipes have failed now exactly where that is told
+-- a batch's record wasn't written: the pipes have failed now exactly if the error is `Failed`
 pub record FailsToWriteRecord (b : Batch) (error : Error) (v w : LogPipes) : Type 0 where
   pub why : IsUnwritten b error v w
   pub tells : is_failed v ≡ false → IsTrue (is_failed w) ↔ (error ≡ errors.Failed)

@@ -12,18 +12,18 @@ use Rattle.raft_log_record_frames.specs.Record.{record_len}
 use Rattle.raft_log_record_marks.specs.Marking.{mark_key}
 use Rattle.raft_log_record_batches.specs.Batch.{Batch}
 
--- the errors that come of a batch, or of its record
+-- the errors of making a batch, or its record
 abbrev pub IsUnmade : Error → Type 0
 IsUnmade errors.Full = Unit {0}
 IsUnmade errors.Memory = Unit {0}
 IsUnmade (errors.InvalidArgument text) = Unit {0}
 IsUnmade _ = ⊥
 
--- why the record of a batch isn't made: its length needs more than 56 bits, or memory is short
+-- why the record of a batch isn't made: its length needs more than 56 bits, or memory ran out
 abbrev pub IsUnrecorded : Batch → Error → Type 0
 IsUnrecorded b error = IsMemoryOrFull error (record_len b.items b.entries)
 
--- the record of a batch isn't made, as its length needs more than 56 bits
+-- the record of a batch isn't made because its length needs more than 56 bits
 abbrev pub IsOverlong : Batch → Error → Type 0
 IsOverlong b error = (error ≡ errors.Full) × (2 ^ 56 ≤ record_len b.items b.entries)
 
@@ -32,30 +32,29 @@ abbrev pub HasMark : ℕ → List (List ℕ × List ℕ) → Type 0
 HasMark g [] = ⊥
 HasMark g (e ∷ es) = ((g ≡ 0) × (e.0 ≡ mark_key)) ⊎ HasMark g es
 
--- why a group's keys with their values aren't put in a batch: one of them would be a mark of an atomic group,
--- or memory is short
+-- why a group's keys and values aren't put in a batch: one would be a mark of an atomic group, or memory ran out
 abbrev pub AreUnput : ℕ → List (List ℕ × List ℕ) → Error → Type 0
 AreUnput g pairs errors.Memory = Unit {0}
 AreUnput g pairs (errors.InvalidArgument text) = HasMark g pairs
 AreUnput g pairs _ = ⊥
 
--- what a key gets is no mark that is owed, but a value
+-- the operation on a key puts a value: it is no deletion
 abbrev pub IsNoDeletion : OpType → Type 0
 IsNoDeletion ops.Put = Unit {0}
 IsNoDeletion ops.Del = ⊥
 
--- an item is no mark that is owed: it is entries, or a value of a key
+-- an item is no tombstone: it is entries, or a value of a key
 abbrev pub IsNoMark : LogItemContent → Type 0
 IsNoMark (contents.EntryIndexes es) = Unit {0}
 IsNoMark (contents.Command c) = ⊥
 IsNoMark (contents.Kv kv) = IsNoDeletion kv.op_type
 
--- one of these items is no mark
+-- one of these items is no tombstone
 abbrev pub HasNoMark : List LogItem → Type 0
 HasNoMark [] = ⊥
 HasNoMark (x ∷ xs) = IsNoMark x.content ⊎ HasNoMark xs
 
--- why items aren't put in a batch as marks: one of them is none, or memory is short
+-- why items aren't put in a batch as tombstones: one of them is none, or memory ran out
 abbrev pub AreUnmarked : List LogItem → Error → Type 0
 AreUnmarked items errors.Memory = Unit {0}
 AreUnmarked items (errors.InvalidArgument text) = HasNoMark items

@@ -15,19 +15,20 @@ use Rattle.raft_log_purge_parts.specs.Owed.{OwesSame}
 use Rattle.raft_log_purge_parts.specs.Reasons.{GivesReason}
 use Rattle.raft_log_purge_parts.specs.Stale.{written_file}
 
--- the places lie in files from that one on
+-- the places are in files from that one on
 abbrev pub LieFrom : ℕ → List Place → Type 0
 LieFrom n [] = Unit {0}
 LieFrom n (p ∷ ps) = (n ≤ p.file) × LieFrom n ps
 
--- what is noted of atomic groups begins no earlier than in that file
+-- the noted files of atomic groups begin no earlier than that file
 abbrev pub IsNotedFrom : ℕ → Option GroupFiles → Type 0
 IsNotedFrom n None = Unit {0}
 IsNotedFrom n (Some files) = n ≤ files.from
 
--- All that the group has in Rewrite lies in files from this one on: its entries and its values there; what is
--- noted begins no earlier than it began before, or there; and where it began past an earlier file, or ended
--- at or before that, it does so still. The group owes the marks that it owed.
+-- All that the group has in Rewrite is in files from this one on: its entries and its values.
+-- - The noted files begin no earlier than before, or than this file.
+-- - If they began past an earlier file, or ended at or before it, they still do.
+-- - The group owes the same tombstones.
 pub record IsRestatedFrom (n : ℕ) (v w : Shown) : Type 0 where
   pub entries : LieFrom n (take w.rewritten w.places)
   pub values : (k : List ℕ) (h : KeyValue) → w.held k ≡ Some h → h.appended ≡ false → n ≤ h.file
@@ -35,21 +36,21 @@ pub record IsRestatedFrom (n : ℕ) (v w : Shown) : Type 0 where
   pub past : (k : ℕ) → k < n → ArePast k v.noted → ArePast k w.noted
   pub owes : OwesSame v w
 
--- the file of Rewrite that is written
+-- the active file of Rewrite
 abbrev pub last_file : Shows → ℕ
 last_file s = written_file Rewrite s.pipes
 
--- whatever the log was, with nothing pending, it is so
+-- if the log's map was held with nothing pending, it still is
 abbrev pub StaysHeld : Shows → Shows → Type 0
 StaysHeld s t = (home : Home) (m : LogMap) → Holds home s m [] → Holds home t m []
 
--- whatever the log was, with nothing pending, it is so; or the engine has failed, and its log is held
+-- if the log's map was held with nothing pending, it still is; or the engine has failed, and left its log on the disk
 abbrev pub StaysOrIsLeft : Error → Shows → Shows → Type 0
 StaysOrIsLeft error s t = (home : Home) (m : LogMap) → Holds home s m []
     → Holds home t m [] ⊎ ((error ≡ errors.Failed) × IsLeftAt home t.pipes.disk m [])
 
--- Each group that passes the test was restated: all that it has in Rewrite lies from the file on that was
--- written when that began. Other groups show as they did.
+-- Each group that passes the test was restated: all that it has in Rewrite is in the file active at the start, or in
+-- later ones. Other groups are unchanged.
 pub record Restates (test : ℕ → Bool) (s t : Shows) : Type 0 where
   pub others : (g : ℕ) → test g ≡ false → t.tables g ≡ s.tables g
   pub counts : t.counts ≡ s.counts
@@ -64,7 +65,7 @@ pub record Restates (test : ℕ → Bool) (s t : Shows) : Type 0 where
 abbrev pub RestatesOne : ℕ → Shows → Shows → Type 0
 RestatesOne group s t = Restates (λ g. group == g) s t
 
--- Groups weren't restated, and why: all that shows of the tables shows as it did.
+-- Groups weren't restated, and why: the tables are unchanged.
 pub record FailsToRestate (error : Error) (s t : Shows) : Type 0 where
   pub same : t ≡ record s { pipes = t.pipes; cache = t.cache }
   pub tells : has_failed s ≡ false → IsTrue (has_failed t) ↔ (error ≡ errors.Failed)

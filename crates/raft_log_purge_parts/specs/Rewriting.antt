@@ -15,22 +15,22 @@ use Rattle.raft_log_purge_parts.specs.Entries.{AreNext, IsRunBatch}
 use Rattle.raft_log_purge_parts.specs.Moving.{Advances}
 use Rattle.raft_log_purge_parts.specs.Reasons.{GivesReason}
 
--- no group owes a mark
+-- no group owes a tombstone
 abbrev pub OweNothing : (ℕ → Shown) → Type 0
 OweNothing v = (g : ℕ) → OwesNothing (whereabouts (v g))
 
--- whatever the log was, with nothing pending, it is so, if no mark is owed
+-- if the log's map was held with nothing pending and no tombstone owed, it still is held
 abbrev pub StaysHeld : Shows → Shows → Type 0
 StaysHeld s t = OweNothing s.tables → (home : Home) (m : LogMap) → Holds home s m [] → Holds home t m []
 
--- whatever the log was, with nothing pending, it is so, if no mark is owed; or the engine has failed, and its
--- log is held
+-- if the log's map was held with nothing pending and no tombstone owed, it still is; or the failed engine left its
+-- log on the disk
 abbrev pub StaysOrIsLeft : Error → Shows → Shows → Type 0
 StaysOrIsLeft error s t = OweNothing s.tables → (home : Home) (m : LogMap) → Holds home s m []
     → Holds home t m [] ⊎ ((error ≡ errors.Failed) × IsLeftAt home t.pipes.disk m [])
 
--- The group's first entries in Append, some and all in files up to the gate, were copied, and lie in Rewrite;
--- all else shows as it did.
+-- The group's first entries in Append, at least one and all in files up to the gate, were copied, and are in Rewrite
+-- now. Nothing else changed in the tables.
 pub record CopiesEntries (group gate : ℕ) (s t : Shows) : Type 0 where
   pub entries : List EntryIndex
   pub next : AreNext gate (s.tables group) entries
@@ -42,13 +42,13 @@ pub record CopiesEntries (group gate : ℕ) (s t : Shows) : Type 0 where
   pub advances : Advances group (length entries) s.tables t.tables
   pub holds : StaysHeld s t
 
--- the group's first entries in Append were copied, some and all in files up to the gate; or there were none,
--- and nothing was done
+-- the group's first entries in Append, all in files up to the gate, were copied; or there were none, and nothing was
+-- done
 abbrev pub CopiesIfAny : ℕ → ℕ → Bool → Shows → Shows → Type 0
 CopiesIfAny group gate true s t = CopiesEntries group gate s t
 CopiesIfAny group gate false s t = (t ≡ s) × AreNext gate (s.tables group) []
 
--- The group's entries weren't copied, and why: all that shows of the tables shows as it did.
+-- The group's entries weren't copied, and why: the tables are unchanged.
 pub record FailsToCopyEntries (error : Error) (s t : Shows) : Type 0 where
   pub same : t ≡ record s { pipes = t.pipes; cache = t.cache }
   pub tells : has_failed s ≡ false → IsTrue (has_failed t) ↔ (error ≡ errors.Failed)

@@ -1,4 +1,4 @@
--- All files of both queues go that nothing is in that is in use.
+-- Both queues lose all files that have nothing in use.
 use Rattle.std.specs.Prelude.{◌≡◌, ◌↔◌, ◌⊎◌, IsTrue, ℕ, List, false}
 use Rattle.raft_log_model_laws.specs.Groups.{taken}
 use Rattle.raft_log_disk.specs.Causes.{IsLater}
@@ -19,12 +19,11 @@ use Rattle.raft_log_purge_parts.specs.Marks.{CarriesMarks}
 use Rattle.raft_log_purge_parts.specs.Files.{LosesFiles, MayLoseFiles}
 use Rattle.raft_log_purge_parts.specs.Reasons.{HasFileReason, HasPurgeReason}
 
--- the number of the file that a queue is being written in
+-- the number of a queue's active file
 abbrev pub written_file : LogQueue → LogPipes → ℕ
 written_file queue v = (pipe_at (which_of queue) (files_of v)).active.seq
 
--- A queue went on in its next file, and then lost those before that aren't in use: whatever the log was, with
--- nothing pending, it is so.
+-- A queue rotated, and then lost the files before that aren't in use. A settled log stays settled, with its map.
 pub record TurnsAndLoses (queue : LogQueue) (m : MemTables) (count : ℕ) (s t : Shows) : Type 0 where
   pub turned : LogPipes
   pub turns : RotatesQueue (which_of queue) s.pipes turned
@@ -34,8 +33,8 @@ pub record TurnsAndLoses (queue : LogQueue) (m : MemTables) (count : ℕ) (s t :
   pub keeps : (home : Home) (log : LogMap) → HoldsSettled home s log
       → MayLoseFiles (which_of queue) s.tables → HoldsSettled home t log
 
--- a queue didn't go on and lose files, and why: whatever the log was, it is so; and where the engine has
--- failed, its log is held
+-- A queue didn't rotate and lose files, and why. The log keeps its map; or the engine has failed, and left it on the
+-- disk.
 pub record FailsToTurn (queue : LogQueue) (error : Error) (s t : Shows) : Type 0 where
   pub tells : has_failed s ≡ false → IsTrue (has_failed t) ↔ (error ≡ errors.Failed)
   pub later : IsLater s.pipes.disk t.pipes.disk
@@ -43,8 +42,8 @@ pub record FailsToTurn (queue : LogQueue) (error : Error) (s t : Shows) : Type 0
       → MayLoseFiles (which_of queue) s.tables → Remains home log t error
   pub cause : (home : Home) (log : LogMap) → HoldsSettled home s log → HasFileReason error s t
 
--- All stale files are purged: Append was synced, then marks were carried, then each queue went on in its next
--- file and lost those before that aren't in use, Rewrite first. The map stays, and nothing is pending.
+-- All stale files are purged. Append was synced, then the owed tombstones were written. Then each queue rotated and
+-- lost the files before that aren't in use, Rewrite first. The map is kept, and nothing is pending.
 pub record PurgesAllStale (m : MemTables) (s t : Shows) : Type 0 where
   pub synced : LogPipes
   pub syncs : SyncsQueue InAppend s.pipes synced
@@ -60,8 +59,8 @@ pub record PurgesAllStale (m : MemTables) (s t : Shows) : Type 0 where
   pub settles : (home : Home) (log : LogMap) (pending : List Said) → Holds home s log pending
       → HoldsSettled home t (taken log pending)
 
--- A purge of all stale files was refused, and why: the map stays, and where the engine has failed, its log is
--- held, with the batches on the map, or pending as they were.
+-- A purge of all stale files failed, and why. The map is kept; or the engine has failed, and left its log on the
+-- disk, with the batches in the map or still pending.
 pub record FailsToPurgeAll (error : Error) (s t : Shows) : Type 0 where
   pub tells : has_failed s ≡ false → IsTrue (has_failed t) ↔ (error ≡ errors.Failed)
   pub later : IsLater s.pipes.disk t.pipes.disk

@@ -1,4 +1,4 @@
--- What each call makes of the parts of an atomic group.
+-- What each call does to the parts of an atomic group.
 use Rattle.std.specs.Prelude.{◌≡◌, ◌+◌, ◌<◌, ℕ, List, [], ◌∷◌, length, take, drop}
 use Rattle.raft_log_record_base.specs.declared.errors.Error.{Error}
 use Rattle.raft_log_record_items.specs.declared.entry.EntryIndex.{EntryIndex}
@@ -18,7 +18,7 @@ use Rattle.raft_log_purge_parts.specs.Lengths.{AreOnePiece}
 use Rattle.raft_log_purge_parts.specs.Pieces.{MakeOnePiece}
 use Rattle.raft_log_purge_parts.specs.Restated.{FailsToRestate}
 
--- An atomic group was begun by a part that says a group's first rewritten entries, so many, whatever the
+-- An atomic group was begun with a part that says the first `count` rewritten entries of a group, whatever the
 -- tables.
 abbrev pub BeginsParts : ℕ → ℕ → List EntryIndex → ℕ → RestatedPart → LogPipes → BlockCache → LogPipes
     → BlockCache → Type 0
@@ -26,7 +26,7 @@ BeginsParts g number es count part v old w new = (m : MemTables)
     → es ≡ rewritten_entries ((shows v m old).tables g)
     → HasParts g number count (part ∷ []) (shows v m old) (shows w m new)
 
--- an atomic group wasn't begun for a group's rewritten entries, of which so many make one record: they aren't
+-- an atomic group wasn't begun for a group's rewritten entries, if the first `count` make one record: the group isn't
 -- restated
 abbrev pub FailsToBeginGroup : ℕ → List EntryIndex → ℕ → Error → LogPipes → BlockCache → LogPipes → BlockCache
     → Type 0
@@ -34,22 +34,23 @@ FailsToBeginGroup g es count error v old w new = (m : MemTables)
     → es ≡ rewritten_entries ((shows v m old).tables g) → MakeOnePiece (take count es)
     → FailsToRestate error (shows v m old) (shows w m new)
 
--- where an atomic group stood open with parts that say so many entries, it does with these, which say so many
+-- the atomic group was open with parts that cover `before` entries; it is now open with parts that cover `after`
 abbrev pub GoesOnInGroup : ℕ → ℕ → List EntryIndex → ℕ → ℕ → List RestatedPart → List RestatedPart → LogPipes
     → BlockCache → LogPipes → BlockCache → Type 0
 GoesOnInGroup g number es before after old_parts new_parts v old w new = (m : MemTables) (s : Shows)
     → es ≡ rewritten_entries (s.tables g) → HasParts g number before old_parts s (shows v m old)
     → HasParts g number after new_parts s (shows w m new)
 
--- an atomic group that stood open with these parts doesn't go on, and is given up
+-- the atomic group that was open with these parts isn't continued, and is given up
 abbrev pub GivesUp : ℕ → ℕ → List EntryIndex → ℕ → List RestatedPart → Error → LogPipes → BlockCache → LogPipes
     → BlockCache → Type 0
 GivesUp g number es before parts error v old w new = (m : MemTables) (s : Shows)
     → es ≡ rewritten_entries (s.tables g) → HasParts g number before parts s (shows v m old)
     → FailsToRestate error s (shows w m new)
 
--- an atomic group that stood open with these parts doesn't end, and is given up, where the entries that are left
--- make one record, and these are the keys that the group has in Rewrite
+-- the atomic group that was open with these parts isn't ended, and is given up, if:
+-- - the entries that are left make one record
+-- - these are the keys that the group has in Rewrite
 abbrev pub GivesUpLast : ℕ → ℕ → List EntryIndex → ℕ → List RestatedPart → List (List ℕ × List ℕ) → Error
     → LogPipes → BlockCache → BlockCache → Type 0
 GivesUpLast g number es done parts pairs error v old new = (m : MemTables) (s : Shows)
@@ -57,8 +58,8 @@ GivesUpLast g number es done parts pairs error v old new = (m : MemTables) (s : 
     → ListsAll (rewritten_values (s.tables g)) pairs → HasParts g number done parts s (shows v m old)
     → FailsToRestate error s (shows v m new)
 
--- The batch ends an atomic group: it says the rewritten entries of a group from there on, one at least, and all
--- its rewritten keys with their values.
+-- The batch ends an atomic group. It says a group's rewritten entries from there on, at least one, and all its
+-- rewritten keys with their values.
 pub record IsLastPart (g number done : ℕ) (pairs : List (List ℕ × List ℕ)) (b : Batch) (s : Shows) : Type 0 where
   pub bytes : List (List ℕ)
   pub is : IsMarkedPiece g ((s.tables g).first + done) number End bytes pairs b
@@ -68,7 +69,7 @@ pub record IsLastPart (g number done : ℕ) (pairs : List (List ℕ × List ℕ)
   pub says : (home : Home) (m : LogMap) → Holds home s m []
       → AreEntryBytes m g ((s.tables g).first + done) bytes
 
--- a batch was made that ends an atomic group, which stands open with these parts still
+-- a batch was made that ends an atomic group; the group is still open with these parts
 abbrev pub MakesLast : ℕ → ℕ → List EntryIndex → ℕ → List RestatedPart → List (List ℕ × List ℕ) → Batch
     → LogPipes → BlockCache → BlockCache → Type 0
 MakesLast g number es done parts pairs b v old new = (m : MemTables) (s : Shows)

@@ -1,4 +1,4 @@
--- The last record of those that restate a group is written, and the tables take all of them.
+-- The last record that restates a group is written, and the tables take all of its records.
 use Rattle.std.specs.Prelude.{◌≡◌, ℕ, List, [], ◌∷◌, ◌++◌, None, drop}
 use Rattle.raft_log_record_base.specs.declared.errors.Error.{Error}
 use Rattle.raft_log_record_base.specs.declared.pipe_log.FileBlockHandle.{FileBlockHandle}
@@ -24,11 +24,11 @@ use Rattle.raft_log_purge_parts.specs.Records.{FailsToWriteRecord, WritesToRewri
 use Rattle.raft_log_purge_parts.specs.Restated.{FailsToRestate, RestatesOne}
 use Rattle.raft_log_purge_parts.specs.Steps.{IsLastPart}
 
--- there is room in the tables for what the parts have to move, and these items behind them
+-- the tables have room for what the parts move, and for these items after them
 abbrev pub HaveRoom : MemTables → List RestatedPart → List LogItem → Type 0
 HaveRoom m parts items = MayMove m (tagged_items {E = EntryIndex} (λ e. e) (items_of_all parts ++ items))
 
--- the parts moved, and behind them items that stand at this place
+-- the parts moved, and after them the items at this place
 pub record TakesPartsAndItems (parts : List RestatedPart) (items : List LogItem) (block : FileBlockHandle)
     (old new : MemTables) : Type 0 where
   pub took : (ps : List WrittenPart) (b : Batch) → ArePartsKept parts ps
@@ -36,7 +36,7 @@ pub record TakesPartsAndItems (parts : List RestatedPart) (items : List LogItem)
       → MovedParts None (ps ++ record { block = block; batch = b } ∷ []) old new
   pub stay : GroupsStay old new
 
--- The last record was written, maybe behind a sync, and the tables took all parts, and then this one.
+-- The last record was written, perhaps after a sync. The tables took all parts, and then this one.
 pub record WritesLast (parts : List RestatedPart) (b : Batch) (block : FileBlockHandle) (v : LogPipes)
     (old : MemTables) (w : LogPipes) (new : MemTables) : Type 0 where
   pub wrote : WritesToRewrite b block (written (block_place block b.entries) b.items) v w
@@ -44,27 +44,26 @@ pub record WritesLast (parts : List RestatedPart) (b : Batch) (block : FileBlock
       → MovedParts None (ps ++ record { block = block; batch = b } ∷ []) old new
   pub stay : GroupsStay old new
 
--- the last record wasn't written: all that shows of the tables shows as it did
+-- the last record wasn't written: what the tables show is unchanged
 pub record FailsToWriteLast (b : Batch) (error : Error) (v : LogPipes) (old : MemTables) (w : LogPipes)
     (new : MemTables) : Type 0 where
   pub fails : FailsToWriteRecord b error v w
   pub same : ShowsSame old new
 
--- the file of the first of these parts, and that one without any
+-- the file of the first of these parts, or that one if there is none
 abbrev pub first_file_of : List RestatedPart → ℕ → ℕ
 first_file_of [] last = last
 first_file_of (x ∷ xs) last = x.block.id.seq
 
--- An atomic group ended: where it stood open with these parts, and the batch has the rest, the group is
--- restated.
+-- An atomic group was ended: if it was open with these parts, and the batch has the rest, the group is restated.
 abbrev pub EndsParts : ℕ → List RestatedPart → Batch → LogPipes → MemTables → LogPipes → MemTables → Type 0
 EndsParts g parts b v old w new = (cache : BlockCache) (s : Shows) (number done : ℕ)
     (pairs : List (List ℕ × List ℕ)) → HasParts g number done parts s (shows v old cache)
     → IsLastPart g number done pairs b s → ListsAll (rewritten_values (s.tables g)) pairs
     → RestatesOne g s (shows w new cache)
 
--- an atomic group that stood open with these parts doesn't end, and is given up, where the entries that are left
--- make one record
+-- the atomic group that was open with these parts isn't ended, and is given up, if the entries that are left make one
+-- record
 abbrev pub FailsToEnd : ℕ → List RestatedPart → Batch → Error → LogPipes → MemTables → LogPipes → MemTables
     → Type 0
 FailsToEnd g parts b error v old w new = (cache : BlockCache) (s : Shows) (number done : ℕ)
@@ -78,10 +77,10 @@ pub record StandsInRewrite (g : ℕ) (es : List EntryIndex) (pairs : List (List 
   pub entries : es ≡ rewritten_entries (s.tables g)
   pub keys : ListsAll (rewritten_values (s.tables g)) pairs
 
--- a group was restated that has these entries and keys in Rewrite
+-- a group with these entries and keys in Rewrite was restated
 abbrev pub RestatesThese : ℕ → List EntryIndex → List (List ℕ × List ℕ) → Shows → Shows → Type 0
 RestatesThese g es pairs s t = StandsInRewrite g es pairs s → RestatesOne g s t
 
--- a group that has these entries and keys in Rewrite wasn't restated
+-- a group with these entries and keys in Rewrite wasn't restated
 abbrev pub FailsToRestateThese : ℕ → List EntryIndex → List (List ℕ × List ℕ) → Error → Shows → Shows → Type 0
 FailsToRestateThese g es pairs error s t = StandsInRewrite g es pairs s → FailsToRestate error s t

@@ -1,4 +1,4 @@
-//! Copies are written to Rewrite, and what they are of lies there from then on.
+//! Copies are written to Rewrite, and the tables then have the copied items there.
 
 ghost use Rattle.std.specs.Prelude.{◌≡◌, ◌+◌, ◌-◌, ◌^◌, ℕ, [], Some, min, IfErr, IfOk, OnOk};
 ghost use Rattle.raft_log_record_marks.specs.Meaning.{tagged_items};
@@ -23,12 +23,12 @@ use raft_log_record_batches::LogBatch;
 use raft_log_table_all::MemTables;
 use std::alloc::Global;
 
-/// Writes a batch of copies to Rewrite as one record, and moves what they are of there: of what stands in
-/// Append that in files up to the gate. The answer is the batch, emptied. An empty one isn't written. Where
-/// many bytes were written since Rewrite was synced last, it is synced before.
+/// Writes a batch of copies to Rewrite as one record, and moves what it copies there: items in Append in files up to
+/// the gate. Returns the batch, emptied. An empty batch isn't written. Syncs Rewrite first if many bytes are
+/// unsynced.
 ///
-/// `Full`, `Memory`: nothing is done but that sync. Then what Rewrite refuses. In each case nothing that shows
-/// is changed.
+/// Fails with `Full` or `Memory` before the write, or as the sync or the write does. If it fails, what the tables
+/// show is unchanged.
 pub fn write_copies<P: PipeLog, L: Log>(
     alloc: Global,
     rt: &L,
@@ -56,7 +56,7 @@ pub fn write_copies<P: PipeLog, L: Log>(
     write_batch(alloc, rt, pipes, tables, batch, gate, unsynced)
 }
 
-/// Makes the record of a batch that isn't empty, and room for what it has copies of; then writes it.
+/// Makes the record of a batch that isn't empty, and room for what it copies; then writes it.
 fn write_batch<P: PipeLog, L: Log>(
     alloc: Global,
     rt: &L,
@@ -86,7 +86,7 @@ fn write_batch<P: PipeLog, L: Log>(
     append_copies(alloc, rt, pipes, tables, batch, gate)
 }
 
-/// Writes a batch that room was made for, and moves what it has copies of.
+/// Writes a batch after room was made for it, and moves what it copies.
 fn append_copies<P: PipeLog, L: Log>(
     alloc: Global,
     rt: &L,

@@ -1,4 +1,4 @@
-//! Entries of Append that are to be copied: which come next, their bytes, and a batch of them.
+//! Entries of Append that are to be copied: the next ones, their bytes, and a batch of them.
 
 ghost use Rattle.std.specs.Prelude.{◌≡◌, map, nat_le, IfErr, IfOk};
 ghost use Rattle.raft_log_record_base.specs.declared.errors.Error.TheVariants as errors;
@@ -14,11 +14,11 @@ use raft_log_record_items::{EntryIndex, RawMessage};
 use raft_log_table_all::MemTables;
 use std::alloc::{AllocError, Global};
 
-/// How many bytes of entries are copied at once, but for an entry that has more.
+/// How many bytes of entries are copied at once, unless a single entry has more.
 const MAX_COPIED_LEN: u64 = 131_072;
 
-/// The entries of a group that are to be copied next: the first ones in Append, all in files up to the gate,
-/// as many as a batch may have, and one at least where there is one. It is refused for want of memory alone.
+/// The entries of a group that are to be copied next: the first in Append, in files up to the gate, as many as a
+/// batch may have. There is at least one, if the group has such entries. Fails only with `Memory`.
 pub fn next_entries(
     alloc: Global,
     tables: &MemTables,
@@ -39,7 +39,7 @@ pub fn next_entries(
     Ok(entries)
 }
 
-/// How many of the entries, from the first on, lie in files up to the gate.
+/// How many of the entries, from the first on, are in files up to the gate.
 fn count_up_to(entries: &[EntryIndex], gate: FileSeq) -> usize
     ensures { result ≡ passing gate (map place_of entries.now) }
 {
@@ -51,7 +51,7 @@ fn count_up_to(entries: &[EntryIndex], gate: FileSeq) -> usize
     entries.len()
 }
 
-/// Whether an entry lies in a file up to the gate.
+/// Whether an entry is in a file up to the gate.
 fn is_up_to(entry: &EntryIndex, gate: FileSeq) -> bool
     ensures { result ≡ nat_le (place_of entry.now).file gate }
 {
@@ -63,7 +63,8 @@ fn is_up_to(entry: &EntryIndex, gate: FileSeq) -> bool
 
 /// A batch of one run: a group's entries with these indexes and bytes.
 ///
-/// `Full` where the entries have too many bytes, `Memory`, or `InvalidArgument` where these indexes are no run.
+/// Fails with `Full` if the entries have too many bytes, with `Memory`, or with `InvalidArgument` if these indexes
+/// are no run.
 pub fn run_batch(
     alloc: Global,
     group: u64,

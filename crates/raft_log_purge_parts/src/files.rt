@@ -1,4 +1,4 @@
-//! Files that are no longer needed go.
+//! Files that are no longer needed leave a queue.
 
 ghost use Rattle.std.specs.Prelude.{IfErr, IfOk};
 ghost use Rattle.raft_log_engine_laws.specs.Shows.{shows};
@@ -11,10 +11,16 @@ use raft_log_record_base::{FileId, FileSeq, LogQueue, Result};
 use raft_log_table_all::MemTables;
 use std::alloc::Global;
 
-/// Takes the files of a queue below the least one that is in use out of its span, none from the limit on, and
-/// answers how many: none where one in use is older than the span. No block is kept.
+/// Takes the files of a queue below the least one in use out of its live range, but none from the limit on. Returns
+/// how many; 0 if a file in use is older than the live range. Clears the cache.
 ///
-/// `Memory`, or `Other` where the limit is none of the span's: nothing is done. `Failed`: a file wasn't deleted.
+/// Fails:
+/// - with `Memory`
+/// - with `NumberRange` if a queue is at its last number
+/// - with `Other` if the limit isn't in the live range
+/// - with `Failed` if a file call failed
+///
+/// After `Failed` the engine has failed; after any other error the log is as it was.
 pub fn purge_stale<P: PipeLog, L: Log>(
     alloc: Global,
     rt: &L,

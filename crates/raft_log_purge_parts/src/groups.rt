@@ -22,10 +22,10 @@ use raft_log_record_base::{FileSeq, Result};
 use raft_log_table_all::MemTables;
 use std::alloc::Global;
 
-/// Rewrites groups, one after another: nothing of them is left in Append in files up to the gate. Rewrite is
-/// synced each 512 KiB or so that are written there, and not at the end.
+/// Rewrites groups, one after another: nothing of them is left in Append in files up to the gate. Syncs Rewrite after
+/// each 512 KiB or so that are written there, and not at the end.
 ///
-/// Refused is what `rewrite_group` refuses: the groups before are rewritten, and a part of that one may be.
+/// Fails as `rewrite_group` does. Then the groups before are rewritten, and perhaps a part of that one.
 pub fn rewrite_groups<P: PipeLog, L: Log>(
     alloc: Global,
     rt: &L,
@@ -50,10 +50,10 @@ pub fn rewrite_groups<P: PipeLog, L: Log>(
     Ok(())
 }
 
-/// Rewrites a group: its entries in Append in files up to the gate are copied to Rewrite, in as many records
-/// as they need, and then its values there, as one record.
+/// Rewrites a group. Copies its entries in Append in files up to the gate to Rewrite, in as many records as they
+/// need. Then copies its values in these files, as one record.
 ///
-/// Refused is what `copy_entries` and `copy_keys` refuse: what was copied before lies in Rewrite.
+/// Fails as `copy_entries` and `copy_keys` do. What was copied before is in Rewrite then.
 pub fn rewrite_group<P: PipeLog, L: Log>(
     alloc: Global,
     rt: &L,

@@ -19,11 +19,11 @@ use raft_log_record_items::Bytes;
 use raft_log_table_all::MemTables;
 use std::alloc::{AllocError, Global};
 
-/// Copies all values that a group has in Append in files up to the gate: they are written to Rewrite as one
-/// record, and stand there then. Where there are none, nothing is written.
+/// Copies all values that a group has in Append in files up to the gate. Writes them to Rewrite as one record; then
+/// the tables have them there. If there are none, nothing is written.
 ///
-/// Refused is `Full`, `Memory`, `InvalidArgument` for what would be a mark of an atomic group, and what Rewrite
-/// refuses: nothing that shows is changed.
+/// Fails with `Full`, `Memory`, `InvalidArgument` if a value would be a mark of an atomic group, or as a write to
+/// Rewrite does. If it fails, what the tables show is unchanged.
 pub fn copy_keys<P: PipeLog, L: Log>(
     alloc: Global,
     rt: &L,

@@ -1,8 +1,8 @@
-//! The parts of a purge: what is written to Rewrite, of Append or of Rewrite itself (`restating`), and files
-//! that go. The map stays at every exit.
+//! The parts of a purge: they write to Rewrite, from Append or from Rewrite itself (`restating`), and delete files.
+//! The map is kept at every exit.
 //!
-//! Each part is over a log's pipes and the tables of its groups, and its contract speaks of whatever map was
-//! the log's (`Holds`), with nothing pending: it asks nothing of the caller.
+//! Each part works on a log's pipes and the tables of its groups. Its contract holds for every map that the log had
+//! (`Holds`), with nothing pending: it asks nothing of the caller.
 #![tactic(auto)]
 
 pub mod copies;

@@ -1,5 +1,4 @@
-//! Marks that are owed to Rewrite are carried there: read from the tables, written, synced, and only then
-//! owed no more.
+//! Owed tombstones are written to Rewrite: read from the tables, written, synced, and only then no longer owed.
 
 ghost use Rattle.std.specs.Prelude.{◌≡◌, ◌∷◌, [], IfErr, IfOk, OnErr, OnOk};
 ghost use Rattle.raft_log_record_marks.specs.Meaning.{tagged_items};
@@ -22,11 +21,11 @@ use raft_log_record_items::{LogItem, LogItemContent, OpType};
 use raft_log_table_all::MemTables;
 use std::alloc::Global;
 
-/// Carries the marks that are owed to Rewrite: they are written there as one record and synced, and then owed
-/// no more. Where none is owed, Rewrite is synced alone.
+/// Writes the owed tombstones to Rewrite as one record, and syncs it; then they are no longer owed. If none is owed,
+/// only syncs Rewrite.
 ///
-/// `Memory`, `Full`: nothing is done. `Io`, `TryAgain`, `NumberRange`, `Memory`: the record was refused. In each
-/// of these cases the marks are owed still. `Failed`: nothing is taken any more.
+/// Fails with `Memory` or `Full` before the write, or as the write or the sync does. If it fails, the tables still
+/// owe them. After `Failed` the engine has failed.
 pub fn rewrite_marks<P: PipeLog, L: Log>(
     alloc: Global,
     rt: &L,
@@ -45,11 +44,10 @@ pub fn rewrite_marks<P: PipeLog, L: Log>(
     carry_marks(alloc, rt, pipes, tables, marks.as_slice())
 }
 
-/// Carries the marks that are owed to Rewrite, as `rewrite_marks` does, where they were read from the tables
-/// before.
+/// Writes the owed tombstones to Rewrite, as `rewrite_marks` does; the caller read them from the tables.
 ///
-/// `Full`: nothing is done. `Io`, `TryAgain`, `NumberRange`, `Memory`: the record was refused. In each of these
-/// cases the marks are owed still. `Failed`: nothing is taken any more.
+/// Fails with `Memory` or `Full` before the write, or as the write or the sync does. If it fails, the tables still
+/// owe them. After `Failed` the engine has failed.
 pub fn carry_marks<P: PipeLog, L: Log>(
     alloc: Global,
     rt: &L,
@@ -72,7 +70,7 @@ pub fn carry_marks<P: PipeLog, L: Log>(
     Ok(())
 }
 
-/// Writes marks that are owed, if there are any.
+/// Writes owed tombstones, if there are any.
 fn write_marks<P: PipeLog, L: Log>(
     alloc: Global,
     rt: &L,
@@ -92,7 +90,7 @@ fn write_marks<P: PipeLog, L: Log>(
     Ok(())
 }
 
-/// A batch that says what these marks say. Of marks that are owed it is refused for want of memory alone.
+/// A batch that says these tombstones. If all are owed ones, fails only with `Memory`.
 fn marks_batch(alloc: Global, marks: &[LogItem]) -> Result<LogBatch>
     ensures ok { IfOk result (SaysSame marks.now) }
     ensures bare { IfOk result (λ batch. batch.entries ≡ []) }
@@ -103,7 +101,7 @@ fn marks_batch(alloc: Global, marks: &[LogItem]) -> Result<LogBatch>
     Ok(batch)
 }
 
-/// Adds marks to a batch that has nothing yet.
+/// Adds tombstones to a batch that has nothing yet.
 fn add_marks(alloc: Global, batch: &mut LogBatch, items: &[LogItem]) -> Result<()>
     requires state { batch.old.state ≡ Filling }
     requires none { batch.old.items ≡ [] }
@@ -117,7 +115,7 @@ fn add_marks(alloc: Global, batch: &mut LogBatch, items: &[LogItem]) -> Result<(
     Ok(())
 }
 
-/// Adds a mark to a batch: a command, or the deletion of a key, which may be one of the log's own.
+/// Adds a tombstone to a batch: a command, or the deletion of a key, which may be one of the log's own.
 fn add_mark(alloc: Global, batch: &mut LogBatch, item: &LogItem) -> Result<()>
     requires { batch.old.state ≡ Filling }
     ensures ok { OnOk result (AddsSame batch.old batch.new item.now) }

@@ -1,4 +1,4 @@
-//! A group is restated by an atomic group: a record that begins it, those between, and a batch that ends it.
+//! An atomic group restates a group: a record that begins it, those between, and a batch that ends it.
 
 ghost use Rattle.std.specs.Prelude.{◌≡◌, ◌+◌, ◌≤◌, ◌<◌, ◌++◌, List, [], ◌∷◌, None, drop, length, take, IfErr, IfOk, OnOk};
 ghost use Rattle.raft_log_record_batches.specs.AtomicGroup.{IsGroupOpen};
@@ -30,9 +30,10 @@ pub struct RestatedPart {
     pub items: Vec<LogItem>,
 }
 
-/// Begins an atomic group: its first part has a group's first entries of these, so many.
+/// Begins an atomic group: its first part has the first `count` of a group's entries.
 ///
-/// Refused is what isn't read, `Full`, `Memory`, and what Rewrite refuses: nothing of it counts.
+/// Fails if an entry isn't read, with `Full` or `Memory`, or as a write to Rewrite does. If it fails, nothing of the
+/// atomic group counts.
 pub fn begin_parts<P: PipeLog, L: Log>(
     alloc: Global,
     rt: &L,
@@ -69,10 +70,10 @@ pub fn begin_parts<P: PipeLog, L: Log>(
     write_part(alloc, rt, pipes, batch, unsynced)
 }
 
-/// Goes on with an atomic group by parts that have the entries from there on, but for those that the last part
-/// is to have, which make one record: the answer is where these begin.
+/// Continues an atomic group with parts that have the entries from `begin` on, except those of the last part, which
+/// make one record. Returns where these begin.
 ///
-/// Refused as `write_middle`: the group is given up.
+/// Fails as `write_middle` does; then the group is given up.
 pub fn write_middles<P: PipeLog, L: Log>(
     alloc: Global,
     rt: &L,
@@ -110,9 +111,9 @@ pub fn write_middles<P: PipeLog, L: Log>(
     Ok(done)
 }
 
-/// Goes on with an atomic group by a part that has so many entries from there on.
+/// Continues an atomic group with a part that has `count` entries from `done` on.
 ///
-/// Refused is what isn't read, `Full`, `Memory`, and what Rewrite refuses: the group is given up.
+/// Fails if an entry isn't read, with `Full` or `Memory`, or as a write to Rewrite does; then the group is given up.
 fn write_middle<P: PipeLog, L: Log>(
     alloc: Global,
     rt: &L,
@@ -151,10 +152,10 @@ fn write_middle<P: PipeLog, L: Log>(
     write_part(alloc, rt, pipes, batch, unsynced)
 }
 
-/// A batch that ends an atomic group: it has the entries from there on, and the group's keys.
+/// A batch that ends an atomic group: it has the entries from `done` on, and the group's keys.
 ///
-/// Refused is what isn't read, `Full`, `Memory`, and `InvalidArgument` for what would be a mark of an atomic
-/// group: the group is given up.
+/// Fails if an entry isn't read, with `Full` or `Memory`, or with `InvalidArgument` if a value would be a mark of an
+/// atomic group. Then the group is given up.
 pub fn last_batch<P: PipeLog>(
     alloc: Global,
     pipes: &P,

@@ -1,4 +1,4 @@
-//! What stands of a group in Rewrite, and batches that say it again.
+//! What a group has in Rewrite, and batches that restate it.
 
 ghost use Rattle.std.specs.Prelude.{◌≡◌, ◌≤◌, ◌<◌, [], length, map, take, IfErr, IfOk, OnOk};
 ghost use Rattle.raft_log_table_lists.specs.Listing.{ListsAll, rewritten_values};
@@ -17,7 +17,7 @@ use raft_log_record_items::{Bytes, EntryIndex, RawMessage};
 use raft_log_table_all::MemTables;
 use std::alloc::{AllocError, Global};
 
-/// How many bytes of entries are written at once, but for an entry that has more.
+/// How many bytes of entries are written at once, unless a single entry has more.
 const MAX_PIECE_LEN: u64 = 131_072;
 
 /// The entries that a group has in Rewrite.
@@ -50,8 +50,8 @@ pub fn rewritten_keys(
     Ok(pairs)
 }
 
-/// How many of the entries, from the first on, are written as one record: one at least, where there is one, and
-/// as many more as have at most 128 KiB together.
+/// How many of the entries, from the first on, are written as one record: as many as have at most 128 KiB, but at
+/// least one. Returns 0 if there are none.
 pub fn piece_len(entries: &[EntryIndex]) -> usize
     ensures few { result ≤ length entries.now }
     ensures piece { MakeOnePiece (take result entries.now) }
@@ -69,10 +69,10 @@ pub fn piece_len(entries: &[EntryIndex]) -> usize
     entries.len()
 }
 
-/// A batch of entries that lie at these places, which are read through their blocks, and of keys of their
-/// group.
+/// A batch of the entries at these places, which are read through their blocks, and of keys of their group.
 ///
-/// Refused is what isn't read, `Full`, `Memory`, and `InvalidArgument` for what would be a mark of an atomic group.
+/// Fails if an entry isn't read, with `Full` or `Memory`, or with `InvalidArgument` if a value would be a mark of an
+/// atomic group.
 pub fn piece_of<P: PipeLog>(
     alloc: Global,
     pipes: &P,

@@ -9,7 +9,7 @@ use raft_log_file_blocks::SignedBatch;
 use raft_log_record_base::Result;
 use raft_log_record_batches::LogBatch;
 
-/// Makes the record of a batch. A refusal drops the batch.
+/// Makes the record of a batch. If it fails, the batch is dropped.
 pub fn record_of(batch: LogBatch) -> Result<SignedBatch>
     requires { batch.state ≡ Filling }
     ensures ok { IfOk result (λ signed. IsRecordMade batch signed.batch) }

@@ -13,7 +13,7 @@ use raft_log_record_base::{FileBlockHandle, LogQueue, Result};
 use raft_log_record_batches::LogBatch;
 use std::alloc::Global;
 
-/// A record that was written: the place of it, and its batch, whose items have their places.
+/// A record that was written: its place, and its batch, whose items have their places.
 #[derive(Drop)]
 pub struct WrittenRecord {
     /// The place.
@@ -22,10 +22,9 @@ pub struct WrittenRecord {
     pub batch: LogBatch,
 }
 
-/// Writes the record of a batch to Rewrite. Where many bytes were written since Rewrite was synced last, it is
-/// synced before.
+/// Writes the record of a batch to Rewrite. Syncs Rewrite first if many bytes are unsynced.
 ///
-/// `Full`, `Memory`: nothing is done. `Failed`, and what Rewrite refuses.
+/// Fails with `Full` or `Memory` before anything is done, with `Failed` if the sync fails, or as the write does.
 pub fn write_record<P: PipeLog, L: Log>(
     alloc: Global,
     rt: &L,

@@ -1,5 +1,5 @@
-//! Groups are restated: what stands of each in Rewrite is written there again, as one record, or as an atomic
-//! group where it is more than one record may have.
+//! Groups are restated: what each has in Rewrite is written there again. It becomes one record, or an atomic group if
+//! it is more than one record may have.
 
 ghost use Rattle.std.specs.Prelude.{◌≡◌, ◌≤◌, ◌<◌, IfErr, IfOk, None, OnOk, length, take};
 ghost use Rattle.raft_log_engine_laws.specs.Shows.{shows};
@@ -31,10 +31,10 @@ use raft_log_table_all::MemTables;
 use raft_log_table_lists::GroupFiles;
 use std::alloc::Global;
 
-/// Restates groups, one after another: all that each has in Rewrite lies from the file on that was written
-/// when that began. The number is the one that the next atomic group gets, and is counted on.
+/// Restates groups, one after another: all that each has in Rewrite is then in files from the one that was active
+/// when this began. `number` is the number of the next atomic group, and is counted up.
 ///
-/// Refused is what `restate_group` refuses: the groups before are restated, and of that one nothing changed.
+/// Fails as `restate_group` does. Then the groups before are restated, and that one is unchanged.
 pub fn restate_groups<P: PipeLog, L: Log>(
     alloc: Global,
     rt: &L,
@@ -70,12 +70,11 @@ pub fn restate_groups<P: PipeLog, L: Log>(
     Ok(())
 }
 
-/// Restates a group: all that it has in Rewrite is written there again, as one record or as an atomic group
-/// of this number, and lies there then. The number is counted on where it was used. A group that has nothing
-/// there writes nothing.
+/// Restates a group: writes all that it has in Rewrite there again, as one record or as an atomic group with this
+/// number. The number is counted up if it was used. A group that has nothing there writes nothing.
 ///
-/// Refused is what isn't read, `Full`, `Memory`, and what Rewrite refuses: nothing that shows of the tables
-/// is changed.
+/// Fails if an entry isn't read, with `Full` or `Memory`, or as a write to Rewrite does. If it fails, what the tables
+/// show is unchanged.
 pub fn restate_group<P: PipeLog, L: Log>(
     alloc: Global,
     rt: &L,
@@ -121,8 +120,8 @@ pub fn restate_group<P: PipeLog, L: Log>(
     )
 }
 
-/// Restates a group that has these entries and keys in Rewrite by one record, if there are any: the entries are
-/// no more than one has.
+/// Restates a group with these entries and keys in Rewrite by one record, if there are any. The entries are no more
+/// than one record has.
 fn restate_at_once<P: PipeLog, L: Log>(
     alloc: Global,
     rt: &L,
@@ -153,8 +152,7 @@ fn restate_at_once<P: PipeLog, L: Log>(
     Ok(())
 }
 
-/// Restates a group that has these entries and keys in Rewrite by an atomic group, whose first part has so
-/// many of the entries.
+/// Restates a group with these entries and keys in Rewrite by an atomic group, whose first part has `count` entries.
 fn restate_in_parts<P: PipeLog, L: Log>(
     alloc: Global,
     rt: &L,
@@ -206,7 +204,7 @@ fn restate_in_parts<P: PipeLog, L: Log>(
 
 /// Ends an atomic group by its last record: the tables take its parts, one after another, and note its files.
 ///
-/// Refused as `write_last`: the group is given up.
+/// Fails as `write_last` does; then the group is given up.
 fn end_parts<P: PipeLog, L: Log>(
     alloc: Global,
     rt: &L,

@@ -17,11 +17,12 @@ use raft_log_record_items::RawMessage;
 use raft_log_table_all::MemTables;
 use std::alloc::Global;
 
-/// Copies a group's first entries in Append, all in files up to the gate, as many as a batch may have, and
-/// answers whether there were any. They are read through their blocks, written to Rewrite as one record, and
-/// lie there then.
+/// Copies a group's first entries in Append, all in files up to the gate, as many as a batch may have. Returns
+/// whether there were any. They are read through their blocks, and written to Rewrite as one record; then the tables
+/// have them there.
 ///
-/// Refused is what isn't read, `Full`, `Memory`, and what Rewrite refuses: nothing that shows is changed.
+/// Fails if an entry isn't read, with `Full` or `Memory`, or as a write to Rewrite does. If it fails, what the tables
+/// show is unchanged.
 pub fn copy_entries<P: PipeLog, L: Log>(
     alloc: Global,
     rt: &L,

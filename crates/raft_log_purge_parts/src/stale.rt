@@ -1,4 +1,4 @@
-//! All files of both queues go that nothing is in that is in use.
+//! Both queues lose all files that have nothing in use.
 
 ghost use Rattle.std.specs.Prelude.{◌≡◌, IfErr, IfOk, OnOk};
 ghost use Rattle.raft_log_engine_laws.specs.Shows.{shows};
@@ -15,10 +15,10 @@ use raft_log_record_base::{LogQueue, Result};
 use raft_log_table_all::MemTables;
 use std::alloc::Global;
 
-/// Takes all files out of both queues that nothing is in that is in use: Append is synced, marks are carried,
-/// and then each queue goes on in its next file and loses those before, Rewrite first.
+/// Takes all files that have nothing in use out of both queues. Syncs Append, writes the owed tombstones, and then
+/// each queue rotates and loses the files before, Rewrite first.
 ///
-/// Refused, the map stays: what a sync, `rewrite_marks`, a rotation and `purge_stale` refuse.
+/// Fails as a sync, `rewrite_marks`, a rotation or `purge_stale` does. If it fails, the map is kept.
 pub fn purge_all_stale<P: PipeLog, L: Log>(
     alloc: Global,
     rt: &L,
@@ -40,8 +40,7 @@ pub fn purge_all_stale<P: PipeLog, L: Log>(
     Ok(())
 }
 
-/// A queue goes on in its next file, and those before that aren't in use leave its span: the answer is how
-/// many.
+/// Rotates a queue, and takes the files before that aren't in use out of its live range. Returns how many.
 fn turn_and_purge<P: PipeLog, L: Log>(
     alloc: Global,
     rt: &L,

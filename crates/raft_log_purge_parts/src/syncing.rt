@@ -1,4 +1,4 @@
-//! Rewrite is synced each so many bytes that a purge writes there.
+//! Rewrite is synced after each so many bytes that a purge writes there.
 
 ghost use Rattle.std.specs.Prelude.{◌≡◌, ◌≤◌, true, IfErr, OnErr, OnOk};
 ghost use Rattle.raft_log_record_base.specs.declared.errors.Error.TheVariants as errors;
@@ -12,11 +12,11 @@ use log::Log;
 use raft_log_file_pair::PipeLog;
 use raft_log_record_base::{LogQueue, Result};
 
-/// From how many bytes of records on that weren't synced Rewrite is synced before the next one is written.
+/// After so many bytes of unsynced records, Rewrite is synced before the next record is written.
 const MAX_UNSYNCED_LEN: u64 = 524_288;
 
-/// Syncs Rewrite, where 512 KiB or more were written since it was synced last: none of them counts as unsynced
-/// then. Refused, it is `Failed`, and they still do.
+/// Syncs Rewrite if 512 KiB or more were written since its last sync; then none of them counts as unsynced. If it
+/// fails, the error is `Failed`, and they still count.
 pub fn sync_if_due<P: PipeLog, L: Log>(rt: &L, pipes: &mut P, unsynced: &mut u64) -> Result<()>
     ensures ok { OnOk result (MaySync (P.shown pipes.old) (P.shown pipes.new)) }
     ensures due { OnOk result

@@ -1,5 +1,5 @@
-//! The last record of those that restate a group is written, and the tables take all of them: room is made
-//! before it, and behind it nothing can be refused.
+//! The last record that restates a group is written, and the tables take all of its records. Room is made before it,
+//! so that nothing can fail after it.
 
 ghost use Rattle.std.specs.Prelude.{◌≡◌, ◌-◌, ◌++◌, ℕ, IfErr, IfOk, OnErr, OnOk};
 ghost use Rattle.raft_log_record_batches.specs.declared.log_batch.BatchState.TheVariants.{Filling};
@@ -30,11 +30,11 @@ use raft_log_record_items::LogItem;
 use raft_log_table_all::MemTables;
 use std::alloc::{AllocError, Global};
 
-/// Writes the record of a batch to Rewrite, the last one of those that restate a group, and moves what all of
-/// them have to where they were written, part after part. The answer is the place of that record.
+/// Writes the last record that restates a group to Rewrite. Then moves what all of the group's records have to where
+/// they were written, part after part. Returns the place of the last record.
 ///
-/// `Full`, `Memory`: nothing is done. `Failed`, and what Rewrite refuses. In each case nothing that shows of
-/// the tables is changed.
+/// Fails with `Full` or `Memory` before the write, or as the sync or the write does. If it fails, what the tables
+/// show is unchanged.
 pub fn write_last<P: PipeLog, L: Log>(
     alloc: Global,
     rt: &L,
@@ -77,7 +77,7 @@ pub fn write_last<P: PipeLog, L: Log>(
     }
 }
 
-/// The file of the first of the parts, and that one where there is none.
+/// The file of the first of the parts, or that one if there is none.
 pub fn first_file(parts: &[RestatedPart], last: FileSeq) -> FileSeq
     ensures { result ≡ first_file_of parts.now last }
 {
@@ -88,7 +88,7 @@ pub fn first_file(parts: &[RestatedPart], last: FileSeq) -> FileSeq
     }
 }
 
-/// Makes room for what the parts have to move, and these items behind them. Nothing shows.
+/// Makes room for what the parts move, and these items after them. What the tables show is unchanged.
 fn make_room(
     tables: &mut MemTables,
     parts: &[RestatedPart],
@@ -109,8 +109,8 @@ fn make_room(
     tables.prepare_rewrite(items)
 }
 
-/// Moves what the parts have to where they were written, part after part, and then the items of the batch
-/// that stands at this place.
+/// Moves what the parts have to where they were written, part after part, and then the items of the batch at this
+/// place.
 fn take_items(
     tables: &mut MemTables,
     parts: &[RestatedPart],

@@ -1,7 +1,6 @@
 -- In how many purges in a row a group was asked to be compacted.
 use Rattle.std.specs.Prelude.{ℕ, ◌+◌, Bool, ◌&&◌, nat_lt, if◌then◌else◌}
 
--- how often it was, once a purge asked it again or not: one time more in a row, but none where it was not
--- asked, or was in nine before
+-- the count after one more purge: one more; but 0 if that purge didn't ask the group, or nine in a row had before
 abbrev pub round_behind : Bool → ℕ → ℕ
 round_behind asked count = if asked && nat_lt count 9 then count + 1 else 0

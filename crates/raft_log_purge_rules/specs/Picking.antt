@@ -34,30 +34,31 @@ asks_at marks m g = asks_in marks (raw_of m g)
 abbrev pub rewrites_at : Watermarks → (ℕ → ℕ) → MemTables → ℕ → Bool
 rewrites_at marks counts m g = rewrites_in marks (counts g) (raw_of m g)
 
--- a group with this table is asked to be compacted, where Append is purged up to watermarks
+-- a group with this table is asked to be compacted, if Append is purged up to watermarks
 abbrev pub asks_by : Option Watermarks → Raw → Bool
 asks_by None t = false
 asks_by (Some marks) t = asks marks t
 
--- a group with this table, if it has one, is answered: it is asked to be compacted; or Rewrite was rewritten, and
--- it has more than 32 entries there
+-- a group with this table, if it has one, is returned to the purge's caller, if:
+-- - it is asked to be compacted
+-- - or Rewrite was rewritten, and it has more than 32 entries there
 abbrev pub answers_in : Option Watermarks → Bool → Option Raw → Bool
 answers_in marks restated None = false
 answers_in marks restated (Some t) = asks_by marks t || (restated && nat_lt 32 (shown t).rewritten)
 
--- a group is answered
+-- a group is returned to the purge's caller
 abbrev pub answers_at : Option Watermarks → Bool → MemTables → ℕ → Bool
 answers_at marks restated m g = answers_in marks restated (raw_of m g)
 
--- these are the groups that a purge of Append picks up to watermarks, where each was asked in so many purges in a
--- row before
+-- these are the groups that a purge of Append picks up to these watermarks, by how many purges in a row asked each
+-- before
 pub record ListsPicked (marks : Watermarks) (counts : ℕ → ℕ) (restated : Bool) (m : MemTables) (picked : GroupLists)
     : Type 0 where
   pub asked : ListsGroups (asks_at marks m) picked.asked.items
   pub rewritten : ListsGroups (rewrites_at marks counts m) picked.rewritten.items
   pub answered : ListsGroups (answers_at (Some marks) restated m) picked.answered.items
 
--- of these groups these are picked, in their order
+-- these of the groups are picked, in their order
 pub record PicksOf (marks : Watermarks) (counts : ℕ → ℕ) (restated : Bool) (m : MemTables) (groups : List ℕ)
     (picked : GroupLists) : Type 0 where
   pub asked : picked.asked.items ≡ filter (asks_at marks m) groups

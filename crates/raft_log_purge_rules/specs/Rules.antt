@@ -11,12 +11,11 @@ abbrev pub is_below : ℕ → Option ℕ → Bool
 is_below file None = false
 is_below file (Some least) = nat_lt least file
 
--- the group is old: something of it lies in Append below the watermark of old files, or it has entries in
--- Rewrite
+-- the group is old: it has something in Append below the watermark of old files, or entries in Rewrite
 abbrev pub is_old : Watermarks → Raw → Bool
 is_old marks t = is_below marks.compact (min_file Append t) || nat_lt 0 (shown t).rewritten
 
--- the group has 32 entries or more up to the watermark of rewriting, those in Rewrite among them
+-- the group has 32 entries or more up to the watermark of rewriting, including those in Rewrite
 abbrev pub is_heavy : Watermarks → Raw → Bool
 is_heavy marks t = has_before (shown t) (record { queue = Append; seq = marks.rewrite }) 32
 
@@ -25,7 +24,7 @@ abbrev pub is_light : Watermarks → Raw → Bool
 is_light marks t = not (has_before (shown t) (record { queue = Append; seq = marks.rewrite })
     (min ((shown t).rewritten + 32) (2 ^ 64 - 1)))
 
--- something of the group lies in Append up to the watermark of rewriting
+-- the group has something in Append up to the watermark of rewriting
 abbrev pub has_to_rewrite : Watermarks → Raw → Bool
 has_to_rewrite marks t = is_below (marks.rewrite + 1) (min_file Append t)
 
@@ -33,8 +32,8 @@ has_to_rewrite marks t = is_below (marks.rewrite + 1) (min_file Append t)
 abbrev pub asks : Watermarks → Raw → Bool
 asks marks t = is_old marks t && is_heavy marks t
 
--- The group is rewritten: something of it is to be, and if it is asked to be compacted, it was in nine purges
--- in a row before; else it has few entries.
+-- The group is rewritten if it has something to rewrite. If it is asked to be compacted, nine purges in a row must
+-- have asked it before; else it must have few entries.
 abbrev pub rewrites : Watermarks → ℕ → Raw → Bool
 rewrites marks rounds t =
     (if asks marks t then nat_le 9 rounds else is_light marks t) && has_to_rewrite marks t

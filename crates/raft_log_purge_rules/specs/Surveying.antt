@@ -7,8 +7,10 @@ use Rattle.raft_log_purge_rules.specs.Picking.{ListsPicked}
 use Rattle.raft_log_purge_rules.specs.declared.survey.Survey.{Survey}
 use Rattle.raft_log_purge_rules.specs.declared.watermarks.Watermarks.{Watermarks}
 
--- This was seen of the groups: those that a purge of Append up to these watermarks picks, where each was asked in so
--- many purges in a row before, the marks that are owed to Rewrite, and how much stands there.
+-- What was seen of the groups:
+-- - those that a purge of Append up to these watermarks picks, by how many purges in a row asked each before
+-- - the tombstones owed to Rewrite
+-- - how many live entries and values Rewrite has
 pub record Surveys (marks : Watermarks) (counts : ℕ → ℕ) (restated : Bool) (m : MemTables) (seen : Survey)
     : Type 0 where
   pub upto : seen.watermarks ≡ marks
@@ -16,7 +18,7 @@ pub record Surveys (marks : Watermarks) (counts : ℕ → ℕ) (restated : Bool)
   pub owed : AreOwed m seen.marks.items
   pub stands : Stand m seen.standing
 
--- a survey, if there is one, was made of these tables, as Rewrite wasn't rewritten
+-- a survey, if there is one, was made of these tables, as for a purge that hasn't rewritten Rewrite
 abbrev pub SurveysIfTold : (ℕ → ℕ) → MemTables → Option Survey → Type 0
 SurveysIfTold counts m None = Unit {0}
 SurveysIfTold counts m (Some seen) = Surveys seen.watermarks counts false m seen

@@ -1,8 +1,8 @@
--- From which sizes on a purge takes up a queue.
+-- The sizes from which on a purge collects a queue.
 use Rattle.raft_log_file_settings.specs.Settings.{Settings}
 use Rattle.raft_log_purge_rules.specs.declared.thresholds.Thresholds.{Thresholds}
 
--- as these settings have it
+-- the thresholds in these settings
 abbrev pub thresholds_of : Settings → Thresholds
 thresholds_of s = record {
   append = s.purge_threshold;

@@ -1,4 +1,4 @@
--- Which queues a purge takes up, and how far.
+-- Which queues a purge collects, and how far.
 use Rattle.std.specs.Prelude.{◌≡◌, ◌⊎◌, ℕ, ◌*◌, ◌-◌, ◌<◌, min, Some}
 use Rattle.raft_log_directory_laws.specs.Calls.{Which}
 use Rattle.raft_log_directory_laws.specs.Calls.Which.{InAppend, InRewrite}
@@ -10,11 +10,11 @@ use Rattle.raft_log_purge_rules.specs.declared.thresholds.Thresholds.{Thresholds
 use Rattle.raft_log_purge_rules.specs.declared.watermarks.Watermarks.{Watermarks}
 use Rattle.raft_log_file_pair.specs.LastFile.{last_of}
 
--- the number of the first file of a queue's span
+-- the number of the first file in a queue's live range
 abbrev pub first_at : Which → LogPipes → ℕ
 first_at which v = (pipe_at which (files_of v)).first_seq
 
--- the file behind so many thousandths of Append's span, but none after the one before the last
+-- the file after so many thousandths of Append's live range, at most the last but one
 abbrev pub watermark : ℕ → LogPipes → ℕ
 watermark thousandths v = min (seq_at InAppend v thousandths 1000) (last_of InAppend v - 1)
 
@@ -22,15 +22,15 @@ watermark thousandths v = min (seq_at InAppend v thousandths 1000) (last_of InAp
 abbrev pub watermarks_of : LogPipes → Watermarks
 watermarks_of v = record { rewrite = watermark 700 v; compact = watermark 200 v }
 
--- a queue has more than one file, and all of them are larger together than this
+-- a queue has more than one file, and together they are larger than this
 abbrev pub IsQueuePast : Which → ℕ → LogPipes → Type 0
 IsQueuePast which threshold v = (first_at which v < last_of which v) × (threshold < size_at which v)
 
--- more than so many thousandths of what was written to Rewrite stand no more
+-- more than so many thousandths of what was written to Rewrite are garbage
 abbrev pub IsGarbage : ℕ → GlobalStats → Type 0
 IsGarbage ratio stats = stats.rewrite_entries * ratio < stats.deleted_rewrite_entries * 1000
 
--- a purge takes up Append
+-- a purge collects Append
 abbrev pub TakesAppend : Thresholds → LogPipes → Type 0
 TakesAppend t v = IsQueuePast InAppend t.append v
 

@@ -1,5 +1,5 @@
-//! Which parts of a log a purge takes up, and how far; which groups a purge of Append asks to be compacted, and
-//! which it rewrites itself: first of one group, by its table, then of all.
+//! Which queues a purge collects, and how far. Which groups a purge of Append asks to be compacted, and which it
+//! rewrites itself: first for one group, by its table, then for all.
 #![tactic(auto)]
 
 pub mod picking;

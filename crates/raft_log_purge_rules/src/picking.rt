@@ -19,7 +19,7 @@ use raft_log_table_all::MemTables;
 use raft_log_table_one::MemTable;
 use std::alloc::{AllocError, Global};
 
-/// Of so many entries in Rewrite, or fewer, a group isn't answered for those.
+/// A group with so many entries in Rewrite, or fewer, isn't returned for those.
 const MOST_REWRITTEN: usize = 32;
 
 /// The groups that a purge of Append picks, each list from the least up.
@@ -29,8 +29,8 @@ pub struct GroupLists {
     pub asked: Vec<u64>,
     /// Those that it rewrites itself.
     pub rewritten: Vec<u64>,
-    /// Those that it answers: it asks them to be compacted, or Rewrite was rewritten, and they have many
-    /// entries there.
+    /// Those that it returns to its caller: it asks them to be compacted, or Rewrite was rewritten, and they have
+    /// many entries there.
     pub answered: Vec<u64>,
 }
 
@@ -49,8 +49,9 @@ impl GroupLists {
     }
 }
 
-/// The groups that a purge answers, from the least up: those that are asked to be compacted, where Append is
-/// purged up to watermarks; and where Rewrite was rewritten, those that have many entries there.
+/// The groups that a purge returns to its caller, from the least up:
+/// - those that are asked to be compacted, if Append is purged up to watermarks
+/// - those that have many entries in Rewrite, if Rewrite was rewritten
 pub fn answered_groups(
     alloc: Global,
     tables: &MemTables,
@@ -66,7 +67,7 @@ pub fn answered_groups(
     answered_of(alloc, tables, watermarks, restated, groups.as_slice())
 }
 
-/// Of these groups those that are answered.
+/// Those of these groups that are returned.
 fn answered_of(
     alloc: Global,
     tables: &MemTables,
@@ -85,7 +86,7 @@ fn answered_of(
     Ok(picked)
 }
 
-/// Adds a group with this table to the lists that it is to be in.
+/// Adds a group with this table to the lists that it belongs in.
 pub(crate) fn pick(
     picked: &mut GroupLists,
     table: &MemTable,
@@ -120,7 +121,7 @@ fn push_if(picked: &mut Vec<u64>, group: u64, wanted: bool) -> Result<(), AllocE
     Ok(())
 }
 
-/// Whether a group with this table, if it has one, is answered.
+/// Whether a group with this table, if it has one, is returned.
 fn is_answered(watermarks: Option<Watermarks>, restated: bool, table: Option<&MemTable>) -> bool
     ensures { result ≡ answers_in watermarks restated (option_copied table.entry) }
 {
@@ -130,14 +131,14 @@ fn is_answered(watermarks: Option<Watermarks>, restated: bool, table: Option<&Me
     }
 }
 
-/// Whether a group with this table is answered.
+/// Whether a group with this table is returned.
 fn answers(watermarks: Option<Watermarks>, restated: bool, table: &MemTable) -> bool
     ensures { result ≡ answers_in watermarks restated (Some table.now) }
 {
     asks_by(watermarks, table) || (restated && MOST_REWRITTEN < table.rewritten_count())
 }
 
-/// Whether a group is asked to be compacted, where Append is purged up to watermarks.
+/// Whether a group is asked to be compacted, if Append is purged up to watermarks.
 fn asks_by(watermarks: Option<Watermarks>, table: &MemTable) -> bool
     ensures { result ≡ asks_by watermarks table.now }
 {

@@ -7,10 +7,10 @@ ghost use Rattle.raft_log_purge_rules.specs.Behind.{round_behind};
 use std::alloc::{AllocError, Global};
 use std::collections::BTreeMap;
 
-/// In so many purges in a row a group is asked to be compacted before it is rewritten.
+/// After so many purges in a row that ask a group to be compacted, it is rewritten.
 pub const ROUNDS_OF_ASKING: u32 = 9;
 
-/// In how many purges in a row each group was asked to be compacted: a group that isn't told, in none.
+/// In how many purges in a row each group was asked to be compacted; in none, if it isn't listed.
 #[derive(Drop)]
 pub struct Rounds {
     counts: BTreeMap<u64, u32>,
@@ -38,8 +38,8 @@ impl Rounds {
         }
     }
 
-    /// The rounds once a purge asked these groups: one more of each, and none of all others; a group that was
-    /// asked in nine is rewritten, and begins anew. The rounds before stay as they were.
+    /// The counts after a purge that asked these groups: one more for each, and none for all others. A group that
+    /// nine purges asked is rewritten, and starts anew. The old counts stay unchanged.
     pub fn behind(&self, alloc: Global, asked: &[u64]) -> Result<Rounds, AllocError>
         ensures { IfOk result (λ next. (g : ℕ) → count_of next g
             ≡ round_behind (list_any (λ k. k == g) asked.now) (count_of self.now g)) }
@@ -61,7 +61,7 @@ impl Rounds {
     }
 }
 
-/// In how many purges in a row a group was asked, once it was asked again.
+/// In how many purges in a row a group was asked, after it was asked again.
 fn round_behind(count: u32) -> u32
     ensures { result ≡ round_behind true count }
 {

@@ -18,7 +18,7 @@ use crate::rounds::ROUNDS_OF_ASKING;
 use raft_log_record_base::{FileId, FileSeq, LogQueue};
 use raft_log_table_one::MemTable;
 
-/// So many entries make a group heavy.
+/// A group with so many entries is heavy.
 const HEAVY_ENTRIES: usize = 32;
 
 /// Whether a group is asked to be compacted: it is old and heavy.
@@ -28,7 +28,7 @@ pub fn asks(watermarks: &Watermarks, table: &MemTable) -> bool
     is_old(watermarks, table) && is_heavy(watermarks, table)
 }
 
-/// Whether a group is rewritten, which was asked to be compacted in so many purges in a row before.
+/// Whether a group is rewritten, if so many purges in a row asked it to be compacted before.
 pub fn rewrites(watermarks: &Watermarks, rounds: u32, table: &MemTable) -> bool
     ensures { result ≡ rewrites watermarks.now rounds table.now }
 {
@@ -39,8 +39,7 @@ pub fn rewrites(watermarks: &Watermarks, rounds: u32, table: &MemTable) -> bool
     }
 }
 
-/// Whether something of a group lies in Append below the watermark of old files, or it has entries in
-/// Rewrite.
+/// Whether a group has something in Append below the watermark of old files, or entries in Rewrite.
 fn is_old(watermarks: &Watermarks, table: &MemTable) -> bool
     ensures { result ≡ is_old watermarks.now table.now }
 {
@@ -64,7 +63,7 @@ fn is_light(watermarks: &Watermarks, table: &MemTable) -> bool
     !table.has_at_least_some_entries_before(gate, count)
 }
 
-/// Whether something of a group lies in Append up to there.
+/// Whether a group has something in Append up to there.
 fn has_to_rewrite(watermarks: &Watermarks, table: &MemTable) -> bool
     ensures { result ≡ has_to_rewrite watermarks.now table.now }
 {
@@ -74,7 +73,7 @@ fn has_to_rewrite(watermarks: &Watermarks, table: &MemTable) -> bool
     }
 }
 
-/// Whether something of a group lies in Append below a file.
+/// Whether a group has something in Append below a file.
 fn is_below(file: FileSeq, table: &MemTable) -> bool
     ensures { result ≡ is_below file (min_file Append table.now) }
 {

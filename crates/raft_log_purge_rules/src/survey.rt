@@ -1,4 +1,4 @@
-//! What a purge of Append has to know of all groups before it begins, by one walk over them.
+//! What a purge of Append has to know of all groups before it begins, from one walk over them.
 
 ghost use Rattle.std.specs.Prelude.{◌≡◌, false, IfOk};
 ghost use Rattle.raft_log_purge_rules.specs.Picking.{count_of};
@@ -18,14 +18,14 @@ pub struct Survey {
     pub watermarks: Watermarks,
     /// The groups that it picks.
     pub picked: GroupLists,
-    /// The marks that are owed to Rewrite, as the items of one batch.
+    /// The tombstones owed to Rewrite, as the items of one batch.
     pub marks: Vec<LogItem>,
-    /// How many entries and values stand in Rewrite, at most 2^64 - 1.
+    /// How many live entries and values Rewrite has, at most 2^64 - 1.
     pub standing: u64,
 }
 
-/// What a purge of Append up to these watermarks has to know of all groups. Each is looked at once, and no list
-/// of them is made.
+/// Finds what a purge of Append up to these watermarks has to know of all groups. Visits each group once, and makes
+/// no list of them.
 pub fn survey_groups(
     alloc: Global,
     tables: &MemTables,
@@ -52,8 +52,8 @@ pub fn survey_groups(
     })
 }
 
-/// What a purge of Append up to these watermarks has to know of all groups: a survey that was made before, if it
-/// was made up to them and Rewrite wasn't rewritten since, else a new one.
+/// Returns the survey for a purge of Append up to these watermarks. Reuses the known one if it was made up to them
+/// and Rewrite wasn't rewritten since, else makes a new one.
 pub fn survey_unless_known(
     alloc: Global,
     tables: &MemTables,

@@ -1,4 +1,4 @@
-//! What the settings of a log say of its purges.
+//! The settings of a log's purges.
 
 ghost use Rattle.std.specs.Prelude.{◌≡◌};
 ghost use Rattle.raft_log_file_settings.specs.Sanitized.{sanitized};
@@ -7,19 +7,19 @@ ghost use Rattle.raft_log_purge_rules.specs.Thresholds.{thresholds_of};
 
 use raft_log_file_settings::Config;
 
-/// From which sizes on a purge takes up the queues of a log.
+/// The sizes from which on a purge collects the queues of a log.
 #[derive(Clone, Copy, Debug, PartialEq, Eq)]
 pub struct Thresholds {
-    /// Append is purged where it is larger than this, in bytes.
+    /// Append is purged if it is larger than this, in bytes.
     pub append: u64,
-    /// Rewrite is written again where it is larger than this; without it, never.
+    /// Rewrite is rewritten if it is larger than this; without it, never.
     pub rewrite: Option<u64>,
-    /// Rewrite is written again where more than so many thousandths of what was written to it stand no more.
+    /// Rewrite is rewritten if more than so many thousandths of what was written to it are garbage.
     pub garbage_ratio: u64,
 }
 
 impl Thresholds {
-    /// As settings have it, once they are made whole: `sanitize` may be still to come.
+    /// The thresholds in these settings, as `sanitize` leaves them; it needn't have been called.
     pub fn of(config: &Config) -> Thresholds
         ensures { result ≡ thresholds_of (sanitized (settings_of config.now)) }
     {

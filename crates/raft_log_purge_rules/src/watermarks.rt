@@ -1,4 +1,4 @@
-//! Which queues a purge takes up, and how far.
+//! Which queues a purge collects, and how far.
 
 ghost use Rattle.std.specs.Prelude.{◌≡◌, ◌↔◌, ◌<◌, IsTrue};
 ghost use Rattle.raft_log_directory_laws.specs.Calls.Which.{InAppend};
@@ -17,18 +17,18 @@ use raft_log_file_pair::PipeLog;
 use raft_log_record_base::{FileSeq, LogQueue};
 use raft_log_table_one::GlobalStats;
 
-/// A group is old where something of it lies in an Append file below this share of the span.
+/// A group is old if it has something in an Append file below this share of the live range.
 const COMPACT_THOUSANDTHS: u32 = 200;
 
-/// What lies in an Append file up to this share of the span is written again.
+/// What is in an Append file up to this share of the live range is rewritten.
 const REWRITE_THOUSANDTHS: u32 = 700;
 
 /// Up to which files of Append a purge goes.
 #[derive(Clone, Copy, Debug, PartialEq, Eq)]
 pub struct Watermarks {
-    /// What lies in files up to this one is written again.
+    /// What is in files up to this one is rewritten.
     pub rewrite: FileSeq,
-    /// What lies in files below this one is old.
+    /// What is in files below this one is old.
     pub compact: FileSeq,
 }
 
@@ -46,15 +46,15 @@ pub fn append_watermarks<P: PipeLog>(pipes: &P) -> Watermarks
     }
 }
 
-/// Whether a purge takes files from Append: it has more than one, and is larger than its threshold.
+/// Whether a purge collects Append: it has more than one file, and is larger than its threshold.
 pub fn takes_append<P: PipeLog>(thresholds: &Thresholds, pipes: &P) -> bool
     ensures { IsTrue result ↔ TakesAppend thresholds.now (P.shown pipes.now) }
 {
     is_past(pipes, LogQueue::Append, thresholds.append)
 }
 
-/// Whether a purge rewrites Rewrite: it has more than one file, is larger than its threshold, and more of
-/// what was written there than is allowed stands no more. Without a threshold it never is.
+/// Whether a purge rewrites Rewrite: it has more than one file, is larger than its threshold, and has more garbage
+/// than is allowed. Without a threshold it never is.
 pub fn takes_rewrite<P: PipeLog>(thresholds: &Thresholds, stats: &GlobalStats, pipes: &P) -> bool
     ensures { IsTrue result ↔ TakesRewrite thresholds.now stats.now (P.shown pipes.now) }
 {
@@ -83,7 +83,7 @@ fn is_past<P: PipeLog>(pipes: &P, queue: LogQueue, threshold: u64) -> bool
     first < last && threshold < pipes.total_size(queue) as u64
 }
 
-/// Whether more than so many thousandths of what was written to Rewrite stand no more.
+/// Whether more than so many thousandths of what was written to Rewrite are garbage.
 fn is_garbage(ratio: u64, stats: &GlobalStats) -> bool
     ensures { IsTrue result ↔ IsGarbage ratio stats.now }
 {

@@ -1,4 +1,4 @@
--- What is wrong with bytes, apart from the memory that telling it takes.
+-- What is wrong with bytes. An error may also be `Memory`, because its text takes memory.
 use Rattle.std.specs.Prelude.{◌≡◌, ◌⊎◌, ◌++◌, ℕ, List, Some, Result, Ok, Err, MatchResult}
 use Rattle.std.specs.String.{string_bytes}
 use Rattle.std.specs.Global.{Vec, Box}
@@ -10,7 +10,7 @@ use Rattle.raft_log_record_base.specs.Grammar.{Reader}
 use Rattle.raft_log_record_base.specs.declared.errors.Error.{Error}
 use Rattle.raft_log_record_base.specs.declared.errors.Error.TheVariants as errors
 
--- a fault of a number, or another one, which has a text
+-- a number's fault, or a corruption with this text
 pub data Fault : Type 0 where
   number : CodecError → Fault
   corrupt : List ℕ → Fault
@@ -24,52 +24,52 @@ lifted (Err e) = Err (number e)
 abbrev pub lifted_at : {X : Type 0} → Reader X CodecError → Reader X Fault
 lifted_at read bytes = lifted (read bytes)
 
--- memory ran out, or this is the fault at which the reading stops
+-- memory ran out, or this is the fault at which reading stops
 abbrev pub FailsOrMemory : {Y : Type 0} → Error → Result Y Fault → Type 0
 FailsOrMemory errors.Memory reading = Unit {0}
 FailsOrMemory (errors.Codec c) reading = reading ≡ Err (number c)
 FailsOrMemory (errors.Corruption text) reading = reading ≡ Err (corrupt (string_bytes text))
 FailsOrMemory _ reading = ⊥
 
--- this error is carried, or memory ran out
+-- this error is kept, or memory ran out
 abbrev pub IsOtherOf : AnyhowError → Error → Type 0
 IsOtherOf error e =
     (e ≡ errors.Memory) ⊎ ((kept : Box AnyhowError) × (e ≡ errors.Other kept) × (kept.value ≡ error))
 
--- an invalid argument with the text of this fault of a size, or memory ran out
+-- an invalid argument with this fault's text, or memory ran out
 abbrev pub IsInvalidSize : ParseSizeError → Error → Type 0
 IsInvalidSize fault errors.Memory = Unit {0}
 IsInvalidSize fault (errors.InvalidArgument text) = size_fault_text fault ≡ Some (string_bytes text)
 IsInvalidSize fault _ = ⊥
 
--- What a decoder answered and what it left is what the reading of the bytes gives, unless memory ran out.
--- A refusal leaves all.
+-- A decoder's result and the bytes it left are those of the reading, unless memory ran out. If it fails, it takes no
+-- bytes.
 abbrev pub ReadsOrMemory :
     {X : Type 0} → Result X Error → List ℕ → List ℕ → Result (X × List ℕ) Fault → Type 0
 ReadsOrMemory (Ok x) old new reading = reading ≡ Ok (x, new)
 ReadsOrMemory (Err e) old new reading = FailsOrMemory e reading × (new ≡ old)
 
--- What a decoder that takes all of its bytes answered is what the reading gives, unless memory ran out.
+-- The result of a decoder of a whole slice is that of the reading, unless memory ran out.
 abbrev pub GivesOrMemory : {X : Type 0} → Result X Error → Result X Fault → Type 0
 GivesOrMemory (Ok x) reading = reading ≡ Ok x
 GivesOrMemory (Err e) reading = FailsOrMemory e reading
 
--- A decoder of this grammar: what it answers is spelled by the bytes that it took, what is spelled so at
--- the front is answered and just that taken, unless memory ran out, and a refusal takes nothing.
+-- A decoder of this grammar. The bytes that it took spell what it returns. If a spelling is at the front, it takes just
+-- that and returns its value, unless memory ran out. If it fails, it takes nothing.
 pub record DecodesOrMemory {X : Type 0} (P : List ℕ → X → Type 0)
     (result : Result X Error) (old new : List ℕ) : Type 0 where
   pub found : MatchResult result (λ x. (text : List ℕ) × P text x × (old ≡ text ++ new)) (λ e. new ≡ old)
   pub only : (text rest : List ℕ) (x : X) → P text x → old ≡ text ++ rest
       → MatchResult result (λ y. (y ≡ x) × (new ≡ rest)) (λ e. e ≡ errors.Memory)
 
--- What a decoder that answers a vector answered and left is what the reading of the bytes gives, unless
--- memory ran out. A refusal leaves all.
+-- The result of a decoder that returns a vector, and the bytes it left, are those of the reading, unless memory ran
+-- out. If it fails, it takes no bytes.
 abbrev pub ReadsItemsOrMemory :
     {X : Type 0} → Result (Vec X) Error → List ℕ → List ℕ → Result (List X × List ℕ) Fault → Type 0
 ReadsItemsOrMemory (Ok x) old new reading = reading ≡ Ok (x.items, new)
 ReadsItemsOrMemory (Err e) old new reading = FailsOrMemory e reading × (new ≡ old)
 
--- A decoder that answers a vector whose items are of this grammar.
+-- A decoder that returns a vector of items of this grammar.
 pub record DecodesItemsOrMemory {X : Type 0} (P : List ℕ → List X → Type 0)
     (result : Result (Vec X) Error) (old new : List ℕ) : Type 0 where
   pub found : MatchResult result

@@ -1,4 +1,4 @@
--- Queues and files in their order.
+-- The order of queues and files.
 use Rattle.std.specs.Prelude.{◌≡◌, ◌↔◌, ℕ, ◌%◌, ◌^◌, Bool, true, false, Option, Some, None}
 use Rattle.std.specs.declared.cmp.Ordering.{Ordering}
 use Rattle.std.specs.declared.cmp.Ordering.TheVariants.{Equal, Greater}
@@ -28,7 +28,7 @@ AppendAboveRewrite = (a b : FileId) → a.queue ≡ Append → b.queue ≡ Rewri
 abbrev pub NumberedInQueue : Type 0
 NumberedInQueue = (a b : FileId) → a.queue ≡ b.queue → file_cmp a b ≡ nat_cmp a.seq b.seq
 
--- neither file is above the other one only where they are one file
+-- two files compare as equal if and only if they are one file
 abbrev pub OrderAgreesWithEquality : Type 0
 OrderAgreesWithEquality = (a b : FileId) → (file_cmp a b ≡ Equal) ↔ (a ≡ b)
 
@@ -46,7 +46,7 @@ signature V2 number = Some (number % 2 ^ 32)
 abbrev pub signature_of : LogFileContext → Option ℕ
 signature_of context = signature context.version context.id.seq
 
--- the records of a file of the second version are signed
+-- whether records of a file of this version are signed
 abbrev pub is_signed : Version → Bool
 is_signed V1 = false
 is_signed V2 = true

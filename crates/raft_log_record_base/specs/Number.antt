@@ -48,20 +48,20 @@ IsU32Le = IsLowFirst w32
 abbrev pub IsU16Le : List ℕ → ℕ → Type 0
 IsU16Le = IsLowFirst w16
 
--- the complement of every bit is spelled, so greater numbers come first
+-- the complement of every bit, so greater numbers come first
 abbrev pub IsU64Desc : List ℕ → ℕ → Type 0
 IsU64Desc = Mapped (bit_not w64) IsU64
 
--- the signed number that is so many steps above the least one of 64 bits
+-- the signed number that is n above the least one of 64 bits
 abbrev pub above_least : ℕ → ℤ
 above_least n = pos n -ℤ pos (2 ^ 63)
 
--- how many steps a signed number of 64 bits is above the least one
+-- how far a signed number of 64 bits is above the least one
 abbrev pub steps_above_least : ℤ → ℕ
 steps_above_least (pos n) = 2 ^ 63 + n
 steps_above_least (negsuc n) = 2 ^ 63 - (n + 1)
 
--- how far the signed number is above the least one, so that the order of bytes is the order of numbers
+-- how far the signed number is above the least one, so that bytes compare as the numbers do
 abbrev pub IsI64 : List ℕ → ℤ → Type 0
 IsI64 = Mapped above_least IsU64
 
@@ -91,16 +91,16 @@ pub record IsVarU64 (bytes : List ℕ) (n : ℕ) : Type 0 where
   pub short : length bytes ≤ 10
   pub fits : n < 2 ^ 64
 
--- a signed number goes as 2v from 0 on, and as -2v - 1 below
+-- a signed number is written as 2v if it is at least 0, else as -2v - 1
 abbrev pub zigzag : ℤ → ℕ
 zigzag (pos n) = 2 * n
 zigzag (negsuc n) = 2 * n + 1
 
--- the signed number that goes as this one
+-- the signed number that is written as this one
 abbrev pub from_zigzag : ℕ → ℤ
 from_zigzag n = if n % 2 == 0 then pos (n / 2) else negsuc (n / 2)
 
--- a signed number goes as a number of variable length
+-- a signed number, written as a number of variable length
 abbrev pub IsVarI64 : List ℕ → ℤ → Type 0
 IsVarI64 bytes v = IsVarU64 bytes (zigzag v)
 
@@ -150,7 +150,7 @@ i64_le_bytes v = u64_le_bytes (cast_unsigned w64 v)
 abbrev pub i32_le_bytes : ℤ → List ℕ
 i32_le_bytes v = u32_le_bytes (cast_unsigned w32 v)
 
--- the shortest spelling of n, with at most so many bytes after the first
+-- the shortest spelling of n, with at most this many bytes after the first
 unfoldable pub var_bytes_within : ℕ → ℕ → List ℕ
 var_bytes_within zero n = n ∷ []
 var_bytes_within (suc left) n =
@@ -169,13 +169,13 @@ pub record IsShortest {X : Type 0} (P : List ℕ → X → Type 0) (bytes : List
   pub spelled : P bytes x
   pub shortest : (other : List ℕ) → P other x → length bytes ≤ length other
 
--- Reading from the front.
+-- Readers, from the front.
 
--- reads a number, or refuses with a codec's error
+-- reads a number, or fails with a codec's error
 abbrev pub NumberReader : Type 0 → Type 0
 NumberReader X = Reader X Error
 
--- so many bytes
+-- this many bytes
 abbrev pub front_at : ℕ → NumberReader (List ℕ)
 front_at size bytes =
     if nat_lt (length bytes) size then Err (Io UnexpectedEof) else Ok (take size bytes, drop size bytes)
@@ -217,7 +217,7 @@ i64_le_at = mapped_at (cast_signed w64) (low_first_at w64)
 abbrev pub i32_le_at : NumberReader ℤ
 i32_le_at = mapped_at (cast_signed w32) (low_first_at w32)
 
--- with so many bytes that may follow the first
+-- a number with at most this many bytes after the first
 unfoldable pub var_within : ℕ → NumberReader ℕ
 var_within left [] = Err (Io UnexpectedEof)
 var_within zero (b ∷ bs) = if nat_lt b 2 then Ok (b, bs) else Err (Io InvalidData)
@@ -232,18 +232,18 @@ var_u64_at bytes = var_within 9 bytes
 unfoldable pub var_i64_at : NumberReader ℤ
 var_i64_at = mapped_at from_zigzag var_u64_at
 
--- where a writer answered, these bytes stand behind those that it held, if they are known
+-- if a writer succeeds, it appended these bytes to its contents, if those are known
 abbrev pub AddsTheseBytes : {X E : Type 0} → Result X E → Option (List ℕ) → Option (List ℕ) → List ℕ → Type 0
 AddsTheseBytes result old new bytes = OnOk result (Appends old new bytes)
 
--- a number at the front of the bytes, and how many of them it takes
+-- a number at the front of the bytes, and how many bytes it takes
 abbrev pub FindsNumber : {X : Type 0} → Result (X × ℕ) Error → List ℕ → Result (X × List ℕ) Error → Type 0
 FindsNumber (Ok x) bytes reading = (reading ≡ Ok (x.0, drop x.1 bytes)) × (x.1 ≤ length bytes)
 FindsNumber (Err e) bytes reading = reading ≡ Err e
 
--- Refusals.
+-- Errors.
 
--- the only refusal is the writer's
+-- the only errors are the writer's
 abbrev pub IsWriteFault : Error → Type 0
 IsWriteFault e = (kind : ErrorKind) × (e ≡ Io kind)
 
@@ -255,7 +255,7 @@ IsShort result = result ≡ Err (Io UnexpectedEof)
 abbrev pub IsInvalid : {X : Type 0} → Result X Error → Type 0
 IsInvalid result = result ≡ Err (Io InvalidData)
 
--- every byte has the top bit, so more have to follow
+-- every byte has the top bit set, so more must follow
 abbrev pub AllGoOn : List ℕ → Type 0
 AllGoOn [] = Unit {0}
 AllGoOn (b ∷ bs) = (128 ≤ b) × AllGoOn bs
@@ -264,7 +264,7 @@ AllGoOn (b ∷ bs) = (128 ≤ b) × AllGoOn bs
 abbrev pub EndsFirst : List ℕ → Type 0
 EndsFirst bytes = AllGoOn bytes × (length bytes ≤ 9)
 
--- nine bytes that go on, and a tenth above 1
+-- nine bytes with the top bit set, and a tenth above 1
 abbrev pub RunsOver : List ℕ → Type 0
 RunsOver bytes = (front : List ℕ) × (tenth : ℕ) × (rest : List ℕ)
     × (bytes ≡ front ++ tenth ∷ rest) × (length front ≡ 9) × AllGoOn front × (1 < tenth)

@@ -22,7 +22,7 @@ size_text n =
 
 -- Reading.
 
--- the number that digits at the front go on to spell, and what stands after them
+-- the number that n and the digits at the front spell, and the text after them
 unfoldable pub number_in : ℕ → List ℕ → ℕ × List ℕ
 number_in n [] = (n, [])
 number_in n (c ∷ cs) = if is_ascii_digit c then number_in (n * 10 + (c - 48)) cs else (n, c ∷ cs)
@@ -42,7 +42,7 @@ power_of letter =
     else (if letter == 80 then Some (2 ^ 50)
     else None))))
 
--- Nothing or B is a byte. One of K, M, G, T and P stands alone, before B, or before iB.
+-- Nothing or B is one byte. K, M, G, T or P comes alone, before B, or before iB.
 unfoldable pub unit_size : List ℕ → Option ℕ
 unit_size [] = Some 1
 unit_size (a ∷ []) = if a == 66 then Some 1 else power_of a
@@ -50,12 +50,12 @@ unit_size (a ∷ b ∷ []) = if b == 66 then power_of a else None
 unit_size (a ∷ b ∷ c ∷ []) = if b == 105 && c == 66 then power_of a else None
 unit_size (a ∷ b ∷ c ∷ d ∷ ds) = None
 
--- so many of a unit, if they fit
+-- n of the unit, if the size fits
 abbrev pub sized : ℕ → Option ℕ → Result ℕ ParseSizeError
 sized n None = Err UnknownUnit
 sized n (Some unit) = if nat_lt (n * unit) (2 ^ 64) then Ok (n * unit) else Err TooLarge
 
--- The first fault from the left stands.
+-- The first fault from the left is the result.
 unfoldable pub size_in : List ℕ → Result ℕ ParseSizeError
 size_in text =
     if starts_with_digit text
@@ -63,7 +63,7 @@ size_in text =
     then sized (number_in 0 text).0 (unit_size (number_in 0 text).1) else Err TooLarge)
     else Err NoNumber
 
--- what a reader of sizes answered is this size, or this fault
+-- a size's reader returns this size, or fails with this fault
 abbrev pub GivesSize : Result ReadableSize ParseSizeError → Result ℕ ParseSizeError → Type 0
 GivesSize result size = MatchResult result (λ s. size ≡ Ok s.0) (λ e. size ≡ Err e)
 

@@ -1,11 +1,11 @@
--- The texts of refusals.
+-- The texts of errors.
 use Rattle.std.specs.Prelude.{ℕ, List, Option, Some, None, codes}
 use Rattle.raft_log_record_base.specs.declared.codec.error.Error.{Error}
 use Rattle.raft_log_record_base.specs.declared.codec.error.Error.TheVariants.{Io, KeyLength, KeyPadding, KeyNotFound}
 use Rattle.raft_log_record_base.specs.declared.size.ParseSizeError.{ParseSizeError}
 use Rattle.raft_log_record_base.specs.declared.size.ParseSizeError.TheVariants.{NoNumber, UnknownUnit, TooLarge}
 
--- the text of a number's fault; no contract says how a kind is printed
+-- the text of a number's fault; contracts don't say how a kind is printed
 abbrev pub codec_fault_text : Error → Option (List ℕ)
 codec_fault_text (Io kind) = None
 codec_fault_text KeyLength = Some (codes "wrong length of a key")

@@ -1,4 +1,4 @@
-//! Why a call on the log is refused.
+//! Why a call on the log fails.
 ghost use Rattle.std.specs.Prelude.{◌≡◌};
 ghost use Rattle.raft_log_record_base.specs.declared.errors.Error.TheVariants as errors;
 
@@ -8,22 +8,22 @@ use std::alloc::{AllocError, AllocFailed, Global};
 use std::io::ErrorKind;
 use thiserror::Error;
 
-/// Why a call on the log is refused.
+/// Why a call on the log fails.
 #[derive(Debug, Drop, Error)]
 pub enum Error {
-    /// An argument that the call doesn't take.
+    /// The call rejects an argument.
     #[error("Invalid Argument: {0}")]
     InvalidArgument(String),
     /// Bytes that no log has.
     #[error("Corruption: {0}")]
     Corruption(String),
-    /// The file system refused.
+    /// A call of the file system failed.
     #[error("IO Error: {0}")]
     Io(ErrorKind),
     /// A number's bytes end too early, or the number doesn't fit.
     #[error("Codec Error: {0}")]
     Codec(codec::Error),
-    /// A message's `parse` refused the bytes.
+    /// A message's `parse` rejects the bytes.
     #[error("Message Error: {0}")]
     Message(String),
     /// Nothing was changed, and the same call may succeed.
@@ -44,10 +44,10 @@ pub enum Error {
     /// Memory ran out.
     #[error("Memory")]
     Memory,
-    /// A failure that could not be mended came before: nothing more is taken.
+    /// A failure that couldn't be repaired came before; the log takes nothing more.
     #[error("Failed")]
     Failed,
-    /// Entries past the end of those that are there.
+    /// The entries would leave a gap after those that are there.
     #[error("Hole")]
     Hole,
     /// The numbers of files have run out.
@@ -55,13 +55,13 @@ pub enum Error {
     NumberRange,
 }
 
-/// What a call on the log answers.
+/// What a call on the log returns.
 pub type Result<T, E = Error> = std::result::Result<T, E>;
 
 impl Error {
     ghost use Rattle.raft_log_record_base.specs.Fault.{IsOtherOf, IsInvalidSize};
 
-    /// Anything else that went wrong, or `Memory` where there is no room to keep it.
+    /// Any other error, or `Memory` if there is no memory to keep it.
     pub fn other(alloc: Global, error: anyhow::Error) -> Error
         ensures { IsOtherOf error result }
     {
@@ -71,8 +71,7 @@ impl Error {
         }
     }
 
-    /// A text that is no size, as an invalid argument, or `Memory` where there is no room for what is
-    /// wrong with it.
+    /// The error for a text that is no size: an invalid argument, or `Memory` if there is no memory for its text.
     pub fn invalid_size(alloc: Global, fault: ParseSizeError) -> Error
         ensures { IsInvalidSize fault result }
     {

@@ -3,16 +3,16 @@ ghost use Rattle.raft_log_record_base.specs.Grammar.{IsPrefixFree};
 ghost use Rattle.raft_log_record_base.specs.Number.{IsByte, IsU16, IsU32, IsU64, IsU16Le, IsU32Le, IsU64Le, IsU64Desc, IsI64, IsI64Desc, IsI32Le, IsI64Le, IsVarU64, IsVarI64};
 ghost use Rattle.raft_log_record_base.specs.Files.{AppendAboveRewrite, NumberedInQueue, OrderAgreesWithEquality};
 
-/// The order of files: each file of the append queue is above each of the rewrite queue, files of one
-/// queue are ordered by their numbers, and only one and the same file is neither above nor below.
+/// The order of files. Each file of the append queue is above each of the rewrite queue, and files of one queue are
+/// ordered by their numbers. Two files compare as equal if and only if they are the same file.
 pub fn file_order()
     ensures queues { AppendAboveRewrite }
     ensures numbers { NumberedInQueue }
     ensures equality { OrderAgreesWithEquality }
 {}
 
-/// No spelling of a number begins another one of its kind, and none spells two numbers. So numbers that
-/// are written one after another are read again, whatever follows.
+/// No spelling of a number begins another one of its kind, and none spells two numbers. Numbers written one after
+/// another can therefore be read back, whatever follows.
 pub fn no_number_begins_another()
     ensures byte { IsPrefixFree IsByte }
     ensures u16 { IsPrefixFree IsU16 }

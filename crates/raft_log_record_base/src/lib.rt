@@ -1,5 +1,4 @@
-//! What all of the log shares: numbers as bytes, sizes, rounding, queues, files and places in them, and
-//! why a call is refused.
+//! What the whole log shares: numbers as bytes, sizes, rounding, queues, files and places in them, and errors.
 #![tactic(auto)]
 
 pub mod codec;

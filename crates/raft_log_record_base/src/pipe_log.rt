@@ -1,4 +1,4 @@
-//! Queues, files and places in them, and what a file signs its records with.
+//! Queues, files and places in them, and the signature of a file's records.
 ghost use Rattle.std.specs.Prelude.{◌≡◌, ◌≢◌, ◌↔◌, IsTrue, IfSome, IfNone};
 ghost use Rattle.std.specs.Ordering.{as_partial_cmp};
 ghost use Rattle.std.proofs.Common.{rules};
@@ -8,19 +8,19 @@ ghost use Rattle.std.specs.Cmp.Rules.{comparing};
 use std::cmp::Ordering;
 use std::fmt;
 
-/// One of the two queues of log files.
+/// One of the two queues of segment files.
 #[derive(Clone, Copy, Debug, PartialEq, Eq, Hash)]
 pub enum LogQueue {
-    /// What is written first.
+    /// The queue that users write to.
     Append = 0,
-    /// What a purge writes again.
+    /// The queue that a purge writes to.
     Rewrite = 1,
 }
 
-/// The number of a log file in its queue.
+/// The number of a segment file in its queue.
 pub type FileSeq = u64;
 
-/// A log file: its queue and its number there.
+/// A segment file: its queue and its number there.
 ///
 /// Files are ordered by number within a queue, and each file of the append queue is above each of the
 /// rewrite queue.
@@ -73,18 +73,18 @@ impl PartialOrd for FileId {
     }
 }
 
-/// A place in a log file.
+/// A place in a segment file.
 #[derive(Clone, Copy, Debug, PartialEq, Eq)]
 pub struct FileBlockHandle {
     /// The file.
     pub id: FileId,
-    /// The first byte, counted from the file's start.
+    /// The offset of the first byte from the file's start.
     pub offset: u64,
-    /// How many bytes.
+    /// The number of bytes.
     pub len: usize,
 }
 
-/// The version of a log file's format.
+/// The version of a segment file's format.
 #[derive(Clone, Copy, Debug, PartialEq, Eq)]
 pub enum Version {
     /// Records are not signed.
@@ -110,7 +110,7 @@ impl Version {
         }
     }
 
-    /// The number that stands in a file's header.
+    /// The number of the version in a file's header.
     pub fn to_u64(self) -> u64
         ensures { result ≡ version_number self }
     {
@@ -155,7 +155,7 @@ impl fmt::Display for Version {
     }
 }
 
-/// A log file as its records need to know it: which file it is, and its format's version.
+/// What records need to know of a segment file: which file it is, and its format's version.
 #[derive(Clone, Copy, Debug, PartialEq, Eq)]
 pub struct LogFileContext {
     /// The file.
@@ -168,7 +168,7 @@ impl LogFileContext {
     ghost use Rattle.std.specs.Prelude.{◌≡◌};
     ghost use Rattle.raft_log_record_base.specs.Files.{signature_of};
 
-    /// What records need to know of this file, whose format has this version.
+    /// The context of this file, whose format has this version.
     pub fn new(id: FileId, version: Version) -> Self
         ensures id { result.id ≡ id }
         ensures version { result.version ≡ version }
@@ -176,8 +176,8 @@ impl LogFileContext {
         LogFileContext { id, version }
     }
 
-    /// What the checksum of each record of the file is combined with: the low 32 bits of the file's
-    /// number, and nothing where the format has no signatures.
+    /// The value with which the checksum of each record of the file is combined: the low 32 bits of the file's number,
+    /// or `None` if the format has no signatures.
     pub fn get_signature(&self) -> Option<u32>
         ensures { result ≡ signature_of self.now }
     {

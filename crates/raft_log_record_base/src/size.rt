@@ -27,9 +27,9 @@ pub const TIB: u64 = 1024 * GIB;
 /// 1,024 TiB.
 pub const PIB: u64 = 1024 * TIB;
 
-/// A size in bytes. It prints as the number of the greatest unit of `PiB`, `TiB`, `GiB`, `MiB` and `KiB`
-/// that divides it, else with `B`, and 0 as `0KiB`. It reads as a whole number and a unit: nothing, `B`,
-/// `K`, `KB`, `KiB`, and the same three forms of `M`, `G`, `T` and `P`, with white space before and after.
+/// A size in bytes. It prints as a number of the greatest unit of `PiB`, `TiB`, `GiB`, `MiB` and `KiB` that divides it,
+/// else with `B`; 0 prints as `0KiB`. It is read from a whole number and a unit: nothing, `B`, `K`, `KB`, `KiB`, and
+/// the same three forms of `M`, `G`, `T` and `P`, with white space before and after.
 #[derive(Clone, Copy, Debug, PartialEq, Eq, PartialOrd, Ord)]
 pub struct ReadableSize(pub u64);
 
@@ -38,14 +38,14 @@ pub struct ReadableSize(pub u64);
 pub enum ParseSizeError {
     /// The text doesn't begin with a digit.
     NoNumber,
-    /// What stands after the digits is no unit.
+    /// What follows the digits is no unit.
     UnknownUnit,
     /// The size doesn't fit 64 bits.
     TooLarge,
 }
 
 impl ReadableSize {
-    /// So many times 1,024 bytes.
+    /// `count` times 1,024 bytes.
     pub const fn kb(count: u64) -> ReadableSize
         requires { count * 2 ^ 10 < 2 ^ 64 }
         ensures { result.0 ≡ count * 2 ^ 10 }
@@ -53,7 +53,7 @@ impl ReadableSize {
         ReadableSize(count * KIB)
     }
 
-    /// So many times 1,024 KiB.
+    /// `count` times 1,024 KiB.
     pub const fn mb(count: u64) -> ReadableSize
         requires { count * 2 ^ 20 < 2 ^ 64 }
         ensures { result.0 ≡ count * 2 ^ 20 }
@@ -61,7 +61,7 @@ impl ReadableSize {
         ReadableSize(count * MIB)
     }
 
-    /// So many times 1,024 MiB.
+    /// `count` times 1,024 MiB.
     pub const fn gb(count: u64) -> ReadableSize
         requires { count * 2 ^ 30 < 2 ^ 64 }
         ensures { result.0 ≡ count * 2 ^ 30 }
@@ -69,7 +69,7 @@ impl ReadableSize {
         ReadableSize(count * GIB)
     }
 
-    /// How many whole MiB it has.
+    /// The number of whole MiB in it.
     pub const fn as_mb(self) -> u64
         ensures { result ≡ self.0 / 2 ^ 20 }
     {

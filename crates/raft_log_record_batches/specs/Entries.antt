@@ -1,4 +1,4 @@
--- Entries that are added to a batch, by their indexes and their bytes.
+-- Entries that are added to a batch with their indexes and their bytes.
 use Rattle.std.specs.Prelude.{◌≡◌, ◌⊎◌, ℕ, ◌+◌, ◌≤◌, ◌<◌, ◌^◌, ◌==◌, if◌then◌else◌, codes, List, [], ◌∷◌, ◌++◌, length, map, sum_by, flat_map, Option, All}
 use Rattle.std.specs.Borrow.{Bor}
 use Rattle.std.specs.Fmt.{decimal}
@@ -45,7 +45,7 @@ entries_item group offset indexes entries =
 abbrev pub joined : List (List ℕ) → List ℕ
 joined entries = flat_map (λ e. e) entries
 
--- the items that these entries of a group add: one, and none where there are no entries
+-- the items that these entries of a group add: one, or none if there are no entries
 abbrev pub entries_items : ℕ → ℕ → List ℕ → List (List ℕ) → List LogItem
 entries_items group offset indexes [] = []
 entries_items group offset indexes (x ∷ xs) = entries_item group offset indexes (x ∷ xs) ∷ []
@@ -58,24 +58,24 @@ with_entries b group indexes entries =
       entries = b.entries ++ joined entries;
     }
 
--- these entries of a group were added, and there is no less room
+-- these entries of a group were added, and the capacity for items didn't shrink
 abbrev pub AddsEntries : Batch → Batch → ℕ → List ℕ → List (List ℕ) → Type 0
 AddsEntries old new group indexes entries = Becomes (with_entries old group indexes entries) new
 
--- what these write as entries, each with its index, was added to a group
+-- these were added to a group as entries, each with its index and the bytes that it writes
 abbrev pub AddsRun : {E : Type 0} → (E → ℕ) → (E → List ℕ) → Batch → Batch → ℕ → List E → Type 0
 AddsRun index spelling old new group entries =
     AddsEntries old new group (map index entries) (map spelling entries)
 
--- how many bytes these entries have
+-- the length of these entries in bytes
 abbrev pub bytes_len : List (List ℕ) → ℕ
 bytes_len entries = sum_by (λ e. length e) entries
 
--- what is written of each of these is read as that message
+-- what is written for each of these messages is read as the message
 abbrev pub AreReadBack : {M : Type 0} → (M → List ℕ) → (List ℕ → Option M) → List M → Type 0
 AreReadBack spelling reading messages = All (IsReadBack spelling reading) messages
 
--- how many bytes are written of these
+-- the number of bytes that are written for these
 abbrev pub spelled_len : {E : Type 0} → (E → List ℕ) → List E → ℕ
 spelled_len spelling entries = bytes_len (map spelling entries)
 
@@ -83,15 +83,15 @@ spelled_len spelling entries = bytes_len (map spelling entries)
 abbrev pub MayHold : Batch → List (List ℕ) → Type 0
 MayHold b entries = length b.entries + bytes_len entries ≤ max_entries_len
 
--- the text that tells that so many indexes, given for so many entries, are no run
+-- the error's text if these many indexes, given for these many entries, are no run
 abbrev pub run_refusal : ℕ → ℕ → List ℕ
 run_refusal indexes entries =
     if indexes == entries
     then codes "entry indexes that don't rise by one, or of which one is 18446744073709551615"
     else decimal indexes ++ codes " indexes for " ++ decimal entries ++ codes " entries"
 
--- why entries are refused where so many bytes of entries are there: they are no run, or else they make too
--- many bytes, or memory ran out
+-- why entries aren't added to a batch with `held` bytes of entries: they are no run, or else they have too many bytes,
+-- or memory ran out
 abbrev pub IsEntriesRefusal : Error → ℕ → List ℕ → List (List ℕ) → Type 0
 IsEntriesRefusal errors.Memory held indexes entries = Unit {0}
 IsEntriesRefusal (errors.InvalidArgument text) held indexes entries =
@@ -100,16 +100,16 @@ IsEntriesRefusal errors.Full held indexes entries =
     IsRunWith indexes entries × (max_entries_len < held + bytes_len entries)
 IsEntriesRefusal _ held indexes entries = ⊥
 
--- why these, each with its index, are refused as entries of a batch with so many bytes of entries
+-- why these, each with its index, aren't added as entries to a batch with `held` bytes of entries
 abbrev pub IsMessagesRefusal : {E : Type 0} → (E → ℕ) → (E → List ℕ) → Error → ℕ → List E → Type 0
 IsMessagesRefusal index spelling e held entries =
     IsEntriesRefusal e held (map index entries) (map spelling entries)
 
--- why these are refused as entries of this batch
+-- why these aren't added as entries to this batch
 abbrev pub FailsToAddEntries : {E : Type 0} → (E → ℕ) → (E → List ℕ) → Error → Batch → List E → Type 0
 FailsToAddEntries index spelling e b entries = IsMessagesRefusal index spelling e (length b.entries) entries
 
--- why indexes for so many entries are refused
+-- why indexes for `count` entries are rejected
 abbrev pub IsRunRefusal : Error → List ℕ → ℕ → Type 0
 IsRunRefusal errors.Memory indexes count = Unit {0}
 IsRunRefusal (errors.InvalidArgument text) indexes count =
@@ -117,11 +117,11 @@ IsRunRefusal (errors.InvalidArgument text) indexes count =
     × (string_bytes text ≡ run_refusal (length indexes) count)
 IsRunRefusal _ indexes count = ⊥
 
--- why bytes are refused: memory ran out, or they would be more than this
+-- why bytes aren't added: memory ran out, or they would be more than `most`
 abbrev pub IsRoomRefusal : Error → ℕ → ℕ → Type 0
 IsRoomRefusal e most len = (e ≡ errors.Memory) ⊎ ((e ≡ errors.Full) × (most < len))
 
--- why the bytes of these are refused behind others: memory ran out, or there would be more than so many
+-- why the bytes of these aren't appended to others: memory ran out, or there would be more than `most`
 abbrev pub DoesNotFit : {M : Type 0} → (M → List ℕ) → Error → ℕ → List ℕ → List M → Type 0
 DoesNotFit spelling e most old messages = IsRoomRefusal e most (length old + spelled_len spelling messages)
 
@@ -129,7 +129,7 @@ DoesNotFit spelling e most old messages = IsRoomRefusal e most (length old + spe
 abbrev pub indexes_of : List EntryIndex → List ℕ
 indexes_of entries = map (λ e. e.index) entries
 
--- why two batches with these bytes of entries don't become one: memory ran out, or they would be too many
+-- why two batches with these bytes of entries can't be merged: memory ran out, or the bytes would be too many
 abbrev pub IsMergeRefusal : Error → List ℕ → List ℕ → Type 0
 IsMergeRefusal e entries others = IsRoomRefusal e max_entries_len (length entries + length others)
 
@@ -145,12 +145,12 @@ laid_slices offset indexes slices = laid_run offset (entries_of (indexes_of inde
 abbrev pub AddsSlices : Batch → Batch → ℕ → List EntryIndex → List (Bor (List ℕ)) → Type 0
 AddsSlices old new group indexes slices = AddsEntries old new group (indexes_of indexes) (slices_bytes slices)
 
--- why such entries of a batch are refused
+-- why such entries aren't added to a batch
 abbrev pub IsSlicesRefusal : Error → Batch → List EntryIndex → List (Bor (List ℕ)) → Type 0
 IsSlicesRefusal e b indexes slices =
     IsEntriesRefusal e (length b.entries) (indexes_of indexes) (slices_bytes slices)
 
--- the entries with the indexes of these, and as many bytes as are written of each of those
+-- the entries with these indexes, each as long as what is written for it
 abbrev pub sized : {E : Type 0} → (E → List ℕ) → List EntryIndex → List E → List EntryIndex
 sized spelling indexes entries = entries_of (indexes_of indexes) (map spelling entries)
 

@@ -1,4 +1,4 @@
--- Why a key is refused.
+-- Why a key is rejected.
 use Rattle.std.specs.Prelude.{◌≡◌, ℕ, List, IsTrue, codes}
 use Rattle.std.specs.String.{string_bytes}
 use Rattle.raft_log_record_base.specs.declared.errors.Error.{Error}
@@ -6,22 +6,21 @@ use Rattle.raft_log_record_base.specs.declared.errors.Error.TheVariants as error
 use Rattle.raft_log_record_marks.specs.Key.{is_internal}
 use Rattle.raft_log_record_marks.specs.Marking.{mark_key}
 
--- the text that tells that a key is one of the log's own
+-- the error's text if a key is one of the log's own
 abbrev pub reserved_key : List ℕ
 reserved_key = codes "key prefix `__` reserved for internal usage"
 
--- why a key is refused: it is one of the log's own, and that is its text, or memory ran out
+-- why a key is rejected: it is one of the log's own, and this is the text, or memory ran out
 abbrev pub IsKeyRefusal : Error → List ℕ → Type 0
 IsKeyRefusal errors.Memory key = Unit {0}
 IsKeyRefusal (errors.InvalidArgument text) key = IsTrue (is_internal key) × (string_bytes text ≡ reserved_key)
 IsKeyRefusal _ key = ⊥
 
--- the text that tells that a value would be a mark of an atomic group
+-- the error's text if a value would be a mark of an atomic group
 abbrev pub reserved_mark : List ℕ
 reserved_mark = codes "a mark of an atomic group is no value"
 
--- why a value as it was read is refused: it would be a mark of an atomic group, and that is its text, or memory
--- ran out
+-- why a value that was read is rejected: it would be a mark of an atomic group, and this is the text, or memory ran out
 abbrev pub IsMarkRefusal : Error → ℕ → List ℕ → Type 0
 IsMarkRefusal errors.Memory group key = Unit {0}
 IsMarkRefusal (errors.InvalidArgument text) group key =

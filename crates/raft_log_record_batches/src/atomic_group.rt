@@ -1,5 +1,4 @@
-//! Atomic groups: several batches that count together or not at all. A mark in each batch tells which part it
-//! is.
+//! Atomic groups: several batches that count together or not at all. A mark in each batch says which part it is.
 use crate::log_batch::LogBatch;
 use raft_log_record_marks::{AtomicGroupStatus, mark_value};
 use std::alloc::{AllocError, Global};
@@ -36,7 +35,7 @@ impl AtomicGroupBuilder {
     ghost use Rattle.raft_log_record_batches.specs.AtomicGroup.{IsGroupOpen, Marks};
     ghost use Rattle.raft_log_record_batches.specs.Batch.{Becomes, with_item};
 
-    /// A builder for the group of this number, which has not begun.
+    /// A builder for the group with this number, which has not begun.
     pub fn with_id(id: u64) -> Self
         ensures { result ≡ record { id = id; status = None } }
     {
@@ -50,7 +49,7 @@ impl AtomicGroupBuilder {
         self.status
     }
 
-    /// Adds a mark of the group to a batch that has none. A refusal changes no item.
+    /// Adds a mark of the group to a batch that has none. If it fails, no item changes.
     fn mark(
         &mut self,
         alloc: Global,
@@ -70,7 +69,7 @@ impl AtomicGroupBuilder {
         Ok(())
     }
 
-    /// Marks the first batch of the group, which has no mark yet. A refusal changes no item.
+    /// Marks the first batch of the group, which has no mark yet. If it fails, no item changes.
     pub fn begin(&mut self, alloc: Global, batch: &mut LogBatch) -> Result<(), AllocError>
         requires filling { batch.old.state ≡ Filling }
         requires unmarked { marking_of_items batch.old.items ≡ Unmarked }
@@ -83,8 +82,7 @@ impl AtomicGroupBuilder {
         self.mark(alloc, batch, AtomicGroupStatus::Begin)
     }
 
-    /// Marks a batch between the first and the last of the group, which has no mark yet. A refusal changes no
-    /// item.
+    /// Marks a batch between the first and the last of the group, which has no mark yet. If it fails, no item changes.
     pub fn add(&mut self, alloc: Global, batch: &mut LogBatch) -> Result<(), AllocError>
         requires filling { batch.old.state ≡ Filling }
         requires unmarked { marking_of_items batch.old.items ≡ Unmarked }
@@ -97,7 +95,7 @@ impl AtomicGroupBuilder {
         self.mark(alloc, batch, AtomicGroupStatus::Middle)
     }
 
-    /// Marks the last batch of the group, which has no mark yet. A refusal changes no item.
+    /// Marks the last batch of the group, which has no mark yet. If it fails, no item changes.
     pub fn end(&mut self, alloc: Global, batch: &mut LogBatch) -> Result<(), AllocError>
         requires filling { batch.old.state ≡ Filling }
         requires unmarked { marking_of_items batch.old.items ≡ Unmarked }

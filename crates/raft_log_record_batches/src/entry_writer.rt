@@ -1,7 +1,7 @@
 //! Entries that write their own bytes.
 use std::alloc::AllocError;
 
-/// Entries that write their own bytes, each known by its place among them.
+/// Entries that write their own bytes. Each is known by its place among them.
 ///
 /// Contracts see the bytes of each.
 pub trait EntryWriter {
@@ -12,11 +12,11 @@ pub trait EntryWriter {
     /// The bytes of each entry, in order.
     ghost texts: { Self → List (List ℕ) };
 
-    /// How many entries there are.
+    /// The number of entries.
     fn len(&self) -> usize
         ensures { result ≡ length (texts self.now) };
 
-    /// Appends the bytes of the entry at this place. A refusal may leave a part behind what was there.
+    /// Appends the bytes of the entry at this place. If it fails, a part may follow the old bytes.
     fn append(&self, place: usize, out: &mut Vec<u8>) -> Result<(), AllocError>
         requires { place < length (texts self.now) }
         ensures ok { OnOk result (AppendsText (texts self.now) place out.old.items out.new.items) }

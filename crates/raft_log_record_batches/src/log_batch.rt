@@ -23,23 +23,23 @@ mod merge;
 mod messages;
 mod room;
 
-/// How many bytes a checksum has.
+/// The length of a checksum in bytes.
 const CHECKSUM_LEN: usize = 4;
 
 /// The most bytes that the entries of a batch may have.
 const MAX_ENTRIES_LEN: usize = 2_147_483_647;
 
-/// The most bytes of a buffer that an emptied batch keeps.
+/// The most bytes of a buffer that a batch keeps when it is emptied.
 const MAX_KEPT_LEN: usize = 8 << 20;
 
 /// How far a batch is on its way to a file.
 #[derive(Clone, Copy, Debug, PartialEq, Eq)]
 pub enum BatchState {
-    /// Items are added.
+    /// Items are being added.
     Filling,
     /// The record is made, and not signed yet.
     Populated,
-    /// The record is signed with this, for a file.
+    /// The record is signed for a file, with this signature.
     Signed(Option<u32>),
     /// The record is in a file, and the items have their places.
     Written,
@@ -47,15 +47,15 @@ pub enum BatchState {
 
 /// Items and the bytes of their entries, and the record of these.
 ///
-/// Contracts see a batch as its state, its items, the bytes of their entries, and for how many items and how
-/// many bytes of a record it has room.
+/// Contracts see a batch as its state, its items, the bytes of their entries, and its capacity for items and for bytes
+/// of a record.
 #[derive(Debug, Drop)]
 pub struct LogBatch {
     items: LogItemBatch,
-    /// Room for the header, the entries' bytes, and once it is populated the rest of the record; no byte at
-    /// all where the buffer was given back.
+    /// Room for the header, the entries' bytes, and once it is populated the rest of the record. It has no bytes if the
+    /// buffer was freed.
     buf: Vec<u8>,
-    /// How many bytes the entries have.
+    /// The length of all entries in bytes.
     entries_len: usize,
     /// The checksum of the items, once the batch is populated.
     checksum: u32,
@@ -93,14 +93,14 @@ impl LogBatch {
     ghost use Rattle.raft_log_record_batches.specs.Batch.{IsReadyForEach, IsRecordOf, block_place};
     ghost use Rattle.raft_log_record_batches.specs.Places.{HasBytesInBlock};
 
-    /// An empty batch, which is being filled.
+    /// An empty batch, in state `Filling`.
     pub fn default(alloc: Global) -> Result<Self, AllocError>
         ensures { IfOk result (λ b. b ≡ empty_batch 0 0) }
     {
         LogBatch::with_capacity(alloc, 0)
     }
 
-    /// An empty batch with room for so many items.
+    /// An empty batch with room for this many items.
     pub fn with_capacity(alloc: Global, capacity: usize) -> Result<Self, AllocError>
         ensures { IfOk result (λ b. b ≡ empty_batch capacity 0) }
     {
@@ -113,7 +113,7 @@ impl LogBatch {
         })
     }
 
-    /// A copy of the batch, as far on its way as this one.
+    /// A copy of the batch, in the same state.
     pub fn clone(&self, alloc: Global) -> Result<Self, AllocError>
         ensures { IfOk result (λ b. b ≡ record self.now { capacity = b.capacity; buffer = b.buffer }) }
     {
@@ -128,21 +128,21 @@ impl LogBatch {
         })
     }
 
-    /// Whether nothing was added.
+    /// Whether the batch has no items.
     pub fn is_empty(&self) -> bool
         ensures { IsTrue result ↔ (self.now.items ≡ []) }
     {
         self.items.is_empty()
     }
 
-    /// How many items there are.
+    /// The number of items.
     pub fn len(&self) -> usize
         ensures { result ≡ length self.now.items }
     {
         self.items.len()
     }
 
-    /// The items; once the batch is written, with their places.
+    /// The items. Once the batch is written, they have their places.
     pub fn items(&self) -> &[LogItem]
         ensures { result.now ≡ self.now.items }
     {
@@ -163,7 +163,7 @@ impl LogBatch {
         self.state
     }
 
-    /// Adds a mark of an atomic group. A refusal changes no item.
+    /// Adds a mark of an atomic group. If it fails, no item changes.
     pub(crate) fn put_mark(&mut self, alloc: Global, value: &[u8]) -> Result<(), AllocError>
         requires { self.old.state ≡ Filling }
         ensures ok { OnOk result (Puts self.old self.new 0 mark_key value.now) }
@@ -173,7 +173,7 @@ impl LogBatch {
         self.items.put(alloc, MARK_GROUP, &MARK_KEY, value)
     }
 
-    /// Adds a command of a group. A refusal changes nothing.
+    /// Adds a command of a group. If it fails, nothing changes.
     pub fn add_command(&mut self, raft_group_id: u64, command: Command) -> Result<(), AllocError>
         requires { self.old.state ≡ Filling }
         ensures ok { OnOk result (AddsItem self.old self.new (command_item raft_group_id command)) }
@@ -184,8 +184,8 @@ impl LogBatch {
         self.items.add_command(raft_group_id, command)
     }
 
-    /// Adds a key that gets a value. A key that begins with two underscores is refused as an invalid
-    /// argument. A refusal changes no item.
+    /// Adds a put of a key. Fails with `InvalidArgument` if the key begins with two underscores. If it fails, no item
+    /// changes.
     pub fn put(&mut self, alloc: Global, raft_group_id: u64, key: &[u8], value: &[u8]) -> Result<()>
         requires { self.old.state ≡ Filling }
         ensures ok { OnOk result (Puts self.old self.new raft_group_id key.now value.now) }
@@ -199,8 +199,8 @@ impl LogBatch {
         Ok(())
     }
 
-    /// Adds a key that gets these bytes, which aren't copied. A key that begins with two underscores is refused
-    /// as an invalid argument. A refusal changes no item.
+    /// Adds a put of a key with these bytes, which aren't copied. Fails with `InvalidArgument` if the key begins with
+    /// two underscores. If it fails, no item changes.
     pub fn put_bytes(
         &mut self,
         alloc: Global,
@@ -220,8 +220,8 @@ impl LogBatch {
         Ok(())
     }
 
-    /// Adds a key that loses its value. A key that begins with two underscores is refused as an invalid
-    /// argument. A refusal changes no item.
+    /// Adds a deletion of a key. Fails with `InvalidArgument` if the key begins with two underscores. If it fails, no
+    /// item changes.
     pub fn delete(&mut self, alloc: Global, raft_group_id: u64, key: &[u8]) -> Result<()>
         requires { self.old.state ≡ Filling }
         ensures ok { OnOk result (AddsItem self.old self.new (del_item raft_group_id key.now)) }
@@ -235,8 +235,8 @@ impl LogBatch {
         Ok(())
     }
 
-    /// Adds a key that gets the bytes of a message. A key that begins with two underscores is refused as an
-    /// invalid argument. A refusal changes no item.
+    /// Adds a put of a key with the bytes of a message. Fails with `InvalidArgument` if the key begins with two
+    /// underscores. If it fails, no item changes.
     pub fn put_message<M: Message>(
         &mut self,
         alloc: Global,
@@ -257,8 +257,8 @@ impl LogBatch {
         Ok(())
     }
 
-    /// Adds a key that gets a value as it was read of a log: the key may be one of the log's own. What would be
-    /// a mark of an atomic group is refused as an invalid argument. A refusal changes no item.
+    /// Adds a put of a key as it was read from a log: the key may be one of the log's own. Fails with `InvalidArgument`
+    /// if it would be a mark of an atomic group. If it fails, no item changes.
     pub fn put_as_read(
         &mut self,
         alloc: Global,
@@ -278,8 +278,8 @@ impl LogBatch {
         Ok(())
     }
 
-    /// Adds a key that loses its value as it was read of a log: the key may be one of the log's own, as no mark
-    /// of an atomic group takes a value away. A refusal changes no item.
+    /// Adds a deletion of a key as it was read from a log: the key may be one of the log's own, because no mark is a
+    /// deletion. If it fails, no item changes.
     pub fn delete_as_read(
         &mut self,
         alloc: Global,
@@ -294,11 +294,10 @@ impl LogBatch {
         self.items.delete(alloc, raft_group_id, key)
     }
 
-    /// Makes the record, and answers how many bytes it has, for whatever file it will be signed. An empty
-    /// batch has none, and isn't refused.
+    /// Makes the record, and returns its length in bytes, which is the same for every file that it may be signed for.
+    /// An empty batch has no bytes, and doesn't fail.
     ///
-    /// Refused as full is a record whose length needs more than 56 bits. A refusal changes nothing but the
-    /// memory of the buffer.
+    /// Fails with `Full` if the record's length needs more than 56 bits. If it fails, only the buffer's memory changes.
     pub fn finish_populate(&mut self) -> Result<usize>
         requires { self.old.state ≡ Filling }
         ensures ok { OnOk result (IsButBuffer (record self.old { state = Populated }) self.new) }
@@ -327,8 +326,8 @@ impl LogBatch {
         }
     }
 
-    /// How many bytes the record has, for whatever file it is signed. An empty batch has none. Its entries lie
-    /// one behind another.
+    /// The record's length in bytes, the same for every file that it may be signed for. An empty batch has none. Its
+    /// entries are one after another in its block.
     pub fn encoded_len(&self) -> usize
         requires { IsMade self.now.state }
         ensures ready { IsReadyForEach result self.now.items self.now.entries }
@@ -357,7 +356,7 @@ impl LogBatch {
         self.state = BatchState::Signed(signature);
     }
 
-    /// Takes the signature back: the record was not written, and may be signed anew.
+    /// Removes the signature: the record was not written, and may be signed again.
     pub fn unsign(&mut self)
         requires { IsSigned self.old.state }
         ensures { self.new ≡ record self.old { state = Populated } }
@@ -370,7 +369,7 @@ impl LogBatch {
         self.state = BatchState::Populated;
     }
 
-    /// Takes the record back: the batch is being filled again, with all that was added.
+    /// Removes the record: the batch is being filled again, with all that was added.
     pub fn unpopulate(&mut self)
         requires { self.old.state ≡ Populated }
         ensures { self.new ≡ record self.old { state = Filling } }
@@ -393,8 +392,8 @@ impl LogBatch {
         bytes
     }
 
-    /// The record is written at this place. Each entry gets the place of the entry block, which begins behind
-    /// the header, and each key gets the file.
+    /// Takes note that the record is written at this place. Each entry gets the place of the entry block, which begins
+    /// after the header, and each key gets the file.
     pub fn finish_write(&mut self, handle: FileBlockHandle)
         requires signed { IsSigned self.old.state }
         requires place { handle.offset + 16 < 2 ^ 64 }
@@ -414,8 +413,8 @@ impl LogBatch {
         self.state = BatchState::Written;
     }
 
-    /// About how many bytes the record has: those of the header and of the entry block, and of the footer
-    /// with each number counted as eight bytes; 2^64 - 1 where there are more. An empty batch has none.
+    /// About how many bytes the record has: those of the header and the entry block, and those of the footer if each
+    /// number has eight; 2^64 - 1 if it would be more. An empty batch has none.
     pub fn approximate_size(&self) -> usize
         ensures { result ≡ min (batch_size self.now.items self.now.entries) (2 ^ 64 - 1) }
     {
@@ -425,9 +424,9 @@ impl LogBatch {
         items_size(self.items.as_slice()).saturating_add(28 + block_len(self.entries_len))
     }
 
-    /// Gives the items back, behind what is there, and leaves an empty batch that is being filled, with its
-    /// room. Only where there is no room for the items it may be refused, and then changes nothing. The
-    /// vector has no less room than it had.
+    /// Moves the items to the end of the vector, and leaves an empty batch in state `Filling`, with its capacity for
+    /// items. It can fail only if the vector has no room for them, and then changes nothing. The vector's capacity
+    /// doesn't shrink.
     pub fn drain(&mut self, into: &mut Vec<LogItem>) -> Result<(), AllocError>
         ensures items { OnOk result (into.new.items ≡ into.old.items ++ self.old.items) }
         ensures room { vec_capacity into.old ≤ vec_capacity into.new }
@@ -443,8 +442,8 @@ impl LogBatch {
         Ok(())
     }
 
-    /// Drops what was added, and leaves an empty batch that is being filled, with its room for items. The
-    /// buffer is kept too, but one of more than 8 MiB is given back.
+    /// Drops what was added, and leaves an empty batch in state `Filling`, with its capacity for items. It keeps the
+    /// buffer too, unless that has more than 8 MiB.
     pub fn clear(&mut self)
         ensures emptied { self.new ≡ emptied self.old }
         ensures bounded { self.new.buffer ≤ max_kept_len }
@@ -466,7 +465,7 @@ fn is_internal(key: &[u8]) -> bool
     }
 }
 
-/// Refuses the log's own keys.
+/// Fails if the key is one of the log's own.
 fn check_key(alloc: Global, key: &[u8]) -> Result<()>
     ensures ok { OnOk result (is_internal key.now ≡ false) }
     ensures errors { IfErr result (λ e. IsKeyRefusal e key.now) }
@@ -479,7 +478,7 @@ fn check_key(alloc: Global, key: &[u8]) -> Result<()>
     Ok(())
 }
 
-/// Refuses what would be a mark of an atomic group.
+/// Fails if a put of this key would be a mark of an atomic group.
 #[tactic(auto, unfolding(raft_log_record_marks::specs::Marking::has_mark_key))]
 fn check_mark(alloc: Global, raft_group_id: u64, key: &[u8]) -> Result<()>
     ensures ok { OnOk result ((value : List ℕ) → has_mark_key (put_item raft_group_id key.now value) ≡ false) }
@@ -493,7 +492,7 @@ fn check_mark(alloc: Global, raft_group_id: u64, key: &[u8]) -> Result<()>
     Ok(())
 }
 
-/// How many bytes the block of entries with so many bytes has.
+/// The length of the block of entries with `len` bytes.
 fn block_len(len: usize) -> usize
     requires { len ≤ max_entries_len }
     ensures { result ≡ (if len == 0 then 0 else len + 4) }
@@ -501,8 +500,8 @@ fn block_len(len: usize) -> usize
     if len == 0 { 0 } else { len + CHECKSUM_LEN }
 }
 
-/// Makes room for so many more bytes, and for a header in a buffer that has no byte, by one reservation. A
-/// refusal leaves the bytes.
+/// Makes room for this many more bytes, and for a header in an empty buffer, in one reservation. If it fails, the bytes
+/// are unchanged.
 fn make_room(buf: &mut Vec<u8>, more: usize) -> Result<(), AllocError>
     ensures ok { OnOk result (buf.new.items ≡ roomy buf.old.items) }
     ensures room { OnOk result (vec_len buf.new + more ≤ vec_capacity buf.new) }
@@ -517,7 +516,7 @@ fn make_room(buf: &mut Vec<u8>, more: usize) -> Result<(), AllocError>
     buf.extend_from_slice(&[0; LOG_BATCH_HEADER_LEN])
 }
 
-/// Leaves of a buffer the room for the header alone, and gives back one that has more than is kept.
+/// Truncates the buffer to the room for the header, or frees it if it has more than is kept.
 fn empty(buf: &mut Vec<u8>)
     requires { 16 ≤ length (roomy buf.old.items) }
     ensures header { length (roomy buf.new.items) ≡ 16 }

@@ -1,5 +1,5 @@
--- Laws of the bound: no record is longer, each addition to a batch raises it by what is added, and below 2 ^ 56
--- the record is made.
+-- Laws of the bound: no record is longer; each addition to a batch raises it by at most what is added; below 2 ^ 56 the
+-- record is made.
 use Rattle.std.specs.Prelude.{◌≡◌, ◌≢◌, ℕ, ◌+◌, ◌*◌, ◌≤◌, ◌<◌, ◌^◌, List, [], ◌∷◌, length}
 use Rattle.raft_log_record_base.specs.declared.errors.Error.{Error}
 use Rattle.raft_log_record_base.specs.declared.errors.Error.TheVariants as errors
@@ -19,7 +19,7 @@ abbrev pub NoRecordIsLonger : Type 0
 NoRecordIsLonger =
     (items : List LogItem) (entries : List ℕ) → record_len items entries ≤ record_bound items entries
 
--- What is added to a batch raises its bound by so many bytes. A batch with nothing in it has 34.
+-- Each addition to a batch raises its bound by at most this. The bound of an empty batch is 34.
 pub record AdditionsRaise : Type 0 where
   pub nothing : (capacity buffer : ℕ) → batch_bound (empty_batch capacity buffer) ≡ 34
   pub entries : (old new : Batch) (g : ℕ) (indexes : List ℕ) (entries : List (List ℕ))
@@ -34,22 +34,22 @@ pub record AdditionsRaise : Type 0 where
   pub batch : (old new other : Batch) → Becomes (with_batch old other) new
       → batch_bound new + 34 ≡ batch_bound old + batch_bound other
 
--- Entries with which a batch has no more bytes of entries than it may have aren't refused as `Full`.
+-- If a batch may have the bytes of these entries too, they don't fail with `Full`.
 abbrev pub EntriesThatFitAreNotFull : Type 0
 EntriesThatFitAreNotFull = (b : Batch) (indexes : List ℕ) (entries : List (List ℕ)) (error : Error)
     → MayHold b entries → IsEntriesRefusal error (length b.entries) indexes entries → error ≢ errors.Full
 
--- The record of a batch whose bound is below 2 ^ 56 isn't made for want of memory alone.
+-- If a batch's bound is below 2 ^ 56, its record fails only for lack of memory.
 abbrev pub BoundedRecordsAreMade : Type 0
 BoundedRecordsAreMade = (b : Batch) (error : Error) → batch_bound b < 2 ^ 56
     → IsMemoryOrFull error (record_len b.items b.entries) → error ≡ errors.Memory
 
--- the record of these items and entries has so many bytes, and this is its bound
+-- the record of these items and entries has `len` bytes, and this is its bound
 abbrev pub HasLenAndBound : List LogItem → List ℕ → ℕ → ℕ → Type 0
 HasLenAndBound items entries len bound = (record_len items entries ≡ len) × (record_bound items entries ≡ bound)
 
--- `Clean` of group 1 has a record of 24 bytes, and one of at most 66 by its bound. Two entries of group 7, from
--- index 5 on, with two bytes and three, have one of 36, and of at most 91.
+-- The record of `Clean` of group 1 has 24 bytes, and its bound is 66. The record of two entries of group 7, from index
+-- 5 on, with two bytes and three, has 36 bytes, and its bound is 91.
 pub record WorkedRecords : Type 0 where
   pub clean : HasLenAndBound (command_item 1 commands.Clean ∷ []) [] 24 66
   pub two : HasLenAndBound

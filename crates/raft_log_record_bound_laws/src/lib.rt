@@ -1,5 +1,5 @@
-//! How long a record is at most, by how many entries, keys and values are in its batch and how many bytes they
-//! have: laws alone, no code that runs. So a caller can tell from what it adds that nothing is refused as
+//! The most bytes of a record, computed from the entries, keys and values in its batch and their lengths. This crate
+//! has laws alone, no code that runs. With them a caller knows before it adds to a batch that nothing fails with
 //! `Full`.
 #![tactic(auto)]
 
@@ -11,29 +11,29 @@ ghost use Rattle.raft_log_record_bound_laws.specs.Laws.{
   WorkedRecords,
 };
 
-/// A record takes at most 34 bytes, 32 for each item, ten for each entry, and the bytes of the entries, the keys
-/// and the values.
+/// A record has at most 34 bytes, 32 for each item, ten for each entry, and the bytes of the entries, the keys and the
+/// values.
 pub fn no_record_is_longer()
     ensures { NoRecordIsLonger }
 {}
 
-/// What is added to a batch raises its bound by 32 bytes, ten for each entry, and the bytes of the entries, or of
-/// the key and the value.
+/// Each addition to a batch raises its bound by at most 32 bytes, ten for each entry, and the bytes of the entries or
+/// of the key and value.
 pub fn additions_raise()
     ensures { AdditionsRaise }
 {}
 
-/// Entries that fit into what a batch may have aren't refused as `Full`.
+/// If a batch may have the bytes of these entries too, they don't fail with `Full`.
 pub fn entries_that_fit_are_not_full()
     ensures { EntriesThatFitAreNotFull }
 {}
 
-/// The record of a batch whose bound is below 2^56 is made, unless memory runs out.
+/// If a batch's bound is below 2^56, its record is made unless memory runs out.
 pub fn bounded_records_are_made()
     ensures { BoundedRecordsAreMade }
 {}
 
-/// The bound of two records that are worked out byte by byte.
+/// The lengths and bounds of two records, computed byte by byte.
 pub fn worked_records()
     ensures { WorkedRecords }
 {}

@@ -1,8 +1,8 @@
--- Folding: a byte is taken out of the input, and what it would leave in the register is owed by the bytes that follow it.
+-- Folding takes a byte out of the input; the bytes after it owe what it would leave in the register.
 use Rattle.std.specs.Prelude.{ℕ, ◌-◌, List, length, drop, bit_xor}
 use Rattle.raft_log_record_checksum.specs.Checksum.{crc_bits, crc_after}
 
--- the last so many elements
+-- the last n elements
 abbrev pub ending : ℕ → List ℕ → List ℕ
 ending n xs = drop (length xs - n) xs
 

@@ -1,5 +1,4 @@
-//! The checksum of the log's formats: CRC-32 with the reflected polynomial `EDB88320`, as of zlib and
-//! Ethernet.
+//! CRC-32, the checksum of the log's formats, with the reflected polynomial `EDB88320` that zlib and Ethernet use.
 
 mod few_zeros;
 mod folding;
@@ -13,14 +12,14 @@ use few_zeros::AFTER_FEW;
 use folding::after_long;
 use many_zeros::AFTER_MANY;
 
-/// What a byte leaves after fewer than eight zero bytes, and after eight and more: one table, so that the
-/// loop over chunks needs one address.
+/// What a byte leaves after fewer than eight zero bytes, and after eight or more. It is one table, so that the loop
+/// over chunks needs one address.
 const AFTER: [[[u32; 256]; 8]; 2] = [AFTER_FEW, AFTER_MANY];
 
-/// The register at the start, and what turns it at the end.
+/// The register's first value; the last value is xored with it.
 const ALL_ONES: u32 = u32::MAX;
 
-/// From so many bytes on, folding is faster than reading the tables for each byte.
+/// From this length on, folding is faster than table reads for each byte.
 const LONG: usize = 768;
 
 /// The CRC-32 of the bytes.
@@ -42,7 +41,7 @@ fn after_all(register: u32, bytes: &[u8]) -> u32
     }
 }
 
-/// The register after the bytes, by the tables.
+/// The register after the bytes, computed with the tables.
 fn after_short(register: u32, bytes: &[u8]) -> u32
     ensures { result ≡ crc_after register bytes.now }
 {
@@ -72,8 +71,8 @@ fn after_bytes(register: u32, bytes: &[u8]) -> u32
     register
 }
 
-/// The register after sixteen bytes: it goes into the first four, and then each byte counts for itself.
-/// Those that don't wait for the register come first.
+/// The register after sixteen bytes. It is xored into the first four, and then each byte counts by itself. The bytes
+/// that don't need the register are computed first.
 #[inline]
 fn after_chunk(register: u32, chunk: &[u8; 16]) -> u32
     ensures { result ≡ crc_after register chunk.now }
@@ -117,7 +116,7 @@ fn after_last_eight(bytes: [u8; 8]) -> u32
         ^ after_few(0, h)
 }
 
-/// What a byte leaves after so many zero bytes.
+/// What a byte leaves after `zeros` zero bytes.
 #[inline(always)]
 fn after_few(zeros: usize, byte: u8) -> u32
     requires { zeros < 8 }
@@ -126,7 +125,7 @@ fn after_few(zeros: usize, byte: u8) -> u32
     AFTER[0][zeros][byte as usize]
 }
 
-/// What a byte leaves after eight zero bytes and so many more.
+/// What a byte leaves after eight zero bytes and `zeros` more.
 #[inline(always)]
 fn after_many(zeros: usize, byte: u8) -> u32
     requires { zeros < 8 }

@@ -7,10 +7,10 @@ const FIRST_FACTOR: u64 = 0xBF58476D1CE4E5B9;
 
 const SECOND_FACTOR: u64 = 0x94D049BB133111EB;
 
-/// The product with `FIRST_FACTOR` is 1, in 64 bits.
+/// Its product with `FIRST_FACTOR` is 1, in 64 bits.
 const FIRST_INVERSE: u64 = 0x96DE1B173F119089;
 
-/// The product with `SECOND_FACTOR` is 1, in 64 bits.
+/// Its product with `SECOND_FACTOR` is 1, in 64 bits.
 const SECOND_INVERSE: u64 = 0x319642B2D24D8EC3;
 
 /// The hash of a number.
@@ -24,7 +24,7 @@ pub fn hash_u64(number: u64) -> u64
     number ^ (number >> 31)
 }
 
-/// The number of which this is the hash.
+/// The number that has this hash.
 #[inline]
 pub fn unhash_u64(hash: u64) -> u64
     ensures { (number : ℕ) → number < 2 ^ 64 → hash ≡ hash_of number → result ≡ number }
@@ -34,7 +34,7 @@ pub fn unhash_u64(hash: u64) -> u64
     unfold_down(number, 30)
 }
 
-/// The number that was xored with itself, so many bits down.
+/// The number whose xor with itself, shifted down by `bits`, is `folded`.
 #[inline]
 fn unfold_down(folded: u64, bits: u32) -> u64
     requires least { 22 ≤ bits }

@@ -8,7 +8,7 @@ use Rattle.raft_log_record_items.specs.Items.{AreItems}
 use Rattle.raft_log_record_items.specs.Writing.{items_bytes, plain_item}
 use Rattle.raft_log_record_frames.specs.Record.{IsFooter, block_bytes, record_bytes, record_len}
 
--- the record in the buffer, whose length fits, and the checksum of its items before it is signed
+-- the buffer holds the record, whose length fits, and this is the checksum of its items before it is signed
 pub record HoldsRecordBytes (signature : Option ℕ) (buffer : List ℕ) (checksum : ℕ) (items : List LogItem)
     (entries : List ℕ) : Type 0 where
   pub bytes : buffer ≡ record_bytes signature items entries
@@ -21,7 +21,7 @@ pub record HoldsRecordBytes (signature : Option ℕ) (buffer : List ℕ) (checks
 abbrev pub IsPlainFooter : List ℕ → List LogItem → Type 0
 IsPlainFooter bytes items = IsFooter None bytes (map plain_item items)
 
--- the buffer with the block of the entries' bytes that stand behind room for a header
+-- the buffer with the block of the entries' bytes, which follow room for a header
 abbrev pub with_block : List ℕ → List ℕ
 with_block buffer = take 16 buffer ++ block_bytes (drop 16 buffer)
 
@@ -29,7 +29,7 @@ with_block buffer = take 16 buffer ++ block_bytes (drop 16 buffer)
 abbrev pub IsMemoryOrFull : Error → ℕ → Type 0
 IsMemoryOrFull e len = (e ≡ errors.Memory) ⊎ ((e ≡ errors.Full) × (2 ^ 56 ≤ len))
 
--- the buffer of these entries' bytes behind room for a header became the record of them and of these items,
--- unsigned
+-- the buffer, which held the entries' bytes after room for a header, now holds the unsigned record of them and of these
+-- items
 abbrev pub MakesRecord : List ℕ → List ℕ → ℕ → List LogItem → Type 0
 MakesRecord old new checksum items = HoldsRecordBytes None new checksum items (drop 16 old)

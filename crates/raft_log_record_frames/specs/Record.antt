@@ -1,5 +1,5 @@
--- Whole records: a header, the entry block, and the footer with the items. A record is signed with the number
--- of its file.
+-- Whole records: a header, the entry block, and the footer with the items. A record is signed with the number of its
+-- file.
 use Rattle.std.specs.Prelude.{◌≡◌, ◌⊎◌, ℕ, ◌+◌, ◌-◌, ◌*◌, ◌/◌, ◌%◌, ◌<◌, ◌≤◌, ◌^◌, List, [], ◌∷◌, ◌++◌, length, take, drop, slice_range, Option, Result, Ok, Err, unwrap_or, nat_lt, ◌==◌, if◌then◌else◌, codes, bit_xor, Bool, ◌&&◌, min}
 use Rattle.std.specs.Fmt.{decimal}
 use Rattle.std.specs.Int.{w32, w64, from_be_bytes, from_le_bytes}
@@ -20,7 +20,7 @@ use Rattle.raft_log_record_items.specs.Reading.{items_at, unsupported_compressio
 use Rattle.raft_log_record_items.specs.Writing.{items_bytes}
 use Rattle.raft_log_record_items.specs.Placed.{entries_len, placed}
 
--- the checksum, and in a file with signatures combined with the file's signature
+-- the checksum, combined with the file's signature if the file has one
 abbrev pub signed : Option ℕ → List ℕ → ℕ
 signed signature bytes = bit_xor (crc32_of bytes) (unwrap_or signature 0)
 
@@ -36,17 +36,17 @@ pub record IsFooter (signature : Option ℕ) (bytes : List ℕ) (items : List Lo
 
 -- Entry blocks.
 
--- the entries' lengths add up to a block of so many bytes, and each offset in it has 32 bits
+-- the entries' lengths add up to a block of `len` bytes, and each offset in it has 32 bits
 abbrev pub AddsUp : List LogItem → ℕ → Type 0
 AddsUp items len =
     (entries_len items < 2 ^ 32) × (((len ≡ 0) × (entries_len items ≡ 0)) ⊎ (len ≡ entries_len items + 4))
 
--- a footer that is signed with this, of these items, whose entries fill a block of so many bytes
+-- a footer of these items with this signature, whose entries fill a block of `len` bytes
 abbrev pub IsFooterOf : Option ℕ → ℕ → List ℕ → List LogItem → Type 0
 IsFooterOf signature len bytes items = IsFooter signature bytes items × AddsUp items len
 
--- No bytes, where there are no bytes of entries, or the entries' bytes and their checksum. A block of a
--- checksum alone is read, and never written.
+-- No bytes if there are no bytes of entries, or the entries' bytes and their checksum. A block of a checksum alone is
+-- read, and never written.
 abbrev pub IsBlock : List ℕ → List ℕ → Type 0
 IsBlock bytes entries =
     ((bytes ≡ []) × (entries ≡ []))
@@ -54,8 +54,7 @@ IsBlock bytes entries =
 
 -- Headers.
 
--- 256 times the record's length, which leaves the compression's type 0 in the lowest byte, and where the
--- footer begins
+-- 256 times the record's length, so that the lowest byte is the compression's type 0; and the footer's offset
 pub record IsHeader (bytes : List ℕ) (len offset : ℕ) : Type 0 where
   pub first : List ℕ
   pub second : List ℕ
@@ -63,12 +62,12 @@ pub record IsHeader (bytes : List ℕ) (len offset : ℕ) : Type 0 where
   pub length_spelled : IsU64 first (256 * len)
   pub offset_spelled : IsU64 second offset
 
--- the footer begins behind the header, and not past the record's end
+-- the footer begins after the header, and not past the record's end
 abbrev pub IsInside : ℕ × CompressionType × ℕ → Type 0
 IsInside header = (16 ≤ header.0) × (header.0 ≤ header.2)
 
--- A header that is read: its footer begins behind it, and not past the record's end. It says where the footer
--- begins, how the block is compressed, which is not at all, and the record's length.
+-- A header that is read: its footer begins after it, and not past the record's end. It has the footer's offset, the
+-- block's compression, which is none, and the record's length.
 pub record IsSoundHeader (bytes : List ℕ) (header : ℕ × CompressionType × ℕ) : Type 0 where
   pub spelled : IsHeader bytes header.2 header.0
   pub plain : header.1 ≡ kinds.None
@@ -77,7 +76,7 @@ pub record IsSoundHeader (bytes : List ℕ) (header : ℕ × CompressionType × 
 
 -- Records.
 
--- a header and a footer with a block of the right length between them, which is not looked at
+-- a header and a footer with a block of the right length between them, which is not checked
 pub record IsFrame (signature : Option ℕ) (bytes : List ℕ) (items : List LogItem) (block : List ℕ)
     : Type 0 where
   pub header : List ℕ
@@ -96,44 +95,43 @@ pub record IsRecord (signature : Option ℕ) (bytes : List ℕ) (items : List Lo
 
 -- Reading.
 
--- the text that tells that a header has so few bytes
+-- the error's text if a header has only n bytes
 abbrev pub header_too_short : ℕ → List ℕ
 header_too_short n = codes "Log batch header too short: " ++ decimal n
 
--- the text that tells that a footer begins so far in front, inside the header
+-- the error's text if a footer begins at n, inside the header
 abbrev pub offset_in_header : ℕ → List ℕ
 offset_in_header n = codes "Log batch footer inside the header: " ++ decimal n
 
--- the text that tells that a footer begins so far behind, past the record's end
+-- the error's text if a footer begins at n, past the record's end
 abbrev pub offset_past_end : ℕ → List ℕ
 offset_past_end n = codes "Log batch footer past the end: " ++ decimal n
 
--- the text that tells that a footer has so few bytes
+-- the error's text if a footer has only n bytes
 abbrev pub footer_too_short : ℕ → List ℕ
 footer_too_short n = codes "Log batch footer too short: " ++ decimal n
 
--- the text that tells that a footer has another checksum than its items
+-- the error's text if a footer's checksum doesn't match its items
 abbrev pub footer_mismatch : List ℕ
 footer_mismatch = codes "Log batch footer checksum mismatch"
 
--- the text that tells that so many bytes stand behind the last item
+-- the error's text if n bytes follow the last item
 abbrev pub bytes_after_items : ℕ → List ℕ
 bytes_after_items n = codes "Bytes after the last log item: " ++ decimal n
 
--- the text that tells that the entries don't fill the block
+-- the error's text if the entries don't fill the block
 abbrev pub lengths_mismatch : List ℕ
 lengths_mismatch = codes "Entry lengths do not add up to the entry block"
 
--- the text that tells that a block has so few bytes
+-- the error's text if a block has only n bytes
 abbrev pub block_too_short : ℕ → List ℕ
 block_too_short n = codes "Entry block too short: " ++ decimal n
 
--- the text that tells that a block has another checksum than its entries
+-- the error's text if a block's checksum doesn't match its entries
 abbrev pub block_mismatch : List ℕ
 block_mismatch = codes "Entry block checksum mismatch"
 
--- what the two words of a header say: where the footer begins, how the block is compressed, and the record's
--- length
+-- the content of a header's two words: the footer's offset, the block's compression, and the record's length
 unfoldable pub header_of : ℕ → ℕ → Result (ℕ × CompressionType × ℕ) Fault
 header_of word offset =
     if word % 256 == 0 then
@@ -158,38 +156,37 @@ block_of bytes =
     then Ok (take (length bytes - 4) bytes)
     else Err (corrupt block_mismatch)))
 
--- whether so many bytes of entries are in a block of this length, where each offset has 32 bits
+-- whether n bytes of entries fill a block of this length, and each offset has 32 bits
 abbrev pub adds_up : ℕ → ℕ → Bool
 adds_up len n = nat_lt n (2 ^ 32) && (if len == 0 then n == 0 else len == n + 4)
 
--- nothing stands behind the items, and so many bytes of entries are in a block of this length
+-- nothing follows the items, and `sum` bytes of entries fill a block of this length
 unfoldable pub whole_of : ℕ → ℕ → List ℕ → Result (Unit {0}) Fault
 whole_of len sum rest =
     if length rest == 0
     then (if adds_up len sum then Ok tt else Err (corrupt lengths_mismatch))
     else Err (corrupt (bytes_after_items (length rest)))
 
--- the items of a footer, if nothing stands behind them and their entries are in a block of this length
+-- the items of a footer, if nothing follows them and their entries fill a block of this length
 unfoldable pub whole_items : ℕ → List LogItem → List ℕ → Result (List LogItem) Fault
 whole_items len items rest = whole_of len (entries_len items) rest >>= λ whole. Ok items
 
--- what a decoder of a whole slice answered, as a part of it, is what the reading gives, unless memory ran out
+-- the result of a decoder of a whole slice, which returns a part of it, is that of the reading, unless memory ran out
 abbrev pub GivesSlice : Result (Bor (List ℕ)) Error → Result (List ℕ) Fault → Type 0
 GivesSlice (Ok x) reading = reading ≡ Ok x.now
 GivesSlice (Err e) reading = FailsOrMemory e reading
 
--- what a decoder of a vector answered is what the reading gives, unless memory ran out
+-- the result of a decoder of a vector is that of the reading, unless memory ran out
 abbrev pub GivesItems : {X : Type 0} → Result (Vec X) Error → Result (List X) Fault → Type 0
 GivesItems (Ok x) reading = reading ≡ Ok x.items
 GivesItems (Err e) reading = FailsOrMemory e reading
 
--- what was answered of the end of a footer is so for the sum of its entries' lengths, of which at most 2 ^
--- 64 - 1 is given
+-- the result for the end of a footer is right for the sum of its entries' lengths, which is given as at most 2 ^ 64 - 1
 abbrev pub TellsWhole : Result (Unit {0}) Error → ℕ → ℕ → List ℕ → Type 0
 TellsWhole result block_len len rest =
     (sum : ℕ) → len ≡ min sum (2 ^ 64 - 1) → GivesOrMemory result (whole_of block_len sum rest)
 
--- the bytes of a footer in front of its checksum, which is signed with this
+-- the bytes of a footer before its checksum, which has this signature
 unfoldable pub body_of : Option ℕ → List ℕ → Result (List ℕ) Fault
 body_of signature bytes =
     if nat_lt (length bytes) 5 then Err (corrupt (footer_too_short (length bytes)))
@@ -223,7 +220,7 @@ footer_bytes signature items = items_bytes items ++ u32_le_bytes (signed signatu
 unfoldable pub header_bytes : ℕ → ℕ → List ℕ
 header_bytes len offset = u64_bytes (256 * len) ++ u64_bytes offset
 
--- how many bytes the record of these items and entries has, in whatever file
+-- the length of the record of these items and entries in bytes, in any file
 abbrev pub record_len : List LogItem → List ℕ → ℕ
 record_len items entries = 16 + length (block_bytes entries) + length (items_bytes items) + 4
 
@@ -235,14 +232,13 @@ record_bytes signature items entries =
 
 -- Frames and records at the front of any bytes.
 
--- what a reader takes at the front of bytes: how long it is, its items, and the bytes of its block or of its
--- entries
+-- what a reader takes at the front of bytes: its length, its items, and the bytes of its block or of its entries
 pub record Front : Type 0 where
   pub len : ℕ
   pub items : List LogItem
   pub bytes : List ℕ
 
--- the text that tells that a record of so many bytes doesn't end within the input
+-- the error's text if a record of n bytes doesn't end within the input
 abbrev pub past_input : ℕ → List ℕ
 past_input n = codes "Log batch past the end of the input: " ++ decimal n
 
@@ -263,7 +259,7 @@ record_at signature input =
     frame_at signature input >>= λ front.
     block_of front.bytes >>= λ entries. Ok (record front { bytes = entries })
 
--- what a decoder answered at the front of bytes is what the reading gives, unless memory ran out
+-- the result of a decoder at the front of bytes is that of the reading, unless memory ran out
 abbrev pub GivesFront : Result (ℕ × Vec LogItem × Bor (List ℕ)) Error → Result Front Fault → Type 0
 GivesFront (Ok x) reading = reading ≡ Ok (record { len = x.0; items = x.1.items; bytes = x.2.now })
 GivesFront (Err e) reading = FailsOrMemory e reading

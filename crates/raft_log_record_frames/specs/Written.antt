@@ -11,8 +11,8 @@ abbrev pub AreBytes : List ℕ → Type 0
 AreBytes [] = Unit {0}
 AreBytes (b ∷ bs) = (b < 256) × AreBytes bs
 
--- what is written of items that have a spelling, and of their entries' bytes, is a record of them in a file
--- with this signature
+-- what is written for items that have a spelling, and for their entries' bytes, is a record of them in a file with this
+-- signature
 abbrev pub WrittenIsRecord : Type 0
 WrittenIsRecord =
     (signature : Option ℕ) (items : List LogItem) (entries : List ℕ) → unwrap_or signature 0 < 2 ^ 32

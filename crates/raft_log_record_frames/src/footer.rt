@@ -1,4 +1,4 @@
-//! The footer of a record: its items, and their signed checksum.
+//! Reads the footer of a record: its items, and their signed checksum.
 ghost use Rattle.std.specs.Prelude.{◌≡◌, ◌+◌, ◌-◌, ◌<◌, ◌^◌, ◌==◌, if◌then◌else◌, min};
 ghost use Rattle.raft_log_record_items.specs.Placed.{entries_len};
 ghost use Rattle.raft_log_record_frames.specs.Record.{
@@ -17,7 +17,7 @@ use raft_log_record_items::items::{decode_items, decode_placed_items};
 use raft_log_record_items::{Error, FileBlockHandle, LogItem, Result};
 use std::alloc::Global;
 
-/// How many bytes the entries of these items have, or 2^64 - 1 where they have more.
+/// The length of these items' entries in bytes, or 2^64 - 1 if they are longer.
 fn entries_len(items: &[LogItem]) -> u64
     ensures { result ≡ min (entries_len items.now) (2 ^ 64 - 1) }
 {
@@ -28,7 +28,7 @@ fn entries_len(items: &[LogItem]) -> u64
     len
 }
 
-/// Whether so many bytes of entries are in a block of this length.
+/// Whether entries of `len` bytes fill a block of this length.
 fn fills(len: u64, block_len: usize) -> bool
     requires { len < 2 ^ 32 }
     ensures { result ≡ (if block_len == 0 then len == 0 else block_len == len + 4) }
@@ -40,8 +40,8 @@ fn fills(len: u64, block_len: usize) -> bool
     }
 }
 
-/// Whether nothing stands behind the items, and so many bytes of entries, or 2^64 - 1 where there are more,
-/// are in a block of this length.
+/// Fails unless nothing follows the items and their entries fill a block of this length. `len` is the entries' length,
+/// or 2^64 - 1 if they are longer.
 #[tactic(auto, unfolding(crate::specs::Record::whole_of))]
 fn check_whole(alloc: Global, rest: &[u8], len: u64, block_len: usize) -> Result<()>
     ensures { TellsWhole result block_len len rest.now }
@@ -58,7 +58,7 @@ fn check_whole(alloc: Global, rest: &[u8], len: u64, block_len: usize) -> Result
     Ok(())
 }
 
-/// The bytes of a footer in front of its checksum, which is signed with this.
+/// The bytes of a footer before its checksum, which has this signature.
 #[tactic(auto, unfolding(crate::specs::Record::body_of))]
 fn open_footer(alloc: Global, bytes: &[u8], signature: Option<u32>) -> Result<&[u8]>
     ensures { GivesSlice result (body_of signature bytes.now) }
@@ -74,10 +74,10 @@ fn open_footer(alloc: Global, bytes: &[u8], signature: Option<u32>) -> Result<&[
     Ok(body)
 }
 
-/// The items of a whole footer that was signed with this, whose entries add up to a block of this length.
+/// The items of a whole footer with this signature, whose entries fill a block of this length.
 ///
-/// Refuses as a corruption fewer than five bytes, a wrong checksum, bytes after the last item, and lengths
-/// that don't add up, and otherwise the first fault of the items.
+/// Fails with `Corruption` for fewer than five bytes, a wrong checksum, bytes after the last item, or lengths that
+/// don't add up. Else it fails with the first fault of the items.
 #[tactic(auto, unfolding(crate::specs::Record::footer_of, crate::specs::Record::whole_items))]
 pub fn decode_footer(
     alloc: Global,
@@ -93,9 +93,9 @@ pub fn decode_footer(
     Ok(items)
 }
 
-/// The items of a whole footer that was signed with this, whose entries lie in the block at this place: each
-/// entry has its offset in the block and the block's place, and each key its file. The items get their places
-/// as they are read. Refuses as `decode_footer` does.
+/// The items of a whole footer with this signature, whose entries are in the block at this place. Each entry gets its
+/// offset in the block and the block's place, and each key its file. The items get their places as they are read. Fails
+/// as `decode_footer` does.
 #[tactic(auto, unfolding(crate::specs::Record::footer_of, crate::specs::Record::whole_items, crate::specs::Record::placed_footer_of))]
 pub fn decode_placed_footer(
     alloc: Global,

@@ -1,5 +1,5 @@
-//! What stands at the front of any bytes: a frame, which is a header and a footer that fit together, or a
-//! whole record.
+//! Reads what is at the front of any bytes: a frame, which is a header and a footer that fit together, or a whole
+//! record.
 ghost use Rattle.raft_log_record_frames.specs.Record.{frame_at, record_at, GivesFront};
 
 use crate::footer::decode_footer;
@@ -7,11 +7,11 @@ use crate::header::{LOG_BATCH_HEADER_LEN, decode_entries_block, decode_header};
 use raft_log_record_items::{CompressionType, Error, LogItem, Result};
 use std::alloc::Global;
 
-/// The frame at the front of these bytes: how many bytes it has, its items, and its entry block, which is not
-/// looked at and not copied. What stands behind it doesn't matter.
+/// The frame at the front of these bytes: its length, its items, and its entry block, which is neither checked nor
+/// copied. What follows it doesn't matter.
 ///
-/// Refused, in this order, are a header as `decode_header` refuses it, a record that doesn't end within the
-/// bytes, as a corruption, and a footer as `decode_footer` refuses it.
+/// Fails as `decode_header` does; else with `Corruption` if the record doesn't end within the bytes; else as
+/// `decode_footer` does.
 #[tactic(auto, unfolding(crate::specs::Record::frame_at, crate::specs::Record::frame_of))]
 pub fn decode_frame<'a>(
     alloc: Global,
@@ -32,11 +32,10 @@ pub fn decode_frame<'a>(
     Ok((len, items, &bytes[LOG_BATCH_HEADER_LEN..offset]))
 }
 
-/// The record at the front of these bytes: how many bytes it has, its items, and its entries' bytes, which
-/// are not copied. What stands behind it doesn't matter.
+/// The record at the front of these bytes: its length, its items, and its entries' bytes, which are not copied. What
+/// follows it doesn't matter.
 ///
-/// Refused, in this order, are a frame as `decode_frame` refuses it, and an entry block as
-/// `decode_entries_block` does.
+/// Fails as `decode_frame` does, else as `decode_entries_block` does.
 #[tactic(auto, unfolding(crate::specs::Record::record_at))]
 pub fn decode_record<'a>(
     alloc: Global,

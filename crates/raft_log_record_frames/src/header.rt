@@ -1,4 +1,4 @@
-//! The header of a record, and its entry block.
+//! Reads the header of a record, and its entry block.
 ghost use Rattle.std.specs.Prelude.{◌≡◌, drop, IsOk, IfOk, OnOk};
 ghost use Rattle.raft_log_record_base.specs.Fault.{GivesOrMemory, ReadsOrMemory};
 ghost use Rattle.raft_log_record_frames.specs.Record.{IsInside, header_of, header_at, block_of, GivesSlice};
@@ -9,13 +9,13 @@ use raft_log_record_checksum::crc32;
 use raft_log_record_items::{CompressionType, Error, Result};
 use std::alloc::Global;
 
-/// How many bytes a header has.
+/// The length of a header in bytes.
 pub const LOG_BATCH_HEADER_LEN: usize = 16;
 
-/// How many bytes a checksum has.
+/// The length of a checksum in bytes.
 pub(crate) const LOG_BATCH_CHECKSUM_LEN: usize = 4;
 
-/// What the two words of a header say.
+/// Decodes the two words of a header.
 #[tactic(auto, unfolding(crate::specs::Record::header_of))]
 fn read_words(alloc: Global, word: u64, offset: u64) -> Result<(usize, CompressionType, usize)>
     ensures exact { GivesOrMemory result (header_of word offset) }
@@ -40,13 +40,12 @@ fn read_words(alloc: Global, word: u64, offset: u64) -> Result<(usize, Compressi
     Ok((offset as usize, CompressionType::None, len as usize))
 }
 
-/// Reads the header of a record: where its footer begins, how its entry block is compressed, and its length,
-/// the first and the last counted from the start of the record. Takes sixteen bytes, or none where it
-/// refuses.
+/// Reads the header of a record: the offset of its footer, the compression of its entry block, and its length, the
+/// first and the last counted from the record's start. Takes sixteen bytes, or none if it fails.
 ///
-/// Refuses as a corruption, in this order: fewer than 16 bytes, a compression, a footer that begins inside
-/// the header, and one that begins past the record's end. Only the text of a refusal takes memory: a good
-/// header is always answered.
+/// Fails with `Corruption` for the first of these: fewer than 16 bytes, an unknown compression, a footer that begins
+/// inside the header, and one that begins past the record's end. Only an error's text takes memory, so a good header is
+/// always returned.
 #[tactic(auto, unfolding(crate::specs::Record::header_at))]
 pub fn decode_header(
     alloc: Global,
@@ -69,10 +68,9 @@ pub fn decode_header(
     Ok(header)
 }
 
-/// The entries' bytes of a whole entry block, which is not copied. No bytes are a block without entries.
-///
-/// Refuses as a corruption one to three bytes, and a wrong checksum. A checksum alone is a block too, which
-/// is never written. Only the text of a refusal takes memory: a good block is always answered.
+/// The entries' bytes of a whole entry block, which are not copied. No bytes are a block without entries.
+/// Fails with `Corruption` for one to three bytes and for a wrong checksum. A checksum alone is a block too, which is
+/// never written. Only an error's text takes memory, so a good block is always returned.
 #[tactic(auto, unfolding(crate::specs::Record::block_of))]
 pub fn decode_entries_block<'a>(
     alloc: Global,

@@ -22,14 +22,14 @@ ghost use Rattle.raft_log_record_frames.specs.Frames.{
 ghost use Rattle.raft_log_record_frames.specs.Signatures.{SignatureSeparatesFiles};
 ghost use Rattle.raft_log_record_frames.specs.Written.{WrittenIsRecord};
 
-/// A footer that is signed for one file with signatures is one of another such file exactly if the low 32
-/// bits of the two files' numbers are the same.
+/// A footer that is signed for one file is valid in another signed file if and only if the low 32 bits of the two
+/// files' numbers are equal.
 pub fn signature_separates_files()
     ensures { SignatureSeparatesFiles }
 {}
 
-/// At one place of a file there is one record only: no header, footer, frame or record begins another one,
-/// and none has two contents. A block has no end of its own, so there is one of each length.
+/// At one place of a file there is at most one record. No header, footer, frame or record begins another one, and none
+/// has two contents. A block has no end of its own, so there is at most one of each length.
 pub fn one_record_at_a_place()
     ensures headers { OneHeaderAtAPlace }
     ensures footers { OneFooterAtAPlace }
@@ -38,15 +38,14 @@ pub fn one_record_at_a_place()
     ensures records { OneRecordAtAPlace }
 {}
 
-/// A record is a frame, which is a header and a footer that fit together, with an entry block that is read.
-/// Each takes 21 bytes at least.
+/// A record is a frame, which is a header and a footer that fit together, with an entry block that is read. Each takes
+/// at least 21 bytes.
 pub fn record_is_a_frame_with_a_block()
     ensures parts { RecordIsFrameAndBlock }
     ensures bytes { FramesTakeBytes }
 {}
 
-/// A header, an entry block and a footer are read exactly where they stand, and what is read is what they
-/// say.
+/// A header, an entry block or a footer is read if and only if it is there, and its content is what is read.
 pub fn parts_are_read()
     ensures headers { IsReader header_at IsSoundHeader }
     ensures blocks { BlockIsRead }
@@ -54,20 +53,20 @@ pub fn parts_are_read()
     ensures placed { PlacedFooterIsRead }
 {}
 
-/// What is a frame or a record at the front of bytes is read back, whatever stands behind it.
+/// A frame or a record at the front of bytes is read back, whatever follows it.
 pub fn records_are_read_back()
     ensures frames { FramesAreReadBack }
     ensures records { RecordsAreReadBack }
 {}
 
-/// What is written of items and of their entries' bytes is a record of them, where both lengths fit and the
-/// entries' lengths add up to the bytes.
+/// What is written for items and their entries' bytes is a record of them, if both lengths fit and the entries' lengths
+/// add up to the bytes.
 pub fn written_is_record()
     ensures { WrittenIsRecord }
 {}
 
-/// At the front of any bytes a frame or a record stands exactly if it is read there, so it can be told of any
-/// bytes; and none begins within zeros.
+/// A frame or a record is at the front of any bytes if and only if it is read there. For any bytes it can be decided
+/// whether one is there. None begins within zeros.
 pub fn what_stands_at_the_front_is_told()
     ensures frames { FrameIsRead }
     ensures records { RecordIsRead }

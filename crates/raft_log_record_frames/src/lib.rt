@@ -1,5 +1,4 @@
-//! The form of whole records: a header, an entry block and a footer that is signed for one file, read and
-//! written.
+//! Whole records: a header, an entry block and a footer that is signed for one file, read and written.
 #![tactic(auto)]
 
 pub mod footer;

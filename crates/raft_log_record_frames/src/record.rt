@@ -1,4 +1,4 @@
-//! The bytes of a record, made in the buffer that holds the entries' bytes behind room for a header.
+//! Makes the bytes of a record in the buffer that holds the entries' bytes after room for a header.
 ghost use Rattle.std.specs.Prelude.{◌≡◌, ◌+◌, ◌-◌, ◌*◌, ◌≤◌, ◌<◌, ◌^◌, ◌++◌, length, take, drop, map, None, OnOk, OnErr, IfOk, IfErr};
 ghost use Rattle.raft_log_record_base.specs.Number.{u32_le_bytes};
 ghost use Rattle.raft_log_record_checksum.specs.Checksum.{crc32_of};
@@ -15,13 +15,12 @@ use raft_log_record_items::items::append_items;
 use raft_log_record_items::{Error, LogItem, Result};
 use std::alloc::AllocError;
 
-/// Each item of a slice of bytes is a byte: what a contract can't see of a value behind a model. It does
-/// nothing.
+/// Each item of a slice of bytes is a byte, which contracts can't see through a model. It does nothing.
 pub fn are_bytes(bytes: &[u8])
     ensures { AreBytes bytes.now }
 {}
 
-/// Overwrites the first sixteen bytes by a header.
+/// Overwrites the first sixteen bytes with a header.
 #[tactic(auto, unfolding(crate::specs::Record::header_bytes, raft_log_record_base::specs::Number::u64_bytes))]
 fn write_header(bytes: &mut [u8], len: u64, offset: u64)
     requires long { 16 ≤ length bytes.old }
@@ -34,7 +33,7 @@ fn write_header(bytes: &mut [u8], len: u64, offset: u64)
     second.copy_from_slice(&offset.to_be_bytes());
 }
 
-/// Overwrites the last four bytes by a checksum.
+/// Overwrites the last four bytes with a checksum.
 #[tactic(auto, unfolding(raft_log_record_base::specs::Number::u32_le_bytes))]
 pub fn write_checksum(bytes: &mut [u8], checksum: u32)
     requires { 4 ≤ length bytes.old }
@@ -45,7 +44,7 @@ pub fn write_checksum(bytes: &mut [u8], checksum: u32)
     last.copy_from_slice(&checksum.to_le_bytes());
 }
 
-/// Puts the checksum behind the entries' bytes, where there are some.
+/// Appends the checksum of the entries' bytes, if there are some.
 #[tactic(auto, unfolding(crate::specs::Record::block_bytes))]
 fn close_block(buf: &mut Vec<u8>) -> Result<(), AllocError>
     requires { 16 ≤ length buf.old.items }
@@ -60,8 +59,8 @@ fn close_block(buf: &mut Vec<u8>) -> Result<(), AllocError>
     Ok(())
 }
 
-/// Appends the footer of these items without their places, not signed, and answers their checksum. A refusal
-/// may leave a part of it behind what was there.
+/// Appends the unsigned footer of these items, without their places, and returns their checksum. If it fails, a part of
+/// it may follow the old bytes.
 #[tactic(auto, unfolding(crate::specs::Record::footer_bytes))]
 pub fn append_footer(buf: &mut Vec<u8>, items: &[LogItem]) -> Result<u32, AllocError>
     ensures ok { OnOk result (buf.new.items ≡ buf.old.items ++ footer_bytes None items.now) }
@@ -77,11 +76,11 @@ pub fn append_footer(buf: &mut Vec<u8>, items: &[LogItem]) -> Result<u32, AllocE
     Ok(checksum)
 }
 
-/// The most bytes of a record: its length stands in 56 bits.
+/// The most bytes of a record: its length has 56 bits.
 const MAX_RECORD_LEN: u64 = (1 << 56) - 1;
 
-/// Makes the record of the entries' bytes, which stand behind room for the header, and of these items, and
-/// answers the checksum of the items. A refusal leaves what was there, maybe with more behind it.
+/// Makes the record of the entries' bytes, which are in the buffer after room for the header, and of these items.
+/// Returns the checksum of the items. If it fails, the old bytes are still there, maybe with more after them.
 pub fn fill_record(buf: &mut Vec<u8>, items: &[LogItem]) -> Result<u32>
     requires { 16 ≤ length buf.old.items }
     ensures ok { IfOk result (λ checksum. MakesRecord buf.old.items buf.new.items checksum items.now) }

@@ -21,15 +21,15 @@ use Rattle.raft_log_record_base.specs.Fault.Fault.{corrupt}
 abbrev pub Never : {A : Type 0} → List ℕ → A → Type 0
 Never bytes x = ⊥
 
--- refuses all bytes, with this text
+-- rejects all bytes, with this text
 abbrev pub never_at : {A : Type 0} → List ℕ → Reader A Fault
 never_at text bytes = Err (corrupt text)
 
--- of the spellings only those whose value passes
+-- only the spellings whose value passes the test
 abbrev pub Passing : {A : Type 0} → (A → Bool) → (List ℕ → A → Type 0) → List ℕ → A → Type 0
 Passing test P bytes x = P bytes x × IsTrue (test x)
 
--- reads a value, and refuses with this text one that fails the test
+-- reads a value; if it fails the test, the error has this text
 abbrev pub passing_at : {A : Type 0} → (A → Bool) → List ℕ → Reader A Fault → Reader A Fault
 passing_at test text read bytes = read bytes >>= λ r. if test r.0 then Ok r else Err (corrupt text)
 
@@ -43,11 +43,11 @@ number_at = lifted_at var_u64_at
 abbrev pub kind_at : Reader ℕ Fault
 kind_at = lifted_at byte_at_front
 
--- so many bytes
+-- n bytes
 abbrev pub IsBytesOf : ℕ → List ℕ → List ℕ → Type 0
 IsBytesOf n bytes xs = (length bytes ≡ n) × (xs ≡ bytes)
 
--- a length, and as many bytes
+-- a length, and that many bytes
 abbrev pub IsBytes : List ℕ → List ℕ → Type 0
 IsBytes = Then IsVarU64 IsBytesOf
 
@@ -61,17 +61,17 @@ is_entry_len n = nat_lt n (2 ^ 32)
 abbrev pub IsEntryLen : List ℕ → ℕ → Type 0
 IsEntryLen = Passing is_entry_len IsVarU64
 
--- the entries from this index on, so many of them
+-- n entries, from this index on
 unfoldable pub AreEntriesFrom : ℕ → ℕ → List ℕ → List EntryIndex → Type 0
 AreEntriesFrom index zero = IsKnown []
 AreEntriesFrom index (suc n) = Then IsEntryLen (λ len.
     Then (AreEntriesFrom (index + 1) n) (λ es. IsKnown (unplaced_entry index len ∷ es)))
 
--- none of so many indexes from this one on is 2 ^ 64 - 1
+-- the `count` indexes from this one on are all below 2 ^ 64 - 1
 abbrev pub is_first_of : ℕ → ℕ → Bool
 is_first_of count first = nat_lt (first + count) (2 ^ 64)
 
--- so many entries: the first index, if there are any, and their lengths
+-- `count` entries: the first index, if there are any, and their lengths
 abbrev pub IsEntriesOf : ℕ → List ℕ → List EntryIndex → Type 0
 IsEntriesOf count = Choice (count == 0) (IsKnown [])
     (Then (Passing (is_first_of count) IsVarU64) (λ first. AreEntriesFrom first count))
@@ -101,11 +101,11 @@ new_key op key value = record { op_type = op; key = key; value = value; file_id 
 abbrev pub item_of : ℕ → LogItemContent → LogItem
 item_of group content = record { raft_group_id = group; content = content }
 
--- a key that gets a value, in no file yet
+-- a put of a key, in no file yet
 abbrev pub put_of : List ℕ → List ℕ → KeyValue
 put_of key value = record { op_type = ops.Put; key = key; value = Some value; file_id = None }
 
--- a key that loses its value, in no file yet
+-- a deletion of a key, in no file yet
 abbrev pub del_of : List ℕ → KeyValue
 del_of key = record { op_type = ops.Del; key = key; value = None; file_id = None }
 
@@ -117,7 +117,7 @@ put_item group key value = record { raft_group_id = group; content = contents.Kv
 abbrev pub del_item : ℕ → List ℕ → LogItem
 del_item group key = record { raft_group_id = group; content = contents.Kv (del_of key) }
 
--- the key of this operation, and of a put its value
+-- the key of this operation, and the value of a put
 abbrev pub IsKeyValueOf : ℕ → List ℕ → KeyValue → Type 0
 IsKeyValueOf op = Choice (op == 1) (Then IsBytes (λ key. Then IsBytes (λ value. IsKnown (put_of key value))))
     (Choice (op == 2) (Then IsBytes (λ key. IsKnown (del_of key))) Never)
@@ -139,6 +139,6 @@ abbrev pub IsItem : List ℕ → LogItem → Type 0
 IsItem = Then IsVarU64 (λ group. Then IsByte (λ kind.
     Then (IsContentOf kind) (λ content. IsKnown (record { raft_group_id = group; content = content }))))
 
--- a list of items: their count, and each of them
+-- a list of items: the count, and then each item
 abbrev pub AreItems : List ℕ → List LogItem → Type 0
 AreItems = Then IsVarU64 (Times IsItem)

@@ -1,9 +1,9 @@
--- Messages: bytes that stand for a value of a type that the user brings.
+-- Messages: a user's type, whose values are written as bytes.
 use Rattle.std.specs.Prelude.{◌≡◌, ℕ, List, Option, None, Some, Result, Ok, Err}
 use Rattle.raft_log_record_base.specs.declared.errors.Error.{Error}
 use Rattle.raft_log_record_base.specs.declared.errors.Error.TheVariants as errors
 
--- What was parsed is what the bytes read as, they are refused only where they read as nothing, or memory
+-- The parsed message is the one that the bytes are read as. Parsing fails only if they are no message's, or if memory
 -- ran out.
 abbrev pub Parses : {M : Type 0} → Result M Error → Option M → Type 0
 Parses (Ok m) reading = reading ≡ Some m

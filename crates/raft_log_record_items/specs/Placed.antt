@@ -1,4 +1,4 @@
--- How many bytes the entries of items have, and where each lies in its entry block.
+-- The lengths of items' entries, and the place of each in its entry block.
 use Rattle.std.specs.Prelude.{◌≡◌, ℕ, ◌+◌, ◌-◌, ◌<◌, ◌^◌, List, [], ◌∷◌, Some, map, min, sum_by, Result, Ok, Err}
 use Rattle.std.specs.Global.{Vec}
 use Rattle.raft_log_record_base.specs.declared.errors.Error.{Error}
@@ -9,32 +9,32 @@ use Rattle.raft_log_record_items.specs.declared.item.LogItemContent.{LogItemCont
 use Rattle.raft_log_record_items.specs.declared.item.LogItemContent.TheVariants as contents
 use Rattle.raft_log_record_items.specs.declared.item.LogItem.{LogItem}
 
--- how many bytes these entries have
+-- the length of these entries in bytes
 abbrev pub run_len : List EntryIndex → ℕ
 run_len es = sum_by (λ e. e.entry_len) es
 
--- how many bytes the entries of this content have
+-- the length of this content's entries in bytes
 abbrev pub content_len : LogItemContent → ℕ
 content_len (contents.EntryIndexes es) = run_len es
 content_len (contents.Command c) = 0
 content_len (contents.Kv kv) = 0
 
--- how many bytes the entries of these items have
+-- the length of these items' entries in bytes
 abbrev pub entries_len : List LogItem → ℕ
 entries_len xs = sum_by (λ x. content_len x.content) xs
 
--- the entries lie one after another in their block, from this offset on
+-- the entries, laid out one after another in their block from this offset on
 abbrev pub laid_run : ℕ → List EntryIndex → List EntryIndex
 laid_run offset [] = []
 laid_run offset (e ∷ es) = record e { entry_offset = offset } ∷ laid_run (offset + e.entry_len) es
 
--- the entries of this content lie one after another, from this offset on
+-- the content, with its entries laid out one after another from this offset on
 abbrev pub laid_content : ℕ → LogItemContent → LogItemContent
 laid_content offset (contents.EntryIndexes es) = contents.EntryIndexes (laid_run offset es)
 laid_content offset (contents.Command c) = contents.Command c
 laid_content offset (contents.Kv kv) = contents.Kv kv
 
--- the entries of these items lie one after another, from this offset on
+-- the items, with their entries laid out one after another from this offset on
 abbrev pub laid_out : ℕ → List LogItem → List LogItem
 laid_out offset [] = []
 laid_out offset (x ∷ xs) =
@@ -58,22 +58,22 @@ written_item handle x = record x { content = written_content handle x.content }
 abbrev pub written : FileBlockHandle → List LogItem → List LogItem
 written handle xs = map (written_item handle) xs
 
--- the items with their places: their entries lie one after another in the block at this place
+-- the items with their places: their entries are one after another in the block at this place
 abbrev pub placed : FileBlockHandle → List LogItem → List LogItem
 placed handle items = written handle (laid_out 0 items)
 
--- the item with its places: its entries lie in the block at this place, from this offset on
+-- the item with its places: its entries are in the block at this place, from this offset on
 abbrev pub placed_item : FileBlockHandle → ℕ → LogItem → LogItem
 placed_item handle offset x = written_item handle (record x { content = laid_content offset x.content })
 
--- The items with their places, and how many bytes their entries have, or 2 ^ 64 - 1 where they have more.
--- Where these are too many for a block, nothing is said of where they lie.
+-- The items with their places, and the length of their entries in bytes, or 2 ^ 64 - 1 if they are longer. If the
+-- entries are too long for a block, nothing is said of their places.
 pub record ArePlaced (handle : FileBlockHandle) (plain items : List LogItem) (len : ℕ) : Type 0 where
   pub sum : len ≡ min (entries_len plain) (2 ^ 64 - 1)
   pub places : entries_len plain < 2 ^ 32 → items ≡ placed handle plain
 
--- What a decoder answered and what it left is what the reading of the bytes gives, with the places of the
--- items, unless memory ran out. A refusal leaves all.
+-- A decoder's result, with the items' places, and the bytes it left are those of the reading, unless memory ran out. If
+-- it fails, it takes no bytes.
 abbrev pub ReadsPlaced :
     FileBlockHandle → Result (Vec LogItem × ℕ) Error → List ℕ → List ℕ
     → Result (List LogItem × List ℕ) Fault → Type 0

@@ -1,4 +1,4 @@
--- The functions that read items from the front of a list, with the first fault in the order of the format.
+-- The functions that read items from the front of a list. They stop at the first fault in the order of the format.
 use Rattle.std.specs.Prelude.{Result, ℕ, zero, suc, ◌+◌, List, [], ◌∷◌, ◌++◌, length, take, drop, Ok, Err, nat_lt, ◌==◌, if◌then◌else◌, codes}
 use Rattle.std.specs.Fmt.{decimal}
 use Rattle.std.specs.declared.io.ErrorKind.TheVariants.{UnexpectedEof}
@@ -46,7 +46,7 @@ length_past_limit = codes "Entry length past the limit"
 abbrev pub unsupported_compression : ℕ → List ℕ
 unsupported_compression kind = codes "Unsupported compression type: " ++ decimal kind
 
--- What bytes stand for.
+-- What bytes mean.
 
 -- the operation of a byte
 abbrev pub operation_of : ℕ → Result OpType Fault
@@ -57,12 +57,12 @@ operation_of op =
 abbrev pub compression_of : ℕ → Result CompressionType Fault
 compression_of kind = if kind == 0 then Ok kinds.None else Err (corrupt (unsupported_compression kind))
 
--- so many bytes
+-- n bytes
 abbrev pub bytes_of_at : ℕ → Reader (List ℕ) Fault
 bytes_of_at n bytes =
     if nat_lt (length bytes) n then Err (number (Io UnexpectedEof)) else Ok (take n bytes, drop n bytes)
 
--- a length, and as many bytes
+-- a length, and that many bytes
 unfoldable pub bytes_at : Reader (List ℕ) Fault
 bytes_at bytes = number_at bytes >>= λ n. bytes_of_at n.0 n.1
 
@@ -70,7 +70,7 @@ bytes_at bytes = number_at bytes >>= λ n. bytes_of_at n.0 n.1
 unfoldable pub entry_len_at : Reader ℕ Fault
 entry_len_at = passing_at is_entry_len length_past_limit number_at
 
--- so many entries from this index on
+-- n entries from this index on
 unfoldable pub entries_from_at : ℕ → ℕ → Reader (List EntryIndex) Fault
 entries_from_at index zero bytes = Ok ([], bytes)
 entries_from_at index (suc n) bytes = do
@@ -78,11 +78,11 @@ entries_from_at index (suc n) bytes = do
   es ← entries_from_at (index + 1) n len.1
   Ok (unplaced_entry index len.0 ∷ es.0, es.1)
 
--- the first of so many indexes
+-- the first of `count` indexes
 unfoldable pub first_index_at : ℕ → Reader ℕ Fault
 first_index_at count = passing_at (is_first_of count) index_past_limit number_at
 
--- so many entries
+-- `count` entries
 unfoldable pub entries_of_at : ℕ → Reader (List EntryIndex) Fault
 entries_of_at count = choice_at (count == 0) (λ bytes. Ok ([], bytes))
     (λ bytes. first_index_at count bytes >>= λ first. entries_from_at first.0 count first.1)
@@ -101,7 +101,7 @@ command_of_at kind = choice_at (kind == 1) (λ bytes. Ok (commands.Clean, bytes)
 unfoldable pub command_at : Reader Command Fault
 command_at bytes = kind_at bytes >>= λ kind. command_of_at kind.0 kind.1
 
--- the key of this operation, and of a put its value
+-- the key of this operation, and the value of a put
 unfoldable pub key_value_of_at : ℕ → Reader KeyValue Fault
 key_value_of_at op = choice_at (op == 1)
     (λ bytes. bytes_at bytes >>= λ key. bytes_at key.1 >>= λ value. Ok (put_of key.0 value.0, value.1))
@@ -128,10 +128,10 @@ item_at bytes = do
   content ← content_of_at kind.0 kind.1
   Ok (record { raft_group_id = group.0; content = content.0 }, content.1)
 
--- so many items
+-- n items
 abbrev pub items_of_at : ℕ → Reader (List LogItem) Fault
 items_of_at = times_at item_at
 
--- a list of items: their count, and each of them
+-- a list of items: the count, and then each item
 unfoldable pub items_at : Reader (List LogItem) Fault
 items_at bytes = number_at bytes >>= λ count. items_of_at count.0 count.1

@@ -1,4 +1,4 @@
--- The one spelling of an item that is written: each number in its shortest form.
+-- The one spelling of an item that is written, each number in its shortest form.
 use Rattle.std.specs.Prelude.{◌≡◌, ℕ, List, [], ◌∷◌, ◌++◌, length, take, flat_map, map, unwrap_or}
 use Rattle.raft_log_record_base.specs.Number.{var_u64_bytes}
 use Rattle.raft_log_record_items.specs.declared.entry.EntryIndex.{EntryIndex}
@@ -15,7 +15,7 @@ use Rattle.raft_log_record_base.specs.Grammar.{Then, Times}
 use Rattle.raft_log_record_base.specs.Number.{IsByte}
 use Rattle.raft_log_record_items.specs.Items.{put_of, del_of, IsContentOf, IsKeyValue, IsItem}
 
--- a length, and as many bytes
+-- a length, and that many bytes
 unfoldable pub bytes_bytes : List ℕ → List ℕ
 bytes_bytes xs = var_u64_bytes (length xs) ++ xs
 
@@ -28,7 +28,7 @@ unfoldable pub entries_bytes : List EntryIndex → List ℕ
 entries_bytes [] = var_u64_bytes 0
 entries_bytes (e ∷ es) = var_u64_bytes (length (e ∷ es)) ++ var_u64_bytes e.index ++ lengths_bytes (e ∷ es)
 
--- the kind of a command, and of a `Compact` its index
+-- the kind of a command, and the index of a `Compact`
 unfoldable pub command_bytes : Command → List ℕ
 command_bytes Clean = 1 ∷ []
 command_bytes (Compact index) = 2 ∷ var_u64_bytes index
@@ -38,7 +38,7 @@ abbrev pub operation_number : OpType → ℕ
 operation_number Put = 1
 operation_number Del = 2
 
--- what is written of a key: of a put its value, of a deletion none
+-- what is written for a key: the operation, the key, and the value of a put
 unfoldable pub operation_bytes : OpType → List ℕ → List ℕ → List ℕ
 operation_bytes Put key value = (1 ∷ bytes_bytes key) ++ bytes_bytes value
 operation_bytes Del key value = 2 ∷ bytes_bytes key
@@ -47,7 +47,7 @@ operation_bytes Del key value = 2 ∷ bytes_bytes key
 abbrev pub value_of : KeyValue → List ℕ
 value_of kv = unwrap_or kv.value []
 
--- what is written of a key that is put or deleted
+-- what is written for a key that is put or deleted
 unfoldable pub key_value_bytes : KeyValue → List ℕ
 key_value_bytes kv = operation_bytes kv.op_type kv.key (value_of kv)
 
@@ -65,7 +65,7 @@ item_bytes item = var_u64_bytes item.raft_group_id ++ content_bytes item.content
 unfoldable pub items_bytes : List LogItem → List ℕ
 items_bytes items = var_u64_bytes (length items) ++ flat_map item_bytes items
 
--- What is written of an item, which is what is read: all but where it lies.
+-- What is written of an item and read back: all but its places.
 
 -- a key of which only the operation, the key and the value are known
 abbrev pub plain_operation : OpType → List ℕ → List ℕ → KeyValue
@@ -91,18 +91,18 @@ abbrev pub IsSpelledContent : LogItemContent → Type 0
 IsSpelledContent content =
     Then IsByte (λ kind. IsContentOf kind) (content_bytes content) (plain_content content)
 
--- what is written of a key by its operation is spelled so
+-- what is written for a key by its operation spells it
 abbrev pub IsSpelledOperation : OpType → List ℕ → List ℕ → Type 0
 IsSpelledOperation op key value = IsKeyValue (operation_bytes op key value) (plain_operation op key value)
 
--- what is written of a key that is put or deleted is spelled so
+-- what is written for a key that is put or deleted spells it
 abbrev pub IsSpelledKeyValue : KeyValue → Type 0
 IsSpelledKeyValue kv = IsKeyValue (key_value_bytes kv) (plain_key_value kv)
 
--- what is written of these items, one after another, spells them without their places
+-- what is written for these items, one after another, spells them without their places
 abbrev pub AreSpelled : List LogItem → Type 0
 AreSpelled items = Times IsItem (length items) (flat_map item_bytes items) (map plain_item items)
 
--- what a buffer held is still there at its front
+-- the buffer still begins with its old bytes
 abbrev pub KeepsFront : List ℕ → List ℕ → Type 0
 KeepsFront old new = take (length old) new ≡ old

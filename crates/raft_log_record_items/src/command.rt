@@ -1,4 +1,4 @@
-//! Commands: what is said of all of a group.
+//! Commands: statements about a whole group.
 ghost use Rattle.std.specs.Prelude.{◌≡◌, ◌++◌, IsOk, OnOk, OnErr};
 ghost use Rattle.raft_log_record_base.specs.Fault.{ReadsOrMemory, DecodesOrMemory};
 ghost use Rattle.raft_log_record_items.specs.Items.{IsCommand};
@@ -17,7 +17,7 @@ const COMMAND_CLEAN: u8 = 1;
 /// The first byte of a `Compact`.
 const COMMAND_COMPACT: u8 = 2;
 
-/// What is said of all of a group.
+/// A statement about a whole group.
 #[derive(Clone, Copy, Debug, PartialEq, Eq)]
 pub enum Command {
     /// All entries and keys of the group are gone.
@@ -27,7 +27,8 @@ pub enum Command {
 }
 
 impl Command {
-    /// Reads a command. An unknown one is refused with its number, and only the text of that takes memory.
+    /// Reads a command. Fails with `Corruption` if its kind is unknown, with the kind in the text. Only that text takes
+    /// memory.
     pub fn decode(alloc: Global, source: &mut BytesSlice<'_>) -> Result<Command>
         ensures decodes { DecodesOrMemory IsCommand result source.old.now source.new.now }
         ensures exact { ReadsOrMemory result source.old.now source.new.now (command_at source.old.now) }
@@ -36,7 +37,7 @@ impl Command {
         split_command(alloc, source)
     }
 
-    /// Appends the command, each number in its shortest spelling. A refusal changes nothing.
+    /// Appends the command, each number in its shortest spelling. If it fails, the buffer's bytes are unchanged.
     pub fn encode(&self, out: &mut Vec<u8>) -> Result<(), AllocError>
         ensures ok { OnOk result (out.new.items ≡ out.old.items ++ command_bytes self.now) }
         ensures err { OnErr result (out.new.items ≡ out.old.items) }

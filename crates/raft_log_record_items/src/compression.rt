@@ -6,14 +6,14 @@ ghost use Rattle.raft_log_record_items.specs.Reading.{compression_of};
 use raft_log_record_base::{Error, Result};
 use std::alloc::Global;
 
-/// How the entry block of a batch is compressed. There is one kind, which is none at all.
+/// How the entry block of a batch is compressed. The only kind is no compression.
 #[derive(Clone, Copy, Debug, PartialEq, Eq)]
 pub enum CompressionType {
     None = 0,
 }
 
 impl CompressionType {
-    /// The kind of this byte. Any but 0 is refused as a corruption, and only the text of that takes memory.
+    /// The kind of this byte. Fails with `Corruption` for any byte but 0; only that error's text takes memory.
     pub fn from_u8(alloc: Global, byte: u8) -> Result<CompressionType>
         ensures exact { GivesOrMemory result (compression_of byte) }
         ensures sure { IsOk (compression_of byte) → IsOk result }

@@ -1,11 +1,11 @@
-//! An entry of a group: its index, and where its bytes lie.
+//! An entry of a group: its index, and where its bytes are.
 ghost use Rattle.std.specs.Prelude.{◌≡◌};
 ghost use Rattle.raft_log_record_items.specs.Run.{unplaced_entry};
 
 use crate::compression::CompressionType;
 use raft_log_record_base::FileBlockHandle;
 
-/// One entry of a group: its index, and where its bytes lie.
+/// One entry of a group: its index, and where its bytes are.
 #[derive(Clone, Copy, Debug, PartialEq, Eq)]
 pub struct EntryIndex {
     /// The entry's number in the group's log.
@@ -14,14 +14,14 @@ pub struct EntryIndex {
     pub entries: Option<FileBlockHandle>,
     /// How the block is compressed.
     pub compression_type: CompressionType,
-    /// The first of the entry's bytes, counted from the start of the entry block.
+    /// The offset of the entry's first byte in the entry block.
     pub entry_offset: u32,
-    /// How many bytes the entry has.
+    /// The number of the entry's bytes.
     pub entry_len: u32,
 }
 
 impl EntryIndex {
-    /// An entry that is in no file yet, with this index and so many bytes.
+    /// An entry of this index and length that is in no file yet.
     pub fn unplaced(index: u64, entry_len: u32) -> EntryIndex
         ensures { result ≡ unplaced_entry index entry_len }
     {

@@ -57,7 +57,7 @@ impl Eq for EntryIndexes {
 }
 
 impl EntryIndexes {
-    /// These entries; nothing is copied.
+    /// A run of these entries; nothing is copied.
     pub fn new(entries: Vec<EntryIndex>) -> Self
         requires { IsRun entries.items }
         ensures { result ≡ entries.items }
@@ -73,21 +73,21 @@ impl EntryIndexes {
         self.entries.as_slice()
     }
 
-    /// How many entries there are.
+    /// The number of entries.
     pub fn len(&self) -> usize
         ensures { result ≡ length self.now }
     {
         self.entries.len()
     }
 
-    /// Whether there is no entry.
+    /// Whether there are no entries.
     pub fn is_empty(&self) -> bool
         ensures { IsTrue result ↔ (self.now ≡ []) }
     {
         self.entries.is_empty()
     }
 
-    /// How many bytes the entries have, or 2^64 - 1 where they have more.
+    /// The length of all entries in bytes, or 2^64 - 1 if they are longer.
     pub fn bytes_len(&self) -> u64
         ensures { result ≡ min (run_len self.now) (2 ^ 64 - 1) }
     {
@@ -99,8 +99,7 @@ impl EntryIndexes {
         len
     }
 
-    /// Lays the entries out one after another from this offset in their block on, and answers where the
-    /// next one goes.
+    /// Lays out the entries one after another from this offset in their block, and returns the offset of the next one.
     pub fn lay_out(&mut self, offset: u32) -> u32
         requires { offset + run_len self.old < 2 ^ 32 }
         ensures laid { self.new ≡ laid_run offset self.old }
@@ -109,7 +108,7 @@ impl EntryIndexes {
         lay_out(self.entries.as_mut_slice(), offset)
     }
 
-    /// The entry block is written at this place.
+    /// Sets the entry block's place in each entry, once it is written.
     pub fn set_written(&mut self, handle: FileBlockHandle)
         ensures { self.new ≡ map (written_entry handle) self.old }
     {
@@ -125,9 +124,9 @@ impl EntryIndexes {
         entries
     }
 
-    /// Reads the entries of an item: their indexes and lengths. Where they lie is not told by their item.
+    /// Reads the entries of an item: their indexes and lengths. The item doesn't have their places.
     ///
-    /// Refuses an index of 2^64 - 1 and a length of more than 32 bits as a corruption.
+    /// Fails with `Corruption` for an index of 2^64 - 1 or a length of more than 32 bits.
     pub fn decode(alloc: Global, source: &mut BytesSlice<'_>) -> Result<EntryIndexes>
         ensures decodes { DecodesOrMemory IsEntries result source.old.now source.new.now }
         ensures exact { ReadsOrMemory result source.old.now source.new.now (entries_at source.old.now) }
@@ -135,7 +134,7 @@ impl EntryIndexes {
         split_entry_indexes(alloc, source)
     }
 
-    /// Appends the entries, each number in its shortest spelling. A refusal changes nothing.
+    /// Appends the entries, each number in its shortest spelling. If it fails, the buffer's bytes are unchanged.
     pub fn encode(&self, out: &mut Vec<u8>) -> Result<(), AllocError>
         ensures ok { OnOk result (out.new.items ≡ out.old.items ++ entries_bytes self.now) }
         ensures err { OnErr result (out.new.items ≡ out.old.items) }
@@ -146,8 +145,7 @@ impl EntryIndexes {
     }
 }
 
-/// Lays the entries out one after another from this offset in their block on, and answers where the next
-/// one goes.
+/// Lays out the entries one after another from this offset in their block, and returns the offset of the next one.
 fn lay_out(entries: &mut [EntryIndex], offset: u32) -> u32
     requires { offset + run_len entries.old < 2 ^ 32 }
     ensures laid { entries.new ≡ laid_run offset entries.old }
@@ -161,7 +159,7 @@ fn lay_out(entries: &mut [EntryIndex], offset: u32) -> u32
     next
 }
 
-/// The entries' block is written at this place.
+/// Sets the entry block's place in each entry.
 fn set_written(entries: &mut [EntryIndex], handle: FileBlockHandle)
     ensures { entries.new ≡ map (written_entry handle) entries.old }
 {
@@ -182,7 +180,7 @@ fn split_entry_indexes(alloc: Global, source: &mut BytesSlice<'_>) -> Result<Ent
     Ok(entries)
 }
 
-/// Reads as many entries as were counted.
+/// Reads as many entries as the count says.
 #[tactic(auto, unfolding(crate::specs::Reading::entries_of_at))]
 fn split_counted_entries(
     alloc: Global,
@@ -201,7 +199,7 @@ fn split_counted_entries(
     Ok(EntryIndexes::new(entries))
 }
 
-/// Reads the first of so many indexes.
+/// Reads the first of `count` indexes.
 #[tactic(auto, unfolding(crate::specs::Reading::first_index_at))]
 fn split_first_index(alloc: Global, source: &mut BytesSlice<'_>, count: u64) -> Result<u64>
     ensures read { ReadsOrMemory result source.old.now source.new.now (first_index_at count source.old.now) }
@@ -216,7 +214,7 @@ fn split_first_index(alloc: Global, source: &mut BytesSlice<'_>, count: u64) -> 
     Ok(first)
 }
 
-/// Reads so many entries, from this index on.
+/// Reads `count` entries, from this index on.
 fn split_entries(
     alloc: Global,
     source: &mut BytesSlice<'_>,
@@ -238,7 +236,7 @@ fn split_entries(
     Ok(entries)
 }
 
-/// Room for so many entries, but for no more than so many bytes can hold: each length takes a byte at least.
+/// Room for `count` entries, but for no more than `len` bytes can hold: each length takes at least one byte.
 fn room_for_entries(alloc: Global, count: u64, len: usize) -> Result<Vec<EntryIndex>, AllocError>
     ensures empty { IfOk result (λ entries. entries.items ≡ []) }
     ensures room { IfOk result (λ entries. vec_capacity entries ≡ min count len) }

@@ -1,4 +1,4 @@
-//! Items: what a batch says of a group.
+//! Items: the statements of a batch about a group.
 ghost use Rattle.std.specs.Prelude.{◌≡◌, ◌+◌, ◌-◌, ◌<◌, ◌≤◌, ◌^◌, ◌++◌, min, OnOk, OnErr};
 ghost use Rattle.raft_log_record_base.specs.Fault.{ReadsOrMemory, DecodesOrMemory};
 ghost use Rattle.raft_log_record_items.specs.Items.{IsItem, item_of, new_key};
@@ -26,7 +26,7 @@ const TYPE_COMMAND: u8 = 2;
 /// The kind byte of an item with a key.
 const TYPE_KV: u8 = 3;
 
-/// What an item says.
+/// The content of an item.
 #[derive(Clone, Debug, Drop, PartialEq)]
 pub enum LogItemContent {
     EntryIndexes(EntryIndexes),
@@ -34,7 +34,7 @@ pub enum LogItemContent {
     Kv(KeyValue),
 }
 
-/// What a batch says of one group.
+/// One statement of a batch about a group.
 #[derive(Clone, Debug, Drop, PartialEq)]
 pub struct LogItem {
     pub raft_group_id: u64,
@@ -64,7 +64,7 @@ impl LogItem {
         }
     }
 
-    /// A key of a group that is put or deleted.
+    /// A put or a deletion of a group's key.
     pub fn new_kv(raft_group_id: u64, op_type: OpType, key: Bytes, value: Option<Bytes>) -> Self
         ensures { result ≡ item_of raft_group_id (contents.Kv (new_key op_type key value)) }
     {
@@ -74,7 +74,7 @@ impl LogItem {
         }
     }
 
-    /// How many bytes the entries of the item have, or 2^64 - 1 where they have more.
+    /// The length of the item's entries in bytes, or 2^64 - 1 if they are longer.
     pub fn entries_len(&self) -> u64
         ensures { result ≡ min (content_len self.now.content) (2 ^ 64 - 1) }
     {
@@ -84,9 +84,9 @@ impl LogItem {
         }
     }
 
-    /// The item is written, and its entries lie one after another in the block at this place, from this
-    /// offset on. Answers where the next entry goes, or 2^64 - 1 where that is further. Entries that no
-    /// block holds get no place.
+    /// Sets the item's places: its entries are one after another in the block at this place, from this offset on.
+    /// Returns the offset of the next entry, or 2^64 - 1 if that is higher. If the returned offset doesn't fit 32 bits,
+    /// the item is unchanged.
     pub fn place(&mut self, block: FileBlockHandle, offset: u64) -> u64
         ensures end { result ≡ min (offset + content_len self.old.content) (2 ^ 64 - 1) }
         ensures places { result < 2 ^ 32 → self.new ≡ placed_item block offset self.old }
@@ -100,7 +100,7 @@ impl LogItem {
         end
     }
 
-    /// Reads an item. Where its entries lie, and in which file it stands, is not told by it.
+    /// Reads an item. Its bytes don't have its entries' places, nor its file.
     pub fn decode(alloc: Global, source: &mut BytesSlice<'_>) -> Result<LogItem>
         ensures decodes { DecodesOrMemory IsItem result source.old.now source.new.now }
         ensures exact { ReadsOrMemory result source.old.now source.new.now (item_at source.old.now) }
@@ -108,7 +108,7 @@ impl LogItem {
         split_item(alloc, source)
     }
 
-    /// Appends the item, each number in its shortest spelling. A refusal changes nothing.
+    /// Appends the item, each number in its shortest spelling. If it fails, the buffer's bytes are unchanged.
     pub fn encode(&self, out: &mut Vec<u8>) -> Result<(), AllocError>
         ensures ok { OnOk result (out.new.items ≡ out.old.items ++ item_bytes self.now) }
         ensures err { OnErr result (out.new.items ≡ out.old.items) }
@@ -184,8 +184,7 @@ fn append_content(out: &mut Vec<u8>, content: &LogItemContent) -> Result<(), All
     Ok(())
 }
 
-/// Lays out the entries of a content from this offset in their block on, and answers where the next entry
-/// goes.
+/// Lays out the entries of a content from this offset in their block on, and returns the offset of the next entry.
 pub(crate) fn lay_out_content(content: &mut LogItemContent, offset: u32) -> u32
     requires { offset + content_len content.old < 2 ^ 32 }
     ensures laid { content.new ≡ laid_content offset content.old }
@@ -197,7 +196,7 @@ pub(crate) fn lay_out_content(content: &mut LogItemContent, offset: u32) -> u32
     }
 }
 
-/// What is said is written, and its entry block lies at this place.
+/// Sets the places of a content whose entry block is written at this place.
 pub(crate) fn set_content_written(content: &mut LogItemContent, handle: FileBlockHandle)
     ensures { content.new ≡ written_content handle content.old }
 {

@@ -1,4 +1,4 @@
-//! Lists of items: their count, and each of them; and where their entries lie.
+//! Lists of items, their count first, and the places of their entries.
 ghost use Rattle.std.specs.Prelude.{◌≡◌, ◌+◌, ◌/◌, ◌<◌, ◌^◌, ◌++◌, [], flat_map, length, map, min, vec_capacity, IfOk, OnOk, OnErr};
 ghost use Rattle.raft_log_record_base.specs.Fault.{ReadsItemsOrMemory, DecodesItemsOrMemory};
 ghost use Rattle.raft_log_record_items.specs.Items.{AreItems};
@@ -32,8 +32,7 @@ fn copy_of(item: &LogItem) -> Result<LogItem, AllocError>
     item.clone()
 }
 
-/// Gives the items of a written batch their places: their entries lie one after another in the block at
-/// this place.
+/// Sets the places of a written batch's items: their entries are one after another in the block at this place.
 pub fn place(items: &mut [LogItem], handle: FileBlockHandle)
     requires { entries_len items.old < 2 ^ 32 }
     ensures { items.new ≡ placed handle items.old }
@@ -53,7 +52,7 @@ pub fn lay_out(items: &mut [LogItem], offset: u32)
     }
 }
 
-/// The items are written, and their entry block lies at this place.
+/// Sets the places of items whose entry block is written at this place.
 pub fn set_written(items: &mut [LogItem], handle: FileBlockHandle)
     ensures { items.new ≡ written handle items.old }
 {
@@ -62,9 +61,9 @@ pub fn set_written(items: &mut [LogItem], handle: FileBlockHandle)
     }
 }
 
-/// Reads a list of items: their count, and each of them.
+/// Reads a list of items: the count, and then each item.
 ///
-/// No more room is made than for one item in three bytes, whatever the count says.
+/// The room that it makes is at most one item for each three bytes, whatever the count says.
 pub fn decode_items(alloc: Global, source: &mut BytesSlice<'_>) -> Result<Vec<LogItem>>
     ensures decodes { DecodesItemsOrMemory AreItems result source.old.now source.new.now }
     ensures exact { ReadsItemsOrMemory result source.old.now source.new.now (items_at source.old.now) }
@@ -72,7 +71,7 @@ pub fn decode_items(alloc: Global, source: &mut BytesSlice<'_>) -> Result<Vec<Lo
     split_counted_items(alloc, source)
 }
 
-/// Reads as many items as are counted.
+/// Reads as many items as the count says.
 #[tactic(auto, unfolding(crate::specs::Reading::items_at))]
 fn split_counted_items(alloc: Global, source: &mut BytesSlice<'_>) -> Result<Vec<LogItem>>
     ensures { ReadsItemsOrMemory result source.old.now source.new.now (items_at source.old.now) }
@@ -84,7 +83,7 @@ fn split_counted_items(alloc: Global, source: &mut BytesSlice<'_>) -> Result<Vec
     Ok(items)
 }
 
-/// Reads so many items.
+/// Reads `count` items.
 fn split_items(alloc: Global, source: &mut BytesSlice<'_>, count: u64) -> Result<Vec<LogItem>>
     ensures { ReadsItemsOrMemory result source.old.now source.new.now (items_of_at count source.old.now) }
 {
@@ -98,10 +97,10 @@ fn split_items(alloc: Global, source: &mut BytesSlice<'_>, count: u64) -> Result
     Ok(items)
 }
 
-/// Reads a list of items whose entries lie one after another in the block at this place, and answers with
-/// it how many bytes they have, or 2^64 - 1 where they have more. Each item gets its places as it is read.
+/// Reads a list of items whose entries are one after another in the block at this place. Returns with it the entries'
+/// length in bytes, or 2^64 - 1 if they are longer. Each item gets its places as it is read.
 ///
-/// Of entries that no block holds, with 2^32 bytes or more, the places are not told.
+/// If the entries have 2^32 bytes or more, nothing is promised of their places.
 #[tactic(auto, unfolding(crate::specs::Reading::items_at))]
 pub fn decode_placed_items(
     alloc: Global,
@@ -117,7 +116,7 @@ pub fn decode_placed_items(
     Ok(found)
 }
 
-/// Reads so many items with their places.
+/// Reads `count` items with their places.
 fn split_placed_items(
     alloc: Global,
     source: &mut BytesSlice<'_>,
@@ -138,7 +137,7 @@ fn split_placed_items(
     Ok((items, len))
 }
 
-/// Room for so many items, but for no more than so many bytes can hold.
+/// Room for `count` items, but for no more than `len` bytes can hold.
 fn room_for_items(alloc: Global, count: u64, len: usize) -> Result<Vec<LogItem>, AllocError>
     ensures empty { IfOk result (λ items. items.items ≡ []) }
     ensures room { IfOk result (λ items. vec_capacity items ≡ min count (len / 3)) }
@@ -147,8 +146,7 @@ fn room_for_items(alloc: Global, count: u64, len: usize) -> Result<Vec<LogItem>,
     Vec::with_capacity(alloc, room as usize)
 }
 
-/// Appends the count of the items, and each of them. A refusal may leave a part of them behind what was
-/// there.
+/// Appends the count of the items, and each of them. If it fails, a part of them may follow the old bytes.
 #[tactic(auto, unfolding(crate::specs::Writing::items_bytes))]
 pub fn append_items(out: &mut Vec<u8>, items: &[LogItem]) -> Result<(), AllocError>
     ensures ok { OnOk result (out.new.items ≡ out.old.items ++ items_bytes items.now) }

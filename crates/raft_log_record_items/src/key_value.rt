@@ -1,4 +1,4 @@
-//! Keys that are put or deleted.
+//! Keys that are put or deleted, in an item.
 ghost use Rattle.std.specs.Prelude.{◌≡◌, ◌++◌, OnOk, OnErr};
 ghost use Rattle.raft_log_record_base.specs.Fault.{ReadsOrMemory, DecodesOrMemory};
 ghost use Rattle.raft_log_record_items.specs.Items.{IsKeyValue, new_key};
@@ -25,12 +25,12 @@ const OP_PUT: u8 = 1;
 /// The first byte of a deletion.
 const OP_DEL: u8 = 2;
 
-/// A key that gets a value, or loses it.
+/// A put or a deletion of a key.
 #[derive(Clone, Debug, Drop, PartialEq)]
 pub struct KeyValue {
     pub op_type: OpType,
     pub key: Bytes,
-    /// The value of a put. A put without one is written with the empty value; a deletion writes none.
+    /// The value of a put. A put without one is written with the empty value; for a deletion no value is written.
     pub value: Option<Bytes>,
     /// The file that holds the item, once it is written.
     pub file_id: Option<FileId>,
@@ -49,7 +49,7 @@ impl KeyValue {
         }
     }
 
-    /// Reads a key that is put, with its value, or deleted.
+    /// Reads a key that is put with its value, or that is deleted.
     pub fn decode(alloc: Global, source: &mut BytesSlice<'_>) -> Result<KeyValue>
         ensures decodes { DecodesOrMemory IsKeyValue result source.old.now source.new.now }
         ensures exact { ReadsOrMemory result source.old.now source.new.now (key_value_at source.old.now) }
@@ -57,7 +57,7 @@ impl KeyValue {
         split_key_value(alloc, source)
     }
 
-    /// Appends the key, each number in its shortest spelling. A refusal changes nothing.
+    /// Appends the key, each number in its shortest spelling. If it fails, the buffer's bytes are unchanged.
     pub fn encode(&self, out: &mut Vec<u8>) -> Result<(), AllocError>
         ensures ok { OnOk result (out.new.items ≡ out.old.items ++ key_value_bytes self.now) }
         ensures err { OnErr result (out.new.items ≡ out.old.items) }
@@ -80,7 +80,7 @@ fn split_key_value(alloc: Global, source: &mut BytesSlice<'_>) -> Result<KeyValu
     Ok(key_value)
 }
 
-/// Reads the key, and for a put the value.
+/// Reads the key, and the value of a put.
 #[tactic(auto, unfolding(crate::specs::Reading::key_value_of_at))]
 fn split_key_value_of(alloc: Global, source: &mut BytesSlice<'_>, op: u8) -> Result<KeyValue>
     ensures { ReadsOrMemory result source.old.now source.new.now (key_value_of_at op source.old.now) }
@@ -119,7 +119,7 @@ fn append_key_value(out: &mut Vec<u8>, key_value: &KeyValue) -> Result<(), Alloc
     Ok(())
 }
 
-/// Appends a key, and for a put its value.
+/// Appends a key, and the value of a put.
 #[tactic(auto, unfolding(crate::specs::Writing::operation_bytes))]
 fn append_operation(
     out: &mut Vec<u8>,

@@ -8,14 +8,14 @@ ghost use Rattle.raft_log_record_items.specs.Items.{IsBytes, IsEntries, IsComman
 use crate::entry_indexes::EntryIndexes;
 use crate::item::LogItem;
 
-/// Runs and items are equal by `==` exactly where they are the same: also where they lie has to agree.
+/// Runs and items are equal by `==` if and only if they are the same, their places included.
 pub fn equal_where_same()
     ensures runs { (a b : List Entry) → IsTrue (⟦<EntryIndexes as PartialEq>⟧.eq a b) ↔ (a ≡ b) }
     ensures items { (a b : Item) → IsTrue (⟦<LogItem as PartialEq>⟧.eq a b) ↔ (a ≡ b) }
 {}
 
-/// No spelling of a kind begins another one of the kind, and none spells two values. So what was written
-/// is read again, whatever follows it.
+/// No spelling of a kind begins another one of the kind, and none spells two values. What was written can therefore be
+/// read back, whatever follows it.
 pub fn no_spelling_begins_another()
     ensures bytes { IsPrefixFree IsBytes }
     ensures entries { IsPrefixFree IsEntries }

@@ -4,33 +4,31 @@ use std::alloc::{AllocError, Global};
 
 /// A value that is kept as bytes.
 ///
-/// Contracts see two functions: how a value is spelled, and what bytes are read as, if they are a spelling
-/// at all.
+/// Contracts see two functions: the bytes that a value is written as, and the value that bytes are read as, if any.
 pub trait Message: Drop {
     ghost use Rattle.std.specs.Prelude.{◌≡◌, ◌++◌, ℕ, List, Option, OnOk, OnErr};
     ghost use Rattle.raft_log_record_items.specs.Writing.{KeepsFront};
     ghost use Rattle.raft_log_record_items.specs.Message.{IsReadBack, Parses};
 
-    /// The bytes that are written of a value.
+    /// The bytes that are written for a value.
     ghost spelling: { Self → List ℕ };
 
-    /// The value of these bytes. One value may have other spellings than the one that is written.
+    /// The value of these bytes. A value may have other spellings than the one that is written.
     ghost reading: { List ℕ → Option Self };
 
-    /// Appends the bytes of the message, which are read as the same message again: a fact of this value,
-    /// so that a type whose values have a range can meet it. A refusal may leave a part behind what was
-    /// there.
+    /// Appends the bytes of the message. They are read as the same message again. That is promised for this value, so
+    /// that a type whose values have a range can satisfy it. If it fails, a part may follow the old bytes.
     fn write(&self, out: &mut Vec<u8>) -> Result<(), AllocError>
         ensures ok { OnOk result (out.new.items ≡ out.old.items ++ spelling self.now) }
         ensures err { OnErr result (KeepsFront out.old.items out.new.items) }
         ensures again { IsReadBack spelling reading self.now };
 
-    /// The message of these bytes. Refuses as a message error the bytes of no message.
+    /// The message of these bytes. Fails with a `Message` error if they are no message's.
     fn parse(alloc: Global, bytes: &[u8]) -> Result<Self>
         ensures { Parses result (reading bytes.now) };
 }
 
-/// What the entries of a log are, and the index of each.
+/// The type of a log's entries, and the index of each.
 pub trait MessageExt {
     ghost use Rattle.std.specs.Prelude.{◌≡◌, ℕ};
 

@@ -1,4 +1,4 @@
-//! What happens to a key: it gets a value, or loses it.
+//! What happens to a key: a put or a deletion.
 ghost use Rattle.std.specs.Prelude.{◌≡◌, IsOk};
 ghost use Rattle.raft_log_record_base.specs.Fault.{GivesOrMemory};
 ghost use Rattle.raft_log_record_items.specs.Reading.{operation_of};
@@ -7,7 +7,7 @@ ghost use Rattle.raft_log_record_items.specs.Writing.{operation_number};
 use raft_log_record_base::{Error, Result};
 use std::alloc::Global;
 
-/// Whether a key gets a value or loses it.
+/// Whether a key is put or deleted.
 #[derive(Clone, Copy, Debug, PartialEq, Eq)]
 pub enum OpType {
     Put = 1,
@@ -15,8 +15,7 @@ pub enum OpType {
 }
 
 impl OpType {
-    /// The operation of this byte. An unknown one is refused as a corruption, and only the text of that takes
-    /// memory.
+    /// The operation of this byte. Fails with `Corruption` for an unknown one; only that error's text takes memory.
     pub fn from_u8(alloc: Global, byte: u8) -> Result<OpType>
         ensures exact { GivesOrMemory result (operation_of byte) }
         ensures sure { IsOk (operation_of byte) → IsOk result }

@@ -4,7 +4,7 @@ use raft_lists::Bytes;
 use raft_log_record_base::Result;
 use std::alloc::{AllocError, Global};
 
-/// Bytes as they are: they are written as they stand, and any bytes are read as one.
+/// Bytes that are written unchanged. Any bytes are read as such a message.
 #[derive(Debug, Drop, PartialEq, Eq)]
 pub struct RawMessage {
     /// The bytes.
@@ -29,8 +29,8 @@ impl Message for RawMessage {
     }
 }
 
-/// A log whose entries are any bytes. Bytes don't say their index: such entries are added with their indexes
-/// beside them, and here each index is 0.
+/// A log whose entries are any bytes. Bytes don't contain their index: such entries are added with their indexes, and
+/// here each index is 0.
 pub struct RawEntries {}
 
 impl MessageExt for RawEntries {

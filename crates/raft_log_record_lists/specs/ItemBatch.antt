@@ -1,5 +1,5 @@
--- Lists of items: what callers see of one, about how many bytes it has, its entries, and what a footer says
--- with its places.
+-- Lists of items: what callers see of one, its approximate length in bytes, its entries, and its items as a footer
+-- gives them with their places.
 use Rattle.std.specs.Prelude.{◌≡◌, ℕ, ◌+◌, ◌-◌, ◌*◌, ◌≤◌, List, [], ◌∷◌, ◌++◌, length, take, drop, map, flat_map, sum_by, All, Option, Some, None, Result, Ok, Err, IfOk, MatchResult}
 use Rattle.raft_log_record_base.specs.declared.errors.Error.{Error}
 use Rattle.raft_log_record_base.specs.declared.errors.Error.TheVariants as errors
@@ -15,24 +15,24 @@ use Rattle.raft_log_record_items.specs.Placed.{laid_out, placed}
 use Rattle.raft_log_record_items.specs.Writing.{items_bytes, plain_item, value_of}
 use Rattle.raft_log_record_frames.specs.Record.{IsFooter, IsFooterOf, AddsUp, placed_footer_of}
 
--- the items, and how many there is room for before memory is asked for
+-- the items, and how many fit before memory is asked for
 pub record ItemBatch : Type 0 where
   pub items : List LogItem
   pub capacity : ℕ
 
--- no items, and room for so many
+-- no items, and this capacity
 abbrev pub no_items : ℕ → ItemBatch
 no_items capacity = record { items = []; capacity = capacity }
 
--- these items were added, and there is no less room
+-- these items were added, and the capacity didn't shrink
 abbrev pub AddsItems : ItemBatch → ItemBatch → List LogItem → Type 0
 AddsItems old new items = (new.items ≡ old.items ++ items) × (old.capacity ≤ new.capacity)
 
--- a key of a group that gets a value was added, and there is no less room
+-- a put of a group's key was added, and the capacity didn't shrink
 abbrev pub AddsPut : ItemBatch → ItemBatch → ℕ → List ℕ → List ℕ → Type 0
 AddsPut old new group key value = AddsItems old new (put_item group key value ∷ [])
 
--- so many items more need no memory
+-- this many more items need no memory
 abbrev pub HasItemRoom : ItemBatch → ℕ → Type 0
 HasItemRoom b count = length b.items + count ≤ b.capacity
 
@@ -48,7 +48,7 @@ run_item group entries = record { raft_group_id = group; content = contents.Entr
 abbrev pub command_item : ℕ → Command → LogItem
 command_item group command = record { raft_group_id = group; content = contents.Command command }
 
--- about how many bytes a content has: each number is counted as eight
+-- about how many bytes a content has, if each number has eight
 abbrev pub content_size : LogItemContent → ℕ
 content_size (contents.EntryIndexes es) = 16 + 8 * length es
 content_size (contents.Command c) = 8
@@ -62,18 +62,18 @@ item_size x = 8 + content_size x.content
 abbrev pub items_size : List LogItem → ℕ
 items_size xs = sum_by item_size xs
 
--- what is written of these items spells them without their places
+-- what is written for these items spells them without their places
 abbrev pub IsSpelling : List LogItem → Type 0
 IsSpelling items = AreItems (items_bytes items) (map plain_item items)
 
--- Whichever block the entries of these items fill, the bytes are read in a file without signatures as the
--- items, placed in that block.
+-- Whichever block the entries of these items fill, the bytes are read in a file without signatures as the items, placed
+-- in that block.
 abbrev pub AreRead : List ℕ → List LogItem → Type 0
 AreRead bytes items =
     (block : FileBlockHandle) → AddsUp items block.len
     → placed_footer_of None block bytes ≡ Ok (placed block (map plain_item items))
 
--- the items, and from this one on they are laid out from this offset in their block on
+-- the items, laid out from `first` on, from this offset in their block on
 abbrev pub laid_from : ℕ → ℕ → List LogItem → List LogItem
 laid_from first offset items = take first items ++ laid_out offset (drop first items)
 
@@ -87,16 +87,16 @@ content_entries (contents.Kv kv) = []
 abbrev pub all_entries : List LogItem → List EntryIndex
 all_entries xs = flat_map (λ x. content_entries x.content) xs
 
--- the entry lies in this block, in front of its checksum
+-- the entry is in this block, before its checksum
 abbrev pub IsEntryInBlock : FileBlockHandle → EntryIndex → Type 0
 IsEntryInBlock block e = (e.entries ≡ Some block) × (e.entry_offset + e.entry_len ≤ block.len - 4)
 
--- each entry of these items lies in this block
+-- each entry of these items is in this block
 abbrev pub AllLieIn : FileBlockHandle → List LogItem → Type 0
 AllLieIn block items = All (IsEntryInBlock block) (all_entries items)
 
--- the bytes are a footer that is signed with this, its entries fill the block at this place, and these are
--- its items with their places
+-- the bytes are a footer with this signature, its entries fill the block at this place, and these are its items with
+-- their places
 pub record IsPlacedFooter
     (signature : Option ℕ) (handle : FileBlockHandle) (bytes : List ℕ) (batch : List LogItem) : Type 0 where
   pub items : List LogItem
@@ -104,18 +104,18 @@ pub record IsPlacedFooter
   pub adds_up : AddsUp items handle.len
   pub places : batch ≡ placed handle items
 
--- what was found is the items of such a footer
+-- if the call succeeds, it returns the items of such a footer
 abbrev pub FindsPlaced : Result ItemBatch Error → Option ℕ → FileBlockHandle → List ℕ → Type 0
 FindsPlaced result signature handle bytes =
     IfOk result (λ batch. IsPlacedFooter signature handle bytes batch.items)
 
--- where the bytes are such a footer of some items, these with their places are answered, or memory ran out
+-- if the bytes are such a footer of some items, the call returns these with their places, or memory ran out
 abbrev pub OnlyPlaced : Result ItemBatch Error → Option ℕ → FileBlockHandle → List ℕ → Type 0
 OnlyPlaced result signature handle bytes =
     (items : List LogItem) → IsFooterOf signature handle.len bytes items
     → MatchResult result (λ batch. batch.items ≡ placed handle items) (λ e. e ≡ errors.Memory)
 
--- what was answered is what the footer says, unless memory ran out
+-- the result is what the footer says, unless memory ran out
 abbrev pub GivesPlaced : Result ItemBatch Error → Result (List LogItem) Fault → Type 0
 GivesPlaced (Ok batch) reading = reading ≡ Ok batch.items
 GivesPlaced (Err e) reading = FailsOrMemory e reading

@@ -1,4 +1,4 @@
-//! Lists of items: what a footer holds, and what a record is made of.
+//! Lists of items: what a footer holds, and what a record is made from.
 #![tactic(auto)]
 
 pub mod log_item_batch;

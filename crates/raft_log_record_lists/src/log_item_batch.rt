@@ -1,4 +1,4 @@
-//! Lists of items: what a footer holds, and what a record is made of.
+//! Lists of items: what a footer holds, and what a record is made from.
 ghost use Rattle.std.specs.Prelude.{◌≡◌, ◌-◌, ◌^◌, min, slice_get};
 ghost use Rattle.raft_log_record_lists.specs.ItemBatch.{content_size, items_size, all_entries};
 
@@ -16,8 +16,8 @@ use std::slice::Iter;
 
 /// A list of items.
 ///
-/// Contracts see it as its items, and how many it has room for before it asks for memory. Unlike a `LogBatch`
-/// it takes the log's own keys too.
+/// Contracts see it as its items and its capacity, the number of items for which it asks for no memory. Unlike a
+/// `LogBatch` it takes the log's own keys too.
 #[derive(Debug, Drop)]
 pub struct LogItemBatch {
     items: Vec<LogItem>,
@@ -65,7 +65,7 @@ impl LogItemBatch {
     ghost use Rattle.raft_log_record_lists.specs.ItemBatch.{GivesPlaced, AreRead};
     ghost use Rattle.raft_log_record_lists.specs.ItemBatch.{AllLieIn};
 
-    /// An empty batch, which has no room yet.
+    /// An empty batch without capacity.
     pub fn default(alloc: Global) -> Self
         ensures { result ≡ no_items 0 }
     {
@@ -73,7 +73,7 @@ impl LogItemBatch {
         LogItemBatch { items }
     }
 
-    /// An empty batch with room for so many items: as many are added without asking for memory.
+    /// An empty batch with this capacity: as many items are added without asking for memory.
     pub fn with_capacity(alloc: Global, capacity: usize) -> Result<Self, AllocError>
         ensures { IfOk result (λ batch. batch ≡ no_items capacity) }
     {
@@ -112,28 +112,28 @@ impl LogItemBatch {
         self.items.iter()
     }
 
-    /// How many items there are.
+    /// The number of items.
     pub fn len(&self) -> usize
         ensures { result ≡ length self.now.items }
     {
         self.items.len()
     }
 
-    /// Whether nothing was added.
+    /// Whether the batch has no items.
     pub fn is_empty(&self) -> bool
         ensures { IsTrue result ↔ (self.now.items ≡ []) }
     {
         self.items.is_empty()
     }
 
-    /// How many items there is room for in all, before memory is asked for.
+    /// How many items fit in all, before memory is asked for.
     pub fn capacity(&self) -> usize
         ensures { result ≡ self.now.capacity }
     {
         self.items.capacity()
     }
 
-    /// Makes room for so many more items. A refusal changes nothing.
+    /// Makes room for this many more items. If it fails, nothing changes.
     pub fn reserve(&mut self, additional: usize) -> Result<(), AllocError>
         ensures ok { OnOk result (AddsItems self.old self.new [] × HasItemRoom self.new additional) }
         ensures err { OnErr result (self.new ≡ self.old) }
@@ -142,16 +142,15 @@ impl LogItemBatch {
         self.items.reserve(additional)
     }
 
-    /// Drops the items, and keeps the room.
+    /// Drops the items, and keeps the capacity.
     pub fn clear(&mut self)
         ensures { self.new ≡ no_items self.old.capacity }
     {
         self.items.clear();
     }
 
-    /// Gives the items back, behind what is there, and leaves an empty batch with its room. Only where there
-    /// is no room for them it may be refused, and then changes nothing. The vector has no less room than it
-    /// had.
+    /// Moves the items to the end of the vector, and leaves an empty batch with its capacity. It can fail only if the
+    /// vector has no room for them, and then changes nothing. The vector's capacity doesn't shrink.
     pub fn drain(&mut self, into: &mut Vec<LogItem>) -> Result<(), AllocError>
         ensures items { OnOk result (into.new.items ≡ into.old.items ++ self.old.items) }
         ensures room { vec_capacity into.old ≤ vec_capacity into.new }
@@ -162,8 +161,8 @@ impl LogItemBatch {
         into.append(&mut self.items)
     }
 
-    /// Takes the items of the other batch behind its own, and leaves the other one empty. Only where there is
-    /// no room for them it may be refused, and then changes neither.
+    /// Moves the other batch's items to the end of its own, and leaves the other one empty. It can fail only if there
+    /// is no room for them, and then changes neither.
     pub fn merge(&mut self, rhs: &mut LogItemBatch) -> Result<(), AllocError>
         ensures ok { OnOk result (TakesItems self.old self.new rhs.old rhs.new) }
         ensures err { OnErr result ((self.new ≡ self.old) × (rhs.new ≡ rhs.old)) }
@@ -173,7 +172,7 @@ impl LogItemBatch {
         self.items.append(&mut rhs.items)
     }
 
-    /// Adds an item, for which there is room.
+    /// Adds an item. The batch must have room for it.
     pub fn push_reserved(&mut self, item: LogItem)
         requires { HasItemRoom self.old 1 }
         ensures { self.new ≡ record self.old { items = self.old.items ++ item ∷ [] } }
@@ -181,7 +180,7 @@ impl LogItemBatch {
         self.items.push_reserved(item);
     }
 
-    /// Lays out the items from this one on, from this offset in their block on.
+    /// Lays out the items from `first` on, from this offset in their block on.
     pub fn lay_out_rest(&mut self, first: usize, offset: u32)
         requires inside { first ≤ length self.old.items }
         requires fits { offset + entries_len (drop first self.old.items) < 2 ^ 32 }
@@ -192,7 +191,7 @@ impl LogItemBatch {
         lay_out(rest, offset);
     }
 
-    /// The items are written, and their entry block lies at this place.
+    /// Sets the places of the items, whose entry block is written at this place.
     pub fn set_written(&mut self, handle: FileBlockHandle)
         ensures items { self.new.items ≡ written handle self.old.items }
         ensures room { self.new.capacity ≡ self.old.capacity }
@@ -200,7 +199,7 @@ impl LogItemBatch {
         set_written(self.items.as_mut_slice(), handle);
     }
 
-    /// Adds a run of entries of a group. A refusal changes nothing, and gives the entries back.
+    /// Adds a run of entries of a group. If it fails, nothing changes, and the error has the entries.
     pub fn add_entry_indexes(
         &mut self,
         raft_group_id: u64,
@@ -221,7 +220,7 @@ impl LogItemBatch {
         Ok(())
     }
 
-    /// Adds a command of a group. A refusal changes nothing.
+    /// Adds a command of a group. If it fails, nothing changes.
     pub fn add_command(&mut self, raft_group_id: u64, command: Command) -> Result<(), AllocError>
         ensures ok { OnOk result (AddsItems self.old self.new (command_item raft_group_id command ∷ [])) }
         ensures err { OnErr result (self.new ≡ self.old) }
@@ -233,7 +232,7 @@ impl LogItemBatch {
         Ok(())
     }
 
-    /// Adds a key that loses its value. A refusal changes no item.
+    /// Adds a deletion of a key. If it fails, no item changes.
     pub fn delete(
         &mut self,
         alloc: Global,
@@ -250,7 +249,7 @@ impl LogItemBatch {
         Ok(())
     }
 
-    /// Adds a key that gets a value. A refusal changes no item.
+    /// Adds a put of a key. If it fails, no item changes.
     pub fn put(
         &mut self,
         alloc: Global,
@@ -268,7 +267,7 @@ impl LogItemBatch {
         Ok(())
     }
 
-    /// Adds a key that gets these bytes, which aren't copied. A refusal changes no item.
+    /// Adds a put of a key with these bytes, which aren't copied. If it fails, no item changes.
     pub fn put_bytes(
         &mut self,
         alloc: Global,
@@ -285,7 +284,7 @@ impl LogItemBatch {
         Ok(())
     }
 
-    /// Adds a key that gets the bytes of a message. A refusal changes no item.
+    /// Adds a put of a key with the bytes of a message. If it fails, no item changes.
     pub fn put_message<M: Message>(
         &mut self,
         alloc: Global,
@@ -306,9 +305,9 @@ impl LogItemBatch {
         Ok(())
     }
 
-    /// Appends the count of the items, each of them, and their checksum: a footer of the items without their
-    /// places, which `decode` reads in a file without signatures, whichever block their entries fill. A
-    /// refusal changes nothing.
+    /// Appends the count of the items, each of them, and their checksum. That is a footer of the items without their
+    /// places. `decode` reads it in a file without signatures, whichever block their entries fill. If it fails, the
+    /// buffer's bytes are unchanged.
     pub fn encode(&self, out: &mut Vec<u8>) -> Result<(), AllocError>
         ensures ok { OnOk result (out.new.items ≡ out.old.items ++ footer_bytes None self.now.items) }
         ensures footer { OnOk result (IsPlainFooter (footer_bytes None self.now.items) self.now.items) }
@@ -321,11 +320,11 @@ impl LogItemBatch {
         or_cut_back(appended.map(|_| ()), out, start)
     }
 
-    /// The items of a whole footer of this file, whose entries lie in the block at this place. Each entry has
-    /// its offset in the block and the block's place, and each key its file.
+    /// The items of a whole footer of this file, whose entries are in the block at this place. Each entry gets its
+    /// offset in the block and the block's place, and each key its file.
     ///
-    /// Refuses what `decode_placed_footer` refuses: a footer that is signed for another file, entries whose
-    /// lengths don't add up to the block, and the first fault of the items.
+    /// Fails as `decode_placed_footer` does: if the footer is signed for another file, if the entries' lengths don't
+    /// add up to the block, or with the first fault of the items.
     pub fn decode(
         alloc: Global,
         bytes: &[u8],
@@ -343,15 +342,14 @@ impl LogItemBatch {
         Ok(LogItemBatch { items })
     }
 
-    /// About how many bytes the footer of these items has, where each number is counted as eight, or 2^64 - 1
-    /// where there are more.
+    /// About how many bytes the footer of these items has, if each number has eight; 2^64 - 1 if it would be more.
     pub fn approximate_size(&self) -> usize
         ensures { result ≡ min (12 + items_size self.now.items) (2 ^ 64 - 1) }
     {
         items_size(self.items.as_slice()).saturating_add(12)
     }
 
-    /// The first of all entries, if there are some.
+    /// The first of all entries, if there are any.
     pub fn entry_index(&self) -> Option<EntryIndex>
         ensures { result ≡ slice_get (all_entries self.now.items) 0 }
     {
@@ -359,7 +357,7 @@ impl LogItemBatch {
     }
 }
 
-/// About how many bytes a content has: each number is counted as eight.
+/// About how many bytes a content has, if each number has eight.
 fn content_size(content: &LogItemContent) -> usize
     ensures { result ≡ min (content_size content.now) (2 ^ 64 - 1) }
 {
@@ -374,7 +372,7 @@ fn content_size(content: &LogItemContent) -> usize
     }
 }
 
-/// About how many bytes these items have, or 2^64 - 1 where they have more.
+/// About how many bytes these items have, or 2^64 - 1 if it would be more.
 pub fn items_size(items: &[LogItem]) -> usize
     ensures { result ≡ min (items_size items.now) (2 ^ 64 - 1) }
 {
@@ -387,7 +385,7 @@ pub fn items_size(items: &[LogItem]) -> usize
     size
 }
 
-/// The first of all entries, if there are some.
+/// The first of all entries, if there are any.
 fn first_entry(items: &[LogItem]) -> Option<EntryIndex>
     ensures { result ≡ slice_get (all_entries items.now) 0 }
 {

@@ -1,7 +1,7 @@
 -- Keys that are the log's own.
 use Rattle.std.specs.Prelude.{ℕ, Bool, false, List, [], ◌∷◌, ◌==◌, ◌&&◌}
 
--- the key begins with two underscores: such keys are the log's own
+-- the key begins with two underscores
 abbrev pub is_internal : List ℕ → Bool
 is_internal [] = false
 is_internal (a ∷ []) = false

@@ -1,5 +1,5 @@
--- Marks of atomic groups: items of the log's own, which say that a batch is a part of several that count
--- together or not at all.
+-- Marks of atomic groups: items of the log's own. A mark makes a batch a part of several that count together or not at
+-- all.
 use Rattle.std.specs.Prelude.{◌≡◌, ◌↔◌, ℕ, Bool, true, false, ◌&&◌, ◌==◌, if◌then◌else◌, List, [], ◌∷◌, ◌++◌, length, take, drop, Option, Some, None, nat_lt, bytes_eq, option_map, option_and_then}
 use Rattle.std.specs.Int.{w64, from_be_bytes}
 use Rattle.raft_log_record_base.specs.Number.{IsU64, u64_bytes}
@@ -26,8 +26,8 @@ status_number Begin = 0
 status_number Middle = 1
 status_number End = 2
 
--- A mark: an item of group 0 that puts, under the key of marks, the number of the atomic group, eight bytes
--- with the highest first, and the byte of the status.
+-- A mark: an item of group 0 that puts a value under the key of marks. The value is the number of the atomic group,
+-- eight bytes with the highest first, and the byte of the status.
 pub record IsMark (item : LogItem) (id : ℕ) (status : AtomicGroupStatus) : Type 0 where
   pub group : item.raft_group_id ≡ 0
   pub key_value : KeyValue
@@ -98,33 +98,33 @@ content_has_mark_key (contents.Kv kv) = puts_mark_key kv.op_type kv.key
 unfoldable pub has_mark_key : LogItem → Bool
 has_mark_key item = (item.raft_group_id == 0) && content_has_mark_key item.content
 
--- this part of this group, and if there is none a broken mark
+-- this part of this group, or a broken mark if there is none
 abbrev pub part_or_broken : Option (ℕ × AtomicGroupStatus) → Marking
 part_or_broken None = Broken
 part_or_broken (Some m) = Part m.0 m.1
 
--- what an item says as a mark: nothing, for it is none; a part of a group; or it is broken
+-- what an item says as a mark: it is no mark, it is a part of a group, or it is a broken mark
 unfoldable pub marking_of : LogItem → Marking
 marking_of item = if has_mark_key item then part_or_broken (mark_of item) else Unmarked
 
--- what two parts of a batch say, of which one at most may have a mark
+-- what two parts of a batch say together: only one of them may have a mark
 abbrev pub joined_marking : Marking → Marking → Marking
 joined_marking Unmarked marking = marking
 joined_marking (Part id status) Unmarked = Part id status
 joined_marking _ _ = Broken
 
--- what the items of a batch say: of two marks it is broken
+-- what the items of a batch say: broken, if there are two marks
 abbrev pub marking_of_items : List LogItem → Marking
 marking_of_items [] = Unmarked
 marking_of_items (x ∷ xs) = joined_marking (marking_of x) (marking_of_items xs)
 
--- what is told as a part of a group is so exactly of its marks
+-- an item is read as a part of a group if and only if it is that mark
 abbrev pub MarksAreTold : Type 0
 MarksAreTold =
     (item : LogItem) (id : ℕ) (status : AtomicGroupStatus)
     → ((marking_of item ≡ Part id status) ↔ IsMark item id status)
 
--- what users add is no mark: their keys don't begin with two underscores
+-- marks are no user's items: their key begins with two underscores
 abbrev pub UserItemsAreNoMarks : Type 0
 UserItemsAreNoMarks =
     (item : LogItem) (id : ℕ) (status : AtomicGroupStatus) → IsMark item id status

@@ -1,4 +1,4 @@
--- What a batch means, as plain data: what it says of each group, and which part of an atomic group it is.
+-- What a batch means, as plain data: what it says about each group, and which part of an atomic group it is.
 use Rattle.std.specs.Prelude.{◌≡◌, ℕ, Bool, true, false, List, [], ◌∷◌, ◌++◌, map, Option, Some, None, All}
 use Rattle.raft_log_model_laws.specs.Item.{Item, Tagged, Mark, Record}
 use Rattle.raft_log_model_laws.specs.Item.Item.{Run, Clean, Compact, Put, Del}
@@ -19,12 +19,12 @@ use Rattle.raft_log_record_marks.specs.declared.marking.Marking.{Marking}
 use Rattle.raft_log_record_marks.specs.declared.marking.Marking.TheVariants as markings
 use Rattle.raft_log_record_marks.specs.Marking.{has_mark_key, marking_of_items}
 
--- what is said of a key
+-- what is said about a key
 abbrev pub key_meaning : {E : Type 0} → OpType → List ℕ → List ℕ → Item E (List ℕ)
 key_meaning ops.Put key value = Put key value
 key_meaning ops.Del key value = Del key
 
--- what is said of a group, where this stands for an entry; a put without a value puts the empty one
+-- what is said about a group, if `entry` is the meaning of an entry; a put without a value puts the empty one
 abbrev pub meaning : {E : Type 0} → (EntryIndex → E) → LogItemContent → Item E (List ℕ)
 meaning entry (contents.EntryIndexes []) = Run 0 []
 meaning entry (contents.EntryIndexes (e ∷ es)) = Run e.index (map entry (e ∷ es))
@@ -36,12 +36,12 @@ meaning entry (contents.Kv kv) = key_meaning kv.op_type kv.key (value_of kv)
 abbrev pub tagged : {E : Type 0} → (EntryIndex → E) → LogItem → Tagged E (List ℕ)
 tagged entry x = record { group = x.raft_group_id; item = meaning entry x.content }
 
--- the item in front of these, if it is no mark
+-- the item before these, if it is no mark
 abbrev pub unless_mark : {X : Type 0} → Bool → X → List X → List X
 unless_mark false x xs = x ∷ xs
 unless_mark true x xs = xs
 
--- what the items say of their groups; a mark, also a broken one, says nothing
+-- what the items say about their groups; a mark, even a broken one, says nothing
 abbrev pub tagged_items : {E : Type 0} → (EntryIndex → E) → List LogItem → List (Tagged E (List ℕ))
 tagged_items entry [] = []
 tagged_items entry (x ∷ xs) = unless_mark (has_mark_key x) (tagged entry x) (tagged_items entry xs)
@@ -52,30 +52,30 @@ part_of id statuses.Begin = Begin id
 part_of id statuses.Middle = Middle id
 part_of id statuses.End = End id
 
--- the record of these items with this mark; of a broken one there is none
+-- the record of these items with this mark; a broken mark makes no record
 abbrev pub marked : {E : Type 0} → Marking → List (Tagged E (List ℕ)) → Option (Record E (List ℕ))
 marked markings.Unmarked xs = Some (Plain xs)
 marked (markings.Part id status) xs = Some (Part (part_of id status) xs)
 marked markings.Broken xs = None
 
--- what the items of one batch mean: a mark among them makes them a part of an atomic group, and two or a
--- broken one mean that the record is broken
+-- what the items of one batch mean. One mark among them makes them a part of an atomic group. Two marks or a broken one
+-- make the record broken.
 abbrev pub record_of : {E : Type 0} → (EntryIndex → E) → List LogItem → Option (Record E (List ℕ))
 record_of entry xs = marked (marking_of_items xs) (tagged_items entry xs)
 
--- these items became those: they say the same, and are this part of an atomic group
+-- the new items say the same as the old ones, as this part of an atomic group
 abbrev pub BecomesPart : List LogItem → List LogItem → ℕ → AtomicGroupStatus → Type 0
 BecomesPart old new id status =
     record_of (λ e. e) new ≡ Some (Part (part_of id status) (tagged_items (λ e. e) old))
 
--- What is read of a written batch means the same as the batch, where an entry's length stands for it: the
--- entries' places are told by where the batch is.
+-- The items that are read of a written batch mean the same as the batch, if an entry means its length. The entries'
+-- places follow from where the batch is.
 abbrev pub ReadMeansWritten : Type 0
 ReadMeansWritten =
     (items : List LogItem)
     → record_of (λ e. e.entry_len) (map plain_item items) ≡ record_of (λ e. e.entry_len) items
 
--- what users may add: if it is of a key, the key doesn't begin with two underscores
+-- what users may add: a key doesn't begin with two underscores
 abbrev pub IsUsers : LogItemContent → Type 0
 IsUsers (contents.EntryIndexes es) = Unit {0}
 IsUsers (contents.Command c) = Unit {0}
@@ -87,7 +87,7 @@ UserBatchesArePlain =
     (items : List LogItem) → All (λ x. IsUsers x.content) items
     → record_of (λ e. e) items ≡ Some (Plain (map (tagged (λ e. e)) items))
 
--- what users add doesn't change which part of an atomic group a batch is
+-- what a user adds to a batch doesn't change its mark
 abbrev pub UserItemsKeepTheMark : Type 0
 UserItemsKeepTheMark =
     (items : List LogItem) (item : LogItem) → IsUsers item.content

@@ -1,4 +1,4 @@
-//! Marks of atomic groups: which part of a group a batch is, and what its items mean with that.
+//! Marks of atomic groups: which part of a group a batch is, and what its items mean.
 #![tactic(auto)]
 
 pub mod laws;

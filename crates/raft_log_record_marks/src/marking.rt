@@ -1,4 +1,4 @@
-//! Marks of atomic groups: what a mark is, and which part of a group the items of a batch are.
+//! Reads and writes the marks of atomic groups.
 ghost use Rattle.std.specs.Prelude.{◌≡◌, IfOk, OnOk};
 ghost use Rattle.raft_log_record_base.specs.Number.{IsU64, u64_bytes};
 ghost use Rattle.raft_log_record_marks.specs.Marking.{mark_value, mark_in, mark_of_value, mark_of, has_mark_key};
@@ -11,7 +11,7 @@ use std::alloc::{AllocError, Global};
 /// The group of all marks.
 pub const MARK_GROUP: u64 = 0;
 
-/// The key of all marks, which no user's item has.
+/// The key of all marks, which no user's item may have.
 pub const MARK_KEY: [u8; 3] = [b'_', b'_', 1];
 
 /// What an item, or all items of a batch, say as a mark.
@@ -19,9 +19,9 @@ pub const MARK_KEY: [u8; 3] = [b'_', b'_', 1];
 pub enum Marking {
     /// There is no mark.
     Unmarked,
-    /// The batch is this part of the atomic group of this number.
+    /// The batch is this part of the atomic group with this number.
     Part(u64, AtomicGroupStatus),
-    /// There are two marks, or one with a value that is none: the record is broken.
+    /// There are two marks, or one whose value is invalid: the record is broken.
     Broken,
 }
 
@@ -43,7 +43,7 @@ impl Marking {
         }
     }
 
-    /// What two parts of a batch say together: of two marks it is broken.
+    /// What two parts of a batch say together: broken, if both have a mark.
     fn join(self, other: Marking) -> Marking
         ensures { result ≡ joined_marking self other }
     {
@@ -66,7 +66,7 @@ impl Marking {
     }
 }
 
-/// The value of the mark that says: this part of the atomic group of this number.
+/// The value of a mark for this part of the atomic group with this number.
 #[tactic(auto, unfolding(crate::specs::Marking::mark_value))]
 pub fn mark_value(alloc: Global, id: u64, status: AtomicGroupStatus) -> Result<Vec<u8>, AllocError>
     ensures value { IfOk result (λ bytes. bytes.items ≡ mark_value id status) }
@@ -119,7 +119,7 @@ fn parse_item(item: &LogItem) -> Option<(u64, AtomicGroupStatus)>
     }
 }
 
-/// Whether an item says that it is a mark.
+/// Whether an item puts the key of marks.
 #[tactic(auto, unfolding(crate::specs::Marking::has_mark_key))]
 fn has_mark_key(item: &LogItem) -> bool
     ensures { result ≡ has_mark_key item.now }

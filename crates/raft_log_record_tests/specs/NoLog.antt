@@ -3,7 +3,7 @@ use Rattle.std.specs.Prelude.{◌≡◌, ℕ, [], ◌∷◌}
 use Rattle.raft_log_directory_laws.specs.Images.{Readings, empty_file}
 use Rattle.raft_log_directory_laws.specs.Model.{Files, no_files}
 
--- a file system that is its own only image, and of each queue an empty file 1 is read
+-- a file system that is its own only image, and an empty file 1 is read of each queue
 abbrev pub no_log : {D : Type 0} → Readings D ℕ ℕ
 no_log = record {
   leaves = λ d e. e ≡ d;
@@ -11,6 +11,6 @@ no_log = record {
   append = λ d s files. (s ≡ 1) × (files ≡ empty_file ∷ []);
 }
 
--- the files are those
+-- there are no files
 abbrev pub IsEmpty : {S : Type 0} → S → Files ℕ ℕ → Type 0
 IsEmpty s f = f ≡ no_files

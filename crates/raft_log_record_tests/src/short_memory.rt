@@ -1,12 +1,12 @@
-//! Commands of cases whose memory is refused: each fails as such, and answers when it is played again. Run it with each
-//! allocation failing in turn.
+//! Commands of cases that run out of memory: each fails as such, and succeeds when it is played again. Run it with
+//! each allocation failing in turn.
 use raft_cases::{CaseFault, Command};
 use raft_log_batch_commands::Batches;
 use raft_log_record_commands::play_on_records;
 use raft_log_table_commands::{Table, play_replay};
 use std::alloc::Global;
 
-/// Commands on items, records and segments, and their answers.
+/// Commands on items, records and segments, and their results.
 const READS: [(&str, &str); 7] = [
     (
         "read-item as=items bytes=03010202ac02010301016b0176010302016b",
@@ -35,7 +35,7 @@ const READS: [(&str, &str); 7] = [
     ),
 ];
 
-/// Steps of a batch, and their answers.
+/// Steps of a batch, and their results.
 const BATCH: [(&str, &str); 10] = [
     ("add-entries group=1 indexes=7,8 entries='ab','cde'", ""),
     ("add-items items=put:2:'k':'v'", ""),
@@ -52,7 +52,7 @@ const BATCH: [(&str, &str); 10] = [
     ),
 ];
 
-/// Steps of a table, and their answers.
+/// Steps of a table, and their results.
 const TABLE: [(&str, &str); 7] = [
     ("append file=1 first=10 count=10", ""),
     ("append file=1 first=15 count=10", ""),
@@ -93,8 +93,8 @@ impl Player {
         answer.ok_or(CaseFault::UnknownCommand)
     }
 
-    /// Whether a command has this answer, when it is played again if memory was refused. One that was done already,
-    /// and whose answer found no memory, may then fail as too late.
+    /// Whether a command has this result; it is played again if memory ran out. A command that was done, and ran out
+    /// of memory for its result, may then fail as too late.
     fn answers(&mut self, line: &str, want: &str) -> bool {
         let first = self.play(line);
         if !is_short(&first) {
@@ -105,7 +105,7 @@ impl Player {
     }
 }
 
-/// Whether memory was refused.
+/// Whether memory ran out.
 fn is_short(played: &Result<String, CaseFault>) -> bool {
     match played {
         Ok(answer) => answer.as_str().starts_with("error Memory"),
@@ -122,7 +122,7 @@ fn is_late(played: &Result<String, CaseFault>) -> bool {
     }
 }
 
-/// Whether a command has this answer.
+/// Whether a command has this result.
 fn is_answer(played: &Result<String, CaseFault>, want: &str) -> bool {
     match played {
         Ok(answer) => answer.as_str() == want,
@@ -130,7 +130,7 @@ fn is_answer(played: &Result<String, CaseFault>, want: &str) -> bool {
     }
 }
 
-/// The first command that has another answer, if there is one.
+/// The first command that has another result, if there is one.
 fn first_other(alloc: Global, rows: &[(&'static str, &'static str)]) -> Option<&'static str> {
     let made = match Batches::new(alloc) {
         Ok(batches) => Ok(batches),

@@ -1,11 +1,11 @@
-//! Names, headers and settings whose memory is refused: each call fails as such, and succeeds when it is made again. Run
-//! it with each allocation failing in turn.
+//! Names, headers and settings that run out of memory: each call fails as such, and succeeds when it is made again.
+//! Run it with each allocation failing in turn.
 use raft_log_file_format::{FileNameExt, LogFileFormat, build_reserved_file_name};
 use raft_log_file_settings::Config;
 use raft_log_record_base::{Error, FileId, LogQueue, Result, Version};
 use std::alloc::Global;
 
-/// How many bytes a header of the second version has that is appended, and read again.
+/// Appends a header of the second version, reads it again, and returns how many bytes it has.
 fn header_len(alloc: Global) -> Result<usize> {
     let mut out = Vec::new(alloc);
     let format = LogFileFormat::new(Version::V2, 4096);
@@ -15,13 +15,13 @@ fn header_len(alloc: Global) -> Result<usize> {
     Ok(out.len())
 }
 
-/// How many workers settings name that are printed, and read again.
+/// Prints settings, reads them again, and returns how many workers they name.
 fn workers(alloc: Global) -> Result<usize> {
     let text = Config::default(alloc).to_toml(alloc)?;
     Ok(Config::from_toml(alloc, text.as_str())?.recovery_threads)
 }
 
-/// What a call returns: lengths of a name, of a path, of the name of a reserved file and of a header, and a number of
+/// What a call returns: the length of a name, of a path, of a reserved file's name or of a header, or a number of
 /// workers.
 fn call(alloc: Global, number: usize) -> Result<usize> {
     let id = FileId::new(LogQueue::Append, 123);

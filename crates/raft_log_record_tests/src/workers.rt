@@ -1,4 +1,4 @@
-//! Segments of Append that several workers read: 1, 2 and 4 of them come to the same.
+//! Segments of Append that several workers read: 1, 2 and 4 of them get the same result.
 ghost use Rattle.std.specs.Prelude.{length};
 ghost use Rattle.raft_log_record_base.specs.declared.pipe_log.LogQueue.TheVariants.{Append};
 
@@ -20,7 +20,7 @@ const RECORDS: &str =
 const SHOWN: &str =
     "1: entries 2..3, append from 12, key in append 12\n2: entries 1..1, append from 11\n3: entries 4..5, append from 9, key in append 9\n";
 
-/// Records of which each is a segment, in a file of its own.
+/// Records, each a segment in a file of its own.
 #[derive(Drop)]
 struct Records {
     alloc: Global,
@@ -70,7 +70,7 @@ fn source(alloc: Global) -> Result<Records> {
     Ok(Records { alloc, records })
 }
 
-/// What so many workers read of three groups, and whether each segment is told in order.
+/// What so many workers read of three groups, and whether the segments are reported in order.
 fn read_by(rt: &(impl Threads + Sync), alloc: Global, workers: usize) -> Result<(String, bool)> {
     let source = source(alloc)?;
     let factory = MemTableRecoverContextFactory::new(alloc);
@@ -83,7 +83,7 @@ fn read_by(rt: &(impl Threads + Sync), alloc: Global, workers: usize) -> Result<
     Ok((shown, is_ordered))
 }
 
-/// Whether all was read, and each segment told in order.
+/// Whether all was read, and the segments reported in order.
 fn is_right(read: &Result<(String, bool)>) -> bool {
     match read {
         Ok((shown, is_ordered)) => *is_ordered && shown.as_str() == SHOWN,

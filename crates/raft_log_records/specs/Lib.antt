@@ -1,4 +1,4 @@
--- libraries below, passed on to who stands on this one
+-- re-exports of the libraries below
 pub use Rattle.raft_log_record_checksum
 pub use Rattle.raft_log_record_base
 pub use Rattle.raft_log_record_items

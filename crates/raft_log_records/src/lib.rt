@@ -1,6 +1,6 @@
-//! The records of a log, in one name: numbers, sizes, items, batches and their bytes, and why a call is refused.
+//! The records of a log, in one name: numbers, sizes, items, batches and their bytes, and errors.
 //!
-//! This crate only hands on; the page of each part says what its calls promise.
+//! This crate only re-exports; the page of each part says what its calls promise.
 #![tactic(auto)]
 
 pub use raft_log_record_base::codec::BytesSlice;

@@ -1,5 +1,4 @@
--- What stands in the last file of a pipe behind the records that the pipe wrote, right behind each of its calls, and when
--- nothing is left to chance for it.
+-- What follows the pipe's records in its active file right after each call, and when that excludes CRC collisions.
 use Rattle.std.specs.Prelude.{◌≡◌, ℕ, ◌<◌, false, Option, Some, List, [], ◌∷◌, drop, length, suc}
 use Rattle.raft_log_disk.specs.Disk.{Disk, File, zeros}
 use Rattle.raft_log_disk.specs.Exits.{Syncs}
@@ -21,30 +20,32 @@ use Rattle.raft_log_file_pipe.specs.Opening.{BeginsPipe, CanBeginWith, IsFound, 
 use Rattle.raft_log_file_pipe.specs.declared.pipe_files.PipeFiles.{PipeFiles}
 use Rattle.raft_log_reuse_laws.specs.OldRecords.{AreApart}
 
--- a pipe over the files of a queue of the log that lie in these directories
+-- a pipe over the files of a queue in these directories
 abbrev pub IsPipeIn : LogQueue → List (List ℕ) → Disk → PipeFiles → LogFiles LogRecord → Disk → Type 0
 IsPipeIn queue directories = IsPipe (log_format queue directories) (IsOwnPath queue directories)
     (log_paths queue directories)
 
--- As bytes stand.
+-- The bytes as they are now.
 
--- behind all that the pipe wrote to its last file no record of that file begins
+-- after all that the pipe wrote to its active file, no record of that file begins
 abbrev pub EndsThere : Format LogRecord → PipeFiles → Disk → Type 0
 EndsThere F files d = (file : File) → d.files files.writer.handle.file ≡ Some file
     → Refuses (F.IsFrame files.active.seq (header_bytes files.active.format)) (drop files.writer.written file.content)
 
--- nothing stands there but room that was made ahead of a write
+-- only preallocated zeros follow what the pipe wrote
 abbrev pub IsBlankBehind : PipeFiles → Disk → Type 0
 IsBlankBehind files d = (file : File) → d.files files.writer.handle.file ≡ Some file
     → (room : ℕ) × (drop files.writer.written file.content ≡ zeros room)
 
--- an image has the last file of the pipe as it stood
+-- an image has the pipe's active file unchanged
 abbrev pub KeepsOwn : PipeFiles → Disk → Disk → Type 0
 KeepsOwn files d image = (file after : File) → d.files files.writer.handle.file ≡ Some file
     → image.files files.writer.handle.file ≡ Some after → after.content ≡ file.content
 
--- A last file as it stands, behind whose records none begins, meets the premise on chance: none begins in room; and
--- right behind a sync none begins where none did before, and every image has the file as it stands.
+-- If no record begins after those of the active file, the unchanged file meets the premise on CRC collisions.
+-- - `blank`: no record begins in preallocated zeros.
+-- - `syncs`: after a sync no record begins there, if none did before.
+-- - `synced`: right after a sync every image has the file unchanged.
 pub record StandingFilesMeetIt : Type 0 where
   pub kept : (queue : LogQueue) (directories : List (List ℕ)) → 0 < length directories → (base : Disk)
       (files : PipeFiles) (q : LogFiles LogRecord) (d : Disk) → IsPipeIn queue directories base files q d
@@ -58,8 +59,10 @@ pub record StandingFilesMeetIt : Type 0 where
   pub synced : (files : PipeFiles) (old new : Disk) → Syncs files.writer.handle old new → (image : Disk)
       → IsImage new image → KeepsOwn files new image
 
--- Nothing but room stands there right behind an open, over no file or over those that were found, and right behind a
--- rotation into a file that is made; and right behind a write or a sync, where nothing else stood there before.
+-- Right after these calls, only preallocated zeros follow the pipe's records:
+-- - an open, over no file or over the files that were found;
+-- - a rotation, if no file is kept for recycling, so that it makes one;
+-- - a write or a sync, if only such zeros followed them before.
 pub record CallsLeaveRoom : Type 0 where
   pub begins : (queue : LogQueue) (directories : List (List ℕ)) (base : Disk) (format : LogFileFormat)
       (kept : List Listed) (files : PipeFiles) (old new : Disk)
@@ -88,11 +91,11 @@ pub record CallsLeaveRoom : Type 0 where
       → Rotates (log_format queue directories) (IsOwnPath queue directories) (log_paths queue directories) header
       before after old new → IsBlankBehind after new
 
--- Files that are used again.
+-- Recycled files.
 
--- The oldest of the files that a pipe keeps for use: it was finished under a number of the queue, not set aside under a
--- reserved name; it begins with the header of the next files, whose records are signed; and the next number is apart
--- from its own.
+-- The oldest of the files that a pipe keeps for recycling. It was finished under a number of the queue, not set aside
+-- under a reserved name; it begins with the header of the next files, whose records are signed; the low 32 bits of the
+-- next number and of its own differ.
 pub record NextIsUsed (F : Format LogRecord) (format : LogFileFormat) (files : PipeFiles) (d : Disk) : Type 0 where
   pub oldest : Listed
   pub others : List Listed
@@ -102,8 +105,8 @@ pub record NextIsUsed (F : Format LogRecord) (format : LogFileFormat) (files : P
   pub headed : HasFile oldest.handle.file (λ file. HasHeader F (header_bytes format) file.content) d
   pub apart : AreApart oldest.seq (suc files.active.seq)
 
--- Right behind a rotation over such a file no record begins behind the new header, whatever bytes the file held; and
--- every image has the file as it stands, as it does behind each rotation.
+-- Right after a rotation into such a file, no record begins after the new header, whatever bytes the file held. Right
+-- after any rotation, every image has the active file unchanged.
 pub record UsedFilesMeetIt : Type 0 where
   pub ends : (queue : LogQueue) (directories : List (List ℕ)) → 0 < length directories → (base : Disk)
       (q : LogFiles LogRecord) (format : LogFileFormat) (before after : PipeFiles) (old new : Disk)

@@ -1,4 +1,4 @@
--- Records of another file: they begin none of this one, where both files' records are signed.
+-- Records of another file are none of this one, if both files' records are signed.
 use Rattle.std.specs.Prelude.{◌≡◌, ◌%◌, ◌^◌, ℕ, List, ◌++◌}
 use Rattle.raft_log_disk.specs.Disk.{zeros}
 use Rattle.raft_log_record_base.specs.declared.pipe_log.LogQueue.{LogQueue}
@@ -10,11 +10,11 @@ use Rattle.raft_log_file_laws.specs.LogFormat.{Format}
 use Rattle.raft_log_file_layout.specs.Layout.{log_format}
 use Rattle.raft_log_file_layout.specs.declared.record.LogRecord.{LogRecord}
 
--- the low 32 bits of the numbers of two files differ: by these their records are signed
+-- the low 32 bits of two files' numbers differ; their records are signed with these bits
 abbrev pub AreApart : ℕ → ℕ → Type 0
 AreApart m n = m % 2 ^ 32 ≡ n % 2 ^ 32 → ⊥
 
--- The bytes begin with a whole record that was signed for another number than this, under this header.
+-- The bytes begin with a whole record that was signed for another number, under this header.
 pub record BeginsOld (F : Format LogRecord) (number : ℕ) (header bytes : List ℕ) : Type 0 where
   pub other : ℕ
   pub apart : AreApart other number
@@ -23,8 +23,8 @@ pub record BeginsOld (F : Format LogRecord) (number : ℕ) (header bytes : List 
   pub rest : List ℕ
   pub are : bytes ≡ old.bytes ++ rest
 
--- Such bytes begin no record of the file with this number and header, whatever the old one's entries say, and whatever
--- stands behind it. So it is of a whole file's old records, and of room behind them.
+-- Such bytes begin no record of the file with this number and header, whatever the old record's entries and the bytes
+-- after it are. The same holds for all old records of a whole file with zeros after them.
 pub record OldRecordsBeginNoRecord : Type 0 where
   pub one : (queue : LogQueue) (directories : List (List ℕ)) (format : LogFileFormat) → format.version ≡ V2
       → (number : ℕ) (bytes : List ℕ) → BeginsOld (log_format queue directories) number (header_bytes format) bytes
@@ -34,7 +34,8 @@ pub record OldRecordsBeginNoRecord : Type 0 where
       → AreFrames ((log_format queue directories).IsFrame other (header_bytes format)) ws → (room : ℕ)
       → Refuses ((log_format queue directories).IsFrame number (header_bytes format)) (spelled ws ++ zeros room)
 
--- Where the numbers aren't apart, each record of one file is one of the other, under the same header: so they have to be.
+-- If the low 32 bits of the numbers are equal, each record of one file is one of the other, under the same header. So
+-- the premise is needed.
 abbrev pub AlikeFilesShareRecords : Type 0
 AlikeFilesShareRecords = (queue : LogQueue) (directories : List (List ℕ)) (m n : ℕ) → m % 2 ^ 32 ≡ n % 2 ^ 32
     → (header bytes : List ℕ) (said : LogRecord) → (log_format queue directories).IsFrame m header bytes said

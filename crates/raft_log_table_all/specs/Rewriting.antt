@@ -1,4 +1,4 @@
--- What was written to Rewrite again, as the tables of all groups take it.
+-- How the tables of all groups apply what was written to Rewrite.
 use Rattle.std.specs.Prelude.{◌≡◌, ℕ, ◌+◌, ◌≤◌, ◌==◌, ◌⊎◌, Bool, true, false, if◌then◌else◌, List, [], ◌∷◌, drop, length, map, Option, Some}
 use Rattle.raft_log_model_laws.specs.Item.{Item, Tagged}
 use Rattle.raft_log_model_laws.specs.Item.Item.{Run, Clean, Compact, Put, Del}
@@ -13,8 +13,8 @@ use Rattle.raft_log_table_one.specs.Room.{Promise, count_of, needs, with_moves, 
 use Rattle.raft_log_table_all.specs.declared.mem_tables.MemTables.{MemTables}
 use Rattle.raft_log_table_all.specs.Tables.{counts, has_table, promise_of, shown_of}
 
--- what shows once the item was written to file n of Rewrite: entries and a value that are still there lie
--- there, as far as the gate lets them; a Clean, a Compact and a Del are marks, which change nothing
+-- what is shown once the item was written to file n of Rewrite: entries and a value that are still there, and that the
+-- gate lets move, are in that file; a Clean, a Compact and a Del are tombstones, which change nothing
 abbrev pub rewritten_item : Option ℕ → ℕ → Shown → Item Place (List ℕ) → Shown
 rewritten_item gate n v (Run f ps) = rewritten_by gate v (Run f ps)
 rewritten_item gate n v (Put k w) = key_rewritten gate v k n
@@ -22,25 +22,24 @@ rewritten_item gate n v Clean = v
 rewritten_item gate n v (Compact c) = v
 rewritten_item gate n v (Del k) = v
 
--- what shows once more items were
+-- what is shown once more items were written
 abbrev pub all_rewritten : Option ℕ → ℕ → Shown → List (Item Place (List ℕ)) → Shown
 all_rewritten gate n v [] = v
 all_rewritten gate n v (x ∷ xs) = all_rewritten gate n (rewritten_item gate n v x) xs
 
--- how many entries of a group the items have
+-- the number of entries of a group that the items have
 abbrev pub entries_of : {E V : Type 0} → ℕ → List (Tagged E V) → ℕ
 entries_of g xs = needs (of_group g xs)
 
--- Nothing of the items' move into Rewrite can be refused: each group that has a table promised room for its
--- entries to move
+-- Moving the items into Rewrite can't fail: each group that has a table promised room for its entries to move
 abbrev pub MayMove : {E V : Type 0} → MemTables → List (Tagged E V) → Type 0
 MayMove m xs = (g : ℕ) → has_table m g ≡ true → entries_of g xs ≤ (promise_of m g).moves
 
--- what is promised where so many entries more may move; without a table nothing is
+-- what is promised if n more entries may move; without a table nothing is
 abbrev pub moving : Bool → Promise → ℕ → Promise
 moving b q n = if b then with_moves q n else q
 
--- the groups that have a table stay, and those of them that count
+-- the same groups have a table, and the same ones count
 pub record GroupsStay (old new : MemTables) : Type 0 where
   pub tables : (g : ℕ) → has_table new g ≡ has_table old g
   pub counts : (g : ℕ) → counts new g ≡ counts old g
@@ -57,7 +56,7 @@ pub record PromisesMove {E V : Type 0} (old new : MemTables) (x : Tagged E V) : 
       ≡ moving (has_table old x.group) (promise_of old x.group) (count_of x.item)
   pub others : (g : ℕ) → (x.group == g) ≡ false → promise_of new g ≡ promise_of old g
 
--- the item was written to file n of Rewrite, and its group's table took it
+-- the item was written to file n of Rewrite, and applied to its group's table
 pub record RewritesOne (gate : Option ℕ) (n : ℕ) (old new : MemTables) (x : Tagged Place (List ℕ))
     : Type 0 where
   pub stay : GroupsStay old new
@@ -67,8 +66,7 @@ pub record RewritesOne (gate : Option ℕ) (n : ℕ) (old new : MemTables) (x : 
   pub others : (g : ℕ) → (x.group == g) ≡ false
       → (shown_of new g ≡ shown_of old g) × (promise_of new g ≡ promise_of old g)
 
--- the items were written to file n of Rewrite, and each group's table took those of the group, for which it
--- had promised room
+-- the items were written to file n of Rewrite, and applied to their groups' tables, which had promised room for them
 pub record TakesRewritten (gate : Option ℕ) (n : ℕ) (old new : MemTables) (xs : List (Tagged Place (List ℕ)))
     : Type 0 where
   pub stay : GroupsStay old new
@@ -76,10 +74,9 @@ pub record TakesRewritten (gate : Option ℕ) (n : ℕ) (old new : MemTables) (x
   pub ends : (g : ℕ) → span (shown_of new g) ≡ span (shown_of old g)
   pub promise : (g : ℕ) → promise_of new g ≡ without_moves (promise_of old g) (entries_of g xs)
 
--- The item is a copy that Rewrite may take and the gate lets move: a run of what was read, that begins at a
--- rewritten entry or the first appended one and reaches to the last rewritten one, past it where neither
--- Clean nor Compact is owed; or the value that a key has, where, if it is appended, neither a Clean nor its
--- Del is owed
+-- The item is a copy that Rewrite may take and the gate lets move. A run is of what was read, begins at a rewritten
+-- entry or the first appended one, and reaches to the last rewritten one; it passes that only if neither a Clean nor a
+-- Compact is owed. A put has the key's value, and if that is in Append, neither a Clean nor the key's Del is owed
 abbrev pub IsCopy : {E : Type 0} → (Located → E) → Option ℕ → Shown → Item Place (List ℕ) → Type 0
 IsCopy at gate v (Run f ps) =
     (v.first ≤ f) × (f ≤ v.first + v.rewritten) × (v.first + v.rewritten ≤ f + length ps)
@@ -104,6 +101,6 @@ moves_of n (Run f ps ∷ xs) = MoveRun f ps ∷ moves_of n xs
 moves_of n (Put k w ∷ xs) = MoveKey k n ∷ moves_of n xs
 moves_of n (x ∷ xs) = moves_of n xs
 
--- what the items say in Rewrite, where these are the bytes at each place
+-- what the items say in Rewrite, if these are the bytes at each place
 abbrev pub copied_items : {E : Type 0} → (Located → E) → List (Item Place (List ℕ)) → List (Item E (List ℕ))
 copied_items at xs = map (renamed (λ p. at (in_queue false p))) xs

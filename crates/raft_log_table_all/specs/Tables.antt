@@ -1,4 +1,4 @@
--- The tables of all groups: what shows of each, what each promised, and which groups count.
+-- The tables of all groups: what each shows, what each promised, and which groups count.
 use Rattle.std.specs.Prelude.{◌≡◌, ◌⊎◌, ℕ, Bool, true, false, Option, Some, None, is_some, option_map, if◌then◌else◌}
 use Rattle.std.specs.BTreeMap.{get}
 use Rattle.std.specs.Ordering.{nat_cmp}
@@ -9,7 +9,7 @@ use Rattle.raft_log_table_one.specs.Table.{Raw, promise, replay_of, shown}
 use Rattle.raft_log_table_all.specs.declared.group_table.GroupTable.{GroupTable}
 use Rattle.raft_log_table_all.specs.declared.mem_tables.MemTables.{MemTables}
 
--- what shows of a group with this table, if it has one
+-- what a group with this table shows, if it has one
 abbrev pub shown_in : Option GroupTable → Shown
 shown_in None = nothing_shown
 shown_in (Some t) = shown t.table
@@ -34,23 +34,23 @@ abbrev pub counting : Option GroupTable → Option Raw
 counting None = None
 counting (Some t) = if t.counts then Some t.table else None
 
--- what shows of each group: nothing, where it has no table
+-- what each group shows; nothing, if it has no table
 abbrev pub shown_of : MemTables → ℕ → Shown
 shown_of m g = shown_in (get nat_cmp m.groups g)
 
--- what the table of each group promised: nothing, where it has none
+-- what the table of each group promised; nothing, if it has none
 abbrev pub promise_of : MemTables → ℕ → Promise
 promise_of m g = promise_in (get nat_cmp m.groups g)
 
--- what was read of each group: nothing, where it has no table
+-- what was read of each group; nothing, if it has no table
 abbrev pub replayed_of : MemTables → ℕ → Replayed
 replayed_of m g = replayed_in (get nat_cmp m.groups g)
 
--- whether a group counts: it took something since it was cleaned last
+-- whether a group counts: an item of it came after its last Clean
 abbrev pub counts : MemTables → ℕ → Bool
 counts m g = counts_in (get nat_cmp m.groups g)
 
--- whether a group has a table, of which nothing may show
+-- whether a group has a table, which may show nothing
 abbrev pub has_table : MemTables → ℕ → Bool
 has_table m g = is_some (get nat_cmp m.groups g)
 
@@ -62,12 +62,12 @@ table_of m g = counting (get nat_cmp m.groups g)
 abbrev pub raw_of : MemTables → ℕ → Option Raw
 raw_of m g = option_map (λ t. t.table) (get nat_cmp m.groups g)
 
--- what shows of all groups stays, and which of them count
+-- what all groups show is unchanged, and which of them count
 pub record ShowsSame (old new : MemTables) : Type 0 where
   pub shown : (g : ℕ) → shown_of new g ≡ shown_of old g
   pub counts : (g : ℕ) → counts new g ≡ counts old g
 
--- nothing is prepared: the ends that are promised are those of the entries
+-- nothing is prepared: the promised ends are those of the entries
 abbrev pub IsAtRest : MemTables → Type 0
 IsAtRest m = (g : ℕ) → (promise_of m g).ends ≡ span (shown_of m g)
 
@@ -75,7 +75,7 @@ IsAtRest m = (g : ℕ) → (promise_of m g).ends ≡ span (shown_of m g)
 abbrev pub PromisesSame : MemTables → MemTables → Type 0
 PromisesSame old new = (g : ℕ) → promise_of new g ≡ promise_of old g
 
--- the groups that have a table stay
+-- the same groups have a table
 abbrev pub TablesSame : MemTables → MemTables → Type 0
 TablesSame old new = (g : ℕ) → has_table new g ≡ has_table old g
 
@@ -83,6 +83,6 @@ TablesSame old new = (g : ℕ) → has_table new g ≡ has_table old g
 abbrev pub IsNeededTable : GroupTable → Type 0
 IsNeededTable t = (t.counts ≡ true) ⊎ (IsVacant (shown t.table) (promise t.table) → ⊥)
 
--- a group needs a table: it counts, or something shows of it, or is promised
+-- a group needs a table: it counts, or its table shows something, or something is promised
 abbrev pub IsNeeded : MemTables → ℕ → Type 0
 IsNeeded m g = (counts m g ≡ true) ⊎ (IsVacant (shown_of m g) (promise_of m g) → ⊥)

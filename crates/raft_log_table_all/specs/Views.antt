@@ -1,4 +1,4 @@
--- What an engine knows by the tables of its groups, as the view that the log's directory speaks of.
+-- What an engine knows from its groups' tables, as the view of the log's directory.
 use Rattle.std.specs.Prelude.{◌≡◌, ℕ, Bool, true, false, if◌then◌else◌, List, [], ◌∷◌, ◌++◌}
 use Rattle.raft_log_model_laws.specs.Item.{Record, Tagged, items_of}
 use Rattle.raft_log_model_laws.specs.Groups.{Map, of_group, taken}
@@ -13,8 +13,8 @@ use Rattle.raft_log_table_lists.specs.Noted.{AreInFile, AreUpTo, IsLeastInRewrit
 use Rattle.raft_log_table_lists.specs.Bridge.{AllOwed, CanAllMove, IsMeant, Located, Move, all_moved, items_of as copies_of, marks, unmarked, without}
 use Rattle.raft_log_table_all.specs.Batch.{MayFollowAll, all_shown, all_written}
 
--- The view of an engine whose tables show this of each group, and through which the map m is read: of each
--- slot the file is noted in which it lies, in Rewrite the one from which on it counts.
+-- The view of an engine whose tables show this for each group, and through which the map m is read. For each slot the
+-- file that stores it is noted; in Rewrite, the file from which on it counts.
 abbrev pub view_of : {E : Type 0} → (ℕ → Shown) → Map E (List ℕ) → View E (List ℕ)
 view_of v m = record {
   whereabouts = λ g. whereabouts (v g);
@@ -23,43 +23,42 @@ view_of v m = record {
   map = m;
 }
 
--- what shows is in order, and its places mean the map m, where these are the bytes at each place
+-- what the tables show is in order, and its places mean the map m, if these are the bytes at each place
 pub record AreMeant {E : Type 0} (at : Located → E) (v : ℕ → Shown) (m : Map E (List ℕ)) : Type 0 where
   pub orderly : (g : ℕ) → IsOrderly (v g)
   pub meant : (g : ℕ) → IsMeant at (v g) (m g)
 
--- the entries of the items lie in that file
+-- the entries of the items are in this file
 abbrev pub LieIn : ℕ → List (Tagged Place (List ℕ)) → Type 0
 LieIn n xs = (g : ℕ) → AreInFile n (of_group g xs)
 
--- the view goes on by the record, which Append takes in file n, where the tables take these items; and their
--- places mean the map with the record on it
+-- the view changes with the record, which is appended to file n of Append, if these items are applied to the tables;
+-- their places then mean the map after the record
 pub record ViewGrows {E : Type 0} (at : Located → E) (n : ℕ) (v : ℕ → Shown) (m : Map E (List ℕ))
     (xs : List (Tagged Place (List ℕ))) (y : Record E (List ℕ)) : Type 0 where
   pub grows : GrowsTo y n (view_of v m) (view_of (all_shown n v xs) (taken m (y ∷ [])))
   pub meant : AreMeant at (all_shown n v xs) (taken m (y ∷ []))
 
--- the view goes on by a record that says of entries what the items say of their places, where they may follow
+-- the view changes with a record that says of entries what the items say of their places, if they may follow
 abbrev pub BatchGrowsTheView : Type 0 → Type 0
 BatchGrowsTheView E = (at : Located → E) (n : ℕ) (v : ℕ → Shown) (m : Map E (List ℕ))
     (xs : List (Tagged Place (List ℕ))) (y : Record E (List ℕ)) → AreMeant at v m → MayFollowAll v xs
     → LieIn n xs → items_of y ≡ all_written at xs → ViewGrows at n v m xs y
 
--- the view goes on by a record of Rewrite in file n, where the tables show this then; and their places mean
--- the same map
+-- the view changes with a record in file n of Rewrite, if the tables then show this; their places mean the same map
 pub record ViewCarries {E : Type 0} (at : Located → E) (n : ℕ) (v u : ℕ → Shown) (m : Map E (List ℕ))
     (xs : List (Tagged E (List ℕ))) : Type 0 where
   pub carries : CarriesTo xs n (view_of v m) (view_of u m)
   pub meant : AreMeant at u m
 
--- the view goes on by copies that may be made in each group, in files up to that one
+-- the view changes with copies that may be made in each group, in files up to this one
 abbrev pub CopiesCarryTheView : Type 0 → Type 0
 CopiesCarryTheView E = (at : Located → E) (n : ℕ) (v : ℕ → Shown) (m : Map E (List ℕ)) (moves : ℕ → List Move)
     (xs : List (Tagged E (List ℕ))) → AreMeant at v m → ((g : ℕ) → CanAllMove at (v g) (moves g))
     → ((g : ℕ) → AreUpTo n (moves g)) → ((g : ℕ) → of_group g xs ≡ copies_of at (v g) (moves g))
     → ViewCarries at n v (λ g. all_moved (v g) (moves g)) m xs
 
--- the view goes on by the marks that the groups owe, each of them once
+-- the view changes with the tombstones that the groups owe, each of them once
 abbrev pub MarksCarryTheView : Type 0 → Type 0
 MarksCarryTheView E = (at : Located → E) (n : ℕ) (v : ℕ → Shown) (m : Map E (List ℕ))
     (keys : ℕ → List (List ℕ)) (xs : List (Tagged E (List ℕ))) → AreMeant at v m
@@ -67,20 +66,19 @@ MarksCarryTheView E = (at : Located → E) (n : ℕ) (v : ℕ → Shown) (m : Ma
     → ((g : ℕ) (k : List ℕ) → without (v g).deleted (keys g) k ≡ false)
     → ((g : ℕ) → of_group g xs ≡ marks (v g) (keys g)) → ViewCarries at n v (λ g. unmarked (v g)) m xs
 
--- How the tables take an atomic group of Rewrite at its end: its files, which groups' tables it is about, the
--- copies that each of them takes, and below which file nothing of Rewrite lies in it then
+-- How an atomic group of Rewrite is applied to the tables at its end: its files, the groups that it is about, the
+-- copies for each of them, and the file below which nothing of Rewrite is then in that group
 pub record GroupEnd : Type 0 where
   pub files : GroupFiles
   pub about : ℕ → Bool
   pub moves : ℕ → List Move
   pub least : ℕ → ℕ
 
--- what shows once it ended: the copies are made, and its files are noted
+-- what is shown once it ended: the copies are made, and its files are noted
 abbrev pub ended : GroupEnd → (ℕ → Shown) → ℕ → Shown
 ended e v g = if e.about g then with_note (all_moved (v g) (e.moves g)) (e.least g) e.files else v g
 
--- the copies may be made in a group's table that it is about: they lie in its files, and its items may be taken
--- as these
+-- the copies may be made in a group that it is about: they are in its files, and its items may count as these
 pub record MayEndIn {E : Type 0} (at : Located → E) (e : GroupEnd) (v : ℕ → Shown)
     (items : List (Tagged E (List ℕ))) (g : ℕ) : Type 0 where
   pub can : CanAllMove at (v g) (e.moves g)
@@ -88,21 +86,21 @@ pub record MayEndIn {E : Type 0} (at : Located → E) (e : GroupEnd) (v : ℕ �
   pub least : IsLeastInRewrite (all_moved (v g) (e.moves g)) (e.least g)
   pub taken_as : IsJoined (of_group g items) (copies_of at (v g) (e.moves g))
 
--- the copies may be made in each group that the end is about; of no other group has it items
+-- the copies may be made in each group that the end is about; it has no items of other groups
 pub record MayEnd {E : Type 0} (at : Located → E) (e : GroupEnd) (v : ℕ → Shown)
     (items : List (Tagged E (List ℕ))) : Type 0 where
   pub about : (g : ℕ) → e.about g ≡ true → MayEndIn at e v items g
   pub others : (g : ℕ) → e.about g ≡ false → of_group g items ≡ []
 
--- the view goes on by the end of an atomic group whose begin lies in file n
+-- the view changes with the end of an atomic group that began in file n
 pub record ViewEnds {E : Type 0} (at : Located → E) (n : ℕ) (v u : ℕ → Shown) (m : Map E (List ℕ))
     (first : List (Tagged E (List ℕ))) (more : List (List (Tagged E (List ℕ))))
     (xs : List (Tagged E (List ℕ))) : Type 0 where
   pub ends : EndsGroupTo first more xs n (view_of v m) (view_of u m)
   pub meant : AreMeant at u m
 
--- the view goes on by the end of an atomic group of copies that begins in the first of its files and ends
--- with these items
+-- the view changes with the end of an atomic group of copies that begins in the first of its files and ends with these
+-- items
 abbrev pub GroupEndsTheView : Type 0 → Type 0
 GroupEndsTheView E = (at : Located → E) (e : GroupEnd) (v : ℕ → Shown) (m : Map E (List ℕ))
     (first : List (Tagged E (List ℕ))) (more : List (List (Tagged E (List ℕ)))) (xs : List (Tagged E (List ℕ)))

@@ -32,13 +32,13 @@ use raft_log_table_lists::GroupFiles;
 use raft_log_table_one::MemTable;
 use std::alloc::{AllocError, Global};
 
-/// The table of a group, and whether the group counts. One that was cleaned keeps its table for the marks
-/// that are owed, and one that is prepared for its first batch has a table before it counts.
+/// The table of a group, and whether the group counts. A cleaned group keeps its table for the tombstones that are
+/// owed. A group that is prepared for its first batch has a table before it counts.
 #[derive(Drop)]
 pub struct GroupTable {
     /// The table.
     pub(crate) table: MemTable,
-    /// Whether the group took something since it was cleaned last.
+    /// Whether an item of the group came after its last Clean.
     pub(crate) counts: bool,
     ghost bare: { counts ≡ false → HasNothing (shown table) },
 }
@@ -50,7 +50,7 @@ impl GroupTable {
     ghost use Rattle.raft_log_table_all.specs.Rewriting.{rewritten_item};
     ghost use Rattle.raft_log_table_all.specs.Tables.{IsNeededTable};
 
-    /// The table of a group of which nothing is known.
+    /// A table without entries, values and tombstones.
     pub(crate) fn new(alloc: Global) -> GroupTable
         ensures shows { shown result.table ≡ nothing_shown }
         ensures room { promise result.table ≡ no_promise }
@@ -70,7 +70,7 @@ impl GroupTable {
         &self.table
     }
 
-    /// Makes room for an item that is to be written. Refused or not, nothing shows.
+    /// Makes room for an item that is to be written. Whether it succeeds or fails, `shown` stays.
     pub(crate) fn prepare(&mut self, content: &LogItemContent) -> Result<()>
         ensures shows { shown self.new.table ≡ shown self.old.table }
         ensures counts { self.new.counts ≡ self.old.counts }
@@ -99,7 +99,7 @@ impl GroupTable {
         }
     }
 
-    /// Makes room for the entries of an item to move to Rewrite. Refused or not, nothing shows.
+    /// Makes room to move the entries of an item to Rewrite. Whether it succeeds or fails, `shown` stays.
     pub(crate) fn prepare_rewrite(&mut self, content: &LogItemContent) -> Result<(), AllocError>
         ensures shows { shown self.new.table ≡ shown self.old.table }
         ensures counts { self.new.counts ≡ self.old.counts }
@@ -113,7 +113,7 @@ impl GroupTable {
         }
     }
 
-    /// Takes back what was promised. Nothing shows.
+    /// Takes back what was promised. `shown` stays.
     pub(crate) fn take_back(&mut self)
         ensures shows { shown self.new.table ≡ shown self.old.table }
         ensures counts { self.new.counts ≡ self.old.counts }
@@ -123,7 +123,7 @@ impl GroupTable {
         self.table.take_back();
     }
 
-    /// An item that was prepared stands in this file of Append.
+    /// Applies an item that was prepared, and then written to this file of Append.
     pub(crate) fn commit(&mut self, alloc: Global, content: LogItemContent, file: FileSeq)
         requires { CanTake (shown self.old.table) (promise self.old.table) (meaning place_of content) }
         ensures shows { shown self.new.table ≡ stepped file (shown self.old.table) (meaning place_of content) }
@@ -150,8 +150,8 @@ impl GroupTable {
         }
     }
 
-    /// An item that was read in a file of a queue stands there. `Hole` where its run would leave one in
-    /// Append; `Memory`. Refused, nothing changes but that nothing is promised any more.
+    /// Applies an item that was read in a file of a queue. Fails with `Hole` if its run would leave one in Append, or
+    /// with `Memory`. If it fails, nothing changes, except that nothing is promised any more.
     pub(crate) fn replay(
         &mut self,
         alloc: Global,
@@ -191,8 +191,8 @@ impl GroupTable {
         Ok(())
     }
 
-    /// A table that was read of the next segment comes behind this one. Refused, nothing changes but that
-    /// nothing is promised any more.
+    /// Joins a table that was read from the next segment. If it fails, nothing changes, except that nothing is promised
+    /// any more.
     pub(crate) fn join(&mut self, newer: GroupTable) -> Result<()>
         ensures ok { OnOk result
             (replay_of self.new.table ≡ joined (replay_of self.old.table) (replay_of newer.table)) }
@@ -212,8 +212,8 @@ impl GroupTable {
         Ok(())
     }
 
-    /// A table that was read of all of Append comes over this one, which was read of all of Rewrite. Refused,
-    /// nothing changes but that nothing is promised any more.
+    /// Puts a table that was read from all of Append over this one, which was read from all of Rewrite. If it fails,
+    /// nothing changes, except that nothing is promised any more.
     pub(crate) fn merge(&mut self, append: GroupTable) -> Result<(), AllocError>
         ensures ok { OnOk result
             (shown self.new.table ≡ merged (shown self.old.table) (replay_of append.table)) }
@@ -230,7 +230,7 @@ impl GroupTable {
         Ok(())
     }
 
-    /// What becomes of a table that comes behind one of which nothing is known.
+    /// Joins this table to one without anything before it.
     pub(crate) fn follow_nothing(&mut self)
         ensures read { replay_of self.new.table ≡ joined nothing_replayed (replay_of self.old.table) }
         ensures counts { self.new.counts ≡ self.old.counts }
@@ -239,7 +239,7 @@ impl GroupTable {
         self.table.follow_nothing();
     }
 
-    /// No mark is owed any more.
+    /// Removes all owed tombstones.
     pub(crate) fn clear_marks(&mut self)
         ensures shows { shown self.new.table ≡ unmarked (shown self.old.table) }
         ensures counts { self.new.counts ≡ self.old.counts }
@@ -248,8 +248,8 @@ impl GroupTable {
         self.table.clear_marks();
     }
 
-    /// No mark is owed any more. Answers whether the table is needed: where the group doesn't count, and nothing
-    /// shows then or is promised, it isn't.
+    /// Removes all owed tombstones. Returns whether the table is needed: it isn't if the group doesn't count, the table
+    /// then shows nothing, and nothing is promised.
     pub(crate) fn settle(&mut self) -> bool
         ensures shows { shown self.new.table ≡ unmarked (shown self.old.table) }
         ensures counts { self.new.counts ≡ self.old.counts }
@@ -263,7 +263,7 @@ impl GroupTable {
         self.counts || !vacant
     }
 
-    /// Adds the marks that this table owes to Rewrite, of a group of this number. Refused, some are added.
+    /// Adds the tombstones that this table owes to Rewrite, with this group number. If it fails, some may be added.
     pub fn add_owed(&self, group: u64, items: &mut Vec<LogItem>) -> Result<(), AllocError>
         ensures { OnOk result (AddsOwed group (shown self.now.table) items.old.items items.new.items) }
     {
@@ -271,7 +271,7 @@ impl GroupTable {
         Self::add_deletes(group, self.table.owed_deletes()?, items)
     }
 
-    /// Adds the Clean and the Compact, where they are owed.
+    /// Adds the Clean and the Compact, if they are owed.
     fn add_commands(&self, group: u64, items: &mut Vec<LogItem>) -> Result<(), AllocError>
         ensures { OnOk result
             (items.new.items ≡ items.old.items ++ owed_commands group (shown self.now.table)) }
@@ -285,7 +285,7 @@ impl GroupTable {
         Ok(())
     }
 
-    /// An atomic group of Rewrite ended, whose items this table took: its files are noted.
+    /// Notes the files of an atomic group of Rewrite that ended, after its items were applied to this table.
     pub(crate) fn note(&mut self, files: GroupFiles)
         ensures exact { NotesGroup files (shown self.old.table) (shown self.new.table) }
         ensures read { replay_of self.new.table
@@ -296,8 +296,8 @@ impl GroupTable {
         self.table.apply_rewrite_atomic_group(files);
     }
 
-    /// An atomic group of Rewrite was read, whose items this table took: its files are noted beside those that
-    /// were noted before.
+    /// Notes the files of an atomic group of Rewrite that was read, after its items were applied to this table, with
+    /// those that were noted before.
     pub(crate) fn note_read(&mut self, files: GroupFiles)
         ensures read { replay_of self.new.table ≡ with_read_group (replay_of self.old.table) files }
         ensures counts { self.new.counts ≡ self.old.counts }
@@ -306,8 +306,8 @@ impl GroupTable {
         self.table.note_read_group(files);
     }
 
-    /// An item, for which that was prepared, was written to this file of Rewrite: what is still there lies
-    /// there from now on, as far as the gate lets it.
+    /// Notes that an item was written to this file of Rewrite. The room for it was prepared. What is still there and
+    /// what the gate lets move is in that file from now on.
     pub(crate) fn rewrite(&mut self, content: &LogItemContent, gate: Option<FileSeq>, file: FileSeq)
         requires { count_of (meaning place_of content.now) ≤ (promise self.old.table).moves }
         ensures shows { shown self.new.table
@@ -327,7 +327,7 @@ impl GroupTable {
         }
     }
 
-    /// Entries that were read in a queue stand there in a table.
+    /// Applies entries that were read in a queue to a table.
     fn replay_run(table: &mut MemTable, queue: LogQueue, entries: &[EntryIndex]) -> Result<()>
         requires { IsRun entries.now }
         ensures ok { (n : ℕ) → OnOk result (replay_of table.new
@@ -348,7 +348,7 @@ impl GroupTable {
         }
     }
 
-    /// A value or a Del that was read in a file of a queue stands there in a table.
+    /// Applies a value or a Del that was read in a file of a queue to a table.
     fn replay_key(
         table: &mut MemTable,
         alloc: Global,
@@ -370,7 +370,7 @@ impl GroupTable {
         }
     }
 
-    /// Adds the deletions of a group's keys. Refused, some are added.
+    /// Adds Dels of a group's keys. If it fails, some may be added.
     fn add_deletes(group: u64, keys: Vec<Bytes>, items: &mut Vec<LogItem>) -> Result<(), AllocError>
         ensures { OnOk result (items.new.items ≡ items.old.items ++ map (delete_item group) keys.items) }
     {

@@ -1,5 +1,4 @@
-//! What a batch does to the tables of all groups is what the machine may do: each law is a function without
-//! a body.
+//! A batch changes the tables of all groups only as the machine may: each law is a function without a body.
 
 ghost use Rattle.std.specs.Prelude.{◌≡◌, ℕ, ◌++◌, [], false, map, List, Option};
 ghost use Rattle.raft_log_model_laws.specs.Item.{Item, Tagged};
@@ -37,8 +36,8 @@ ghost use Rattle.raft_log_table_all.specs.Rewriting.{
 };
 ghost use Rattle.raft_log_table_all.specs.Tables.{counts, shown_of};
 
-/// A batch in a file of Append, none of whose runs leaves a hole or ends past 2^64 - 1, is taken in each
-/// group: where things stand follows its items, and what the places mean is the map with the batch on it.
+/// A batch in a file of Append may be applied in each group if none of its runs leaves a hole or ends past 2^64 - 1.
+/// The `whereabouts` follow its items, and the places mean the map after the batch.
 pub fn batch_grows_everywhere<E>()
     ensures grows { (at : Located → E) (n : ℕ) (v : ℕ → Shown) (xs : List (Tagged Place (List ℕ)))
         → ((g : ℕ) → IsOrderly (v g)) → MayFollowAll v xs
@@ -51,8 +50,8 @@ pub fn batch_grows_everywhere<E>()
         → (g : ℕ) → IsMeant at (all_shown n v xs g) (after (m g) (of_group g (all_written at xs))) }
 {}
 
-/// Tables that are ready for a batch before it is written are so once it is, wherever that was; and a batch
-/// that they are ready for may come.
+/// Tables that are ready for a batch before the write are ready for it after it, wherever it was written. A batch that
+/// they are ready for may follow.
 pub fn ready_wherever_written()
     ensures written { (m : MemTables) (handle : FileBlockHandle) (items : List LogItem)
         → IsReadyFor m (tagged_items (λ e. e) items)
@@ -61,8 +60,8 @@ pub fn ready_wherever_written()
         → MayFollowAll (shown_of m) (tagged_items (λ e. e) items) }
 {}
 
-/// Tables that are prepared for one rewritten batch after another have room for all of them, wherever they
-/// are written; and when the first of them moved, for the others. For no items there is always room.
+/// Tables that are prepared for one rewritten batch after another have room for all of them, wherever they are written.
+/// Once the first of them has moved, they have room for the others. For no items there is always room.
 pub fn copies_have_room<E, V>()
     ensures none { (m : MemTables) → MayMove {E = E} {V = V} m [] }
     ensures more { (m n : MemTables) (xs ys : List (Tagged E V)) → MayMove m xs → PromisesMoves m n ys
@@ -74,8 +73,8 @@ pub fn copies_have_room<E, V>()
         → MayMove m (tagged_items (λ e. e) (written handle items)) }
 {}
 
-/// Copies that the gate lets move are moves of the machine: what shows after them is what shows after these,
-/// and Rewrite may take what they say; they change nothing of what the table means.
+/// Copies that the gate lets move are moves of the machine: the tables show the same after both, and Rewrite may take
+/// their items. They don't change the table's meaning.
 pub fn gated_copies_carry<E>()
     ensures moves { (at : Located → E) (gate : Option ℕ) (n : ℕ) (v : Shown)
         (xs : List (Item Place (List ℕ))) → IsOrderly v → AreCopies at gate n v xs
@@ -94,14 +93,14 @@ pub fn gated_copies_carry<E>()
         → IsMeant at (all_rewritten gate n v xs) m }
 {}
 
-/// Rewrite may take the marks that a group owes, wherever its places are, and then no mark is owed.
+/// Rewrite may take the tombstones that a group owes, wherever its places are, and then no tombstone is owed.
 pub fn owed_marks_carry<E>()
     ensures { (f : EntryIndex → E) (m : Slot → Option (Content E (List ℕ))) (v : Shown)
         (xs : List (Item EntryIndex (List ℕ))) → AreOwedAt v xs
         → CarriesAll m (whereabouts v) (map (renamed f) xs) (whereabouts (unmarked v)) }
 {}
 
-/// Of a group that doesn't count no entry stands, and no value: it took nothing since it was cleaned last.
+/// A group that doesn't count has no entries and no values: no item of it came after its last Clean.
 pub fn nothing_stands_uncounted()
     ensures { (m : MemTables) (g : ℕ) → counts m g ≡ false → HasNothing (shown_of m g) }
 {}

@@ -1,5 +1,5 @@
-//! The tables of all groups, and their rebuilding from segments of the log; what an engine knows by them, as the
-//! view that a log's directory speaks of, and the laws by which a call on them is one on the view (`views`).
+//! The memtables of all groups, and how they are rebuilt from segments of the log. The laws in `views` tie each change
+//! of them to a change of the view in `raft_log_directory_laws`.
 #![tactic(auto)]
 
 mod group_table;

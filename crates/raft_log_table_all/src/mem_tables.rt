@@ -1,4 +1,4 @@
-//! The tables of all groups.
+//! The memtables of all groups.
 ghost use Rattle.std.specs.Prelude.{◌≡◌, ◌==◌, ◌+◌, ℕ, false, true, option_copied, OnOk, OnErr, IfOk, IfErr};
 ghost use Rattle.raft_log_model_laws.specs.Groups.{of_group};
 ghost use Rattle.raft_log_table_lists.specs.Replayed.{nothing_replayed};
@@ -47,10 +47,10 @@ use raft_log_table_one::MemTable;
 use std::alloc::{AllocError, Global};
 use std::collections::BTreeMap;
 
-/// The tables of all groups.
+/// The memtables of all groups.
 ///
-/// Whatever a batch may want memory for happens in `prepare`, before the batch is written, and shows
-/// nothing; `apply_append_writes` comes after the write and can't be refused.
+/// All memory for a batch is allocated in `prepare`, before the write, which doesn't change what the tables show.
+/// `apply_append_writes` comes after the write, and can't fail.
 #[derive(Drop)]
 pub struct MemTables {
     alloc: Global,
@@ -58,7 +58,7 @@ pub struct MemTables {
 }
 
 impl MemTables {
-    /// No group has taken anything.
+    /// Tables without any group.
     pub fn new(alloc: Global) -> MemTables
         ensures shows { (g : ℕ) → shown_of result g ≡ nothing_shown }
         ensures replay { (g : ℕ) → replayed_of result g ≡ nothing_replayed }
@@ -83,11 +83,11 @@ impl MemTables {
         }
     }
 
-    /// Makes room for a batch that is to be written to Append, all of it or nothing.
+    /// Makes room for a batch that is to be written to Append: for all of it, or for none.
     ///
-    /// `Hole` where the entries of a group would start past the index after the last; `Memory`. Refused or
-    /// not, nothing shows, and what was promised to other groups stays; where it is refused, nothing is
-    /// prepared.
+    /// Fails with `Hole` if the entries of a group would start past the index after the last, or with `Memory`. Whether
+    /// it succeeds or fails, the tables show the same, and what was promised to other groups stays. If it fails,
+    /// nothing is prepared.
     pub fn prepare(&mut self, items: &[LogItem]) -> Result<()>
         requires { IsAtRest self.old }
         ensures shows { ShowsSame self.old self.new }
@@ -105,7 +105,7 @@ impl MemTables {
         prepared
     }
 
-    /// Takes back what was prepared for a batch that isn't written. Nothing shows.
+    /// Takes back what was prepared for a batch that isn't written. The tables show the same.
     pub fn take_back(&mut self, items: &[LogItem])
         ensures shows { ShowsSame self.old self.new }
         ensures rest { (g : ℕ) → mentions g items.now ≡ true
@@ -123,7 +123,7 @@ impl MemTables {
         }
     }
 
-    /// A batch that was prepared, and then written to this file of Append, stands there, item after item.
+    /// Applies a batch that was prepared, and then written to this file of Append, item after item.
     pub fn apply_append_writes(&mut self, items: Vec<LogItem>, file: FileSeq)
         requires { IsReadyFor self.old (tagged_items (λ e. e) items.items) }
         ensures shows { (g : ℕ) → shown_of self.new g
@@ -140,7 +140,7 @@ impl MemTables {
         }
     }
 
-    /// An item that was prepared stands in this file of Append; a mark says nothing.
+    /// Applies an item that was prepared and is in this file of Append. A mark says nothing.
     fn apply_unless_mark(&mut self, item: LogItem, file: FileSeq)
         requires table { has_mark_key item ≡ false → has_table self.old item.raft_group_id ≡ true }
         requires room { has_mark_key item ≡ false → CanTake (shown_of self.old item.raft_group_id)
@@ -153,7 +153,7 @@ impl MemTables {
         }
     }
 
-    /// An item that was prepared stands in this file of Append.
+    /// Applies an item that was prepared and is in this file of Append.
     fn apply_item(&mut self, item: LogItem, file: FileSeq)
         requires table { has_table self.old item.raft_group_id ≡ true }
         requires room { CanTake (shown_of self.old item.raft_group_id) (promise_of self.old item.raft_group_id)
@@ -165,7 +165,7 @@ impl MemTables {
         }
     }
 
-    /// Takes back what was prepared for a group. Nothing shows.
+    /// Takes back what was prepared for a group. The tables show the same.
     fn take_back_of(&mut self, group: u64)
         ensures shows { ShowsSame self.old self.new }
         ensures rest { (promise_of self.new group).ends ≡ span (shown_of self.new group) }
@@ -179,7 +179,7 @@ impl MemTables {
         }
     }
 
-    /// Makes room for a batch, and stops where that is refused. Nothing shows.
+    /// Makes room for a batch, and stops at the first failure. The tables show the same.
     fn prepare_all(&mut self, items: &[LogItem]) -> Result<()>
         requires { IsAtRest self.old }
         ensures shows { ShowsSame self.old self.new }
@@ -198,7 +198,7 @@ impl MemTables {
         Ok(())
     }
 
-    /// Makes room for an item that is to be written. Refused or not, nothing shows.
+    /// Makes room for an item that is to be written. Whether it succeeds or fails, the tables show the same.
     fn prepare_item(&mut self, item: &LogItem) -> Result<()>
         ensures shows { ShowsSame self.old self.new }
         ensures ok { OnOk result (IsPrepared self.old self.new (tagged (λ e. e) item.now)) }
@@ -217,7 +217,7 @@ impl MemTables {
     }
 }
 
-/// Whether an item says that it is a mark of an atomic group: then it says nothing of a raft group.
+/// Whether an item is a mark of an atomic group: then it says nothing of a raft group.
 fn is_mark(item: &LogItem) -> bool
     ensures { result ≡ has_mark_key item.now }
 {

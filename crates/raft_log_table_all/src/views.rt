@@ -1,4 +1,4 @@
-//! What is done to the tables is done to the view.
+//! Each change of the tables is a change of the view.
 
 ghost use Rattle.std.specs.Prelude.{List};
 ghost use Rattle.raft_log_record_base.specs.declared.pipe_log.FileBlockHandle.{FileBlockHandle};
@@ -8,32 +8,31 @@ ghost use Rattle.raft_log_record_marks.specs.Meaning.{tagged_items};
 ghost use Rattle.raft_log_table_runs.specs.Entries.{place_of};
 ghost use Rattle.raft_log_table_all.specs.Views.{BatchGrowsTheView, CopiesCarryTheView, GroupEndsTheView, LieIn, MarksCarryTheView};
 
-/// A batch that was written to a file of Append, and that the tables take, is one by which the view goes on:
-/// what the tables promised before the write is what the log's directory asks.
+/// A batch that was written to a file of Append, and that the tables apply, is a step of the view: what the tables
+/// promised before the write is what the log's directory requires.
 pub fn batch_grows_the_view<E>()
     ensures { BatchGrowsTheView E }
 {}
 
-/// The entries of a batch lie in the file that it was written to.
+/// The entries of a batch are in the file that it was written to.
 pub fn written_entries_lie_in_their_file()
     ensures { (handle : FileBlockHandle) (items : List LogItem)
         → LieIn handle.id.seq (tagged_items place_of (written handle items)) }
 {}
 
-/// Copies out of Append, or of what is rewritten again, that were written to a file of Rewrite in a record that
-/// counts at once, are one by which the view goes on, and the map stays.
+/// Copies out of Append, or of restated records, are a step of the view if they were written to a file of Rewrite in a
+/// record that counts at once. The map stays.
 pub fn copies_carry_the_view<E>()
     ensures { CopiesCarryTheView E }
 {}
 
-/// The marks that are owed are a record by which the view goes on, and the map stays; none of them is owed
-/// then.
+/// A record of the owed tombstones is a step of the view. The map stays, and none of them is owed any more.
 pub fn marks_carry_the_view<E>()
     ensures { MarksCarryTheView E }
 {}
 
-/// An atomic group of copies is at its end what the view goes on by, and the map stays: its files are noted,
-/// from the one with its begin on.
+/// An atomic group of copies is a step of the view at its end. The map stays, and its files are noted, from the file of
+/// its begin on.
 pub fn group_ends_the_view<E>()
     ensures { GroupEndsTheView E }
 {}

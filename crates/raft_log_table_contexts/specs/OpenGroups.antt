@@ -9,7 +9,7 @@ use Rattle.raft_log_table_contexts.specs.declared.open_groups.OpenGroup.{OpenGro
 abbrev pub Begun : Type 0
 Begun = ℕ × List GroupPart
 
--- the group, as it shows
+-- the group as contracts show it
 abbrev pub begun_of : OpenGroup → Begun
 begun_of u = (u.number, u.parts.items)
 
@@ -19,11 +19,11 @@ begun_in [] = []
 begun_in (None ∷ ss) = begun_in ss
 begun_in (Some u ∷ ss) = begun_of u ∷ begun_in ss
 
--- the number of the group in that slot
+-- the number of the group in this slot
 abbrev pub number_at : List (Option OpenGroup) → ℕ → Option ℕ
 number_at ss i = option_map (λ (u : OpenGroup). u.number) (get_or ss i None)
 
--- by its number a group's slot is known, and no other
+-- each group's number leads to its slot, and to no other
 abbrev pub ArePlaced : List (Option OpenGroup) → BTreeMap ℕ ℕ → Type 0
 ArePlaced ss places =
     ((n i : ℕ) → get nat_cmp places n ≡ Some i → number_at ss i ≡ Some n)
@@ -34,7 +34,7 @@ abbrev pub IsSameInSlots : List (Option OpenGroup) → List (Option OpenGroup) �
 IsSameInSlots old new =
     (begun_in new ≡ begun_in old) × ((i : ℕ) → get_or new i None ≡ get_or old i None)
 
--- the group in that slot has one more record
+-- the group in this slot has one more record
 pub record HasMoreAt (i : ℕ) (p : GroupPart) (old new : List (Option OpenGroup)) : Type 0 where
   pub before : OpenGroup
   pub after : OpenGroup
@@ -42,27 +42,27 @@ pub record HasMoreAt (i : ℕ) (p : GroupPart) (old new : List (Option OpenGroup
   pub stands : new ≡ set old i (Some after)
   pub more : begun_of after ≡ (before.number, before.parts.items ++ p ∷ [])
 
--- the group of that number, if it is among these
+-- the group of this number, if it is among these
 abbrev pub begun_at : ℕ → List Begun → Option Begun
 begun_at n [] = None
 begun_at n (u ∷ us) = if u.0 == n then Some u else begun_at n us
 
--- without the group of that number
+-- without the group of this number
 abbrev pub without_begun : ℕ → List Begun → List Begun
 without_begun n [] = []
 without_begun n (u ∷ us) = if u.0 == n then without_begun n us else u ∷ without_begun n us
 
--- the group of that number has one more record
+-- the group of this number has one more record
 abbrev pub with_part : ℕ → GroupPart → List Begun → List Begun
 with_part n p [] = []
 with_part n p (u ∷ us) = (if u.0 == n then (u.0, u.1 ++ p ∷ []) else u) ∷ with_part n p us
 
--- the group of that number goes on with this record, or isn't among these, and the record comes back
+-- the group of this number continues with this record, or it isn't among these, and the record is returned
 abbrev pub GoesOnAmong : ℕ → GroupPart → List Begun → List Begun → Option GroupPart → Type 0
 GoesOnAmong n p old new None = ((u : Begun) × (begun_at n old ≡ Some u)) × (new ≡ with_part n p old)
 GoesOnAmong n p old new (Some q) = (begun_at n old ≡ None) × (new ≡ old) × (q ≡ p)
 
--- groups come behind the others, one after another
+-- the groups are appended to the others, one after another; each replaces one of its number
 abbrev pub all_pushed : List Begun → List Begun → List Begun
 all_pushed us [] = us
 all_pushed us (v ∷ vs) = all_pushed (without_begun v.0 us ++ v ∷ []) vs

@@ -24,11 +24,11 @@ use Rattle.raft_log_table_contexts.specs.declared.pieces.GroupPieces.{GroupPiece
 use Rattle.raft_log_table_contexts.specs.OpenGroups.{Begun}
 use Rattle.raft_log_table_contexts.specs.Records.{in_file, said_in, ReadItem, ReadRecord}
 
--- what is made of the items of a record, where it was read in that file
+-- what is made of the items of a record that was read in this file
 abbrev pub Reading : Type 0
 Reading = ℕ → List ReadItem → List ReadItem
 
--- the items of a record as they are
+-- the items of a record, unchanged
 abbrev pub as_said : Reading
 as_said n xs = xs
 
@@ -67,18 +67,18 @@ abbrev pub whole_seen : Reading → Option (Vec GroupPart) → List ReadItem
 whole_seen φ None = []
 whole_seen φ (Some ps) = parts_seen φ ps.items
 
--- the record with that mark
+-- the record with this mark
 abbrev pub part_read : Mark → GroupPart → ReadRecord
 part_read m p = in_file p.file (Part m (part_items p))
 
--- what a segment does with the group that may be open before it
+-- what a segment does with a group, which may be open before it
 abbrev pub head_of : Reading → GroupHead → Head Located KeyValue
 head_of φ (code.GoesOn ps) = GoesOn (parts_seen φ ps.items)
 head_of φ (code.Ends ps) = Ends (parts_seen φ ps.items)
 head_of φ code.BeginsAnew = BeginsAnew
 
--- what a segment does with the group that may be open before it: without a record of the group it goes on
--- with nothing
+-- what a segment does with a group, which may be open before it: without a record of the group it continues with
+-- nothing
 abbrev pub head_in : Reading → Option GroupHead → Head Located KeyValue
 head_in φ None = GoesOn []
 head_in φ (Some h) = head_of φ h
@@ -95,23 +95,23 @@ unfinished_of φ u = record { number = u.0; items = parts_seen φ u.1 }
 abbrev pub left_open : Reading → GroupPieces → List (Unfinished Located KeyValue)
 left_open φ p = map (unfinished_of φ) p.left_open
 
--- The pieces are those of the records: what these do with groups that are open before them, and the groups
--- that they leave open; so it is of their items, of their files, and of whatever is made of both
+-- The pieces are those of the records: what these do with groups that are open before them, and the groups that they
+-- leave open. That holds for their items, for their files, and for whatever is made of both
 pub record ArePieces (rs : List ReadRecord) (p : GroupPieces) : Type 0 where
   pub heads : (φ : Reading) (n : ℕ) → head_at φ p n ≡ head n [] (seen_by φ rs)
   pub left_open : (φ : Reading) → left_open φ p ≡ unfinished (seen_by φ rs)
 
--- the pieces of some records are then those of them and this one
+-- the pieces of some records are now those of them and this one
 abbrev pub TakesRecord : ReadRecord → GroupPieces → GroupPieces → Type 0
 TakesRecord r old new = (rs : List ReadRecord) → ArePieces rs old → ArePieces (rs ++ r ∷ []) new
 
--- behind these records the one with these items ends a group, which has begun in them if it is whole
+-- after these records, the one with these items ends a group, which is whole if it began in them
 abbrev pub EndsGroupWhole : List ReadRecord → ℕ → GroupPart → Option (Vec GroupPart) → Type 0
 EndsGroupWhole rs n part whole =
     (φ : Reading)
     → whole_seen φ whole ≡ counts (opened none_open (seen_by φ rs)) (Part (End n) (part_seen φ part))
 
--- the record that ends the group of that number comes, and the group that counts with it is handed out
+-- the record ends the group of this number, and the group that counts with it is returned
 abbrev pub EndsGroup : ℕ → GroupPart → GroupPieces → GroupPieces → Option (Vec GroupPart) → Type 0
 EndsGroup n part old new whole =
     (rs : List ReadRecord) → ArePieces rs old
@@ -126,12 +126,12 @@ groups_seen φ (ps ∷ pss) = parts_seen φ ps.items ++ groups_seen φ pss
 abbrev pub groups_items : List (Vec GroupPart) → List ReadItem
 groups_items pss = groups_seen as_said pss
 
--- this holds of the records of each of these groups
+-- the records of each of these groups pass the test
 abbrev pub AllGroups : (List GroupPart → Type 0) → List (Vec GroupPart) → Type 0
 AllGroups P [] = Unit {0}
 AllGroups P (ps ∷ pss) = P ps.items × AllGroups P pss
 
--- an open group, which the next segment ends, has these records then
+-- an open group that the next segment ends has these records then
 pub record GoesToEnd (φ : Reading) (state : Option (List ReadItem)) (head : Head Located KeyValue)
     (ps : List GroupPart) : Type 0 where
   pub so_far : List ReadItem
@@ -140,28 +140,27 @@ pub record GoesToEnd (φ : Reading) (state : Option (List ReadItem)) (head : Hea
   pub ends : head ≡ Ends behind
   pub parts : parts_seen φ ps ≡ so_far ++ behind
 
--- these are the records of a group that is open after some records, and that the ones behind them end
+-- these are the records of a group that is open after some records, and that the next ones end
 abbrev pub IsCompleted : List ReadRecord → List ReadRecord → List GroupPart → Type 0
 IsCompleted xs ys ps =
     (n : ℕ)
     × ((φ : Reading)
     → GoesToEnd φ (opened none_open (seen_by φ xs) n) (head n [] (seen_by φ ys)) ps)
 
--- these are the groups that some records leave open and the ones behind them end, in the order of their
--- begins
+-- these are the groups that some records leave open and the next ones end, in the order of their begins
 pub record IsBorder (xs ys : List ReadRecord) (done : List (Vec GroupPart)) : Type 0 where
   pub items : (φ : Reading)
       → groups_seen φ done ≡ completed (unfinished (seen_by φ xs)) (λ n. head n [] (seen_by φ ys))
   pub groups : AllGroups (IsCompleted xs ys) done
 
--- the pieces of the next segment come behind these, and the groups that this completes are handed out
+-- the pieces of the next segment are joined to these, and the groups that this completes are returned
 abbrev pub JoinsPieces : GroupPieces → GroupPieces → GroupPieces → List (Vec GroupPart) → Type 0
 JoinsPieces old later new done =
     (xs ys : List ReadRecord) → ArePieces xs old → ArePieces ys later
     → ArePieces (xs ++ ys) new × IsBorder xs ys done
 
--- Open groups went on in the next segment, which did this with them: what it ends is handed out. Of what it
--- does, what is left says as much behind the records that left them open
+-- Open groups continue in the next segment, which does this with them; what it ends is returned. Appended to the
+-- records that left them open, what remains has the same effect as what the segment does.
 pub record CarryOn (old : List (Unfinished Located KeyValue)) (before : ℕ → Head Located KeyValue)
     (new : List (Unfinished Located KeyValue)) (after : ℕ → Head Located KeyValue) (done : List ReadItem)
     (rs : List (Record Located KeyValue)) : Type 0 where
@@ -169,21 +168,21 @@ pub record CarryOn (old : List (Unfinished Located KeyValue)) (before : ℕ → 
   pub left : new ≡ carried_on old before
   pub heads : (n : ℕ) → then_head (head n [] rs) (after n) ≡ then_head (head n [] rs) (before n)
 
--- the groups that these pieces leave open went on so, whatever is made of their records
+-- the groups that these pieces leave open continue this way, whatever is made of their records
 abbrev pub CarriesOn : GroupPieces → (Reading → ℕ → Head Located KeyValue) → GroupPieces
     → (Reading → ℕ → Head Located KeyValue) → List (Vec GroupPart) → Type 0
 CarriesOn old heads new left done =
     (φ : Reading) (rs : List (Record Located KeyValue)) → left_open φ old ≡ unfinished rs
     → CarryOn (left_open φ old) (heads φ) (left_open φ new) (left φ) (groups_seen φ done) rs
 
--- each group that was handed out was open, and the next segment ends it
+-- each group that is returned was open, and the next segment ends it
 abbrev pub HandsOut : GroupPieces → (Reading → ℕ → Head Located KeyValue) → List (Vec GroupPart) → Type 0
 HandsOut old heads done =
     AllGroups (λ ps. (n : ℕ)
     × ((φ : Reading) (rs : List (Record Located KeyValue)) → left_open φ old ≡ unfinished rs
     → GoesToEnd φ (opened none_open rs n) (heads φ n) ps)) done
 
--- the group was handed out with the records up to its end, if the next segment ends it
+-- the group is returned with the records up to its end, if the next segment ends it
 abbrev pub PassesOn : OpenGroup → Option GroupHead → List (Vec GroupPart) → List (Vec GroupPart) → Type 0
 PassesOn group (Some (code.Ends more)) old new =
     (ps : Vec GroupPart) × (new ≡ old ++ ps ∷ [])
@@ -191,7 +190,7 @@ PassesOn group (Some (code.Ends more)) old new =
     → parts_seen φ ps.items ≡ parts_seen φ group.parts.items ++ parts_seen φ more.items)
 PassesOn group _ old new = new ≡ old
 
--- the files of an atomic group, with one more of its records
+-- the files of an atomic group with one more record
 abbrev pub with_file : Option GroupFiles → ℕ → GroupFiles
 with_file None n = record { from = n; to = n }
 with_file (Some files) n = record { from = min files.from n; to = max files.to n }
@@ -205,11 +204,11 @@ is_number g (Some n) = n == g
 abbrev pub ends_with : List ℕ → ℕ → Bool
 ends_with gs g = is_number g (slice_get gs (length gs - 1))
 
--- the text that tells that a batch has a broken mark, or two
+-- the error's text if a batch has a broken mark or two marks
 abbrev pub invalid_mark : List ℕ
 invalid_mark = codes "Invalid atomic group mark"
 
--- a batch with a broken mark isn't read: it is corrupt, or there is no memory to say so
+-- the error for a batch with a broken mark: it is corrupt, or there is no memory for the text
 abbrev pub IsBrokenMark : Error → Type 0
 IsBrokenMark (errors.Corruption text) = string_bytes text ≡ invalid_mark
 IsBrokenMark errors.Memory = Unit {0}

@@ -1,4 +1,4 @@
--- What is read of a queue: records of places, each in its file.
+-- What is read of a queue: records, each in its file, with places as entries.
 use Rattle.std.specs.Prelude.{ℕ, Bool, true, false, List, [], ◌∷◌, ◌++◌, map, Option, Some, None, option_map}
 use Rattle.raft_log_record_base.specs.declared.pipe_log.LogQueue.{LogQueue}
 use Rattle.raft_log_record_base.specs.declared.pipe_log.LogQueue.TheVariants.{Append, Rewrite}
@@ -19,7 +19,7 @@ use Rattle.raft_log_table_lists.specs.Shown.{KeyValue}
 use Rattle.raft_log_table_lists.specs.Bridge.{Located}
 use Rattle.raft_log_table_lists.specs.Replayed.{placed, IsReplayed, Replayed}
 
--- an item that was read, with its group: where its entries lie, in which file its value stands
+-- an item that was read, with its group: the places of its entries, and the file of its value
 abbrev pub ReadItem : Type 0
 ReadItem = Tagged Located KeyValue
 
@@ -32,26 +32,26 @@ pub record ReadRecord : Type 0 where
 abbrev pub records_of : List ReadRecord → List (Record Located KeyValue)
 records_of rs = map (λ r. r.taken) rs
 
--- the item as it was read in file n of that queue
+-- the item as it was read in file n of this queue
 abbrev pub placed_tagged : Bool → ℕ → Tagged Place (List ℕ) → ReadItem
 placed_tagged q n x = record { group = x.group; item = placed q n x.item }
 
--- what these items say that were read in file n of that queue; a mark says nothing
+-- what these items say, read in file n of this queue; a mark says nothing
 abbrev pub said_in : Bool → ℕ → List LogItem → List ReadItem
 said_in q n items = map (placed_tagged q n) (tagged_items place_of items)
 
--- the record of these items with this mark; of a broken one there is none
+-- the record of these items with this mark; a broken mark makes no record
 abbrev pub taken_as : Marking → List ReadItem → Option (Record Located KeyValue)
 taken_as markings.Unmarked xs = Some (Plain xs)
 taken_as (markings.Part id status) xs = Some (Part (part_of id status) xs)
 taken_as markings.Broken xs = None
 
--- the record in that file
+-- the record in this file
 abbrev pub in_file : ℕ → Record Located KeyValue → ReadRecord
 in_file n r = record { file = n; taken = r }
 
--- The record that a batch is which was read in file n of a queue. In Append all counts at once, and a mark
--- says nothing; in Rewrite a mark makes it a part of an atomic group, and two or a broken one make it none
+-- The record of a batch that was read in file n of a queue. In Append all counts at once, and a mark says nothing. In
+-- Rewrite one mark makes it a part of an atomic group; with two marks or a broken one it is no record
 abbrev pub record_read : LogQueue → ℕ → List LogItem → Option ReadRecord
 record_read Append n items = Some (in_file n (Plain (said_in true n items)))
 record_read Rewrite n items =
@@ -70,19 +70,19 @@ RunsFit (x ∷ xs) = Fits x × RunsFit xs
 abbrev pub AreHealthy : {E V : Type 0} → List (Item E V) → Type 0
 AreHealthy xs = NoHole nothing xs × RunsFit xs
 
--- What was read of each group is what counts of the records, where no other record touches the raft group of
--- an open atomic group, and what counts is healthy
+-- What was read of each group is what counts of the records. That needs that no other record touches the raft group of
+-- an open atomic group, and that what counts is healthy
 abbrev pub AreReplayed : Bool → List ReadRecord → (ℕ → Replayed) → Type 0
 AreReplayed q rs z =
     Tidy (records_of rs) → (g : ℕ) → AreHealthy (counted g rs) → IsReplayed q (counted g rs) (z g)
 
--- tables took these items: what was read of a group, and then also these, is what was read, if it is healthy
+-- these items were applied to tables: they were read after what was read of each group before, if both are healthy
 abbrev pub TablesTake : Bool → List ReadItem → (ℕ → Replayed) → (ℕ → Replayed) → Type 0
 TablesTake q xs old new =
     (g : ℕ) (before : List (Item Located KeyValue)) → AreHealthy (before ++ of_group g xs)
     → IsReplayed q before (old g) → IsReplayed q (before ++ of_group g xs) (new g)
 
--- what was read of each group stays so, whatever was noted of its files
+-- what was read of each group is unchanged, whatever was noted of its files
 abbrev pub KeepsRead : (ℕ → Replayed) → (ℕ → Replayed) → Type 0
 KeepsRead old new =
     (g : ℕ) (q : Bool) (xs : List (Item Located KeyValue)) → IsReplayed q xs (old g) → IsReplayed q xs (new g)

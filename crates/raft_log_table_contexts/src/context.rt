@@ -1,4 +1,4 @@
-//! What a worker keeps of one segment of a queue.
+//! The state of a worker that reads one segment of a queue.
 ghost use Rattle.std.specs.Prelude.{◌≡◌, ◌+◌, ◌-◌, ◌^◌, min, List, [], Some, OnOk, IfErr};
 ghost use Rattle.raft_log_record_base.specs.declared.errors.Error.TheVariants.{Memory};
 ghost use Rattle.raft_log_record_base.specs.declared.pipe_log.LogQueue.{LogQueue};
@@ -19,15 +19,15 @@ use raft_log_record_marks::{AtomicGroupStatus, Marking};
 use raft_log_table_all::MemTables;
 use std::alloc::Global;
 
-/// What a worker keeps of one segment of a queue: the tables of all groups, and the pieces of atomic groups
-/// that the segment's two ends cut. Where a call is refused the recovery is given up: the context may then
-/// only be dropped, and nothing is said of it.
+/// The state of a worker that reads one segment of a queue: the tables of all groups, and the pieces of atomic groups
+/// that the segment's two ends cut. If a call fails, the recovery is given up: nothing is promised of the context then,
+/// so it may only be dropped.
 #[derive(Drop)]
 pub struct MemTableRecoverContext {
     alloc: Global,
     tables: MemTables,
     pieces: GroupPieces,
-    /// How many entries and values were read.
+    /// The number of entries and values that were read.
     written: u64,
     ghost rests: { IsAtRest tables },
 }
@@ -61,11 +61,11 @@ impl MemTableRecoverContext {
         }
     }
 
-    /// The items of a batch that was read in a file. In Append all count at once; in Rewrite those of an
-    /// atomic group count at its end.
+    /// Applies the items of a batch that was read in a file. In Append all count at once; in Rewrite those of an atomic
+    /// group count at its end.
     ///
-    /// `Hole` where a run in Append starts past the index after the last of its group; `Corruption` where a
-    /// mark in Rewrite is broken, or there are two; `Memory`.
+    /// Fails with `Hole` if a run in Append starts past the index after the last of its group. Fails with `Corruption`
+    /// if a batch of Rewrite has a broken mark or two marks. Fails with `Memory` if memory runs out.
     pub fn replay(&mut self, items: Vec<LogItem>, file: FileId) -> Result<()>
         ensures ok { OnOk result (ContextReadsOn file items.items self.old self.new) }
         ensures fits { OnOk result (LeavesNoHole file items.items self.old) }
@@ -79,7 +79,7 @@ impl MemTableRecoverContext {
         self.take(items, file)
     }
 
-    /// The items of a batch go to the tables, or to the pieces of their atomic group.
+    /// Applies the items of a batch to the tables, or adds them to the pieces of their atomic group.
     fn take(&mut self, items: Vec<LogItem>, file: FileId) -> Result<()>
         ensures ok { OnOk result (ContextReadsOn file items.items self.old self.new) }
         ensures fits { OnOk result (LeavesNoHole file items.items self.old) }
@@ -93,7 +93,7 @@ impl MemTableRecoverContext {
         }
     }
 
-    /// The items of a batch that was read in a file of Rewrite.
+    /// Applies the items of a batch that was read in a file of Rewrite.
     fn replay_rewrite(&mut self, items: Vec<LogItem>, file: FileSeq) -> Result<()>
         ensures ok { OnOk result
             (ContextReadsOne Rewrite (record_read Rewrite file items.items) self.old self.new) }
@@ -109,7 +109,7 @@ impl MemTableRecoverContext {
         }
     }
 
-    /// A record of an atomic group was read.
+    /// Takes a record of an atomic group that was read.
     fn replay_part(&mut self, number: u64, status: AtomicGroupStatus, part: GroupPart) -> Result<()>
         ensures ok { OnOk result
             (ContextReadsOne Rewrite (Some (part_read (part_of number status) part)) self.old self.new) }
@@ -123,7 +123,7 @@ impl MemTableRecoverContext {
         }
     }
 
-    /// The last record of an atomic group was read: if the group began in this segment, it counts.
+    /// Takes the last record of an atomic group: if the group began in this segment, it counts.
     fn replay_end(&mut self, number: u64, part: GroupPart) -> Result<()>
         ensures ok { OnOk result
             (ContextReadsOne Rewrite (Some (part_read (End number) part)) self.old self.new) }
@@ -134,10 +134,11 @@ impl MemTableRecoverContext {
         settle_whole(self.alloc, &mut self.tables, whole)
     }
 
-    /// The context of the next segment of the same queue comes behind this one: what that completes of
-    /// atomic groups comes between the two.
+    /// Merges the context of the next segment of the same queue into this one. Atomic groups that this completes are
+    /// applied between the two.
     ///
-    /// `Hole` where the entries of a group, in Append, start past the end of those that it leaves; `Memory`.
+    /// Fails with `Hole` if the entries of a group, in Append, start past the end of those that it leaves, or with
+    /// `Memory`.
     pub fn merge(&mut self, later: MemTableRecoverContext, queue: LogQueue) -> Result<()>
         ensures ok { OnOk result (MergesInto queue self.old later self.new) }
         ensures fits { OnOk result (JoinsOn later self.new) }
@@ -149,7 +150,7 @@ impl MemTableRecoverContext {
         self.join(later, queue)
     }
 
-    /// The tables and the pieces of the next segment come behind these.
+    /// Joins the tables and the pieces of the next segment to these.
     fn join(&mut self, later: MemTableRecoverContext, queue: LogQueue) -> Result<()>
         ensures ok { OnOk result (MergesInto queue self.old later self.new) }
         ensures fits { OnOk result (JoinsOn later self.new) }
@@ -162,7 +163,7 @@ impl MemTableRecoverContext {
         }
     }
 
-    /// The context of the next segment of Rewrite comes behind this one.
+    /// Merges the context of the next segment of Rewrite into this one.
     fn merge_rewrite(&mut self, later: MemTableRecoverContext) -> Result<()>
         ensures ok { OnOk result (MergesInto Rewrite self.old later self.new) }
         ensures fits { OnOk result (JoinsOn later self.new) }
@@ -175,16 +176,16 @@ impl MemTableRecoverContext {
         self.tables.merge_newer_neighbor(tables)
     }
 
-    /// How many entries and values were read, at most 2^64 - 1.
+    /// The number of entries and values that were read, at most 2^64 - 1.
     pub fn written(&self) -> u64
         ensures { result ≡ written_to self.now }
     {
         self.written
     }
 
-    /// The context of all of Append comes over this one, which is that of all of Rewrite.
+    /// Puts the context of all of Append over this one, which is that of all of Rewrite.
     ///
-    /// `Memory`.
+    /// Fails only with `Memory`.
     pub fn merge_append_context(&mut self, append: MemTableRecoverContext) -> Result<()>
         ensures ok { OnOk result ((rewrite behind : List ReadRecord)
             → HasRead Rewrite rewrite self.old → HasRead Append behind append
@@ -195,7 +196,7 @@ impl MemTableRecoverContext {
         self.tables.merge_append_table(append.tables)
     }
 
-    /// The tables of all groups; nothing is prepared in them. Atomic groups that never ended are dropped.
+    /// The tables of all groups, in which nothing is prepared. Atomic groups that never ended are dropped.
     pub fn finish(self) -> MemTables
         ensures tables { result ≡ tables_of self }
         ensures rest { IsAtRest result }
@@ -204,7 +205,7 @@ impl MemTableRecoverContext {
     }
 }
 
-/// Why a batch with a broken mark, or with two, isn't read.
+/// The error for a batch with a broken mark or with two marks.
 fn broken(alloc: Global) -> Error
     ensures { IsBrokenMark result }
 {

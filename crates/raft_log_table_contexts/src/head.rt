@@ -7,14 +7,14 @@ ghost use Rattle.raft_log_table_contexts.specs.Pieces.{head_of, parts_seen, Read
 use crate::part::GroupPart;
 use std::alloc::AllocError;
 
-/// What a segment does with the group of a number that may be open before it.
+/// What a segment does with the group of a number, which may be open before it.
 #[derive(Drop)]
 pub(crate) enum GroupHead {
-    /// The group goes on with these records, and neither ends nor begins anew.
+    /// The group continues with these records, and neither ends nor begins anew.
     GoesOn(Vec<GroupPart>),
     /// The group ends, with these records up to its end.
     Ends(Vec<GroupPart>),
-    /// A group of its number begins first: what was open is cut short.
+    /// A group of its number begins first: the open one is cut short.
     BeginsAnew,
 }
 
@@ -31,7 +31,7 @@ impl GroupHead {
     }
 }
 
-/// What a group that goes on with these records does in the next segment.
+/// What a group that continues with these records does in the next segment.
 fn go_on(parts: Vec<GroupPart>, later: GroupHead) -> Result<GroupHead, AllocError>
     ensures { IfOk result (λ both. (φ : Reading)
         → head_of φ both ≡ then_head (GoesOn (parts_seen φ parts.items)) (head_of φ later)) }
@@ -43,7 +43,7 @@ fn go_on(parts: Vec<GroupPart>, later: GroupHead) -> Result<GroupHead, AllocErro
     }
 }
 
-/// These records, and behind them those.
+/// These records, and then those.
 pub(crate) fn joined(
     parts: Vec<GroupPart>,
     more: Vec<GroupPart>,

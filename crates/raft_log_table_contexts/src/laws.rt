@@ -1,4 +1,4 @@
-//! What comes of the segments of a directory that are put together: each law is a function without a body.
+//! The result of merging the segments of a directory: each law is a function without a body.
 
 ghost use Rattle.std.specs.Prelude.{◌≡◌, ℕ, List, map};
 ghost use Rattle.raft_log_record_base.specs.declared.pipe_log.LogQueue.TheVariants.{Append};
@@ -21,9 +21,8 @@ ghost use Rattle.raft_log_table_contexts.specs.Context.{meant_by, ComesOver, Has
 
 use raft_log_table_segments::ReplaySource;
 
-/// Tables of all of Append that came over those of all of Rewrite are the directory's: the bytes at the
-/// places of each group are what the directory means, and an open may make of them where things stand and
-/// which marks are owed.
+/// Tables of all of Append, put over those of all of Rewrite, are the directory's. The bytes at the places of each
+/// group are what the directory means, and an open may derive the `whereabouts` and the owed tombstones from them.
 pub fn merged_tables_are_recovered<E>()
     ensures means { (at : Located → E) (rewrite append : List ReadRecord) (m : MemTables)
         → ComesOver rewrite append m → (g : ℕ) → IsSoundFor at rewrite append g
@@ -40,9 +39,9 @@ pub fn append_counts_at_once()
         → counted g rs ≡ appended g (records_of rs) }
 {}
 
-/// Any two numbers of workers make tables that show the same: where each segment holds one list of batches,
-/// two readings of all segments are of the same records, and hold the same entries and values of each group,
-/// in the same places and files; and the same is told of each segment.
+/// Any two numbers of workers make tables that show the same. If each segment holds one list of batches, two readings
+/// of all segments have read the same records, and the segments' endings are the same. If the records are in order, the
+/// readings hold the same entries and values of each group, in the same places and files.
 pub fn workers_show_the_same<S: ReplaySource>()
     ensures { (source : S) → HoldsOne (S.holds source) → (count : ℕ) (m n : MemTableRecoverContext)
         (es fs : List S.Ending)
@@ -51,9 +50,9 @@ pub fn workers_show_the_same<S: ReplaySource>()
         → HaveReadAlike (S.queue_of source) m n × (es ≡ fs) }
 {}
 
-/// What an open knows by its tables is made of what it read: through them the directory's map is read, each
-/// thing stands where a recovery may say that it does, and of each the file is noted in which it lies, in
-/// Rewrite the one from which on it counts.
+/// The view that an open gets from its tables is built from what it read. Its map is the directory's, its `whereabouts`
+/// are ones that a recovery may find, and for each thing the file that stores it is noted; in Rewrite, the file from
+/// which on it counts.
 pub fn opened_view_is_made_of_what_was_read<E>()
     ensures { (at : Located → E) (rewrite append : List ReadRecord) (m : MemTables) (f : Files E (List ℕ))
         → AreTablesOf at rewrite append m f

@@ -1,5 +1,5 @@
-//! What workers keep of the segments of a queue that they read, and how these are put together: an open
-//! reads the segments side by side, and what comes of it is one reading in order.
+//! The states of workers that read the segments of a queue, and how they are merged. An open reads the segments in
+//! parallel, and the result is one reading in order.
 #![tactic(auto)]
 
 pub mod context;

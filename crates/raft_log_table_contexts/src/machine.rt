@@ -24,14 +24,14 @@ impl ReplayMachine for MemTableRecoverContext {
     }
 }
 
-/// What makes contexts that have read nothing.
+/// Makes contexts that have read nothing.
 #[derive(Drop)]
 pub struct MemTableRecoverContextFactory {
     alloc: Global,
 }
 
 impl MemTableRecoverContextFactory {
-    /// The factory; its contexts take their memory here.
+    /// The factory. Its contexts allocate their memory with `alloc`.
     pub fn new(alloc: Global) -> MemTableRecoverContextFactory {
         MemTableRecoverContextFactory { alloc }
     }

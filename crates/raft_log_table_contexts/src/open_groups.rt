@@ -25,8 +25,8 @@ pub(crate) struct OpenGroup {
     pub(crate) parts: Vec<GroupPart>,
 }
 
-/// The atomic groups that have begun and not ended, in the order of their begins. Each is found by its number,
-/// without a walk over the others: a group has a slot, which is vacant once the group is gone.
+/// The atomic groups that have begun and not ended, in the order of their begins. Each is found by its number, without
+/// a walk over the others: a group has a slot, which is vacant once the group is removed.
 #[derive(Drop)]
 pub(crate) struct OpenGroups {
     alloc: Global,
@@ -58,7 +58,7 @@ impl OpenGroups {
         }
     }
 
-    /// A group comes behind the others; one of its number that is open goes.
+    /// Appends a group. An open one of its number is removed.
     pub(crate) fn push(&mut self, group: OpenGroup) -> Result<(), AllocError>
         ensures { OnOk result (self.new ≡ without_begun group.number self.old ++ begun_of group ∷ []) }
     {
@@ -70,7 +70,7 @@ impl OpenGroups {
         Ok(())
     }
 
-    /// The group of a number goes, if it is open.
+    /// Removes the group of a number, if it is open, and returns it.
     pub(crate) fn take(&mut self, number: u64) -> Option<OpenGroup>
         ensures rest { self.new ≡ without_begun number self.old }
         ensures group { option_map begun_of result ≡ begun_at number self.old }
@@ -83,7 +83,7 @@ impl OpenGroups {
         group
     }
 
-    /// The group of a number has one more record. The record is handed back if the group isn't open.
+    /// Appends a record to the group of a number. Returns the record if the group isn't open.
     pub(crate) fn go_on(
         &mut self,
         number: u64,
@@ -112,7 +112,7 @@ impl OpenGroups {
     }
 }
 
-/// What stands in a slot comes out of it.
+/// Takes the group out of a slot.
 fn take_from(slots: &mut Vec<Option<OpenGroup>>, place: usize) -> Option<OpenGroup>
     requires { place < length slots.old.items }
     ensures items { slots.new.items ≡ set slots.old.items place None }
@@ -121,7 +121,7 @@ fn take_from(slots: &mut Vec<Option<OpenGroup>>, place: usize) -> Option<OpenGro
     mem::replace(&mut slots[place], None)
 }
 
-/// The group in a slot has one more record.
+/// Appends a record to the group in a slot.
 fn add_part(
     slots: &mut Vec<Option<OpenGroup>>,
     place: usize,
@@ -137,7 +137,7 @@ fn add_part(
     Ok(())
 }
 
-/// No vacant slots stand behind the last group.
+/// Drops the vacant slots after the last group.
 fn drop_vacant_end(slots: &mut Vec<Option<OpenGroup>>)
     ensures { IsSameInSlots slots.old.items slots.new.items }
 {
@@ -145,7 +145,7 @@ fn drop_vacant_end(slots: &mut Vec<Option<OpenGroup>>)
     slots.truncate(len);
 }
 
-/// How many slots there are up to the last group.
+/// The number of slots up to the last group.
 fn len_to_last(slots: &Vec<Option<OpenGroup>>) -> usize
     ensures { IsSameInSlots slots.now.items (take result slots.now.items) }
 {

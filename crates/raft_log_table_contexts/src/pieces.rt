@@ -29,8 +29,8 @@ use std::alloc::{AllocError, Global};
 use std::collections::BTreeMap;
 use std::mem;
 
-/// The pieces of atomic groups that the two ends of a segment cut: what the segment does with groups that
-/// are open before it, by their numbers, and the groups that it leaves open, in the order of their begins.
+/// The pieces of atomic groups that the two ends of a segment cut: what the segment does with groups that are open
+/// before it, by their numbers, and the groups that it leaves open, in the order of their begins.
 #[derive(Drop)]
 pub(crate) struct GroupPieces {
     alloc: Global,
@@ -50,7 +50,7 @@ impl GroupPieces {
         }
     }
 
-    /// A group begins: one of its number that is open is cut short.
+    /// Begins a group. An open one of its number is cut short.
     pub(crate) fn begin(&mut self, number: u64, part: GroupPart) -> Result<(), AllocError>
         ensures { OnOk result (TakesRecord (part_read (Begin number) part) self.old self.new) }
     {
@@ -60,7 +60,7 @@ impl GroupPieces {
         self.add_head(number, GroupHead::BeginsAnew)
     }
 
-    /// A group goes on.
+    /// Continues a group.
     pub(crate) fn go_on(&mut self, number: u64, part: GroupPart) -> Result<(), AllocError>
         ensures { OnOk result (TakesRecord (part_read (Middle number) part) self.old self.new) }
     {
@@ -72,7 +72,7 @@ impl GroupPieces {
         self.add_head(number, GroupHead::GoesOn(parts))
     }
 
-    /// A group ends: its records are handed out, if it began in this segment.
+    /// Ends a group. Returns its records, if it began in this segment.
     pub(crate) fn end(
         &mut self,
         number: u64,
@@ -90,8 +90,7 @@ impl GroupPieces {
         Ok(Some(group.parts))
     }
 
-    /// The pieces of the next segment come behind these. The groups that it ends are handed out, in the order
-    /// of their begins.
+    /// Joins the pieces of the next segment. Returns the groups that it ends, in the order of their begins.
     pub(crate) fn merge(&mut self, later: GroupPieces) -> Result<Vec<Vec<GroupPart>>, AllocError>
         ensures { IfOk result (λ done. JoinsPieces self.old later self.new done.items) }
     {
@@ -106,8 +105,8 @@ impl GroupPieces {
         Ok(done)
     }
 
-    /// The open groups go on in the next segment, which does this with them. Those that it ends are handed
-    /// out, in the order of their begins.
+    /// Continues the open groups in the next segment, which does this with them. Returns those that it ends, in the
+    /// order of their begins.
     fn carry_on(
         &mut self,
         heads: &mut BTreeMap<u64, GroupHead>,
@@ -127,7 +126,7 @@ impl GroupPieces {
         Ok(done)
     }
 
-    /// An open group goes on in the next segment, which does this with it.
+    /// Continues an open group in the next segment, which does this with it.
     fn pass(
         &mut self,
         group: OpenGroup,
@@ -159,7 +158,7 @@ impl GroupPieces {
         Ok(())
     }
 
-    /// The next segment leaves these groups open.
+    /// Adds the groups that the next segment leaves open.
     fn leave_open(&mut self, later: OpenGroups) -> Result<(), AllocError>
         ensures open { OnOk result (self.new.left_open ≡ all_pushed self.old.left_open later) }
         ensures heads { self.new.heads ≡ self.old.heads }
@@ -170,7 +169,7 @@ impl GroupPieces {
         Ok(())
     }
 
-    /// The next segment does this with groups.
+    /// Adds what the next segment does with groups.
     fn add_heads(&mut self, heads: BTreeMap<u64, GroupHead>) -> Result<(), AllocError>
         ensures heads { OnOk result ((φ : Reading) (n : ℕ) → head_at φ self.new n
             ≡ then_head (head_at φ self.old n) (head_in φ (get nat_cmp heads n))) }
@@ -183,7 +182,7 @@ impl GroupPieces {
         Ok(())
     }
 
-    /// The segment does this with the group of a number, behind what it did so far.
+    /// Adds what the segment does with the group of a number, after what it did so far.
     fn add_head(&mut self, number: u64, later: GroupHead) -> Result<(), AllocError>
         ensures heads { OnOk result ((φ : Reading) (n : ℕ) → head_at φ self.new n
             ≡ (if number == n then then_head (head_at φ self.old n) (head_of φ later)

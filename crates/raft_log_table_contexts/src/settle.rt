@@ -1,4 +1,4 @@
-//! Atomic groups that are whole count.
+//! Applies atomic groups that are whole.
 ghost use Rattle.std.specs.Prelude.{◌≡◌, ◌||◌, ℕ, Some, IfErr, OnOk};
 ghost use Rattle.raft_log_record_base.specs.declared.errors.Error.TheVariants.{Memory};
 ghost use Rattle.raft_log_table_all.specs.Batch.{mentions};
@@ -13,7 +13,7 @@ use raft_log_table_all::MemTables;
 use raft_log_table_lists::GroupFiles;
 use std::alloc::{AllocError, Global};
 
-/// These atomic groups count, one after the other.
+/// Applies these atomic groups, one after the other.
 pub(crate) fn settle_all(
     alloc: Global,
     tables: &mut MemTables,
@@ -29,7 +29,7 @@ pub(crate) fn settle_all(
     Ok(())
 }
 
-/// This atomic group counts, if there is one.
+/// Applies this atomic group, if there is one.
 pub(crate) fn settle_whole(
     alloc: Global,
     tables: &mut MemTables,
@@ -45,9 +45,9 @@ pub(crate) fn settle_whole(
     }
 }
 
-/// The records of an atomic group count: their items stand in the tables, and in the table of each raft group
-/// of theirs the files of the atomic group are noted, from the first record's to the last one's, beside those
-/// that were noted before.
+/// Applies the records of an atomic group: their items go into the tables. In the table of each of their raft groups it
+/// also notes the files of the atomic group, from the first record's to the last one's. Files that were noted before
+/// stay noted.
 fn settle(alloc: Global, tables: &mut MemTables, parts: Vec<GroupPart>) -> Result<()>
     ensures ok { OnOk result (SettlesGroup parts.items tables.old tables.new) }
     ensures errors { IfErr result (λ e. e ≡ Memory) }
@@ -64,7 +64,7 @@ fn settle(alloc: Global, tables: &mut MemTables, parts: Vec<GroupPart>) -> Resul
     Ok(())
 }
 
-/// The files of an atomic group, with one more of its records.
+/// The files of an atomic group with one more record.
 fn with_file(files: Option<GroupFiles>, file: FileSeq) -> GroupFiles
     ensures { result ≡ with_file files file }
 {
@@ -80,7 +80,7 @@ fn with_file(files: Option<GroupFiles>, file: FileSeq) -> GroupFiles
     }
 }
 
-/// Adds the raft groups that the items are of, one that comes several times in a row but once.
+/// Adds the raft groups of the items, and one that comes several times in a row only once.
 fn add_groups(groups: &mut Vec<u64>, items: &[LogItem]) -> Result<(), AllocError>
     ensures { OnOk result ((g : ℕ) → is_listed g groups.new.items
         ≡ (is_listed g groups.old.items || mentions g items.now)) }
@@ -103,7 +103,7 @@ fn ends_with(groups: &[u64], group: u64) -> bool
     }
 }
 
-/// The files of an atomic group, if it has some, are noted in the tables of these raft groups.
+/// Notes the files of an atomic group, if it has any, in the tables of these raft groups.
 fn note_groups(tables: &mut MemTables, groups: &[u64], files: Option<GroupFiles>)
     ensures notes { NotesAll files (λ g. is_listed g groups.now) (replayed_of tables.old)
         (replayed_of tables.new) }
@@ -116,7 +116,7 @@ fn note_groups(tables: &mut MemTables, groups: &[u64], files: Option<GroupFiles>
     }
 }
 
-/// The files are noted in the tables of these raft groups.
+/// Notes the files in the tables of these raft groups.
 fn note_each(tables: &mut MemTables, groups: &[u64], files: GroupFiles)
     ensures notes { NotesAll (Some files) (λ g. is_listed g groups.now) (replayed_of tables.old)
         (replayed_of tables.new) }

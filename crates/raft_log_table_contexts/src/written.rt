@@ -1,11 +1,11 @@
-//! How much a batch brings of entries and values.
+//! Counts the entries and values in a batch.
 
 ghost use Rattle.std.specs.Prelude.{◌≡◌, ◌-◌, ◌^◌, min};
 ghost use Rattle.raft_log_table_contexts.specs.Written.{written_for, written_in, written_of};
 
 use raft_log_record_items::{LogItem, LogItemContent, OpType};
 
-/// How many entries and values these items bring, at most 2^64 - 1.
+/// The number of entries and values in these items, at most 2^64 - 1.
 pub fn written_count(items: &[LogItem]) -> u64
     ensures { result ≡ min (written_in items.now) (2 ^ 64 - 1) }
 {
@@ -16,7 +16,7 @@ pub fn written_count(items: &[LogItem]) -> u64
     count
 }
 
-/// How many an item brings: its entries, or the value that it puts.
+/// The number in an item: its entries, or the value that it puts.
 fn item_count(item: &LogItem) -> u64
     ensures { result ≡ written_of item.now.content }
 {
@@ -27,7 +27,7 @@ fn item_count(item: &LogItem) -> u64
     }
 }
 
-/// One value for a key that is put.
+/// One value for a put.
 fn value_count(op_type: OpType) -> u64
     ensures { result ≡ written_for op_type }
 {

@@ -19,7 +19,7 @@ abbrev pub below_bound : {K : Type 0} → Option K → Bound K
 below_bound None = Unbounded
 below_bound (Some k) = Excluded k
 
--- the end, or the start where the end is below it
+-- the end, or the start if the end is below it
 abbrev pub later_end : Option (List ℕ) → Option (List ℕ) → Option (List ℕ)
 later_end None end = end
 later_end (Some start) None = None

@@ -1,4 +1,4 @@
--- What a table's places mean where the bytes at each place are known, and the steps of the machine that its
+-- The meaning of a table's places, if the bytes at each place are known, and the steps of the machine that a table's
 -- changes are.
 use Rattle.std.specs.Prelude.{◌≡◌, ℕ, zero, suc, ◌+◌, ◌-◌, ◌≤◌, ◌⊎◌, Bool, true, false, List, [], ◌∷◌, ◌++◌, map, length, take, drop, Option, Some, None, option_map, if◌then◌else◌, nat_lt, bytes_eq}
 use Rattle.raft_log_model_laws.specs.Item.{Item}
@@ -19,18 +19,18 @@ pub record Located : Type 0 where
 abbrev pub in_queue : Bool → Place → Located
 in_queue appended p = record { appended = appended; place = p }
 
--- the places with their queue: so many from the front are in Rewrite
+-- the places with their queue: the first n are in Rewrite
 abbrev pub located : ℕ → List Place → List Located
 located zero ps = map (in_queue true) ps
 located (suc n) [] = []
 located (suc n) (p ∷ ps) = in_queue false p ∷ located n ps
 
--- the bytes that are held
+-- the bytes of a value
 abbrev pub bytes_held : Option KeyValue → Option (List ℕ)
 bytes_held None = None
 bytes_held (Some h) = Some h.bytes
 
--- what shows as a table of the model, with places in the place of entries
+-- the table as one of the model, with places as entries
 abbrev pub table_of : Shown → Table Located (List ℕ)
 table_of v = record {
   first = v.first;
@@ -38,52 +38,52 @@ table_of v = record {
   values = λ k. bytes_held (v.held k);
 }
 
--- what the item of places says, where these are the bytes at each place
+-- what the item of places says, if these are the bytes at each place
 abbrev pub written : {E : Type 0} → (Located → E) → Item Place (List ℕ) → Item E (List ℕ)
 written at x = renamed (λ p. at (in_queue true p)) x
 
--- what shows means the map m, where these are the bytes at each place
+-- the table means the map m, if these are the bytes at each place
 abbrev pub IsMeant : {E : Type 0} → (Located → E) → Shown → (Slot → Option (Content E (List ℕ))) → Type 0
 IsMeant at v m = (s : Slot) → option_map (renamed_content at) (content (table_of v) s) ≡ m s
 
--- the bytes of so many entries from an index on
+-- the bytes of `count` entries from an index on
 abbrev pub read : {E : Type 0} → (Located → E) → Shown → ℕ → ℕ → List E
 read at v f count = map at (take count (drop (f - v.first) (located v.rewritten v.places)))
 
--- a copy in Rewrite: entries from an index on now lie at these places, or the key is in this file
+-- a copy in Rewrite: entries from an index on are now at these places, or the key is in this file
 pub data Move : Type 0 where
   MoveRun : ℕ → List Place → Move
   MoveKey : List ℕ → ℕ → Move
 
--- entries from an index on, and all below, stand in Rewrite: these at these places
+-- the entries from an index on, and all below, are in Rewrite: these at these places
 abbrev pub moved_run : Shown → ℕ → List Place → Shown
 moved_run v f ps = record v {
   places = take (f - v.first) v.places ++ (ps ++ drop ((f - v.first) + length ps) v.places);
   rewritten = (f - v.first) + length ps;
 }
 
--- the value in that file of Rewrite
+-- the value in this file of Rewrite
 abbrev pub rewritten_value : ℕ → Option KeyValue → Option KeyValue
 rewritten_value n None = None
 rewritten_value n (Some h) = Some (record { bytes = h.bytes; appended = false; file = n })
 
--- the key stands in that file of Rewrite
+-- the key is in this file of Rewrite
 abbrev pub moved_key : Shown → List ℕ → ℕ → Shown
 moved_key v k n = record v { held = with_held v.held k (rewritten_value n (v.held k)) }
 
--- what shows after a copy
+-- the table after a copy
 abbrev pub moved : Shown → Move → Shown
 moved v (MoveRun f ps) = moved_run v f ps
 moved v (MoveKey k n) = moved_key v k n
 
--- what shows after more copies
+-- the table after more copies
 abbrev pub all_moved : Shown → List Move → Shown
 all_moved v [] = v
 all_moved v (x ∷ xs) = all_moved (moved v x) xs
 
--- A copy may be made: of a run that begins at a rewritten entry or the first appended one, reaches to the
--- last rewritten one, past it where neither Clean nor Compact is owed, and whose bytes are those that were
--- read; of a key that is held, and if it is appended neither Clean nor its Del is owed
+-- A copy may be made. A run begins at a rewritten entry or the first appended one, and reaches to the last rewritten
+-- one. It passes that only if neither a Clean nor a Compact is owed; its bytes are those that were read. A key has a
+-- value, and if that is in Append, neither a Clean nor the key's Del is owed
 abbrev pub CanMove : {E : Type 0} → (Located → E) → Shown → Move → Type 0
 CanMove at v (MoveRun f ps) =
     (v.first ≤ f) × (f ≤ v.first + v.rewritten) × (v.first + v.rewritten ≤ f + length ps)
@@ -99,7 +99,7 @@ abbrev pub CanAllMove : {E : Type 0} → (Located → E) → Shown → List Move
 CanAllMove at v [] = Unit {0}
 CanAllMove at v (x ∷ xs) = CanMove at v x × CanAllMove at (moved v x) xs
 
--- the item that Rewrite takes for a copy: the run as it is read, the key with the value that is held
+-- the item of a copied key: a put of its value
 abbrev pub item_of_key : {E : Type 0} → List ℕ → Option KeyValue → Item E (List ℕ)
 item_of_key k None = Run 0 []
 item_of_key k (Some h) = Put k h.bytes
@@ -114,21 +114,21 @@ abbrev pub items_of : {E : Type 0} → (Located → E) → Shown → List Move �
 items_of at v [] = []
 items_of at v (x ∷ xs) = item_of at v x ∷ items_of at (moved v x) xs
 
--- the keys as Dels
+-- a Del for each key
 abbrev pub dels : {E : Type 0} → List (List ℕ) → List (Item E (List ℕ))
 dels [] = []
 dels (k ∷ ks) = Del k ∷ dels ks
 
--- the Compact that is owed: of the first entry where rewritten ones stand, else of all
+-- the Compact that is owed: up to the first entry if there are rewritten ones, else of all
 abbrev pub compact_owed : {E : Type 0} → Shown → List (Item E (List ℕ))
 compact_owed v =
     if v.compacted then Compact (if nat_lt 0 v.rewritten then v.first else top) ∷ [] else []
 
--- the marks that are owed, where these are the keys of the Dels: the Clean first
+-- the tombstones that are owed, the Clean first, with Dels of these keys
 abbrev pub marks : {E : Type 0} → Shown → List (List ℕ) → List (Item E (List ℕ))
 marks v ks = (if v.cleaned then Clean ∷ [] else []) ++ (compact_owed v ++ dels ks)
 
--- each key's Del is owed, each of them once
+-- the Del of each key is owed, each of them once
 abbrev pub AllOwed : (List ℕ → Bool) → List (List ℕ) → Type 0
 AllOwed deleted [] = Unit {0}
 AllOwed deleted (k ∷ ks) =
@@ -139,6 +139,6 @@ abbrev pub without : (List ℕ → Bool) → List (List ℕ) → List ℕ → Bo
 without deleted [] = deleted
 without deleted (k ∷ ks) = without (λ j. if bytes_eq k j then false else deleted j) ks
 
--- no mark is owed any more
+-- no tombstone is owed any more
 abbrev pub unmarked : Shown → Shown
 unmarked v = record v { cleaned = false; compacted = false; deleted = λ k. false }

@@ -1,4 +1,4 @@
--- What is read of a table's keys: those that are asked for, in the order of their bytes.
+-- Reads of a table's keys: those that are asked for, in the order of their bytes.
 use Rattle.std.specs.Prelude.{◌≡◌, ◌-◌, ◌^◌, ℕ, min, Bool, true, false, not, ◌&&◌, List, [], ◌∷◌, ◌++◌, length, reverse, Option, Some, None, if◌then◌else◌, nat_le, bytes_eq}
 use Rattle.std.specs.Cmp.Lexicographic.{slice_cmp}
 use Rattle.std.specs.List.Sorted.{IsStrictlySortedBy}
@@ -7,27 +7,26 @@ use Rattle.std.specs.Ordering.{is_le, is_lt, nat_cmp}
 use Rattle.raft_log_table_lists.specs.Bridge.{AllOwed, bytes_held, without}
 use Rattle.raft_log_table_lists.specs.Shown.{KeyValue, Shown}
 
--- the pairs are all that the function has: each key once, in the order of the keys' bytes
+-- the pairs are all of the function's: each key once, in the order of the keys' bytes
 pub record ListsAll {X : Type 0} (values : List ℕ → Option X) (es : List (List ℕ × X)) : Type 0 where
   pub rising : IsStrictlySortedBy (slice_cmp nat_cmp) (keys_of es)
   pub exact : (k : List ℕ) → lookup (bytes_eq k) es ≡ values k
 
--- so many the function has, or the greatest number of 64 bits where these are more
+-- the number of keys for which the function has a value, at most 2 ^ 64 - 1
 abbrev pub CountsAll : {X : Type 0} → (List ℕ → Option X) → ℕ → Type 0
 CountsAll {X} values n = (es : List (List ℕ × X)) × ListsAll values es × (n ≡ min (length es) (2 ^ 64 - 1))
 
--- all keys that the function has, with their values, come behind the old pairs
+-- all keys for which the function has a value, with their values, are appended to the old pairs
 abbrev pub AddsAll : {X : Type 0} → (List ℕ → Option X) → List (List ℕ × X) → List (List ℕ × X) → Type 0
 AddsAll {X} values old new = (es : List (List ℕ × X)) × ListsAll values es × (new ≡ old ++ es)
 
--- the keys are all that are marked: each of them once, in the order of their bytes
+-- the keys are all that have tombstones: each of them once, in the order of their bytes
 pub record ListsMarked (marked : List ℕ → Bool) (ks : List (List ℕ)) : Type 0 where
   pub rising : IsStrictlySortedBy (slice_cmp nat_cmp) ks
   pub owed : AllOwed marked ks
   pub all : (k : List ℕ) → without marked ks k ≡ false
 
--- the value is asked for: with a gate one that stands in Append in a file up to it, without one what stands
--- in Rewrite
+-- whether the value is asked for: with a gate, a value in Append in a file up to it; without one, a value in Rewrite
 abbrev pub is_asked : Option ℕ → KeyValue → Bool
 is_asked None h = not h.appended
 is_asked (Some gate) h = h.appended && nat_le h.file gate
@@ -37,11 +36,11 @@ abbrev pub asked_bytes : Option ℕ → Option KeyValue → Option (List ℕ)
 asked_bytes gate None = None
 asked_bytes gate (Some h) = if is_asked gate h then Some h.bytes else None
 
--- the bytes of each value that stands in Append, in a file up to the gate
+-- the bytes of each value in Append, in a file up to the gate
 abbrev pub appended_values : ℕ → Shown → List ℕ → Option (List ℕ)
 appended_values gate v k = asked_bytes (Some gate) (v.held k)
 
--- the bytes of each value that stands in Rewrite
+-- the bytes of each value in Rewrite
 abbrev pub rewritten_values : Shown → List ℕ → Option (List ℕ)
 rewritten_values v k = asked_bytes None (v.held k)
 
@@ -55,7 +54,7 @@ abbrev pub is_below : Option (List ℕ) → List ℕ → Bool
 is_below None k = true
 is_below (Some end) k = is_lt (slice_cmp nat_cmp k end)
 
--- the bytes of the key's value, where the key isn't below the start, and is below the end
+-- the bytes of the key's value, if the key isn't below the start and is below the end
 abbrev pub bytes_within : Option (List ℕ) → Option (List ℕ) → List ℕ → Option KeyValue → Option (List ℕ)
 bytes_within start end k value = if is_from start k && is_below end k then bytes_held value else None
 
@@ -63,7 +62,7 @@ bytes_within start end k value = if is_from start k && is_below end k then bytes
 abbrev pub values_within : Option (List ℕ) → Option (List ℕ) → Shown → List ℕ → Option (List ℕ)
 values_within start end v k = bytes_within start end k (v.held k)
 
--- calls at the pairs, one after another, up to the first that answers false
+-- calls with the pairs, one after another, up to the first call that returns false
 abbrev pub Visits : {F : Type 0} → (F → List ℕ → List ℕ → Bool → F → Type 0) → F → List (List ℕ × List ℕ)
     → Type 0
 Visits called f [] = Unit {0}

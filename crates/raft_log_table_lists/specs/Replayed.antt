@@ -1,4 +1,4 @@
--- What is kept of a group while a segment of a queue is read, and what two segments come to.
+-- What is kept of a group while a segment of a queue is read, and how two segments are joined.
 use Rattle.std.specs.Prelude.{◌≡◌, ℕ, ◌+◌, ◌-◌, ◌<◌, min, max, Bool, true, false, ◌&&◌, ◌||◌, List, [], ◌∷◌, ◌++◌, map, length, take, drop, Option, Some, None, if◌then◌else◌, nat_lt}
 use Rattle.std.specs.Option.{option_or}
 use Rattle.raft_log_model_laws.specs.Item.{Item}
@@ -12,9 +12,9 @@ use Rattle.raft_log_table_lists.specs.declared.group_files.GroupFiles.{GroupFile
 use Rattle.raft_log_table_lists.specs.Shown.{IsOrderly, KeyValue, Shown, nothing_shown, span, whereabouts, with_clean, with_compact, with_del, with_held, with_run}
 use Rattle.raft_log_table_lists.specs.Bridge.{Located, in_queue, located, unmarked}
 
--- What the items that were read come to: the table that they made; and of what stood before them, unless
--- they have a Clean, they leave the entries from `low` on, below `high`: low is their greatest Compact index,
--- high their least start of a run
+-- The result of reading items: the table that they make, and what they leave of entries before them. Unless the items
+-- have a Clean, they leave the entries from `low` on, below `high`: `low` is their greatest Compact index, `high` the
+-- least start of their runs
 pub record Replayed : Type 0 where
   pub table : Shown
   pub low : ℕ
@@ -24,8 +24,8 @@ pub record Replayed : Type 0 where
 abbrev pub nothing_replayed : Replayed
 nothing_replayed = record { table = nothing_shown; low = 0; high = None }
 
--- entries from an index on, so many of them in Rewrite, in the place of all that stood there and above; where
--- they would leave a hole, nothing of what stood stays
+-- entries from an index on, of which the first `count` are in Rewrite, replace all entries at or above it; if they
+-- would leave a hole, they replace all
 abbrev pub run_over : Shown → ℕ → List Place → ℕ → Shown
 run_over v f ps count =
     if is_past (span v) f then record v { first = f; places = ps; rewritten = count }
@@ -35,7 +35,7 @@ run_over v f ps count =
       rewritten = min v.rewritten (f - v.first) + count;
     }
 
--- what shows after an item that is read in file n of a queue: Append, or else Rewrite
+-- the table after an item that is read in file n of a queue: Append, or else Rewrite
 abbrev pub replay_step : Bool → ℕ → Shown → Item Place (List ℕ) → Shown
 replay_step q n v (Run f []) = v
 replay_step q n v (Run f (p ∷ ps)) =
@@ -57,7 +57,7 @@ high_with (Run f []) high = high
 high_with (Run f (e ∷ es)) high = Some (least f high)
 high_with _ high = high
 
--- what was read, after an item in file n of that queue
+-- the result of reading, after one more item in file n of this queue
 abbrev pub replayed : Bool → ℕ → Replayed → Item Place (List ℕ) → Replayed
 replayed q n z x = record {
   table = replay_step q n z.table x;
@@ -95,8 +95,8 @@ both_noted None new = new
 both_noted (Some old) None = Some old
 both_noted (Some old) (Some new) = Some (record { from = min old.from new.from; to = max old.to new.to })
 
--- a table with what a later segment, that has no Clean, says: its entries and its keys over the others, and
--- the marks of both
+-- a table with a later segment over it that has no Clean: its entries and keys over the others, and the tombstones of
+-- both
 abbrev pub with_newer : Shown → Replayed → Shown
 with_newer v z = record (with_entries v z) {
   held = λ k. option_or (z.table.held k) (if z.table.deleted k then None else v.held k);
@@ -106,23 +106,23 @@ with_newer v z = record (with_entries v z) {
   noted = both_noted v.noted z.table.noted;
 }
 
--- two segments of a queue, one after the other, as one: behind a Clean only the later one counts
+-- two segments of a queue, one after the other, as one: if the later one has a Clean, only it counts
 abbrev pub joined : Replayed → Replayed → Replayed
 joined a z =
     if z.table.cleaned then z
     else record { table = with_newer a.table z; low = max z.low a.low; high = lesser z.high a.high }
 
--- Append over Rewrite, of which the marks are dropped
+-- Append over Rewrite, whose tombstones are dropped
 abbrev pub merged : Shown → Replayed → Shown
 merged v z = if z.table.cleaned then z.table else with_newer (unmarked v) z
 
--- the later segment's run, which stands in Append, starts past the end of what it leaves of the entries
+-- the later segment's run, which is in Append, starts past the end of the entries that it leaves
 abbrev pub LeavesHole : Shown → Replayed → Type 0
 LeavesHole v z =
     (z.table.cleaned ≡ false) × (0 < length z.table.places) × (z.table.rewritten ≡ 0)
     × (is_past (span (left v z.low z.high)) z.table.first ≡ true)
 
--- the item as it was read in file n of a queue: each place with the queue, a value with queue and file
+-- the item as it was read in file n of a queue: each place with its queue, each value with its queue and file
 abbrev pub placed : Bool → ℕ → Item Place (List ℕ) → Item Located KeyValue
 placed q n (Run f ps) = Run f (map (in_queue q) ps)
 placed q n Clean = Clean
@@ -130,7 +130,7 @@ placed q n (Compact c) = Compact c
 placed q n (Put k w) = Put k (record { bytes = w; appended = q; file = n })
 placed q n (Del k) = Del k
 
--- the item with what is there, where these are the bytes at each place
+-- the item with the bytes at its places, and its value
 abbrev pub told : {E : Type 0} → (Located → E) → Item Located KeyValue → Item E (List ℕ)
 told at (Run f ps) = Run f (map at ps)
 told at Clean = Clean
@@ -138,7 +138,7 @@ told at (Compact c) = Compact c
 told at (Put k h) = Put k h.bytes
 told at (Del k) = Del k
 
--- what shows as a table of the model: places in the place of entries, values with their files
+-- the table as one of the model, with places as entries, and values with their files
 abbrev pub standing : Shown → Table Located KeyValue
 standing v = record { first = v.first; entries = located v.rewritten v.places; values = v.held }
 
@@ -152,13 +152,12 @@ summary_of z = record {
   deleted = z.table.deleted;
 }
 
--- all that stands stands in that queue: Append, or else Rewrite
+-- all entries and values are in this queue: Append, or else Rewrite
 pub record AllStandsIn (q : Bool) (v : Shown) : Type 0 where
   pub entries : v.rewritten ≡ (if q then 0 else length v.places)
   pub values : (k : List ℕ) (h : KeyValue) → v.held k ≡ Some h → h.appended ≡ q
 
--- what was read is what these items of the queue come to: it says of each slot what they say, and has the
--- marks that are theirs
+-- this is the result of reading these items of the queue: it says of each slot what they say, and has their tombstones
 pub record IsReplayed (q : Bool) (xs : List (Item Located KeyValue)) (z : Replayed) : Type 0 where
   pub summary : IsSummary (summary_of z) xs
   pub marks : HasMarks xs (whereabouts z.table)

@@ -1,4 +1,4 @@
--- What a table of one group shows: where each entry and each key stands, and what each item makes of it.
+-- What a table of one group shows: where each entry and each key is stored, and how each item changes it.
 use Rattle.std.specs.Prelude.{ℕ, ◌+◌, ◌-◌, ◌≤◌, min, Bool, true, false, ◌&&◌, List, [], ◌∷◌, ◌++◌, length, take, drop, Option, Some, None, if◌then◌else◌, nat_lt, bytes_eq}
 use Rattle.raft_log_model_laws.specs.Item.{Item}
 use Rattle.raft_log_model_laws.specs.Item.Item.{Run, Clean, Compact, Put, Del}
@@ -8,15 +8,15 @@ use Rattle.raft_log_machine_laws.specs.Machine.{Fits}
 use Rattle.raft_log_table_runs.specs.declared.place.Place.{Place}
 use Rattle.raft_log_table_lists.specs.declared.group_files.GroupFiles.{GroupFiles}
 
--- the value of a key, whether it stands in Append, and the file there that has it
+-- the value of a key, whether it is in Append, and the file there that has it
 pub record KeyValue : Type 0 where
   pub bytes : List ℕ
   pub appended : Bool
   pub file : ℕ
 
--- The entries from `first` on lie at these places, so many of them from the front in Rewrite, the others in
--- Append; each key has the value that is held for it. What came since marks were carried last: a Clean, a
--- Compact, a Del of these keys. Noted are the files of atomic groups in Rewrite that still hold something
+-- The entries from `first` on are at these places, the first `rewritten` ones in Rewrite, the others in Append; each
+-- key has the value that `held` returns. Owed since tombstones were last written: a Clean, a Compact, a Del of these
+-- keys. Noted are the files of atomic groups in Rewrite that still hold something
 pub record Shown : Type 0 where
   pub first : ℕ
   pub places : List Place
@@ -27,7 +27,7 @@ pub record Shown : Type 0 where
   pub compacted : Bool
   pub noted : Option GroupFiles
 
--- a group of which nothing is known
+-- the table of a group without entries, values and tombstones
 abbrev pub nothing_shown : Shown
 nothing_shown = record {
   first = 0;
@@ -40,11 +40,11 @@ nothing_shown = record {
   noted = None;
 }
 
--- the values, but for one key
+-- the values, except for one key
 abbrev pub with_held : (List ℕ → Option KeyValue) → List ℕ → Option KeyValue → List ℕ → Option KeyValue
 with_held held key value k = if bytes_eq key k then value else held k
 
--- entries in Append from an index on, in the place of all that stood there and above
+-- entries in Append from an index on replace all entries at or above it
 abbrev pub with_run : Shown → ℕ → List Place → Shown
 with_run v f ps = record v {
   first = if nat_lt v.first f && nat_lt 0 (length v.places) then v.first else f;
@@ -52,7 +52,7 @@ with_run v f ps = record v {
   rewritten = min v.rewritten (f - v.first);
 }
 
--- nothing stands any more, and a Clean is owed, which covers a Compact
+-- no entry and no value is left, and a Clean is owed, which covers a Compact
 abbrev pub with_clean : Shown → Shown
 with_clean v = record v {
   first = 0;
@@ -78,14 +78,14 @@ abbrev pub with_put : ℕ → Shown → List ℕ → List ℕ → Shown
 with_put n v key value =
     record v { held = with_held v.held key (Some (record { bytes = value; appended = true; file = n })) }
 
--- without the key, which is marked whether it had a value or not
+-- without the key's value, and with a tombstone, whether it had a value or not
 abbrev pub with_del : Shown → List ℕ → Shown
 with_del v key = record v {
   held = with_held v.held key None;
   deleted = λ k. if bytes_eq key k then true else v.deleted k;
 }
 
--- what shows after an item in file n of Append
+-- the table after an item in file n of Append
 abbrev pub stepped : ℕ → Shown → Item Place (List ℕ) → Shown
 stepped n v (Run f []) = v
 stepped n v (Run f (p ∷ ps)) = with_run v f (p ∷ ps)
@@ -94,17 +94,17 @@ stepped n v (Compact c) = with_compact v c
 stepped n v (Put k w) = with_put n v k w
 stepped n v (Del k) = with_del v k
 
--- what shows after more items
+-- the table after more items
 abbrev pub all_stepped : ℕ → Shown → List (Item Place (List ℕ)) → Shown
 all_stepped n v [] = v
 all_stepped n v (x ∷ xs) = all_stepped n (stepped n v x) xs
 
--- the key's value stands in Append
+-- the key's value is in Append
 abbrev pub is_in_append : Option KeyValue → Bool
 is_in_append None = false
 is_in_append (Some h) = h.appended
 
--- where things stand, and which marks are owed
+-- where things are stored, and which tombstones are owed
 abbrev pub whereabouts : Shown → Whereabouts
 whereabouts v = record {
   first = v.first;
@@ -137,11 +137,11 @@ next_span w (Compact c) = record { first = w.first + min (c - w.first) (w.end - 
 next_span w (Put k v) = w
 next_span w (Del k) = w
 
--- where the entries have these ends the item may come: it leaves no hole, and no index gets too great
+-- the item may follow if the entries have these ends: it leaves no hole, and no index gets too great
 abbrev pub MayFollow : {E V : Type 0} → Window → Item E V → Type 0
 MayFollow w x = FitsOn w x × Fits x
 
--- the items may come, one after another
+-- the items may follow, one after another
 abbrev pub MayAllFollow : {E V : Type 0} → Window → List (Item E V) → Type 0
 MayAllFollow w [] = Unit {0}
 MayAllFollow w (x ∷ xs) = MayFollow w x × MayAllFollow (next_span w x) xs

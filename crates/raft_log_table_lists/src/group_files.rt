@@ -1,6 +1,6 @@
 //! The files of atomic groups.
 
-/// The files that the atomic groups of a table may lie in, from the first to the last.
+/// The files that the atomic groups of a table may be in, from the first to the last.
 #[derive(Clone, Copy, Debug, PartialEq, Eq)]
 pub struct GroupFiles {
     /// The first file.

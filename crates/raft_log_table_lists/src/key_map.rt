@@ -1,4 +1,4 @@
-//! The keys of a group, in their order, and room for keys that are to come.
+//! The keys of a group, in their order, and room for keys to come.
 ghost use Rattle.std.specs.Prelude.{◌≡◌, ◌↔◌, Some, None, true, false, is_some, option_copied, option_map, IsTrue, OnOk, OnErr};
 ghost use Rattle.raft_log_table_lists.specs.Keys.{
   cleared_keys,
@@ -29,35 +29,35 @@ use std::alloc::{AllocError, Global};
 use std::collections::BTreeMap;
 use std::marker::Model;
 
-/// The value of a key, and where it stands.
+/// The value of a key, and where it is stored.
 #[derive(Debug, Drop)]
 pub struct HeldValue {
     /// The value.
     pub bytes: Bytes,
-    /// Whether the value stands in Append; if not, in Rewrite.
+    /// Whether the value is in Append; if not, it is in Rewrite.
     pub appended: bool,
-    /// The file there that has it.
+    /// The file of that queue that has it.
     pub file: FileSeq,
 }
 
-/// What is known of a key. A slot without a value and without a mark is room for a value that is to come.
+/// The state of a key. A slot without a value and without a tombstone is room for a value to come.
 #[derive(Debug, Drop)]
 pub struct KeySlot {
     /// The value, if the key has one.
     held: Option<HeldValue>,
-    /// Whether the key was deleted since marks were carried last.
+    /// Whether the key was deleted since tombstones were last written to Rewrite.
     deleted: bool,
 }
 
 impl KeySlot {
-    /// The key has this value, or none.
+    /// Sets the key's value, or removes it.
     fn hold(&mut self, held: Option<HeldValue>)
         ensures { self.new ≡ record self.old { held = held } }
     {
         self.held = held;
     }
 
-    /// The file of the value, if there is one and it stands in Append, or in Rewrite.
+    /// The file of the value, if there is one in this queue: Append if `appended`, else Rewrite.
     fn file(&self, appended: bool) -> Option<FileSeq>
         ensures { result ≡ file_of_value appended self.now.held }
     {
@@ -70,7 +70,7 @@ impl KeySlot {
         if there { Some(held.file) } else { None }
     }
 
-    /// The value, if there is one, stands in this file of Rewrite.
+    /// Notes that the value, if there is one, is in this file of Rewrite.
     fn rewrite(&mut self, file: FileSeq)
         ensures { self.new ≡ record self.old { held = option_map (rewritten_held file) self.old.held } }
     {
@@ -80,14 +80,14 @@ impl KeySlot {
         }
     }
 
-    /// The key isn't marked any more.
+    /// Removes the key's tombstone.
     fn unmark(&mut self)
         ensures { self.new ≡ record self.old { deleted = false } }
     {
         self.deleted = false;
     }
 
-    /// The key isn't marked any more. Answers whether it has a value.
+    /// Removes the key's tombstone. Returns whether it has a value.
     fn settle(&mut self) -> bool
         ensures slot { self.new ≡ record self.old { deleted = false } }
         ensures value { result ≡ is_some self.old.held }
@@ -96,7 +96,7 @@ impl KeySlot {
         self.held.is_some()
     }
 
-    /// The key has no value any more. Answers whether it is marked.
+    /// Removes the key's value. Returns whether it has a tombstone.
     fn clear(&mut self) -> bool
         ensures slot { self.new ≡ record self.old { held = None } }
         ensures mark { result ≡ self.old.deleted }
@@ -105,7 +105,7 @@ impl KeySlot {
         self.deleted
     }
 
-    /// The key has no value, and is marked.
+    /// Removes the key's value, and adds a tombstone.
     fn delete(&mut self)
         ensures { self.new ≡ record { held = None; deleted = true } }
     {
@@ -114,15 +114,15 @@ impl KeySlot {
     }
 }
 
-/// The keys of a group. Contracts see it as the list of keys and slots, in the order of the keys, and say
-/// what becomes of `keys_of` it.
+/// The keys of a group. Contracts see it as the list of keys and slots, in the order of the keys, and say how `keys_of`
+/// it changes.
 #[derive(Drop)]
 pub struct KeyMap {
     alloc: Global,
     slots: BTreeMap<Vec<u8>, KeySlot>,
     /// Whether a key may have a value.
     valued: bool,
-    /// Whether a key may have room that isn't marked.
+    /// Whether a key may have room without a tombstone.
     spare: bool,
 }
 
@@ -151,7 +151,7 @@ impl KeyMap {
         }
     }
 
-    /// Whether nothing is kept of any key, nor room for one.
+    /// Whether no key has a value, a tombstone or room.
     pub fn is_empty(&self) -> bool
         ensures { IsTrue result ↔ (keys_of self.now ≡ no_keys) }
     {
@@ -168,7 +168,7 @@ impl KeyMap {
         }
     }
 
-    /// Makes room for a key. Where memory is refused, nothing changes.
+    /// Makes room for a key. If memory runs out, nothing changes.
     pub fn make_room(&mut self, key: &[u8]) -> Result<(), AllocError>
         ensures ok { OnOk result (keys_of self.new ≡ with_room (keys_of self.old) key.now) }
         ensures err { OnErr result (keys_of self.new ≡ keys_of self.old) }
@@ -185,7 +185,7 @@ impl KeyMap {
         Ok(())
     }
 
-    /// A key that has room gets a value.
+    /// Sets the value of a key that has room.
     pub fn put(&mut self, key: &[u8], value: HeldValue)
         requires { IsTrue ((keys_of self.old).has key.now) }
         ensures { keys_of self.new ≡ with_value (keys_of self.old) key.now (Some (value_of value)) }
@@ -196,7 +196,7 @@ impl KeyMap {
         }
     }
 
-    /// A key that has room loses its value, if it has one, and is marked.
+    /// Deletes a key that has room: removes its value, if it has one, and adds a tombstone.
     pub fn delete(&mut self, key: &[u8])
         requires { IsTrue ((keys_of self.old).has key.now) }
         ensures { keys_of self.new ≡ with_mark (keys_of self.old) key.now }
@@ -206,7 +206,7 @@ impl KeyMap {
         }
     }
 
-    /// Makes room for all keys of a later map. Refused or not, no value and no mark changes.
+    /// Makes room for all keys of a later map. Whether it succeeds or fails, no value and no tombstone changes.
     pub fn make_room_for(&mut self, later: &KeyMap) -> Result<(), AllocError>
         ensures values { (keys_of self.new).values ≡ (keys_of self.old).values }
         ensures deleted { (keys_of self.new).deleted ≡ (keys_of self.old).deleted }
@@ -218,8 +218,8 @@ impl KeyMap {
         Ok(())
     }
 
-    /// The values and marks of a later map, for whose keys there is room, come over those of this one: where
-    /// it has a value or a mark, the value here goes.
+    /// Puts the values and tombstones of a later map over those of this one, which has room for its keys. If the later
+    /// map has a value or a tombstone for a key, it replaces the value here.
     pub fn join(&mut self, later: KeyMap)
         requires { HasKeyRoomFor (keys_of self.old) (keys_of later) }
         ensures { keys_of self.new ≡ joined_keys (keys_of self.old) (keys_of later) }
@@ -229,7 +229,7 @@ impl KeyMap {
         }
     }
 
-    /// A later slot of a key that has room: its mark, and its value if it has one.
+    /// Puts a later slot over that of a key that has room: its tombstone, and its value if it has one.
     fn join_slot(&mut self, key: &[u8], slot: KeySlot)
         requires { (keys_of self.old).has key.now ≡ true }
         ensures { keys_of self.new ≡ with_slot (keys_of self.old) key.now slot }
@@ -242,7 +242,7 @@ impl KeyMap {
         }
     }
 
-    /// No key has a value any more. Marks and room stay. Where none can have one, no key is walked.
+    /// Removes all values. Tombstones and room stay. If no key can have a value, it walks no key.
     pub fn empty(&mut self)
         ensures { keys_of self.new ≡ emptied (keys_of self.old) }
     {
@@ -256,8 +256,8 @@ impl KeyMap {
         self.valued = false;
     }
 
-    /// No key has a value any more. Marks stay, and of a key without a mark nothing is kept, nor its room. Where
-    /// only marks can be there, no key is walked.
+    /// Removes all values. Tombstones stay; a key without one loses its slot, so its room too. If only tombstones can
+    /// be there, it walks no key.
     pub fn clear(&mut self)
         ensures { keys_of self.new ≡ cleared_keys (keys_of self.old) }
     {
@@ -269,7 +269,7 @@ impl KeyMap {
         self.spare = false;
     }
 
-    /// No key is marked any more, and of one that has no value nothing is kept, nor its room.
+    /// Removes all tombstones. A key without a value loses its slot, so its room too.
     pub fn clear_marks(&mut self)
         ensures { keys_of self.new ≡ settled_keys (keys_of self.old) }
     {
@@ -277,7 +277,7 @@ impl KeyMap {
         self.spare = true;
     }
 
-    /// No key is marked any more. The room stays.
+    /// Removes all tombstones. The room stays.
     pub fn unmark(&mut self)
         ensures { keys_of self.new ≡ unmarked_keys (keys_of self.old) }
     {
@@ -300,7 +300,7 @@ impl KeyMap {
         least
     }
 
-    /// The value of a key, if it has one, stands in this file of Rewrite from now on.
+    /// Notes that the key's value, if it has one, is now in this file of Rewrite.
     pub fn rewrite(&mut self, key: &[u8], file: FileSeq)
         ensures { keys_of self.new ≡ with_rewritten (keys_of self.old) key.now file }
     {
@@ -310,7 +310,7 @@ impl KeyMap {
     }
 }
 
-/// The lesser of two files, where there are any.
+/// The lesser of two files, if there are any.
 pub fn lesser(a: Option<FileSeq>, b: Option<FileSeq>) -> Option<FileSeq>
     ensures { result ≡ lesser a b }
 {

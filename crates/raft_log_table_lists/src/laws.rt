@@ -1,4 +1,4 @@
-//! What a table does is what the machine may do: each law is a function without a body.
+//! A table does only what the machine may do: each law is a function without a body.
 
 ghost use Rattle.std.specs.Prelude.{◌≡◌, ℕ, ◌≤◌, ◌⊎◌, false, List, map, None, Option};
 ghost use Rattle.raft_log_model_laws.specs.Item.{Item};
@@ -46,8 +46,8 @@ ghost use Rattle.raft_log_table_lists.specs.Bridge.{
   written,
 };
 
-/// A batch in a file of Append, none of whose runs leaves a hole or ends past 2^64 - 1, is taken: where
-/// things stand follows it item by item, and what the places mean is the map with the batch on it.
+/// A batch in a file of Append may be applied if none of its runs leaves a hole or ends past 2^64 - 1. The
+/// `whereabouts` follow it item by item, and the places mean the map after the batch.
 pub fn batch_grows<E>()
     ensures grows { (at : Located → E) (n : ℕ) (v : Shown) (xs : List (Item Place (List ℕ))) → IsOrderly v
         → MayAllFollow (span v) xs
@@ -59,9 +59,9 @@ pub fn batch_grows<E>()
         → IsMeant at (all_stepped n v xs) (after m (map (written at) xs)) }
 {}
 
-/// Copies into Rewrite, and rewritten entries and keys written again, change nothing of what the table
-/// means; Rewrite may take them where they begin in or right behind what stands there, reach to the end of
-/// it, have the bytes that were read, and no mark is owed that they would go past.
+/// Copies into Rewrite, and rewritten entries and keys that are restated, keep the table's meaning. Rewrite may take
+/// them if they begin in or right after its entries, reach to their end, and have the bytes that were read. They may
+/// not overtake a tombstone that is owed.
 pub fn moves_carry<E>()
     ensures carries { (at : Located → E) (v : Shown) (xs : List Move) (m : Slot → Option (Content E (List ℕ)))
         → IsOrderly v → CanAllMove at v xs → IsMeant at v m
@@ -72,24 +72,22 @@ pub fn moves_carry<E>()
         → IsOrderly v → CanAllMove at v xs → IsMeant at v m → IsMeant at (all_moved v xs) m }
 {}
 
-/// The marks that are owed may be carried: the Clean, the Compact, and the Dels of these keys, each once
-/// and none left out; then no mark is owed.
+/// The owed tombstones may be written: the Clean, the Compact, and the Dels of these keys, each once and none left out.
+/// Then no tombstone is owed.
 pub fn marks_carry<E>()
     ensures { (m : Slot → Option (Content E (List ℕ))) (v : Shown) (ks : List (List ℕ)) → AllOwed v.deleted ks
         → ((k : List ℕ) → without v.deleted ks k ≡ false)
         → CarriesAll m (whereabouts v) (marks v ks) (whereabouts (unmarked v)) }
 {}
 
-/// Only the bytes at a table's own places matter: whatever else is written, and wherever else, it means the
-/// same.
+/// Only the bytes at a table's own places matter. Whatever is written elsewhere, the table means the same.
 pub fn table_is_meant_elsewhere<E>()
     ensures { (at other : Located → E) (v : Shown) (m : Slot → Option (Content E (List ℕ)))
         → map other (table_of v).entries ≡ map at (table_of v).entries → IsMeant at v m → IsMeant other v m }
 {}
 
-/// A batch whose places lie in file n of Append brings into Append only what it speaks of, and that lies in
-/// file n; all else that stands in Append lies where it lay, and of what stands in Rewrite nothing is noted
-/// later than it was.
+/// A batch in file n of Append puts into Append only slots that it says something of, and those are in file n. All else
+/// in Append stays in its file, and no slot of Rewrite is noted later than before.
 pub fn batch_is_noted<E>()
     ensures append { (at : Located → E) (n : ℕ) (v : Shown) (xs : List (Item Place (List ℕ))) → IsOrderly v
         → MayAllFollow (span v) xs → AreInFile n xs
@@ -98,10 +96,10 @@ pub fn batch_is_noted<E>()
         → MayAllFollow (span v) xs → RewrittenStay v (all_stepped n v xs) }
 {}
 
-/// Copies bring nothing into Append. What they bring into Rewrite they speak of, and it is noted no later
-/// than the file of their plain record, or the first file of their atomic group once the group is noted;
-/// all else is noted no later than it was. The groups noted before stay noted while something lies at or
-/// below their last file.
+/// Copies put nothing into Append. The slots that they put into Rewrite are slots that they say something of. Each is
+/// noted no later than the file of the plain record, or the first file of the atomic group once the group is noted. All
+/// other slots are noted no later than before. The groups noted before stay noted while something is in a file up to
+/// their last one.
 pub fn copies_are_noted<E>()
     ensures append { (at : Located → E) (v : Shown) (xs : List Move) → IsOrderly v → CanAllMove at v xs
         → AppendedShrink v (all_moved v xs) }
@@ -113,16 +111,16 @@ pub fn copies_are_noted<E>()
         → RewrittenCarry (items_of at v xs) files.from v (with_note (all_moved v xs) least files) }
 {}
 
-/// Rewrite may begin at the least file in use, where that counts the groups that are noted: of everything
-/// that stands there no later file is noted.
+/// Rewrite may begin at the least file in use, counted with the noted groups: no slot stored there is noted in a later
+/// file.
 pub fn least_file_is_noted()
     ensures { (v : Shown) (least : ℕ) → IsLeastInRewrite v least → (s : Slot) → IsInRewrite (whereabouts v) s
         → (content (table_of v) s ≡ None) ⊎ (start_of least v.noted ≤ noted_at v s) }
 {}
 
-/// Along the entries of each queue the files don't fall as the index rises: where nothing stands; after a
-/// batch in a file of Append that is no earlier than those of the appended entries; and after copies in a
-/// file of Rewrite that is no earlier than those of the rewritten ones.
+/// In each queue the files don't fall as the index of entries rises. That holds if there are no entries. A batch keeps
+/// it true if its file of Append is no earlier than those of the appended entries. Copies keep it true if their file of
+/// Rewrite is no earlier than those of the rewritten entries.
 pub fn files_rise<E>()
     ensures nothing { (a r : ℕ) → FilesRise a r nothing_shown }
     ensures append { (a r n : ℕ) (v : Shown) (xs : List (Item Place (List ℕ))) → IsOrderly v → FilesRise a r v

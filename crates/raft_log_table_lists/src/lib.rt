@@ -1,5 +1,5 @@
-//! What a table keeps of a group: the places of its entries and the values of its keys, with room for more; how
-//! they show, and the laws that tie what a table does to the steps of the machine.
+//! The state of a group's table: the places of its entries and the values of its keys, with room for more; how it shows
+//! in contracts; and laws that tie a table's changes to the machine's steps.
 #![tactic(auto)]
 
 pub mod group_files;

@@ -1,5 +1,4 @@
-//! What is kept while segments of a queue are read is what their items say: each law is a function without a
-//! body.
+//! What is kept while segments of a queue are read is what their items say: each law is a function without a body.
 
 ghost use Rattle.std.specs.Prelude.{◌≡◌, ◌≤◌, ℕ, Bool, true, false, List, [], ◌∷◌, ◌++◌, map, Option};
 ghost use Rattle.raft_log_model_laws.specs.Item.{Item};
@@ -26,9 +25,8 @@ ghost use Rattle.raft_log_table_lists.specs.Replayed.{
   told,
 };
 
-/// What is kept of a group while a segment is read is a summary of the items that were read, with the marks
-/// that are theirs; noting the files of an atomic group changes nothing of that. In a queue whose runs leave
-/// no hole no item is refused.
+/// What is kept of a group while a segment is read is a summary of the items that were read, with their tombstones.
+/// Noting the files of an atomic group doesn't change that. If the runs of a queue leave no hole, no item is rejected.
 pub fn replay_is_a_summary()
     ensures nothing { (q : Bool) → IsReplayed q [] nothing_replayed }
     ensures step { (q : Bool) (n : ℕ) (xs : List (Item Located KeyValue)) (z : Replayed)
@@ -41,10 +39,10 @@ pub fn replay_is_a_summary()
         → FitsOn (span z.table) x }
 {}
 
-/// Two segments of a queue, read apart and joined, are what both come to, also where a border completes
-/// atomic groups whose items come between them; where no run leaves a hole no join is refused. What is read
-/// of one list in whichever way has the same entries and values, with their places and files: so joining is
-/// associative, and cutting a queue into segments changes nothing.
+/// Two segments of a queue, read apart and joined, equal both read as one. That is also true if atomic groups that a
+/// border completes have items between them. If no run leaves a hole, no join fails. Two readings of one list have the
+/// same entries and values, with their places and files. Joining is therefore associative, and cutting a queue into
+/// segments changes nothing.
 pub fn joined_segments()
     ensures joined { (q : Bool) (xs ys : List (Item Located KeyValue)) (a z : Replayed) → IsReplayed q xs a
         → IsReplayed q ys z → NoHole nothing (xs ++ ys) → IsReplayed q (xs ++ ys) (joined a z) }
@@ -62,9 +60,9 @@ pub fn joined_segments()
         ≡ content (standing (joined a (joined b c)).table) s }
 {}
 
-/// What was read of Append over what was read of Rewrite is the directory's table, where what lies between
-/// two entries of the directory stands too: the bytes at its places are what the directory means, and an open
-/// may make of it where things stand and which marks are owed.
+/// What was read of Append, put over what was read of Rewrite, is the directory's table, if the directory's entries
+/// have no gap. The bytes at its places are what the directory means, and an open may derive the `whereabouts` and the
+/// owed tombstones from it.
 pub fn merged_table_is_recovered<E>()
     ensures means { (at : Located → E) (rewrite append : List (Item Located KeyValue)) (r z : Replayed)
         → IsReplayed false rewrite r → IsReplayed true append z
@@ -79,8 +77,8 @@ pub fn merged_table_is_recovered<E>()
         → IsReplayed false rewrite r → IsReplayed true append z → IsOrderly (merged r.table z) }
 {}
 
-/// What was read of a group that stands in one queue alone is the directory's table: of Rewrite without its
-/// marks, of Append as it is.
+/// What was read of a group that is in one queue alone is the directory's table: without its tombstones if that queue
+/// is Rewrite, unchanged if it is Append.
 pub fn one_queue_is_recovered<E>()
     ensures rewrite_means { (at : Located → E) (rewrite : List (Item Located KeyValue)) (r : Replayed)
         → IsReplayed false rewrite r
@@ -96,9 +94,9 @@ pub fn one_queue_is_recovered<E>()
         (whereabouts z.table) }
 {}
 
-/// What is noted of atomic groups once two segments are joined, or Append came over Rewrite, counts with
-/// each file from no later one on than it did in the later table; and, where that has no Clean, in the
-/// earlier one.
+/// What counts with a file is found from the noted atomic groups. After two segments are joined, or Append is put over
+/// Rewrite, it begins in no later file than in the later table. If that has no Clean, it also begins in no later file
+/// than in the earlier one.
 pub fn joins_are_noted()
     ensures joined { (a z : Replayed) (n : ℕ)
         → (start_of n (joined a z).table.noted ≤ start_of n z.table.noted)

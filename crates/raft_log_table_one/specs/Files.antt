@@ -1,4 +1,4 @@
--- The files that a table has something in.
+-- The files that store something of a table.
 use Rattle.std.specs.Prelude.{◌≡◌, ℕ, ◌+◌, ◌<◌, ◌≤◌, ◌⊎◌, true, false, List, Option, Some, None, option_map, if◌then◌else◌, nat_lt, length, slice_get}
 use Rattle.raft_log_record_base.specs.declared.pipe_log.LogQueue.{LogQueue}
 use Rattle.raft_log_record_base.specs.declared.pipe_log.LogQueue.TheVariants.{Append, Rewrite}
@@ -10,7 +10,7 @@ use Rattle.raft_log_table_lists.specs.Noted.{file_at, noting, place_file, start_
 use Rattle.raft_log_table_lists.specs.LeastFiles.{least_value, lesser, IsLeastValue}
 use Rattle.raft_log_table_one.specs.Table.{shown, Raw}
 
--- the file of the first entry in a queue, where this shows
+-- the file of a queue's first entry in what is shown
 abbrev pub first_file : LogQueue → Shown → Option ℕ
 first_file Append v = option_map (λ p. p.file) (slice_get v.places v.rewritten)
 first_file Rewrite v =
@@ -20,52 +20,50 @@ first_file Rewrite v =
 abbrev pub first_place : LogQueue → Raw → Option ℕ
 first_place queue t = first_file queue (shown t)
 
--- the least file of Rewrite that has something, where the files don't fall along the entries
+-- the least file of Rewrite that has something, if files don't fall along the entries
 abbrev pub least_rewritten : Raw → Option ℕ
 least_rewritten t = lesser (first_place Rewrite t) (least_value false t.keys)
 
--- the least file of a queue in use: of Rewrite, where noted groups may reach to it, the first of theirs
+-- the least file of a queue in use; for Rewrite the first file of the noted groups, if they may reach to it
 abbrev pub min_file : LogQueue → Raw → Option ℕ
 min_file Append t = lesser (first_place Append t) (least_value true t.keys)
 min_file Rewrite t = option_map (λ n. start_of n t.noted) (least_rewritten t)
 
--- this is the least file of Rewrite that has something, where this shows and files don't fall along the
--- entries: that of the first entry, or the least of a value
+-- this is the least file of Rewrite that has something, if files don't fall along the entries: that of the first entry,
+-- or the least of a value
 abbrev pub IsLeastRewritten : Shown → Option ℕ → Type 0
 IsLeastRewritten v least =
     (value : Option ℕ) × IsLeastValue false v.held value × (least ≡ lesser (first_file Rewrite v) value)
 
--- this is the least file of a queue in use, where this shows: of Rewrite, where noted groups may reach to it,
--- the first of theirs
+-- this is the least file of a queue in use; for Rewrite the first file of the noted groups, if they may reach to it
 abbrev pub IsMinFile : LogQueue → Shown → Option ℕ → Type 0
 IsMinFile Append v file =
     (value : Option ℕ) × IsLeastValue true v.held value × (file ≡ lesser (first_file Append v) value)
 IsMinFile Rewrite v file =
     (least : Option ℕ) × IsLeastRewritten v least × (file ≡ option_map (λ n. start_of n v.noted) least)
 
--- what is noted once a new group ended, where this is the least file of Rewrite that has something
+-- the note once a new group has ended, if `least` is the least file of Rewrite that has something
 abbrev pub noted_after : Option ℕ → Option GroupFiles → GroupFiles → GroupFiles
 noted_after None old new = new
 noted_after (Some least) old new = noting least old new
 
--- what shows once an atomic group in these files ended and is noted
+-- what is shown once an atomic group in these files has ended and is noted
 abbrev pub with_group : Raw → GroupFiles → Shown
 with_group t files = record (shown t) { noted = Some (noted_after (least_rewritten t) t.noted files) }
 
--- an atomic group in these files ended and is noted, by the least file of Rewrite that has something
+-- an atomic group in these files has ended and is noted, by the least file of Rewrite that has something
 abbrev pub NotesGroup : GroupFiles → Shown → Shown → Type 0
 NotesGroup files v u =
     (least : Option ℕ) × IsLeastRewritten v least
     × (u ≡ record v { noted = Some (noted_after least v.noted files) })
 
--- what was read of a group, once an atomic group in these files was read too: they are noted beside those
--- that were noted before
+-- what was read of a group, once an atomic group in these files was read too: they are noted with those that were noted
+-- before
 abbrev pub with_read_group : Replayed → GroupFiles → Replayed
 with_read_group z files =
     record z { table = record z.table { noted = both_noted z.table.noted (Some files) } }
 
--- no entry of a queue lies in an earlier file than the first one there: so it is where files don't fall
--- along the entries
+-- no entry of a queue is in an earlier file than the first one there, as it is if files don't fall along the entries
 abbrev pub FrontIsLeast : Shown → Type 0
 FrontIsLeast v =
     ((i : ℕ) → v.first ≤ i → i < v.first + v.rewritten
@@ -73,13 +71,13 @@ FrontIsLeast v =
     × ((i : ℕ) → v.first + v.rewritten ≤ i → i < v.first + length v.places
     → place_file (slice_get v.places v.rewritten) ≤ file_at v (Index i))
 
--- no appended entry and no appended value lies in a file below
+-- no appended entry and no appended value is in a file below this one
 abbrev pub IsLeastInAppend : Shown → ℕ → Type 0
 IsLeastInAppend v least =
     ((i : ℕ) → v.first + v.rewritten ≤ i → i < v.first + length v.places → least ≤ file_at v (Index i))
     × ((k : List ℕ) (h : KeyValue) → v.held k ≡ Some h → h.appended ≡ true → least ≤ h.file)
 
--- noted groups begin past that file, or end at or before it
+-- the noted groups begin past that file, or end at or before it
 abbrev pub ArePast : ℕ → Option GroupFiles → Type 0
 ArePast n None = Unit {0}
 ArePast n (Some files) = (n < files.from) ⊎ (files.to ≤ n)

@@ -1,4 +1,4 @@
--- Copies into Rewrite and the marks that are owed to it, as a table's calls say them.
+-- Copies into Rewrite and the tombstones that are owed to it, as a table's calls have them.
 use Rattle.std.specs.Prelude.{ℕ, ◌+◌, ◌-◌, ◌≤◌, max, min, Bool, false, not, ◌||◌, List, [], ◌∷◌, ◌++◌, length, take, drop, Option, Some, None, if◌then◌else◌, nat_le, nat_lt}
 use Rattle.raft_log_model_laws.specs.Item.{Item}
 use Rattle.raft_log_model_laws.specs.Item.Item.{Run}
@@ -8,8 +8,8 @@ use Rattle.raft_log_table_runs.specs.Counts.{passing}
 use Rattle.raft_log_table_lists.specs.Shown.{KeyValue, Shown, with_held}
 use Rattle.raft_log_table_lists.specs.Bridge.{moved_run}
 
--- the run's entries are there, from a rewritten one or the first appended one on, to the last rewritten one
--- or past it
+-- the run's entries are there: they begin at a rewritten one or the first appended one, and reach to the last rewritten
+-- one or past it
 abbrev pub RunStandsIn : Shown → Item Place (List ℕ) → Type 0
 RunStandsIn v (Run f []) = Unit {0}
 RunStandsIn v (Run f (p ∷ ps)) =
@@ -17,7 +17,7 @@ RunStandsIn v (Run f (p ∷ ps)) =
     × (f + length (p ∷ ps) ≤ v.first + length v.places)
 RunStandsIn v x = Unit {0}
 
--- what shows once the run's entries lie where it says
+-- what is shown once the run's entries are at its places
 abbrev pub moved_by : Shown → Item Place (List ℕ) → Shown
 moved_by v (Run f []) = v
 moved_by v (Run f (p ∷ ps)) = moved_run v f (p ∷ ps)
@@ -32,21 +32,21 @@ abbrev pub gated : Option ℕ → List Place → ℕ
 gated None ps = 0
 gated (Some gate) ps = passing gate ps
 
--- how many of count entries from a position on may move: the rewritten ones, and of those behind as many as
--- the gate lets
+-- how many of count entries from a position on may move: the rewritten ones, and of those after them as many as the
+-- gate lets
 abbrev pub movable : Shown → Option ℕ → ℕ → ℕ → ℕ
 movable v gate d count =
     min count (v.rewritten - d) + gated gate (take (count - (v.rewritten - d)) (drop v.rewritten v.places))
 
--- with so many places from a position on in the place of those there
+-- with these places from a position on, instead of those there
 abbrev pub rewritten_at : Shown → ℕ → List Place → Shown
 rewritten_at v d ps = record v {
   places = take d v.places ++ (ps ++ drop (d + length ps) v.places);
   rewritten = max v.rewritten (d + length ps);
 }
 
--- what shows once entries were written to Rewrite again: those that are still there and may move lie where
--- they were written; none do where they begin past the rewritten ones
+-- what is shown once copies of entries were written to Rewrite: those that are still there and may move are at the new
+-- places; none move if they begin past the rewritten ones
 abbrev pub rewritten_by : Option ℕ → Shown → Item Place (List ℕ) → Shown
 rewritten_by gate v (Run f ps) =
     if nat_lt v.rewritten (f - v.first) then v
@@ -59,12 +59,12 @@ abbrev pub may_move : Option ℕ → KeyValue → Bool
 may_move None h = not h.appended
 may_move (Some gate) h = not h.appended || nat_le h.file gate
 
--- the value in that file of Rewrite, if it may move
+-- the value in this file of Rewrite, if it may move
 abbrev pub rewritten_to : Option ℕ → ℕ → Option KeyValue → Option KeyValue
 rewritten_to gate n None = None
 rewritten_to gate n (Some h) =
     if may_move gate h then Some (record { bytes = h.bytes; appended = false; file = n }) else Some h
 
--- what shows once a key was written to Rewrite
+-- what is shown once a copy of a key was written to Rewrite
 abbrev pub key_rewritten : Option ℕ → Shown → List ℕ → ℕ → Shown
 key_rewritten gate v k n = record v { held = with_held v.held k (rewritten_to gate n (v.held k)) }

@@ -1,4 +1,4 @@
--- What is read of a table.
+-- Reads of a table.
 use Rattle.std.specs.Prelude.{◌≡◌, ℕ, zero, suc, ◌+◌, ◌-◌, ◌^◌, min, ◌<◌, ◌≤◌, ◌⊎◌, Bool, true, false, List, [], ◌∷◌, ◌++◌, length, take, drop, Option, Some, None, option_map, if◌then◌else◌, nat_lt, nat_le, slice_get}
 use Rattle.std.specs.Ordering.{is_le}
 use Rattle.raft_log_record_base.specs.declared.errors.Error.{Error}
@@ -39,13 +39,13 @@ entries_from v n (p ∷ ps) =
 abbrev pub places_between : Shown → ℕ → ℕ → List Place
 places_between v begin end = take (end - begin) (drop (begin - v.first) v.places)
 
--- the entries from begin on, below end, as many as the greatest size lets come
+-- the entries from begin on, below end, up to the greatest size
 abbrev pub fetched : Shown → ℕ → ℕ → Option ℕ → List EntryIndex
 fetched v begin end max =
     entries_from v (begin - v.first)
     (take (sized max (places_between v begin end)) (places_between v begin end))
 
--- the entries in Append from the first on, up to the first that lies in a file past the gate
+-- the entries in Append from the first on, up to the first in a file past the gate
 abbrev pub appended_entries : Shown → ℕ → List EntryIndex
 appended_entries v gate =
     entries_from v v.rewritten (take (passing gate (drop v.rewritten v.places)) (drop v.rewritten v.places))
@@ -54,17 +54,17 @@ appended_entries v gate =
 abbrev pub rewritten_entries : Shown → List EntryIndex
 rewritten_entries v = entries_from v 0 (take v.rewritten v.places)
 
--- the place lies in a file of this queue up to the gate
+-- the place is in a file of this queue up to the gate
 abbrev pub is_up_to : FileId → LogQueue → Option Place → Bool
 is_up_to gate queue None = false
 is_up_to gate queue (Some p) = is_le (file_cmp (record { queue = queue; seq = p.file }) gate)
 
--- there are so many entries, and the last of these many lies in a file up to the gate
+-- there are this many entries, and the last of these is in a file up to the gate
 abbrev pub has_before : Shown → FileId → ℕ → Bool
 has_before v gate zero = true
 has_before v gate (suc n) = is_up_to gate (queue_of (nat_lt n v.rewritten)) (slice_get v.places n)
 
--- these entries come behind the old ones, and this is how many
+-- these entries are appended to the old ones, and this is how many
 abbrev pub Fetches : Shown → ℕ → ℕ → Option ℕ → List EntryIndex → List EntryIndex → ℕ → Type 0
 Fetches v begin end max old new count =
     (new ≡ old ++ fetched v begin end max) × (count ≡ sized max (places_between v begin end))
@@ -73,8 +73,8 @@ Fetches v begin end max old new count =
 abbrev pub AreIn : Shown → ℕ → ℕ → Type 0
 AreIn v begin end = begin < end → (v.first ≤ begin) × (end ≤ v.first + length v.places)
 
--- why entries aren't fetched: none are there, the first is compacted away, the last isn't there, or memory
--- ran out; never where none are asked for
+-- why a fetch fails: there are no entries, the first is compacted away, the last isn't there, or memory ran out; it
+-- never fails if the range is empty
 abbrev pub FetchRefused : Shown → ℕ → ℕ → Error → Type 0
 FetchRefused v begin end error =
     (begin < end)
@@ -83,7 +83,7 @@ FetchRefused v begin end error =
     ⊎ (((error ≡ errors.EntryNotFound) × (v.first ≤ begin) × (v.first + length v.places < end))
     ⊎ ((error ≡ errors.Memory) × (v.first ≤ begin) × (end ≤ v.first + length v.places)))))
 
--- so many entries and values stand in Rewrite, or the greatest number of 64 bits where these are more
+-- the number of entries and values in Rewrite, at most 2 ^ 64 - 1
 abbrev pub StandIn : Shown → ℕ → Type 0
 StandIn v n = (pairs : List (List ℕ × List ℕ)) × ListsAll (rewritten_values v) pairs
     × (n ≡ min (v.rewritten + length pairs) (2 ^ 64 - 1))

@@ -1,4 +1,4 @@
--- Runs and segments that come over what a table has.
+-- Runs and segments that are put over what a table has.
 use Rattle.std.specs.Prelude.{◌≡◌, ℕ, ◌-◌, ◌≤◌, ◌⊎◌, min, Bool, true, false, not, ◌&&◌, [], length, take, if◌then◌else◌, nat_lt}
 use Rattle.raft_log_record_base.specs.declared.errors.Error.{Error}
 use Rattle.raft_log_record_base.specs.declared.errors.Error.TheVariants as errors
@@ -15,7 +15,7 @@ abbrev pub in_append : LogQueue → Bool
 in_append Append = true
 in_append Rewrite = false
 
--- what stays under a run that begins at an index: the entries below it, and where it leaves a hole none
+-- what stays if a run begins at this index: the entries below it, or none if it leaves a hole
 abbrev pub under : Shown → ℕ → Shown
 under v f =
     if is_past (span v) f then record v { first = f; places = []; rewritten = 0 }
@@ -25,17 +25,17 @@ under v f =
       rewritten = min v.rewritten (f - v.first);
     }
 
--- where the entries begin behind nothing: without entries at 0, but behind a Clean as they do
+-- the first index of the entries if nothing is before them: 0 without entries, but unchanged after a Clean
 abbrev pub begin_alone : Shown → ℕ
 begin_alone v = if v.cleaned then v.first else (if nat_lt 0 (length v.places) then v.first else 0)
 
--- whether a later segment's run, which stands in Append, starts past the end of what it leaves
+-- whether a later segment's run, which is in Append, starts past the end of what it leaves
 abbrev pub leaves_hole : Shown → Replayed → Bool
 leaves_hole v z =
     nat_lt 0 (length z.table.places)
     && (not (nat_lt 0 z.table.rewritten) && is_past (span (left v z.low z.high)) z.table.first)
 
--- why a later segment isn't taken: it leaves a hole, and only then as one; or memory ran out
+-- why a later segment isn't joined: `Hole` if and only if it leaves a hole, else `Memory`
 abbrev pub MergeRefused : Shown → Replayed → Error → Type 0
 MergeRefused v z error =
     ((error ≡ errors.Hole) × LeavesHole v z) ⊎ ((error ≡ errors.Memory) × (LeavesHole v z → ⊥))

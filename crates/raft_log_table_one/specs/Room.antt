@@ -1,4 +1,4 @@
--- What a table promised to a batch before it is written, and when it is ready for the batch.
+-- What a table promised to a batch before the write, and when it is ready for the batch.
 use Rattle.std.specs.Prelude.{◌≡◌, ℕ, ◌+◌, ◌-◌, ◌≤◌, Bool, true, false, List, [], ◌∷◌, length, is_some}
 use Rattle.raft_log_model_laws.specs.Item.{Item}
 use Rattle.raft_log_model_laws.specs.Item.Item.{Run, Clean, Compact, Put, Del}
@@ -6,8 +6,8 @@ use Rattle.raft_log_model_laws.specs.Holes.{Window}
 use Rattle.raft_log_machine_laws.specs.Whereabouts.{with_key}
 use Rattle.raft_log_table_lists.specs.Shown.{Shown, nothing_shown, span, next_span, MayFollow, MayAllFollow}
 
--- room for so many places, and for so many entries to move into Rewrite; the ends that the entries have once
--- all that was prepared is done, and the keys that have room
+-- room for more places, and for entries to move into Rewrite; the ends of the entries once all that was prepared is
+-- done; and the keys that have room
 pub record Promise : Type 0 where
   pub wanted : ℕ
   pub moves : ℕ
@@ -18,15 +18,15 @@ pub record Promise : Type 0 where
 abbrev pub with_room_for : Promise → List ℕ → Promise
 with_room_for q k = record q { has = with_key q.has k true }
 
--- so many entries more may move
+-- n more entries may move
 abbrev pub with_moves : Promise → ℕ → Promise
 with_moves q n = record q { moves = q.moves + n }
 
--- so many entries fewer may
+-- n fewer entries may move
 abbrev pub without_moves : Promise → ℕ → Promise
 without_moves q n = record q { moves = q.moves - n }
 
--- a key has room where it has a value, and else none
+-- a key has room if it has a value, and else none
 abbrev pub with_room_of : Promise → Shown → Promise
 with_room_of q v = record q { has = λ k. is_some (v.held k) }
 
@@ -42,12 +42,12 @@ IsForgotten q = (q.wanted ≡ 0) × (q.moves ≡ 0)
 abbrev pub no_promise : Promise
 no_promise = record { wanted = 0; moves = 0; ends = record { first = 0; end = 0 }; has = λ k. false }
 
--- a table like a new one: nothing shows, no mark is owed, no files are noted, and nothing is promised
+-- a table like a new one: no entries, values or tombstones, no noted files, and nothing promised
 abbrev pub IsVacant : Shown → Promise → Type 0
 IsVacant v q = (v ≡ nothing_shown) × (q ≡ no_promise)
 
 module _ {E V : Type 0} where
-  -- how many places the item asks for
+  -- how many places the item needs
   abbrev pub count_of : Item E V → ℕ
   count_of (Run f es) = length es
   count_of _ = 0
@@ -61,7 +61,7 @@ module _ {E V : Type 0} where
   promised q (Put k v) = record q { has = with_key q.has k true }
   promised q (Del k) = record q { has = with_key q.has k true }
 
-  -- what is promised once the item was done
+  -- what is promised once the item was applied
   abbrev pub kept : Promise → Item E V → Promise
   kept q (Run f es) = record q { wanted = q.wanted - length es }
   kept q _ = q
@@ -72,11 +72,11 @@ module _ {E V : Type 0} where
   HasRoom has (Del k) = has k ≡ true
   HasRoom has _ = Unit {0}
 
-  -- nothing that the item does can be refused
+  -- applying the item can't fail
   abbrev pub CanTake : Shown → Promise → Item E V → Type 0
   CanTake v q x = (count_of x ≤ q.wanted) × HasRoom q.has x × MayFollow (span v) x
 
-  -- how many places the items ask for
+  -- how many places the items need
   abbrev pub needs : List (Item E V) → ℕ
   needs [] = 0
   needs (x ∷ xs) = count_of x + needs xs
@@ -91,8 +91,8 @@ module _ {E V : Type 0} where
   span_after w [] = w
   span_after w (x ∷ xs) = span_after (next_span w x) xs
 
-  -- the table is ready for the items, one after another: there is room for their places and keys, none
-  -- leaves a hole or ends too high, and the ends that were promised are those after them
+  -- the table is ready for the items, one after another: there is room for their places and keys, none leaves a hole or
+  -- ends too high, and the promised ends are those after them
   pub record IsReady (v : Shown) (q : Promise) (xs : List (Item E V)) : Type 0 where
     pub room : needs xs ≤ q.wanted
     pub keys : AllHave q.has xs

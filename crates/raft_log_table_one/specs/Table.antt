@@ -1,4 +1,4 @@
--- A table as it is kept: what shows of it, and what is promised.
+-- The fields of a table, what it shows in contracts, and what it promises.
 use Rattle.std.specs.Prelude.{◌≡◌, ℕ, ◌⊎◌, Bool, false, List, length, Option, None}
 use Rattle.raft_log_record_base.specs.declared.errors.Error.{Error}
 use Rattle.raft_log_record_base.specs.declared.errors.Error.TheVariants as errors
@@ -30,7 +30,7 @@ pub record Raw : Type 0 where
 abbrev pub window_of : Ends → Window
 window_of e = record { first = e.first; end = e.end }
 
--- what shows of a table: no room
+-- what a table shows: all but its room
 abbrev pub shown : Raw → Shown
 shown t = record {
   first = t.first;
@@ -43,15 +43,15 @@ shown t = record {
   noted = t.noted;
 }
 
--- in how many runs a table keeps the places of its entries
+-- the number of runs that keep the places of a table's entries
 abbrev pub runs_of : Raw → ℕ
 runs_of t = t.places.runs
 
--- what a table is of the segments that were read into it
+-- what was read from segments into a table
 abbrev pub replay_of : Raw → Replayed
 replay_of t = record { table = shown t; low = t.low; high = t.high }
 
--- what was read leaves the same of what stood before
+-- what was read leaves the same of the entries before it
 abbrev pub IsBoundAs : Raw → Raw → Type 0
 IsBoundAs t u = (u.low ≡ t.low) × (u.high ≡ t.high)
 
@@ -64,13 +64,12 @@ promise t = record {
   has = (keys_of t.keys).has;
 }
 
--- why a run is refused where the entries have these ends: it leaves a hole, and only then as one; or memory
--- ran out
+-- why a run isn't applied to entries with these ends: `Hole` if and only if it leaves a hole, else `Memory`
 abbrev pub RunRefused : {E V : Type 0} → Window → Item E V → Error → Type 0
 RunRefused w x error =
     ((error ≡ errors.Hole) × (MayFollow w x → ⊥)) ⊎ ((error ≡ errors.Memory) × MayFollow w x)
 
--- nothing stands in a table, and no key has room
+-- a table has no entries, no values, and no keys with room
 abbrev pub StandsEmpty : Raw → Type 0
 StandsEmpty t =
     (t.first ≡ 0) × (t.rewritten ≡ 0) × (length t.places.items ≡ 0) × (keys_of t.keys ≡ no_keys)
@@ -79,7 +78,7 @@ StandsEmpty t =
 abbrev pub OwesNothing : Raw → Type 0
 OwesNothing t = (t.cleaned ≡ false) × (t.compacted ≡ false) × (t.noted ≡ None)
 
--- a table promised no places and no moves, and the ends that are promised are those of nothing
+-- a table promises no places and no moves, and the promised ends are those of an empty table
 abbrev pub PromisesNothing : Raw → Type 0
 PromisesNothing t =
     (t.ahead.first ≡ 0) × (t.ahead.end ≡ 0) × (t.places.wanted ≡ 0) × (t.places.moves ≡ 0)

@@ -19,7 +19,7 @@ pub struct Ends {
 }
 
 impl Ends {
-    /// The ends after a run of entries, or none where it would leave a hole.
+    /// The ends after a run of entries, or `None` if it would leave a hole.
     #[tactic(auto, unfolding(raft_log_machine_laws::specs::Whereabouts::top))]
     pub fn after_run(self, entries: &[EntryIndex]) -> Option<Ends>
         requires { IsRun entries.now }

@@ -1,4 +1,4 @@
-//! How many entries there are in all groups.
+//! Counts of the entries in all groups.
 ghost use Rattle.std.specs.Prelude.{◌≡◌, ◌+◌, ◌-◌, ◌^◌, min};
 ghost use Rattle.raft_log_table_one.specs.Stats.{added, deleted, live, no_entries};
 
@@ -7,11 +7,11 @@ use raft_log_record_base::LogQueue;
 /// Counts of the entries of all groups. No count wraps: it stops at 2^64 - 1 and at 0.
 #[derive(Clone, Copy, Debug, PartialEq, Eq)]
 pub struct GlobalStats {
-    /// Entries that stand in Append.
+    /// Live entries in Append.
     pub live_append_entries: u64,
     /// Entries that were written to Rewrite, since the counters were reset.
     pub rewrite_entries: u64,
-    /// Entries that were written to Rewrite since then, and stand no more.
+    /// Entries that were written to Rewrite since then, and aren't live any more.
     pub deleted_rewrite_entries: u64,
 }
 
@@ -27,7 +27,7 @@ impl GlobalStats {
         }
     }
 
-    /// So many entries came to a queue.
+    /// Adds `count` entries that were written to a queue.
     pub fn add(&mut self, queue: LogQueue, count: u64)
         ensures { self.new ≡ added queue count self.old }
     {
@@ -39,7 +39,7 @@ impl GlobalStats {
         }
     }
 
-    /// So many entries of a queue stand no more.
+    /// Takes note that `count` entries of a queue aren't live any more.
     pub fn delete(&mut self, queue: LogQueue, count: u64)
         ensures { self.new ≡ deleted queue count self.old }
     {
@@ -53,7 +53,7 @@ impl GlobalStats {
         }
     }
 
-    /// How many entries of a queue stand.
+    /// The number of live entries in a queue.
     pub fn live_entries(&self, queue: LogQueue) -> u64
         ensures { result ≡ live queue self.now }
     {
@@ -65,21 +65,21 @@ impl GlobalStats {
         }
     }
 
-    /// How many entries were written to Rewrite.
+    /// The number of entries that were written to Rewrite.
     pub fn rewrite_entries(&self) -> u64
         ensures { result ≡ self.now.rewrite_entries }
     {
         self.rewrite_entries
     }
 
-    /// How many of these stand no more.
+    /// The number of these that aren't live any more.
     pub fn deleted_rewrite_entries(&self) -> u64
         ensures { result ≡ self.now.deleted_rewrite_entries }
     {
         self.deleted_rewrite_entries
     }
 
-    /// Rewrite was written again: what stands no more is counted no more.
+    /// Rewrite was compacted: entries that aren't live are no longer counted.
     pub fn reset_rewrite_counters(&mut self)
         ensures { self.new ≡ record self.old {
           rewrite_entries = self.old.rewrite_entries - self.old.deleted_rewrite_entries;

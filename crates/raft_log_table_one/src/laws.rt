@@ -1,4 +1,4 @@
-//! A table that was prepared for a batch takes it, item after item, and nothing of that can be refused.
+//! A table that was prepared for a batch applies it, item after item, and none of these calls can fail.
 
 ghost use Rattle.std.specs.Prelude.{◌≡◌, ◌+◌, ◌<◌, ◌≤◌, ◌∷◌, ◌++◌, [], false, ℕ, List, map, None, Option, Some};
 ghost use Rattle.raft_log_record_base.specs.declared.pipe_log.LogQueue.TheVariants.{Append, Rewrite};
@@ -12,10 +12,10 @@ ghost use Rattle.raft_log_table_one.specs.Files.{least_rewritten, min_file, note
 ghost use Rattle.raft_log_table_one.specs.Room.{kept, promised, CanTake, IsReady, Promise};
 ghost use Rattle.raft_log_table_one.specs.Table.{shown, Raw};
 
-/// A table is ready for no items where the ends that it promised are those of its entries. Ready for some,
-/// and prepared for one more that may follow where the ends are the promised ones, it is ready for them
-/// all. What stands for an entry doesn't matter: so a table prepared for entries that aren't written is
-/// ready for them once they are, whichever file that was.
+/// A table is ready for no items if the ends that it promised are those of its entries. If it is ready for some items,
+/// and prepared for one more that may follow the promised ends, it is ready for all of them. What an entry means
+/// doesn't matter: a table that was prepared for entries before the write is ready for them after it, whichever file
+/// they are in.
 pub fn prepared_is_ready<E, F, V>()
     ensures none { (v : Shown) (q : Promise) → q.ends ≡ span v → IsReady {E = E} {V = V} v q [] }
     ensures more { (v : Shown) (q : Promise) (xs : List (Item E V)) (x : Item E V) → IsReady v q xs
@@ -32,9 +32,8 @@ pub fn ready_takes_all()
         (xs : List (Item Place (List ℕ))) → IsReady v q (x ∷ xs) → IsReady (stepped n v x) (kept q x) xs }
 {}
 
-/// What a table answers for the least file of a queue in use is at or below the file of everything that
-/// stands there; of Rewrite it is the start of the least such file, with the groups that are noted. Where
-/// it answers none, nothing stands there.
+/// If `min_file` returns a file for a queue, it is at or below the file of everything that is stored there. For Rewrite
+/// it is the start of the least such file, with the noted groups. If it returns none, nothing is stored there.
 pub fn least_file_in_use()
     ensures append { (t : Raw) (n : ℕ) → FrontIsLeast (shown t) → min_file Append t ≡ Some n
         → IsLeastInAppend (shown t) n }
@@ -44,17 +43,17 @@ pub fn least_file_in_use()
     ensures nothing { (t : Raw) → IsOrderly (shown t) → min_file Rewrite t ≡ None
         → ((shown t).rewritten ≡ 0)
         × ((k : List ℕ) (h : KeyValue) → (shown t).held k ≡ Some h → h.appended ≡ false → ⊥) }
-    // the first file of each queue is the least one where files don't fall along the entries
+    // the first entry's file of each queue is the least one, if files don't fall along the entries
     ensures front { (a r : ℕ) (v : Shown) → FilesRise a r v → FrontIsLeast v }
-    // what is noted of an atomic group that ended is by that least file
+    // the note for an atomic group that ended uses that least file
     ensures noted { (t : Raw) (new : GroupFiles) → IsOrderly (shown t) → FrontIsLeast (shown t)
         → (least : ℕ) × IsLeastInRewrite (shown t) least
         × (noted_after (least_rewritten t) t.noted new ≡ noting least t.noted new) }
 {}
 
-/// Where all that stands in Rewrite lies in files past one, and the noted groups begin past it or end at or
-/// before it, the least file in use is past it too: so it is once all was written there again. A group that
-/// begins past it and ends then changes nothing of that.
+/// Suppose that all that is stored in Rewrite is in files past one, and the noted groups begin past it or end at or
+/// before it. Then the least file in use is past it too. That is so once all was restated there. A group that begins
+/// past it and then ends keeps this true.
 pub fn rewritten_begins_past()
     ensures begins { (v : Shown) (n file : ℕ) → IsLeastInRewrite v (n + 1) → ArePast n v.noted
         → IsMinFile Rewrite v (Some file) → n < file }

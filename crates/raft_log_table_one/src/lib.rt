@@ -1,7 +1,7 @@
-//! What an engine keeps in memory of each group: where its entries and keys stand.
+//! The memtable of one group: where its entries and keys are stored.
 //!
-//! Whatever a call may want memory for happens before a batch is written, in `prepare_..`; what is done
-//! after the write can't be refused.
+//! All calls that may need memory (`prepare_..`) are made before a batch is written. What is done after the write can't
+//! fail.
 #![tactic(auto)]
 
 pub mod ends;

@@ -1,4 +1,4 @@
-//! The table of one group: where its entries and keys stand.
+//! The memtable of one group: where its entries and keys are stored.
 ghost use Rattle.std.specs.Prelude.{◌≡◌, ◌↔◌, IsTrue, ◌^◌, ◌++◌, map, nat_lt, slice_get, take, drop, vec_len, vec_capacity, IfOk, ◌+◌, ◌-◌, ◌≤◌, ◌<◌, ℕ, List, length, min, option_copied, true, Some, OnOk, OnErr, IfErr};
 ghost use Rattle.raft_log_record_base.specs.declared.errors.Error.TheVariants as errors;
 ghost use Rattle.raft_log_record_items.specs.Run.{IsRun};
@@ -30,10 +30,10 @@ use raft_log_table_runs::{Bounds, Places, entry_of};
 use std::alloc::{AllocError, Global};
 use std::marker::Model;
 
-/// Where the entries and keys of one group stand, and which marks are owed to Rewrite.
+/// Where the entries and keys of one group are stored, and which tombstones are owed to Rewrite.
 ///
-/// What shows of it (`shown`) changes only in calls that can't be refused. Whatever these may want memory
-/// for is made before, in `prepare_..`, which shows nothing.
+/// Its state in contracts (`shown`) changes only in calls that can't fail. The memory for these is allocated before, in
+/// `prepare_..`, which doesn't change `shown`.
 #[derive(Drop)]
 pub struct MemTable {
     first: u64,
@@ -74,7 +74,7 @@ impl Model for MemTable {
 }
 
 impl MemTable {
-    /// A table of a group of which nothing is known.
+    /// A table without entries, values and tombstones.
     pub fn new(alloc: Global) -> MemTable
         ensures shows { shown result ≡ nothing_shown }
         ensures room { promise result ≡ no_promise }
@@ -106,22 +106,21 @@ impl MemTable {
         }
     }
 
-    /// How many entries there are.
+    /// The number of entries.
     pub fn entries_count(&self) -> usize
         ensures { result ≡ length (shown self.now).places }
     {
         self.places.len()
     }
 
-    /// In how many runs of entries that lie one behind another their places are kept, which is all that is
-    /// kept of them.
+    /// The number of runs that keep the places of the entries. Runs are all that is kept of the places.
     pub fn run_count(&self) -> usize
         ensures { result ≡ runs_of self.now }
     {
         self.places.run_count()
     }
 
-    /// How many of them stand in Rewrite: the first ones.
+    /// The number of entries in Rewrite. They are the first ones.
     pub fn rewritten_count(&self) -> usize
         ensures { result ≡ (shown self.now).rewritten }
     {
@@ -148,7 +147,7 @@ impl MemTable {
         Some(self.first + (self.places.len() as u64 - 1))
     }
 
-    /// The value of a key, if it has one, and where it stands.
+    /// The value of a key, if it has one, and where it is stored.
     pub fn get(&self, key: &[u8]) -> Option<&HeldValue>
         ensures { shown_value (option_copied result) ≡ (shown self.now).held key.now }
     {
@@ -172,11 +171,11 @@ impl MemTable {
         Some(entry_of(queue, index, place))
     }
 
-    /// Adds the entries from `begin` on, below `end`, and answers how many: the first always comes, and the
-    /// list ends before the sum of lengths passes `max_size`. Where none are asked for, none come.
+    /// Adds the entries from `begin` on, below `end`, and returns how many. The first is always added, and the list
+    /// ends before the sum of lengths passes `max_size`. If the range is empty, nothing is added.
     ///
-    /// `EntryNotFound` where the table has no entries or the last isn't there, `EntryCompacted` where
-    /// `begin` is below the first. A refusal adds nothing.
+    /// Fails with `EntryNotFound` if the table has no entries or the last one isn't there, with `EntryCompacted` if
+    /// `begin` is below the first one. If it fails, nothing is added.
     pub fn fetch_entries_to(
         &self,
         begin: u64,
@@ -199,8 +198,7 @@ impl MemTable {
         Ok(count)
     }
 
-    /// How many entries from `begin` on, below `end`, a fetch adds, and refuses what it refuses but for
-    /// `Memory`.
+    /// How many entries `fetch_entries_to` would add. It fails as that does, but never with `Memory`.
     pub fn count_to(&self, begin: u64, end: u64, max_size: Option<u64>) -> Result<usize>
         ensures ok { IfOk result (λ count. count ≡ sized max_size (places_between (shown self.now) begin end)) }
         ensures few { IfOk result (λ count. count ≤ end - begin) }
@@ -227,9 +225,9 @@ impl MemTable {
         )
     }
 
-    /// Of the entries from this index on, at most so many, those that lie one behind another in one block: that
-    /// block, and where each of them starts and ends there. Nothing is copied. They are looked for at the hint
-    /// first, and then the hint is where the next ones are.
+    /// Finds at most `limit` entries, from this index on, that follow one another in one block. Returns that block, and
+    /// where each of them starts and ends there. Nothing is copied. They are looked for at the hint first; then the
+    /// hint is where the next ones are.
     pub fn bounds(
         &self,
         index: u64,
@@ -260,7 +258,7 @@ impl MemTable {
         (block, bounds)
     }
 
-    /// Adds so many entries from this position on, for which there is room.
+    /// Adds `count` entries from this position on. The vector must have room for them.
     fn copy_entries(&self, position: usize, count: usize, entries: &mut Vec<EntryIndex>)
         requires within { position + count ≤ length (shown self.now).places }
         requires fits { position + count < 2 ^ 64 }
@@ -278,9 +276,10 @@ impl MemTable {
         places.copy_entries(LogQueue::Append, index, behind, count - before, entries);
     }
 
-    /// Makes room for the entries of a batch that is to be written, behind all that is prepared already.
+    /// Makes room for the entries of a batch that is to be written, after all that is prepared already.
     ///
-    /// `Hole` where they start past the index after the last; `Memory`. Refused or not, nothing shows.
+    /// Fails with `Hole` if they start past the index after the last, or with `Memory`. Whether it succeeds or fails,
+    /// `shown` stays.
     pub fn prepare_append(&mut self, entries: &[EntryIndex]) -> Result<()>
         requires { IsRun entries.now }
         ensures shows { shown self.new ≡ shown self.old }
@@ -299,7 +298,7 @@ impl MemTable {
         Ok(())
     }
 
-    /// Makes room for a key that is to be put or deleted. Refused or not, nothing shows.
+    /// Makes room for a key that is to be put or deleted. Whether it succeeds or fails, `shown` stays.
     pub fn prepare_key(&mut self, key: &[u8]) -> Result<(), AllocError>
         ensures shows { shown self.new ≡ shown self.old }
         ensures ok { OnOk result (promise self.new ≡ with_room_for (promise self.old) key.now) }
@@ -310,8 +309,8 @@ impl MemTable {
         self.keys.make_room(key)
     }
 
-    /// Makes room for these entries to move to Rewrite, beside all that is prepared already. Refused or not,
-    /// nothing shows.
+    /// Makes room to move these entries to Rewrite, in addition to all that is prepared already. Whether it succeeds or
+    /// fails, `shown` stays.
     pub fn prepare_rewrite(&mut self, entries: &[EntryIndex]) -> Result<(), AllocError>
         ensures shows { shown self.new ≡ shown self.old }
         ensures ok { OnOk result (promise self.new ≡ with_moves (promise self.old) (length entries.now)) }
@@ -321,7 +320,7 @@ impl MemTable {
         self.places.make_room_to_move(entries.len())
     }
 
-    /// A compaction is to come. Nothing shows.
+    /// Prepares a compaction. `shown` stays.
     pub fn prepare_compact(&mut self, index: u64)
         ensures shows { shown self.new ≡ shown self.old }
         ensures ok { promise self.new ≡ promised {E = Place} {V = List ℕ} (promise self.old) (Compact index) }
@@ -330,8 +329,7 @@ impl MemTable {
         self.ahead = self.ahead.after_compact(index);
     }
 
-    /// A Clean is to come. It frees nothing: what comes behind it in the batch has its room already.
-    /// Nothing shows.
+    /// Prepares a Clean. It frees no room: what follows it in the batch already has its room. `shown` stays.
     pub fn prepare_clean(&mut self)
         ensures shows { shown self.new ≡ shown self.old }
         ensures ok { promise self.new ≡ promised {E = Place} {V = List ℕ} (promise self.old) Clean }
@@ -340,7 +338,7 @@ impl MemTable {
         self.ahead = Ends { first: 0, end: 0 };
     }
 
-    /// Takes back what was promised to a batch that isn't written. Nothing shows.
+    /// Takes back what was promised to a batch that isn't written. `shown` stays.
     pub fn take_back(&mut self)
         ensures shows { shown self.new ≡ shown self.old }
         ensures room { promise self.new ≡ taken_back (promise self.old) (span (shown self.old)) }
@@ -351,7 +349,7 @@ impl MemTable {
         self.ahead = self.span();
     }
 
-    /// The entries stand in Append, in place of all from the first one's index on.
+    /// Appends these entries, which are in Append. They replace all entries from the first one's index on.
     pub fn append(&mut self, entries: &[EntryIndex])
         requires run { IsRun entries.now }
         requires room { CanTake (shown self.old) (promise self.old) (run_of entries.now) }
@@ -372,7 +370,7 @@ impl MemTable {
         self.places.push(entries);
     }
 
-    /// The key has this value, in this file of Append.
+    /// Sets the key's value, which is in this file of Append.
     pub fn put(&mut self, key: &[u8], bytes: Bytes, file: FileSeq)
         requires { (promise self.old).has key.now ≡ true }
         ensures shows { shown self.new ≡ with_put file (shown self.old) key.now bytes }
@@ -387,7 +385,7 @@ impl MemTable {
         self.keys.put(key, value);
     }
 
-    /// The key has no value, and is marked as deleted, whether it had one or not.
+    /// Deletes the key: it has no value then, and a tombstone, whether it had a value or not.
     pub fn delete(&mut self, key: &[u8])
         requires { (promise self.old).has key.now ≡ true }
         ensures shows { shown self.new ≡ with_del (shown self.old) key.now }
@@ -397,7 +395,7 @@ impl MemTable {
         self.keys.delete(key);
     }
 
-    /// Drops the entries below an index, and answers how many.
+    /// Drops the entries below an index, and returns how many.
     pub fn compact_to(&mut self, index: u64) -> usize
         ensures shows { shown self.new ≡ with_compact (shown self.old) index }
         ensures count { result ≡ min (index - (shown self.old).first) (length (shown self.old).places) }
@@ -413,7 +411,7 @@ impl MemTable {
         count
     }
 
-    /// Drops all entries and values. Keys keep their marks, and what is promised stays.
+    /// Drops all entries and values. Keys keep their tombstones, and what is promised stays.
     pub fn clean(&mut self)
         ensures shows { shown self.new ≡ with_clean (shown self.old) }
         ensures room { promise self.new ≡ promise self.old }
@@ -428,8 +426,7 @@ impl MemTable {
         self.noted = None;
     }
 
-    /// The value of a key, if it has one, stands in this file of Rewrite from now on: a copy was written
-    /// there.
+    /// Notes that the key's value, if it has one, is now in this file of Rewrite: a copy was written there.
     pub fn move_key(&mut self, key: &[u8], file: FileSeq)
         ensures shows { shown self.new ≡ moved_key (shown self.old) key.now file }
         ensures room { promise self.new ≡ promise self.old }
@@ -438,8 +435,8 @@ impl MemTable {
         self.keys.rewrite(key, file);
     }
 
-    /// A key was written to Rewrite: its value stands there from now on, if it has one that stood there
-    /// already, or, where there is a gate, in a file of Append up to it.
+    /// Notes that a copy of the key was written to Rewrite. Its value is there from now on, if it was in Rewrite
+    /// before, or, with a gate, in a file of Append up to it.
     pub fn rewrite_key(&mut self, key: &[u8], gate: Option<FileSeq>, file: FileSeq)
         ensures shows { shown self.new ≡ key_rewritten gate (shown self.old) key.now file }
         ensures ends { span (shown self.new) ≡ span (shown self.old) }
@@ -454,8 +451,7 @@ impl MemTable {
         }
     }
 
-    /// Entries from the first one's index on, and all below, stand in Rewrite: these where their copies
-    /// were written.
+    /// Moves the entries from the first one's index on, and all below, to Rewrite: these to the places of their copies.
     pub fn move_run(&mut self, entries: &[EntryIndex])
         requires run { IsRun entries.now }
         requires within { RunStandsIn (shown self.old) (run_of entries.now) }
@@ -473,8 +469,9 @@ impl MemTable {
         self.rewritten = position + entries.len();
     }
 
-    /// Entries, for which that was prepared, were written to Rewrite: those that are still there lie where
-    /// they were written, up to the first that is appended and, if there is a gate, in a file past it.
+    /// Notes that copies of these entries were written to Rewrite. The room for it was prepared. Entries that are still
+    /// there get the new places: the rewritten ones, and with a gate the appended ones after them, up to the first in a
+    /// file past the gate.
     pub fn rewrite(&mut self, entries: &[EntryIndex], gate: Option<FileSeq>)
         requires run { IsRun entries.now }
         requires room { length entries.now ≤ (promise self.old).moves }
@@ -508,8 +505,7 @@ impl MemTable {
         self.rewritten = self.rewritten.max(position + count);
     }
 
-    /// No mark is owed any more: all of them were written to Rewrite, and synced. Of keys without a value
-    /// nothing is kept, nor room that was made for them.
+    /// Removes all owed tombstones: they were written to Rewrite and synced. Keys without a value lose their room.
     pub fn clear_marks(&mut self)
         ensures shows { shown self.new ≡ unmarked (shown self.old) }
         ensures room { promise self.new ≡ with_room_of (promise self.old) (shown self.old) }
@@ -520,15 +516,14 @@ impl MemTable {
         self.keys.clear_marks();
     }
 
-    /// Whether the table is like a new one: nothing shows, no mark is owed, no files are noted, and nothing is
-    /// promised.
+    /// Whether the table is like a new one: no entries, values or tombstones, no noted files, and nothing promised.
     pub fn is_vacant(&self) -> bool
         ensures { IsTrue result ↔ IsVacant (shown self.now) (promise self.now) }
     {
         self.stands_empty() && self.owes_nothing() && self.promises_nothing()
     }
 
-    /// Whether nothing stands, and no key has room.
+    /// Whether there are no entries, no values, and no keys with room.
     fn stands_empty(&self) -> bool
         ensures { IsTrue result ↔ StandsEmpty self.now }
     {
@@ -543,7 +538,7 @@ impl MemTable {
         !self.cleaned && !self.compacted && self.noted.is_none()
     }
 
-    /// Whether no places are promised, and the ends that are promised are those of nothing.
+    /// Whether no places are promised, and the promised ends are those of an empty table.
     fn promises_nothing(&self) -> bool
         ensures { IsTrue result ↔ PromisesNothing self.now }
     {
@@ -557,8 +552,8 @@ impl MemTable {
         self.cleaned
     }
 
-    /// The index of the Compact that is owed to Rewrite, if one is: of the first entry where rewritten ones
-    /// stand, else past every index.
+    /// The index of the Compact that is owed to Rewrite, if one is: the first entry's if there are rewritten ones, else
+    /// past every index.
     #[tactic(auto, unfolding(raft_log_machine_laws::specs::Whereabouts::top))]
     pub fn owed_compact(&self) -> Option<u64>
         ensures { result ≡ owed_compact (shown self.now) }
@@ -574,7 +569,7 @@ impl MemTable {
     }
 }
 
-/// Whether a value may move to Rewrite: it stands there, or in a file up to the gate.
+/// Whether a value may move to Rewrite: it is there already, or in a file up to the gate.
 fn may_move(held: &HeldValue, gate: Option<FileSeq>) -> bool
     ensures { result ≡ may_move gate (value_of held.now) }
 {

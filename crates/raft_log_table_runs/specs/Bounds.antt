@@ -1,4 +1,4 @@
--- Where entries start and end that lie one behind another.
+-- Where consecutive entries of a block start and end.
 use Rattle.std.specs.Prelude.{ℕ, ◌+◌, ◌*◌, ◌<◌, ◌^◌, List, [], ◌∷◌, ◌++◌}
 use Rattle.raft_log_table_runs.specs.declared.bounds.Bounds.{Bounds}
 use Rattle.raft_log_table_runs.specs.declared.bounds.Bounds.TheVariants.{Even, Uneven}

@@ -10,15 +10,15 @@ use Rattle.raft_log_model_laws.specs.Item.Item.{Run}
 use Rattle.raft_log_table_runs.specs.declared.place.Place.{Place}
 use Rattle.raft_log_table_runs.specs.Blocks.{between}
 
--- the places that a table has, and in how many runs they are kept; how many more it has promised room for; and
--- for how many of those that it has others may come
+-- the places of a table, and the number of runs that keep them; for how many more places, and for how many
+-- replacements, room is promised
 pub record PlaceList : Type 0 where
   pub items : List Place
   pub runs : ℕ
   pub wanted : ℕ
   pub moves : ℕ
 
--- the place of an entry in this block; all zeros where it has none yet
+-- the place of an entry in this block; if it has no block yet, the file and the block's offset and length are 0
 abbrev pub place_in : Option FileBlockHandle → EntryIndex → Place
 place_in None e =
     record { file = 0; offset = 0; len = 0; entry_offset = e.entry_offset; entry_len = e.entry_len }
@@ -30,7 +30,7 @@ place_in (Some block) e = record {
   entry_len = e.entry_len;
 }
 
--- where a written entry lies
+-- the place of a written entry
 abbrev pub place_of : EntryIndex → Place
 place_of e = place_in e.entries e
 
@@ -38,7 +38,7 @@ place_of e = place_in e.entries e
 abbrev pub queue_of : Bool → LogQueue
 queue_of rewritten = if rewritten then Rewrite else Append
 
--- the entry of this index that lies there
+-- the entry of this index at this place
 abbrev pub entry_of : LogQueue → ℕ → Place → EntryIndex
 entry_of queue index p = record {
   index = index;
@@ -48,7 +48,7 @@ entry_of queue index p = record {
   entry_len = p.entry_len;
 }
 
--- the entries that lie at these places, the first of this index
+-- the entries at these places, the first with this index
 abbrev pub entries_of : LogQueue → ℕ → List Place → List EntryIndex
 entries_of queue index [] = []
 entries_of queue index (p ∷ ps) = entry_of queue index p ∷ entries_of queue (index + 1) ps
@@ -68,6 +68,6 @@ place_at block = record {
   entry_len = 0;
 }
 
--- the entries in a block from each of these bounds up to the next, the first of this index
+-- the entries in a block from each of these bounds up to the next, the first with this index
 abbrev pub entries_between : FileBlockHandle → ℕ → List ℕ → List EntryIndex
 entries_between block index bounds = entries_of block.id.queue index (between (place_at block) bounds)

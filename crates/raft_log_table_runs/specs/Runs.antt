@@ -1,4 +1,4 @@
--- Lists of runs, and the places that they stand for.
+-- Lists of runs, and the places that they mean.
 use Rattle.std.specs.Prelude.{◌≡◌, ℕ, ◌+◌, ◌*◌, ◌<◌, ◌≤◌, ◌^◌, Bool, true, false, List, [], ◌∷◌, ◌++◌, length, map, take, drop, slice_index_or}
 use Rattle.std.specs.Coded.{Unit-prop, le_prop, Coded-set, coded_ℕ}
 use Rattle.raft_log_record_items.specs.declared.entry.EntryIndex.{EntryIndex}
@@ -10,7 +10,7 @@ use Rattle.raft_log_table_runs.specs.Blocks.{even_places, uneven_places}
 abbrev pub block : Run → Place
 block r = record { file = r.file; offset = r.offset; len = r.len; entry_offset = 0; entry_len = 0 }
 
--- how many starts are kept for so many entries, by whether they have one length
+-- how many starts are kept for `count` entries, by whether they have one length
 abbrev pub width_of : Bool → ℕ → ℕ
 width_of true count = 0
 width_of false count = count
@@ -19,12 +19,12 @@ width_of false count = count
 abbrev pub width : Run → ℕ
 width r = width_of r.even r.count
 
--- the places of a run whose starts come first here, by whether its entries have one length
+-- the places of a run whose starts are the first of these, by whether its entries have one length
 abbrev pub laid : Bool → Run → List ℕ → List Place
 laid true r starts = even_places (block r) r.size r.start r.count
 laid false r starts = uneven_places (block r) r.size (take r.count starts)
 
--- the places of a run whose starts come first here
+-- the places of a run whose starts are the first of these
 abbrev pub places_of : Run → List ℕ → List Place
 places_of r starts = laid r.even r starts
 
@@ -33,7 +33,7 @@ abbrev pub expand : List Run → List ℕ → List Place
 expand [] starts = []
 expand (r ∷ rs) starts = places_of r starts ++ expand rs (drop (width r) starts)
 
--- how many entries runs have
+-- the number of entries in runs
 abbrev pub counts : List Run → ℕ
 counts [] = 0
 counts (r ∷ rs) = r.count + counts rs
@@ -43,11 +43,11 @@ abbrev pub widths : List Run → ℕ
 widths [] = 0
 widths (r ∷ rs) = width r + widths rs
 
--- so many first entries of a run, the last of this length
+-- the first `count` entries of a run, the last of this length
 abbrev pub head : Run → ℕ → ℕ → Run
 head r count size = record r { count = count; size = size }
 
--- the entries of a run but for so many first ones: this many, from this offset on
+-- the entries of a run without the first `gone` ones: `count` of them, from this offset on
 abbrev pub tail : Run → ℕ → ℕ → ℕ → Run
 tail r gone count start =
     record r { first = r.first + gone; count = count; at = r.at + width_of r.even gone; start = start }
@@ -64,14 +64,14 @@ IsNumbered first at (r ∷ rs) =
     (r.first ≡ first) × (r.at ≡ at) × (0 < r.count) × StartsFit r.even r
     × IsNumbered (first + r.count) (at + width r) rs
 
--- the runs under other numbers
+-- the runs with other numbers
 abbrev pub renumbered : ℕ → ℕ → List Run → List Run
 renumbered first at [] = []
 renumbered first at (r ∷ rs) =
     record r { first = first; at = at } ∷ renumbered (first + r.count) (at + width r) rs
 
--- runs and starts that go together: they are numbered from these numbers on, have so many entries, and no
--- number is past 64 bits
+-- runs and starts that match: they are numbered from these numbers on, have `len` entries, and no number needs more
+-- than 64 bits
 pub record IsSound (front base len : ℕ) (rs : List Run) (starts : List ℕ) : Type 0 where
   pub numbered : IsNumbered front base rs
   pub count : counts rs ≡ len
@@ -79,21 +79,21 @@ pub record IsSound (front base len : ℕ) (rs : List Run) (starts : List ℕ) : 
   pub fits : front + len < 2 ^ 64
   pub behind : base ≤ front
 
--- these runs and starts came to the end of others, numbered from these numbers on: they are so many entries, which
--- have these places
+-- these runs and starts were appended to others, numbered from these numbers on; they have `len` entries, at these
+-- places
 pub record AreAdded (first at len : ℕ) (ps : List Place) (old new : List Run) (were starts : List ℕ) (more : List Run) (kept : List ℕ) : Type 0 where
   pub runs : new ≡ old ++ more
   pub starts_are : starts ≡ were ++ kept
   pub sound : IsSound first at len more kept
   pub places : expand more kept ≡ ps
 
--- the run in which the entry of this number is, where there is one
+-- the run that has the entry of this number, if there is one
 pub record IsFound (number : ℕ) (rs : List Run) (k : ℕ) : Type 0 where
   pub within : k < length rs
   pub low : (d : Run) → (slice_index_or rs k d).first ≤ number
   pub high : (d : Run) → k + 1 < length rs → number < (slice_index_or rs (k + 1) d).first
 
--- where an entry starts in its block
+-- the offset of an entry in its block
 abbrev pub start_of_entry : EntryIndex → ℕ
 start_of_entry e = e.entry_offset
 

@@ -1,11 +1,11 @@
-//! Where entries start and end that lie one behind another in a block.
+//! Where consecutive entries of a block start and end.
 ghost use Rattle.std.specs.Prelude.{◌≡◌, ◌+◌, ◌<◌, length, slice_index};
 
-/// Where entries start and end that lie one behind another in a block: each ends where the next one starts. All
-/// is counted from the start of the block.
+/// Where consecutive entries of a block start and end: each ends where the next one starts. All offsets are counted
+/// from the start of the block.
 #[derive(Clone, Copy, Debug)]
 pub enum Bounds<'a> {
-    /// Where the first entry starts, how many bytes each has, and how many entries there are.
+    /// Where the first entry starts, the length of each in bytes, and the number of entries.
     Even { start: u64, size: u32, count: usize },
     /// Where each entry starts, and where the last one ends.
     Uneven { starts: &'a [u32], end: u64 },
@@ -14,7 +14,7 @@ pub enum Bounds<'a> {
 impl<'a> Bounds<'a> {
     ghost use Rattle.raft_log_table_runs.specs.Bounds.{bounds_of, AreShort};
 
-    /// How many entries there are.
+    /// The number of entries.
     pub fn len(&self) -> usize
         ensures { length (bounds_of self.now) ≡ result + 1 }
     {
@@ -24,7 +24,7 @@ impl<'a> Bounds<'a> {
         }
     }
 
-    /// Where the entry of this number starts and ends, which is there.
+    /// Where the entry of this number starts and ends. It must be there.
     #[inline]
     pub fn at(&self, number: usize) -> (u64, u64)
         requires there { number + 1 < length (bounds_of self.now) }

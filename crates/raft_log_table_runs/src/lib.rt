@@ -1,5 +1,5 @@
-//! The places of a group's entries, one after another, and room for more. They are kept as runs of entries that
-//! lie one behind another.
+//! The places of a group's entries, and room for more. They are kept as runs of entries that follow one another in a
+//! block.
 #![tactic(auto)]
 
 pub mod bounds;

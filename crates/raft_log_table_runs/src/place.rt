@@ -1,18 +1,18 @@
-//! Where an entry lies.
+//! Where an entry is stored.
 
-/// Where the bytes of an entry lie: the entry block that holds them, and where in it.
+/// Where the bytes of an entry are: its entry block, and the offset and length in it.
 ///
-/// The queue of the file isn't here: a table knows it by where the entry stands among the others.
+/// It doesn't have the queue of the file, which a table knows from the entry's position among the others.
 #[derive(Clone, Copy, Debug, PartialEq, Eq)]
 pub struct Place {
     /// The number of the file in its queue.
     pub file: u64,
-    /// The first byte of the entry block, counted from the file's start.
+    /// The offset of the entry block in the file.
     pub offset: u64,
-    /// How many bytes the block has.
+    /// The length of the block in bytes.
     pub len: usize,
-    /// The first byte of the entry, counted from the start of the block.
+    /// The offset of the entry in the block.
     pub entry_offset: u32,
-    /// How many bytes the entry has.
+    /// The length of the entry in bytes.
     pub entry_len: u32,
 }

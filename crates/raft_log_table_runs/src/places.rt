@@ -11,8 +11,7 @@ use raft_log_record_items::{CompressionType, EntryIndex};
 use std::alloc::{AllocError, Global};
 use std::marker::Model;
 
-/// Where a written entry lies. One that isn't written lies nowhere: its file, its block's offset and length
-/// are 0.
+/// The place of a written entry. For an entry that isn't written, the file and the block's offset and length are 0.
 pub fn place_of(entry: &EntryIndex) -> Place
     ensures { result ≡ place_of entry.now }
 {
@@ -29,7 +28,7 @@ pub fn place_of(entry: &EntryIndex) -> Place
     }
 }
 
-/// The entry of this index that lies there, in a file of this queue.
+/// The entry with this index at this place, in a file of this queue.
 pub fn entry_of(queue: LogQueue, index: u64, place: Place) -> EntryIndex
     ensures { result ≡ entry_of queue index place }
 {
@@ -47,8 +46,8 @@ pub fn entry_of(queue: LogQueue, index: u64, place: Place) -> EntryIndex
     }
 }
 
-/// The places of entries one after another, and room that is promised: for more of them, and for others in
-/// their stead. They are kept as runs of entries that lie one behind another.
+/// The places of consecutive entries, and promised room: for more entries, and for entries that replace others. They
+/// are kept as runs of entries that follow one another in a block.
 #[derive(Drop)]
 pub struct Places {
     runs: Runs,
@@ -86,14 +85,14 @@ impl Places {
         }
     }
 
-    /// How many places there are.
+    /// The number of places.
     pub fn len(&self) -> usize
         ensures { result ≡ length self.now.items }
     {
         self.runs.len()
     }
 
-    /// How many runs there are, which are all that is kept of the places.
+    /// The number of runs. Runs are all that is kept of the places.
     pub fn run_count(&self) -> usize
         ensures { result ≡ self.now.runs }
     {
@@ -107,8 +106,8 @@ impl Places {
         self.runs.get(position)
     }
 
-    /// The place at this position, which is there. It is looked for in the run of the hint first, and then
-    /// the hint is its run.
+    /// The place at this position, which must be there. It is looked for in the run at the hint first; then the hint is
+    /// its run.
     pub fn at(&self, position: usize, hint: &mut usize) -> Place
         requires { position < length self.now.items }
         ensures { slice_get self.now.items position ≡ Some result }
@@ -116,8 +115,8 @@ impl Places {
         self.runs.at(position, hint)
     }
 
-    /// Adds the entries of so many places from this position on, for which there is room. They lie in files of
-    /// this queue, and the first has this index.
+    /// Adds the entries of `count` places from this position on. The vector must have room for them. They are in files
+    /// of this queue, and the first has this index.
     pub fn copy_entries(
         &self,
         queue: LogQueue,
@@ -138,9 +137,9 @@ impl Places {
             .copy_entries(queue, index, position, count, entries);
     }
 
-    /// Of the entries from this position on, at most so many, those that lie one behind another in one run: the
-    /// block that they lie in, and where each of them starts and ends there. Nothing is copied. The run is looked
-    /// for at the hint first, and then the hint is the next run.
+    /// Finds at most `limit` entries, from this position on, that follow one another in one run. Returns their block,
+    /// and where each of them starts and ends there. Nothing is copied. The run is looked for at the hint first; then
+    /// the hint is the next run.
     pub fn bounds(&self, position: usize, limit: usize, hint: &mut usize) -> (Place, Bounds<'_>)
         requires within { position + limit ≤ length self.now.items }
         requires some { 0 < limit }
@@ -152,7 +151,7 @@ impl Places {
         self.runs.bounds(position, limit, hint)
     }
 
-    /// Makes room for so many more. Where memory is refused, nothing changes.
+    /// Makes room for `count` more places. If memory runs out, nothing changes.
     pub fn make_room(&mut self, count: usize) -> Result<(), AllocError>
         ensures ok { OnOk result (self.new ≡ record self.old { wanted = self.old.wanted + count }) }
         ensures err { OnErr result (self.new ≡ self.old) }
@@ -163,10 +162,9 @@ impl Places {
         self.reserve(wanted, self.moves)
     }
 
-    /// Makes room for others in the stead of so many more of those that are there. Where it is refused,
-    /// nothing changes.
+    /// Makes room to replace `count` more of the places. If it fails, nothing changes.
     ///
-    /// An entry that gets another place may cut a run in two, and so there is room for two runs for each.
+    /// An entry that gets another place may cut a run in two, so there is room for two runs for each.
     pub fn make_room_to_move(&mut self, count: usize) -> Result<(), AllocError>
         ensures ok { OnOk result (self.new ≡ record self.old { moves = self.old.moves + count }) }
         ensures err { OnErr result (self.new ≡ self.old) }
@@ -177,7 +175,7 @@ impl Places {
         self.reserve(self.wanted, moves)
     }
 
-    /// Promises room for so many more places, and for others in the stead of so many.
+    /// Promises room for `wanted` more places, and to replace `moves` places.
     fn reserve(&mut self, wanted: usize, moves: usize) -> Result<(), AllocError>
         ensures ok { OnOk result (self.new ≡ record self.old { wanted = wanted; moves = moves }) }
         ensures err { OnErr result (self.new ≡ self.old) }
@@ -194,14 +192,14 @@ impl Places {
         Ok(())
     }
 
-    /// Where there is much more memory than for what stands and is promised, it is given back.
+    /// Gives back memory if the places and the promised room need much less.
     fn give_back(&mut self)
         ensures { self.new ≡ self.old }
     {
         self.runs.give_back(self.wanted + (self.moves + self.moves));
     }
 
-    /// So many fewer may get others in their stead.
+    /// Takes back the room to replace `count` places.
     pub fn forget_moves(&mut self, count: usize)
         ensures { self.new ≡ record self.old { moves = self.old.moves - count } }
     {
@@ -209,7 +207,7 @@ impl Places {
         self.give_back();
     }
 
-    /// Takes back all room that was promised.
+    /// Takes back all promised room.
     pub fn forget_room(&mut self)
         ensures { self.new ≡ record self.old { wanted = 0; moves = 0 } }
     {
@@ -225,7 +223,7 @@ impl Places {
         self.wanted == 0 && self.moves == 0
     }
 
-    /// The places of these entries come to the end, in room that was promised for them.
+    /// Appends the places of these entries, in room that was promised for them.
     pub fn push(&mut self, entries: &[EntryIndex])
         requires { length entries.now ≤ self.old.wanted }
         ensures items { self.new.items ≡ self.old.items ++ map place_of entries.now }
@@ -238,7 +236,7 @@ impl Places {
         self.give_back();
     }
 
-    /// More places come to the end, in room that was promised for them.
+    /// Appends more places, in room that was promised for them.
     pub fn append(&mut self, more: Places)
         requires { length more.items ≤ self.old.wanted }
         ensures items { self.new.items ≡ self.old.items ++ more.items }
@@ -251,7 +249,7 @@ impl Places {
         self.runs.append(runs);
     }
 
-    /// Only so many first places stay.
+    /// Keeps only the first `count` places.
     pub fn truncate(&mut self, count: usize)
         ensures items { self.new.items ≡ take count self.old.items }
         ensures runs { self.new.runs ≤ self.old.runs }
@@ -261,7 +259,7 @@ impl Places {
         self.runs.truncate(count);
     }
 
-    /// So many first places go.
+    /// Drops the first `count` places.
     pub fn drop_front(&mut self, count: usize)
         requires { count ≤ length self.old.items }
         ensures items { self.new.items ≡ drop count self.old.items }
@@ -272,7 +270,7 @@ impl Places {
         self.runs.drop_front(count);
     }
 
-    /// From this position on, the places of these entries come in the stead of as many, as was promised.
+    /// Replaces as many places, from this position on, with those of these entries. The room for it was promised.
     pub fn replace(&mut self, position: usize, entries: &[EntryIndex])
         requires within { position + length entries.now ≤ length self.old.items }
         requires room { length entries.now ≤ self.old.moves }
@@ -288,8 +286,8 @@ impl Places {
         self.give_back();
     }
 
-    /// How many places from this position on, at most so many, lie in files up to the gate, up to the first
-    /// that doesn't.
+    /// The number of places in files up to the gate, from this position on: at most `limit`, and up to the first place
+    /// that isn't.
     pub fn count_up_to(&self, position: usize, limit: usize, gate: FileSeq) -> usize
         requires { position ≤ length self.now.items }
         ensures count { result ≡ passing gate (take limit (drop position self.now.items)) }
@@ -305,8 +303,8 @@ impl Places {
         limit
     }
 
-    /// How many of so many entries from this position on come: the first always, and more as long as the
-    /// sum of their lengths doesn't pass the greatest size.
+    /// How many of `count` entries from this position on a reader gets: always the first one, and more as long as the
+    /// sum of their lengths is at most `max_size`.
     pub fn sized(&self, position: usize, count: usize, max_size: Option<u64>) -> usize
         requires { position + count ≤ length self.now.items }
         ensures count { result ≡ sized max_size (take count (drop position self.now.items)) }

@@ -1,30 +1,30 @@
-//! Entries that lie one behind another.
+//! Runs: consecutive entries in a block.
 ghost use Rattle.std.specs.Prelude.{◌≡◌, ◌+◌, ◌-◌, ◌≤◌, ◌<◌, ◌^◌};
 ghost use Rattle.raft_log_table_runs.specs.Blocks.{in_block};
 
 use crate::Place;
 
-/// Entries of a group that lie one behind another in one entry block.
+/// Entries of a group that follow one another in one entry block.
 ///
-/// Entries and the starts that runs keep are counted on from the numbers of the first ones in the list of runs;
-/// so what goes at its front changes no number behind.
+/// Entries and the starts of runs are numbered from the first ones in the list of runs. What is dropped from its front
+/// changes no later number.
 #[derive(Clone, Copy, Debug)]
 pub struct Run {
     /// The number of its first entry.
     pub first: usize,
-    /// How many entries there are.
+    /// The number of entries.
     pub count: usize,
-    /// The number of its first start, where it keeps starts.
+    /// The number of its first start, if it keeps starts.
     pub at: usize,
     /// The number of the file in its queue.
     pub file: u64,
-    /// The first byte of the entry block, counted from the file's start.
+    /// The offset of the entry block in the file.
     pub offset: u64,
-    /// How many bytes the block has.
+    /// The length of the block in bytes.
     pub len: usize,
-    /// The first byte of the first entry, counted from the start of the block.
+    /// The offset of the first entry in the block.
     pub start: u32,
-    /// How many bytes each entry has; where they have different lengths, how many the last one has.
+    /// The length of each entry in bytes; if they have different lengths, that of the last one.
     pub size: u32,
     /// Whether all entries have one length. If not, the list of runs keeps where each of them starts.
     pub even: bool,
@@ -46,14 +46,14 @@ impl Run {
         }
     }
 
-    /// How many starts are kept for it.
+    /// The number of starts that are kept for it.
     pub(crate) fn width(&self) -> usize
         ensures { result ≡ width self.now }
     {
         if self.even { 0 } else { self.count }
     }
 
-    /// So many first entries, the last of which has this length.
+    /// The first `count` entries, the last of which has this length.
     pub(crate) fn head(&self, count: usize, size: u32) -> Run
         ensures { result ≡ head self.now count size }
     {
@@ -63,7 +63,7 @@ impl Run {
         run
     }
 
-    /// The entries but for so many first ones, the next of which starts at this offset.
+    /// The entries without the first `gone` ones. The next one starts at this offset.
     pub(crate) fn tail(&self, gone: usize, start: u32) -> Run
         requires within { gone ≤ self.now.count }
         requires numbers { (self.now.first + gone < 2 ^ 64) × (self.now.at + gone < 2 ^ 64) }
@@ -79,7 +79,7 @@ impl Run {
         run
     }
 
-    /// This run's entries under other numbers.
+    /// This run with other numbers.
     pub(crate) fn numbered(&self, first: usize, at: usize) -> Run
         ensures { result ≡ record self.now { first = first; at = at } }
     {

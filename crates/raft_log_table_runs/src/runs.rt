@@ -1,4 +1,4 @@
-//! The places of entries as runs of entries that lie one behind another.
+//! The places of entries, as runs of entries that follow one another in a block.
 ghost use Rattle.std.specs.Prelude.{◌≡◌, ℕ, ◌+◌, ◌*◌, ◌-◌, ◌≤◌, ◌<◌, ◌^◌, ◌++◌, [], ◌∷◌, true, length, map, take, drop, slice_get, slice_index_or, OnOk, OnErr};
 ghost use Rattle.std.specs.VecDeque.{deque_capacity, deque_len};
 ghost use Rattle.raft_log_table_runs.specs.Entries.{place_of};
@@ -18,16 +18,16 @@ use raft_log_record_items::EntryIndex;
 use std::alloc::{AllocError, Global};
 use std::collections::VecDeque;
 
-/// The numbers of the first entry and of the first start of a list that is new or empty: far from 0, since a
+/// The numbers of the first entry and of the first start of a list that is new or empty. They are far from 0, because a
 /// replacement may count starts back from there.
 const FIRST: usize = 0x8000_0000_0000_0000;
 
 const FIRST_START: usize = 0x4000_0000_0000_0000;
 
-/// The places of entries one after another, as runs of entries that lie one behind another.
+/// The places of consecutive entries, as runs of entries that follow one another in a block.
 ///
-/// A run whose entries have one length says that once. For one whose entries have different lengths the
-/// start of each entry is kept, one run's starts behind another's.
+/// A run whose entries have one length has that length once. For a run whose entries have different lengths, the start
+/// of each entry is kept, in the order of the runs.
 #[derive(Drop)]
 pub struct Runs {
     pub(crate) runs: VecDeque<Run>,
@@ -36,7 +36,7 @@ pub struct Runs {
     pub(crate) front: usize,
     /// The number of the first start.
     pub(crate) base: usize,
-    /// How many entries there are.
+    /// The number of entries.
     pub(crate) len: usize,
     ghost sound: { IsSound front base len runs.items starts.items } by { IsSound-prop front base len runs.items starts.items },
 }
@@ -59,22 +59,22 @@ impl Runs {
         }
     }
 
-    /// How many entries there are.
+    /// The number of entries.
     pub fn len(&self) -> usize
         ensures { result ≡ length (places self.now) }
     {
         self.len
     }
 
-    /// How many runs there are.
+    /// The number of runs.
     pub fn run_count(&self) -> usize
         ensures { result ≡ deque_len self.now.runs }
     {
         self.runs.len()
     }
 
-    /// The place of the entry at this position, which is there. Its run is looked for at the hint first, and
-    /// then the hint is that run.
+    /// The place of the entry at this position, which must be there. Its run is looked for at the hint first; then the
+    /// hint is that run.
     pub fn at(&self, position: usize, hint: &mut usize) -> Place
         requires { position < length (places self.now) }
         ensures { result ≡ slice_index_or (places self.now) position result }
@@ -84,7 +84,7 @@ impl Runs {
         place_in(&spot.run, &self.starts, spot.from, spot.within)
     }
 
-    /// Where the entry at this position is. Its run is looked for at the hint first.
+    /// Where the entry at this position is in the list. Its run is looked for at the hint first.
     fn spot(&self, position: usize, hint: usize) -> Spot
         requires { position < self.now.len }
         ensures { IsSpot self.now.runs.items self.now.starts.items position result }
@@ -111,7 +111,7 @@ impl Runs {
         }
     }
 
-    /// Makes room for so many entries more, wherever they lie. Where it is refused, nothing changes.
+    /// Makes room for `count` more entries, wherever they are stored. If it fails, nothing changes.
     pub fn reserve(&mut self, count: usize) -> Result<(), AllocError>
         ensures items { places self.new ≡ places self.old }
         ensures runs { deque_len self.new.runs ≡ deque_len self.old.runs }
@@ -126,7 +126,7 @@ impl Runs {
         make_room(&mut self.starts, count)
     }
 
-    /// Where there is much more room than for so many entries more, memory is given back.
+    /// Gives back memory if there is much more room than for `count` more entries.
     pub(crate) fn give_back(&mut self, count: usize)
         requires { HasRoom self.old count }
         ensures items { places self.new ≡ places self.old }
@@ -137,8 +137,8 @@ impl Runs {
         shrink(&mut self.starts, count);
     }
 
-    /// The places of these entries come to the end, where there is room for them: each piece of entries that
-    /// lie one behind another is a run.
+    /// Appends the places of these entries, for which there must be room. Each piece of entries that follow one another
+    /// in a block is a run.
     pub fn push(&mut self, entries: &[EntryIndex])
         requires { HasRoom self.old (length entries.now) }
         ensures items { places self.new ≡ places self.old ++ map place_of entries.now }
@@ -152,13 +152,13 @@ impl Runs {
         self.len += entries.len();
     }
 
-    /// Only so many first entries stay.
+    /// Keeps only the first `count` entries.
     pub fn truncate(&mut self, count: usize)
         ensures items { places self.new ≡ take count (places self.old) }
         ensures runs { deque_len self.new.runs ≤ deque_len self.old.runs }
         ensures room { (m : ℕ) → HasRoom self.old m → HasRoom self.new m }
 
-        // where a run ends at or before the last entry, one does then
+        // the first runs that ended at or before the last entry that stays still end at the same places
         ensures ends { (k : ℕ) → k ≤ deque_len self.old.runs → counts (take k self.old.runs.items) ≤ count
             → (k ≤ deque_len self.new.runs)
             × (counts (take k self.new.runs.items) ≡ counts (take k self.old.runs.items)) }
@@ -179,7 +179,7 @@ impl Runs {
         self.len = count;
     }
 
-    /// So many first entries go.
+    /// Drops the first `count` entries.
     pub fn drop_front(&mut self, count: usize)
         requires { count ≤ length (places self.old) }
         ensures items { places self.new ≡ drop count (places self.old) }
@@ -205,7 +205,7 @@ impl Runs {
         self.len -= count;
     }
 
-    /// All entries go.
+    /// Drops all entries.
     fn clear(&mut self)
         ensures items { places self.new ≡ [] }
         ensures runs { self.new.runs.items ≡ [] }
@@ -219,8 +219,8 @@ impl Runs {
     }
 }
 
-/// Makes room for so many more. Where there is none yet, it is made for a quarter of what is there besides, and for
-/// three at least, so that many small batches don't move all of it each time.
+/// Makes room for `count` more. If there isn't enough, it also makes room for a quarter of what is there, at least for
+/// three. Many small batches then don't move all of it each time.
 fn make_room<T>(queue: &mut VecDeque<T>, count: usize) -> Result<(), AllocError>
     ensures items { queue.new.items ≡ queue.old.items }
     ensures len { deque_len queue.new ≡ deque_len queue.old }
@@ -235,7 +235,7 @@ fn make_room<T>(queue: &mut VecDeque<T>, count: usize) -> Result<(), AllocError>
     queue.reserve_exact(count.saturating_add((queue.len() / 4).max(3)))
 }
 
-/// Where there is more than twice the room for what is there and so many more, a quarter past that stays.
+/// If much of the capacity is unused with `count` more items, shrinks it to what they need and a quarter.
 fn shrink<T>(queue: &mut VecDeque<T>, count: usize)
     requires { deque_len queue.old + count ≤ deque_capacity queue.old }
     ensures items { queue.new.items ≡ queue.old.items }
@@ -248,7 +248,7 @@ fn shrink<T>(queue: &mut VecDeque<T>, count: usize)
     }
 }
 
-/// So many first runs go.
+/// Drops the first `count` runs.
 fn drop_runs(runs: &mut VecDeque<Run>, count: usize)
     requires { count ≤ deque_len runs.old }
     ensures items { runs.new.items ≡ drop count runs.old.items }
@@ -258,7 +258,7 @@ fn drop_runs(runs: &mut VecDeque<Run>, count: usize)
     runs.drain(..count);
 }
 
-/// So many first starts go.
+/// Drops the first `count` starts.
 fn drop_starts(starts: &mut VecDeque<u32>, count: usize)
     requires { count ≤ deque_len starts.old }
     ensures items { starts.new.items ≡ drop count starts.old.items }
@@ -268,8 +268,8 @@ fn drop_starts(starts: &mut VecDeque<u32>, count: usize)
     starts.drain(..count);
 }
 
-/// Which run the entry of this number is in, where it isn't before the first. It is looked for at the hint
-/// and behind it, and then among all.
+/// The position of the run that has the entry of this number, which isn't before the first. It is looked for at the
+/// hint and right after it, and then among all.
 fn find(runs: &VecDeque<Run>, number: usize, hint: usize) -> usize
     requires some { 0 < deque_len runs.now }
     requires low { (d : Run) → (slice_index_or runs.now.items 0 d).first ≤ number }
@@ -284,7 +284,7 @@ fn find(runs: &VecDeque<Run>, number: usize, hint: usize) -> usize
     search(runs, number)
 }
 
-/// Whether the entry of this number is in this run, if there is such a run.
+/// Whether the entry of this number is in the run at this position, if there is such a run.
 fn is_in(runs: &VecDeque<Run>, number: usize, at: usize) -> bool
     ensures { result ≡ true → IsFound number runs.now.items at }
 {
@@ -293,7 +293,7 @@ fn is_in(runs: &VecDeque<Run>, number: usize, at: usize) -> bool
         && (at + 1 == runs.len() || number < runs[at + 1].first)
 }
 
-/// Which run the entry of this number is in, where it isn't before the first.
+/// The position of the run that has the entry of this number, which isn't before the first.
 fn search(runs: &VecDeque<Run>, number: usize) -> usize
     requires some { 0 < deque_len runs.now }
     requires low { (d : Run) → (slice_index_or runs.now.items 0 d).first ≤ number }
@@ -312,7 +312,7 @@ fn search(runs: &VecDeque<Run>, number: usize) -> usize
     low
 }
 
-/// The place of an entry of a run whose first start is at this position, if it has starts.
+/// The place of an entry of a run, whose first start is at this position if it has starts.
 pub(crate) fn place_in(run: &Run, starts: &VecDeque<u32>, from: usize, within: usize) -> Place
     requires within { within < run.now.count }
     requires fits { run.now.even ≡ true → (j : ℕ) → j < run.now.count

@@ -11,6 +11,6 @@ pub struct Spot {
     pub run: Run,
     /// The position of the run's first start among the others.
     pub from: usize,
-    /// How many entries of the run come before it.
+    /// How many entries of the run are before it.
     pub within: usize,
 }

@@ -1,4 +1,4 @@
--- What comes of the segments of a queue that are read.
+-- The result of reading the segments of a queue.
 use Rattle.std.specs.Prelude.{◌≡◌, ℕ, zero, suc, ◌+◌, ◌*◌, ◌<◌, ◌≤◌, min, List, [], ◌∷◌, ◌++◌, length, Result, Ok, Err}
 use Rattle.std.specs.List.{flat_map}
 use Rattle.raft_log_record_base.specs.declared.errors.Error.{Error}
@@ -7,12 +7,12 @@ use Rattle.raft_log_table_segments.specs.Machines.{Batch}
 use Rattle.raft_log_table_segments.specs.Sources.{HoldEach}
 use Rattle.raft_log_table_segments.specs.declared.segments.ReadSegments.{ReadSegments}
 
--- the batches of segments, one behind the other
+-- the batches of segments, one after the other
 abbrev pub all_batches : List (List Batch) → List Batch
 all_batches bss = flat_map (λ bs. bs) bss
 
--- The machine has read the batches of the segments from one place up to another, all in order, and these are
--- the endings of the segments.
+-- The machine has read the batches of the segments from one number up to another, all in order, and these are the
+-- endings of the segments.
 pub record HasReadSegments {M E : Type 0} (holds : ℕ → List Batch → E → Type 0)
     (reads : List Batch → M → Type 0) (first last : ℕ) (machine : M) (endings : List E) : Type 0 where
   pub batches : List (List Batch)
@@ -20,8 +20,8 @@ pub record HasReadSegments {M E : Type 0} (holds : ℕ → List Batch → E → 
   pub all : first + length batches ≡ last
   pub read : reads (all_batches batches) machine
 
--- Why the segments from one place up to another aren't read. All segments before the one that is refused, or
--- that the error is told for, were read.
+-- Why reading the segments from one number up to another fails. All segments before the one that failed, or that the
+-- error is for, were read.
 pub data IsRefusedIn {E : Type 0} (holds : ℕ → List Batch → E → Type 0) (begins : ℕ → List Batch → Type 0)
     (refuses : ℕ → Error → Type 0) (declines : List Batch → Error → Type 0) (first last : ℕ) (error : Error)
     : Type 0 where
@@ -37,12 +37,12 @@ pub data IsRefusedIn {E : Type 0} (holds : ℕ → List Batch → E → Type 0) 
       → first + length bss ≤ last → (front read : List Batch) → front ++ read ≡ all_batches bss
       → declines read error → IsRefusedIn holds begins refuses declines first last error
 
--- how many of the segments are read by so many workers: without one, none
+-- how many of the segments are read by these workers: none without a worker, else all
 abbrev pub read_by : ℕ → ℕ → ℕ
 read_by zero count = zero
 read_by (suc workers) count = count
 
--- a chunk of the segments from one place up to another: it was read, or it is refused
+-- a chunk of the segments from one number up to another: it was read, or reading it failed
 abbrev pub IsChunk : {M E : Type 0} → (ℕ → List Batch → E → Type 0) → (List Batch → M → Type 0)
     → (ℕ → List Batch → Type 0) → (ℕ → Error → Type 0) → (List Batch → Error → Type 0) → ℕ → ℕ
     → Result (ReadSegments M E) Error → Type 0
@@ -51,21 +51,21 @@ IsChunk holds reads begins refuses declines first last (Ok done) =
 IsChunk holds reads begins refuses declines first last (Err error) =
     IsRefusedIn holds begins refuses declines first last error
 
--- where the chunk of this place begins, of chunks of so many segments each
+-- where the chunk with this number begins, if each has `size` segments
 abbrev pub chunk_start : ℕ → ℕ → ℕ → ℕ
 chunk_start size count index = min (index * size) count
 
--- these stand one behind the other, each from where the one before ends, from one place up to another
+-- these follow one another, each from where the one before ends, from one number up to another
 abbrev pub Follow : {A : Type 0} → (ℕ → ℕ → A → Type 0) → ℕ → ℕ → List A → Type 0
 Follow between first last [] = first ≡ last
 Follow between first last (x ∷ xs) =
     (next : ℕ) × (first ≤ next) × (next ≤ last) × between first next x × Follow between next last xs
 
--- each segment holds one list of batches, and one thing is told of it
+-- each segment holds one list of batches, and has one ending
 abbrev pub HoldsOne : {E : Type 0} → (ℕ → List Batch → E → Type 0) → Type 0
 HoldsOne {E} holds =
     (k : ℕ) (xs ys : List Batch) (e f : E) → holds k xs e → holds k ys f → (xs ≡ ys) × (e ≡ f)
 
--- both machines have read the same batches, and the same was told of the segments
+-- both machines have read the same batches, and the segments' endings are the same
 abbrev pub HaveReadSame : {M E : Type 0} → (List Batch → M → Type 0) → M → List E → M → List E → Type 0
 HaveReadSame reads m es n fs = ((batches : List Batch) × reads batches m × reads batches n) × (es ≡ fs)

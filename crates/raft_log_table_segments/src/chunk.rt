@@ -1,4 +1,4 @@
-//! Chunks of segments: each is read by one worker, and what has read them is put together.
+//! Chunks of segments: each is read by one worker, and then the machines are merged.
 ghost use Rattle.std.specs.Prelude.{◌≡◌, ◌+◌, ◌<◌, ◌≤◌, ℕ, IfOk, IfErr};
 ghost use Rattle.raft_log_record_base.specs.declared.errors.Error.TheVariants.{Memory};
 ghost use Rattle.raft_log_table_segments.specs.Segments.{chunk_start, Follow, HasReadSegments, IsChunk, IsRefusedIn};
@@ -9,7 +9,7 @@ use crate::source::ReplaySource;
 use raft_log_record_base::Result;
 use std::alloc::Global;
 
-/// Reads the chunk of this place, where each has so many segments, with a machine of its own.
+/// Reads the chunk with this number, each of `size` segments, with a machine of its own.
 pub(crate) fn replay_chunk<S: ReplaySource, M: ReplayMachine, FA: Factory<M>>(
     alloc: Global,
     source: &S,
@@ -28,7 +28,7 @@ pub(crate) fn replay_chunk<S: ReplaySource, M: ReplayMachine, FA: Factory<M>>(
     replay_between(alloc, source, factory, first, last)
 }
 
-/// Reads the segments from one place up to another with a machine of its own.
+/// Reads the segments from one number up to another with a machine of its own.
 fn replay_between<S: ReplaySource, M: ReplayMachine, FA: Factory<M>>(
     alloc: Global,
     source: &S,
@@ -49,7 +49,7 @@ fn replay_between<S: ReplaySource, M: ReplayMachine, FA: Factory<M>>(
     Ok(ReadSegments { machine, endings })
 }
 
-/// Puts what has read chunks behind what has read all segments before them, in order.
+/// Merges the machines that read chunks, in order, into the one that read all segments before them.
 pub(crate) fn merge_chunks<S: ReplaySource, M: ReplayMachine>(
     source: &S,
     whole: ReadSegments<M, S::Ending>,
@@ -70,7 +70,7 @@ pub(crate) fn merge_chunks<S: ReplaySource, M: ReplayMachine>(
     Ok(whole)
 }
 
-/// Puts what has read a chunk behind what has read all segments before it.
+/// Merges the machine that read a chunk into the one that read all segments before it.
 fn merge_chunk<S: ReplaySource, M: ReplayMachine>(
     source: &S,
     whole: ReadSegments<M, S::Ending>,

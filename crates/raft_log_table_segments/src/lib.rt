@@ -1,5 +1,5 @@
-//! Reading the segments of a queue side by side: machines that take batches, sources that give them, and
-//! workers that each read a part of the segments. What comes of it is one reading in order.
+//! Reads the segments of a queue in parallel: machines that take batches, sources that provide them, and workers that
+//! each read a part of the segments. The result is one reading in order.
 #![tactic(auto)]
 
 mod chunk;

@@ -8,29 +8,29 @@ ghost use Rattle.raft_log_table_segments.specs.Machines.{Batch, DeclinesBatch, D
 use raft_log_record_base::{FileId, LogQueue, Result};
 use raft_log_record_items::LogItem;
 
-/// What takes the batches of a queue, one behind the other. A machine whose call was refused may only be
-/// dropped: nothing is said of it.
+/// Takes the batches of a queue, one after the other. If a call fails, nothing is promised of the machine, so it may
+/// only be dropped.
 pub trait ReplayMachine: Drop + Sized {
     // The machine has read these batches of a queue.
     ghost reads: { LogQueue → List Batch → Self → Type 0 };
 
-    // Why a machine declines batches of a queue that it is to read one behind the other.
+    // Why a machine fails at batches of a queue that it is to read one after the other.
     ghost declines: { LogQueue → List Batch → Error → Type 0 };
 
-    /// The items of a batch that was read in a file.
+    /// Takes the items of a batch that was read in a file.
     fn replay(&mut self, items: Vec<LogItem>, file: FileId) -> Result<()>
         ensures ok { OnOk result (TakesBatch reads file items.items self.old self.new) }
         ensures errors { IfErr result (DeclinesBatch reads declines file items.items self.old) };
 
-    /// What a machine has read that read the next batches of the same queue comes behind what this one has.
+    /// Merges a machine that read the next batches of the same queue into this one.
     fn merge(&mut self, later: Self, queue: LogQueue) -> Result<()>
         ensures ok { OnOk result (JoinsLater (reads queue) self.old later self.new) }
         ensures errors { IfErr result (DeclinesLater (reads queue) (declines queue) self.old later) };
 }
 
-/// What makes machines, one for each worker.
+/// Makes machines, one for each worker.
 pub trait Factory<M: ReplayMachine>: Sync {
-    /// A machine that has read nothing. `Memory`.
+    /// A machine that has read nothing. Fails only with `Memory`.
     fn new_target(&self) -> Result<M>
         ensures ok { IfOk result (λ machine. (queue : LogQueue) → M.reads queue [] machine) }
         ensures errors { IfErr result (λ e. e ≡ Memory) };

@@ -1,4 +1,4 @@
-//! The segments of a queue, read by scoped threads.
+//! Reads the segments of a queue with scoped threads.
 ghost use Rattle.std.specs.Prelude.{◌+◌, IfOk, IfErr};
 ghost use Rattle.raft_log_table_segments.specs.Segments.{chunk_start, read_by, HasReadSegments, IsChunk, IsRefusedIn};
 
@@ -11,19 +11,18 @@ use std::alloc::Global;
 use std::marker::Send;
 use std::thread::{Threads, map_indices};
 
-/// Which threads read the chunks of a queue. What is read is the same by either.
+/// Which threads read the chunks of a queue. The result is the same with both.
 #[derive(Clone, Copy, Debug, PartialEq, Eq)]
 pub enum ReplayThreads {
-    /// The threads of `rayon`: as many as it makes for the processors that there are, each for some of the
-    /// chunks.
+    /// The threads of `rayon`: as many as it makes for the processors, each for some of the chunks.
     Rayon,
     /// A scoped thread for each chunk, however many processors there are.
     Scoped,
 }
 
-/// Reads the segments of a queue as `replay_segments` does, by these threads.
+/// Reads the segments of a queue as `replay_segments` does, with these threads.
 ///
-/// Refused as `replay_segments` is.
+/// Fails as `replay_segments` does.
 pub fn replay_segments_by<S: ReplaySource, M: ReplayMachine + Send, FA: Factory<M>>(
     rt: &(impl Threads + Sync),
     alloc: Global,
@@ -45,11 +44,11 @@ pub fn replay_segments_by<S: ReplaySource, M: ReplayMachine + Send, FA: Factory<
     }
 }
 
-/// Reads the segments of a queue as `replay_segments` does, each chunk in a scoped thread of its own: there are
-/// as many threads as chunks, and so at most as many as workers. Where a thread can't be made, its chunk is read
-/// in the thread that wanted it.
+/// Reads the segments of a queue as `replay_segments` does, each chunk in a scoped thread of its own. There are as many
+/// threads as chunks, at most as many as workers. If a thread can't be made, the thread that would have made it reads
+/// its chunk.
 ///
-/// Refused as `replay_segments` is.
+/// Fails as `replay_segments` does.
 pub fn replay_segments_scoped<S: ReplaySource, M: ReplayMachine + Send, FA: Factory<M>>(
     rt: &(impl Threads + Sync),
     alloc: Global,

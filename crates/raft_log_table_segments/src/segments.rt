@@ -1,4 +1,4 @@
-//! The segments of a queue, read by workers side by side.
+//! Reads the segments of a queue with parallel workers.
 ghost use Rattle.std.specs.Int.{div_ceil};
 ghost use Rattle.std.specs.Prelude.{◌≡◌, ◌+◌, ◌*◌, ◌<◌, ◌≤◌, max, IfOk, IfErr};
 ghost use Rattle.raft_log_table_segments.specs.Segments.{chunk_start, read_by, HasReadSegments, IsChunk, IsRefusedIn};
@@ -12,20 +12,19 @@ use std::alloc::Global;
 use std::marker::Send;
 use std::thread::Threads;
 
-/// What comes of segments that were read.
+/// The result of reading segments.
 #[derive(Drop)]
 pub struct ReadSegments<M, E> {
     /// The machine that has read them, in order.
     pub machine: M,
-    /// What is told of each of them.
+    /// The ending of each of them.
     pub endings: Vec<E>,
 }
 
-/// Reads the segments of a queue, cut into as many chunks as there are workers, each read by itself, and puts
-/// the machines together in order: what comes of it has read all segments in order. Without a worker nothing
-/// is read.
+/// Reads the segments of a queue, cut into at most as many chunks as there are workers, each with its own machine. Then
+/// it merges the machines in order: the result has read all segments in order. Without a worker nothing is read.
 ///
-/// The error told is that of the first segment that is refused; nothing else comes of a refusal.
+/// If it fails, it returns the error of the first segment that failed, and nothing else.
 pub fn replay_segments<S: ReplaySource, M: ReplayMachine + Send, FA: Factory<M>>(
     rt: &(impl Threads + Sync),
     alloc: Global,
@@ -65,8 +64,8 @@ pub fn replay_segments<S: ReplaySource, M: ReplayMachine + Send, FA: Factory<M>>
     merge_chunks(source, whole, parts)
 }
 
-/// How many segments a worker reads, where there are so many of both: so many that there is a worker for each
-/// chunk, and one at least.
+/// How many segments a worker reads, for these numbers of both: enough that there is a worker for each chunk, and at
+/// least one.
 pub fn chunk_size(segments: usize, workers: usize) -> usize
     requires { 0 < workers }
     ensures value { result ≡ max 1 (div_ceil segments workers) }
@@ -76,7 +75,7 @@ pub fn chunk_size(segments: usize, workers: usize) -> usize
     segments.div_ceil(workers).max(1)
 }
 
-/// How many chunks there are, where each has so many segments.
+/// The number of chunks, if each has `size` segments.
 pub(crate) fn chunk_count(segments: usize, size: usize) -> usize
     requires { 0 < size }
     ensures value { result ≡ div_ceil segments size }

@@ -1,4 +1,4 @@
-//! Where the batches of a queue come from: its segments, in order.
+//! The source of a queue's batches: its segments, in order.
 ghost use Rattle.std.specs.Prelude.{◌≡◌, ◌<◌, ℕ, List, IfOk, IfErr};
 ghost use Rattle.raft_log_record_base.specs.declared.errors.Error.{Error};
 ghost use Rattle.raft_log_record_base.specs.declared.pipe_log.LogQueue.{LogQueue};
@@ -9,9 +9,9 @@ use crate::machine::ReplayMachine;
 use raft_log_record_base::{LogQueue, Result};
 use std::marker::{Send, Sync};
 
-/// The segments of a queue, in order, which can be read any number of times and by several workers.
+/// The segments of a queue, in order. They can be read any number of times and by several workers.
 pub trait ReplaySource: Sync {
-    /// What is told of a segment once it is read: where it is to be cut, say.
+    /// What reading a segment returns: for example, where it is to be truncated.
     type Ending: Send + Drop;
 
     // The queue.
@@ -20,24 +20,24 @@ pub trait ReplaySource: Sync {
     // How many segments it has.
     ghost count_of: { Self → ℕ };
 
-    // The segment of this place holds these batches, and this is told of it then.
+    // The segment with this number holds these batches, and reading it returns this ending.
     ghost holds: { Self → ℕ → List Batch → Self.Ending → Type 0 };
 
-    // The segment of this place begins with these batches.
+    // The segment with this number begins with these batches.
     ghost begins: { Self → ℕ → List Batch → Type 0 };
 
-    // Why the segment of this place can't be read.
+    // Why the segment with this number can't be read.
     ghost refuses: { Self → ℕ → Error → Type 0 };
 
-    /// The queue that the segments are of.
+    /// The queue of the segments.
     fn queue(&self) -> LogQueue
         ensures { result ≡ queue_of self.now };
 
-    /// How many segments there are.
+    /// The number of segments.
     fn segment_count(&self) -> usize
         ensures { result ≡ count_of self.now };
 
-    /// The machine takes the batches of a segment, and what is told of the segment is answered.
+    /// Reads a segment's batches into the machine, and returns the segment's ending.
     fn replay_segment<M: ReplayMachine>(
         &self,
         index: usize,

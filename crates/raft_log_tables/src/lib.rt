@@ -1,7 +1,7 @@
-//! The tables of a log, in one name: where each group's entries and values stand, the tables of all groups, and
-//! their rebuilding from segments that workers read.
+//! The memtables of a log, in one name: where each group's entries and values are stored, the tables of all groups, and
+//! how workers rebuild them from segments.
 //!
-//! This crate only hands on; the page of each part says what its calls promise.
+//! This crate only re-exports; the page of each part says what its calls promise.
 #![tactic(auto)]
 
 pub use raft_log_table_all::{MemTables, MemTables as MemTableAccessor};

@@ -14,8 +14,8 @@ use Rattle.raft_log_engine.specs.raft_log_engine_laws.specs.Reading.{ReadsValue}
 use Rattle.raft_log_engine.specs.raft_log_engine_laws.specs.Writing.{Writes}
 use Rattle.raft_log_engine.specs.raft_log_open_directory.specs.Opening.{OpensDirectory}
 
--- A log was opened; a batch that says that a group's key has this value was written and synced; the key was
--- read; and the log was closed, all of it synced. Whatever map the log was when it was opened, what was read is the value.
+-- A log was opened; a batch that puts this value at a group's key was written and synced; the key was read; and the log
+-- was closed, with everything synced. Whatever map the log had when it was opened, the value was read back.
 pub record SavesInLog {F : Type 0} (disk : F → Disk) (tells : F → List ℕ → ℕ → Type 0) (config : Config)
     (group : ℕ) (key value : List ℕ) (old new : F) (found : Option (List ℕ)) : Type 0 where
   pub pipes : LogPipes

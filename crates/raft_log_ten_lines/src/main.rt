@@ -1,5 +1,5 @@
-//! A log in ten lines: a key's value is saved in a log that lies in memory, and read back. The one crate of the log
-//! that it names is `raft_log_engine`.
+//! A log in ten lines: saves a key's value in a log in memory, and reads it back. The only crate of the log that it
+//! names is `raft_log_engine`.
 #![tactic(auto)]
 
 mod saving;
@@ -14,7 +14,7 @@ use std::thread::Threads;
 /// The settings of a log in one directory.
 const SETTINGS: &str = "dir = \"raft\"\n";
 
-/// Saves a key's value in a log without files, and answers what is then read of the key.
+/// Saves a key's value in a log without files, and returns what is then read of the key.
 fn save<R: Threads + Log + Sync>(rt: &R, alloc: Global) -> Result<Option<Vec<u8>>> {
     let config = Config::from_toml(alloc, SETTINGS)?;
     let files = MemoryFileSystem::new(alloc);

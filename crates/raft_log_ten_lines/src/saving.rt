@@ -1,4 +1,4 @@
-//! A key's value is saved in a log, and read back.
+//! Saves a key's value in a log, and reads it back.
 
 ghost use Rattle.std.specs.Prelude.{IfOk, option_map};
 ghost use Rattle.raft_log_ten_lines.specs.Saving.{SavesInLog};
@@ -8,8 +8,8 @@ use raft_log_engine::{Config, Engine, FileSystem, LogBatch, Result};
 use std::alloc::Global;
 use std::thread::Threads;
 
-/// Opens the log of these settings, saves a group's key in it, reads the key back, and closes the log,
-/// which is durable then. Answers the value that was read, and the file system.
+/// Opens the log of these settings, saves a group's key in it, reads the key back, and closes the log, which is durable
+/// then. Returns the value that was read, and the file system.
 pub fn save_in_log<R: Threads + Log + Sync, F: FileSystem + Sync + Drop>(
     rt: &R,
     alloc: Global,

@@ -13,8 +13,8 @@ use Rattle.raft_log_open_found.specs.Reading.{FileReading, ReadsBytes}
 
 -- Which files are written anew.
 
--- The file reads as one with an alignment. (A last file with an alignment and no whole record doesn't: its header
--- reads as a torn one.)
+-- The file reads as one with an alignment. A last file with an alignment and no whole record doesn't: its header reads
+-- as a torn one.
 abbrev pub IsPadded : Bool → FileId → List ℕ → Type 0
 IsPadded last id content =
     (read : FileReading) × ReadsBytes last id content read × (IsUnaligned read.format → ⊥)
@@ -25,35 +25,34 @@ IsUnpadded last id content = (read : FileReading) × ReadsBytes last id content 
 
 -- What is written.
 
--- behind an offset the next record has these bytes, and ends at the other offset
+-- the next record after an offset: its bytes, and the offset where it ends
 pub record HasBytes (file : OpenFile) (content : List ℕ) (offset : ℕ) (bytes : List ℕ) (end : ℕ) : Type 0 where
   pub items : List LogItem
   pub batch : HasBatch file content offset items end
   pub are : bytes ≡ take batch.len (drop batch.at content)
 
--- behind an offset these records follow one another, each with its bytes, and the last one ends at the other
--- offset
+-- consecutive records after an offset: the bytes of each, and the offset where the last one ends
 abbrev pub HasAllBytes : OpenFile → List ℕ → ℕ → List (List ℕ) → ℕ → Type 0
 HasAllBytes file content offset [] end = end ≡ offset
 HasAllBytes file content offset (bytes ∷ more) end =
     (next : ℕ) × HasBytes file content offset bytes next × HasAllBytes file content next more end
 
--- records one behind the other
+-- the concatenation of the records
 abbrev pub joined : List (List ℕ) → List ℕ
 joined [] = []
 joined (bytes ∷ more) = bytes ++ joined more
 
--- What is left behind the last record: nothing, where there is nothing but padding; and where a record is broken,
--- all bytes from there on, as they are.
+-- What follows the last record: nothing if only padding is left. If a record is broken, all bytes from there on,
+-- unchanged.
 abbrev pub IsRest : OpenFile → List ℕ → ℕ → List ℕ → Type 0
 IsRest file content end rest = (HasNoMore file content end × (rest ≡ []))
     ⊎ ((fault : Fault) × IsBroken file content end fault × (rest ≡ drop end content))
 
--- the format without its alignment
+-- the format, with alignment 0
 abbrev pub plain_format : LogFileFormat → LogFileFormat
 plain_format format = record { version = format.version; alignment = 0 }
 
--- The records of a file one behind the other from an offset on, and what is left behind the last one.
+-- The file's records from an offset on, concatenated, and what follows the last one.
 pub record AreJoined (file : OpenFile) (content : List ℕ) (offset : ℕ) (bytes : List ℕ) : Type 0 where
   pub records : List (List ℕ)
   pub end : ℕ
@@ -62,8 +61,8 @@ pub record AreJoined (file : OpenFile) (content : List ℕ) (offset : ℕ) (byte
   pub left : IsRest file content end rest
   pub both : bytes ≡ joined records ++ rest
 
--- The file's bytes without padding: a header that says the same version and no alignment, the records one behind
--- the other, byte for byte, and what is left behind them.
+-- The file's bytes without padding: a header with the same version and no alignment, the records byte for byte without
+-- gaps, and what follows the last one.
 pub record IsWithoutPadding (id : FileId) (content new : List ℕ) : Type 0 where
   pub file : OpenFile
   pub is : file.id ≡ id

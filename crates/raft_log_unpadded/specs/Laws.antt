@@ -1,4 +1,4 @@
--- What the bytes read as that are written without padding.
+-- What an open reads of the bytes that are written without padding.
 use Rattle.std.specs.Prelude.{◌≡◌, ℕ, Bool, Some, List, drop, take, is_some}
 use Rattle.std.specs.List.{AllZip}
 use Rattle.std.specs.String.{string_bytes}
@@ -20,9 +20,8 @@ use Rattle.raft_log_unpadded.specs.declared.placed_file.PlacedFile.{PlacedFile}
 
 -- The records.
 
--- The new bytes begin with a header of the old version without an alignment, and the records of the old bytes
--- follow one another behind it, byte for byte; behind the last one they end, if the old ones do, and else a broken
--- record stands there.
+-- The new bytes begin with a header of the old version and no alignment. The records of the old bytes follow, byte for
+-- byte. After the last record, the new bytes end if the old ones do; else a broken record follows.
 pub record KeepsRecords (id : FileId) (content new : List ℕ) (old : IsWithoutPadding id content new) : Type 0 where
   pub file : OpenFile
   pub is : file.id ≡ id
@@ -35,18 +34,18 @@ pub record KeepsRecords (id : FileId) (content new : List ℕ) (old : IsWithoutP
   pub breaks : (fault : Fault) → IsBroken old.file content old.are.end fault
       → (other : Fault) × IsBroken file new end other
 
--- Bytes without padding have the records of the file, no more and no less.
+-- Bytes without padding have exactly the records of the file.
 abbrev pub RecordsReadTheSame : Type 0
 RecordsReadTheSame =
     (id : FileId) (content new : List ℕ) (old : IsWithoutPadding id content new) → KeepsRecords id content new old
 
 -- What an open reads.
 
--- the bytes at a place
+-- the bytes of a block
 abbrev pub placed_bytes : FileBlockHandle → List ℕ → List ℕ
 placed_bytes block content = take block.len (drop block.offset content)
 
--- the same items, and the same bytes in the block where their entries lie, at another place of the file
+-- the same items, with the same bytes in the block of their entries, at another offset of the file
 pub record AreMoved (content new : List ℕ) (items others : List LogItem) : Type 0 where
   pub plain : List LogItem
   pub from : FileBlockHandle
@@ -57,16 +56,16 @@ pub record AreMoved (content new : List ℕ) (items others : List LogItem) : Typ
   pub same_len : to.len ≡ from.len
   pub same : placed_bytes to new ≡ placed_bytes from content
 
--- The file reads as before, but without an alignment and with other places: the same batches, in order, and
--- something is wrong behind them where something was.
+-- The file reads as before, but without an alignment and with other offsets: the same batches in the same order. There
+-- is a fault after them exactly if there was one.
 pub record ReadsMoved (content new : List ℕ) (old read : FileReading) : Type 0 where
   pub plain : read.format ≡ plain_format old.format
   pub batches : AllZip (AreMoved content new) old.batches read.batches
   pub header : (end : ℕ) × (read.end ≡ Some end)
   pub damage : is_some read.fault ≡ is_some old.fault
 
--- Whatever is read of a file with padding and then of its bytes without is the same but for the places of the
--- entries.
+-- Reading the file with padding and reading its bytes without padding give the same result, except for the places of
+-- the entries.
 abbrev pub FilesReadTheSame : Type 0
 FilesReadTheSame = (last : Bool) (id : FileId) (content new : List ℕ) (old read : FileReading)
     → IsPadded last id content → IsWithoutPadding id content new → ReadsBytes last id content old
@@ -74,8 +73,8 @@ FilesReadTheSame = (last : Bool) (id : FileId) (content new : List ℕ) (old rea
 
 -- On the disk.
 
--- Behind a step that wrote a file anew, whatever is read under its path is what was read of it before, but for the
--- places of the entries.
+-- After a step that wrote a file anew, reading its path gives the same result as before, except for the places of the
+-- entries.
 abbrev pub WrittenFilesReadTheSame : Type 0
 WrittenFilesReadTheSame =
     (file : PlacedFile) (d new : Disk) (handle : Handle) (old read : FileReading) (writes : WritesAnew file d new)

@@ -1,4 +1,4 @@
--- A log file is read for what it holds without padding.
+-- Reading a log file for its contents without padding.
 use Rattle.std.specs.Prelude.{◌≡◌, ℕ, ◌<◌, ◌++◌, List, Some}
 use Rattle.raft_log_record_base.specs.Fault.{Fault}
 use Rattle.raft_log_record_items.specs.declared.item.LogItem.{LogItem}
@@ -13,11 +13,11 @@ use Rattle.raft_log_unpadded.specs.Content.{AreJoined, IsPadded, IsUnpadded, IsW
 use Rattle.raft_log_unpadded.specs.declared.content.Next.{Next}
 use Rattle.raft_log_unpadded.specs.declared.content.Next.TheVariants as nexts
 
--- the file's bytes, as they stand on the disk
+-- the file's bytes on the disk
 abbrev pub content_of : ListedFile → Disk → List ℕ
 content_of file d = bytes_in (d.files file.handle.file)
 
--- the file's bytes stay: it has no padding
+-- the file's bytes stay unchanged: it has no padding
 abbrev pub NeedsNothing : Disk → ListedFile → Type 0
 NeedsNothing d file = IsUnpadded file.is_last file.id (content_of file d)
 
@@ -34,21 +34,20 @@ pub record ReadsNext (file : OpenFile) (content : List ℕ) (old new : LogItemBa
   pub begins : start ≡ batch.at
   pub further : end_of old < end_of new
 
--- What stands behind what was read: a record, which was read; nothing more; or a broken record, and nothing was
--- read.
+-- What follows what was read: a record, which was read; nothing more; or a broken record, and nothing was read.
 abbrev pub FindsNext : OpenFile → List ℕ → LogItemBatchFileReader → LogItemBatchFileReader → Next → Type 0
 FindsNext file content old new (nexts.Record start) = ReadsNext file content old new start
 FindsNext file content old new nexts.End = HasNoMore file content (end_of old)
 FindsNext file content old new nexts.Broken =
     (fault : Fault) × IsBroken file content (end_of old) fault × (end_of new ≡ end_of old)
 
--- the reader has a file open whose bytes are these
+-- the reader has a file open with these bytes
 pub record HasOpen (d : Disk) (reader : LogItemBatchFileReader) (content : List ℕ) : Type 0 where
   pub file : OpenFile
   pub opened : file_of reader ≡ Some file
   pub bytes : content ≡ bytes_of file.source d
 
--- the records behind what was read came behind these bytes, and what is left behind the last one
+-- the records after what was read were appended to these bytes, with what follows the last one
 pub record Joins (file : OpenFile) (content : List ℕ) (offset : ℕ) (old new : List ℕ) : Type 0 where
   pub bytes : List ℕ
   pub are : AreJoined file content offset bytes

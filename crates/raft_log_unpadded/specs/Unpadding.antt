@@ -1,4 +1,4 @@
--- What a call leaves that takes the padding out of a log.
+-- What a call leaves that removes the padding from a log.
 use Rattle.std.specs.Prelude.{◌≡◌, ℕ, ◌⊎◌, true, Option, None, Some, List, [], ◌∷◌, ◌++◌, Contains}
 use Rattle.std.specs.String.{string_bytes}
 use Rattle.std.specs.declared.io.ErrorKind.{ErrorKind}
@@ -22,12 +22,12 @@ use Rattle.raft_log_unpadded.specs.declared.placed_file.PlacedFile.{PlacedFile}
 
 -- Looking.
 
--- the file with a path, open to be read, if there is one
+-- the file with a path, open for reading; none if no file has the path
 abbrev pub FindsAt : List ℕ → Disk → Option Handle → Type 0
 FindsAt path d None = d.names path ≡ None
 FindsAt path d (Some handle) = IsOpened path ReadOnly handle d
 
--- why it isn't known whether a file has the path: the file system has stopped, or memory ran out
+-- why it isn't known whether a file has the path: the file system has stopped, or is out of memory
 abbrev pub FailsToLookAt : List ℕ → Disk → Error → Type 0
 FailsToLookAt path d (errors.Io kind) = IsNotOpened path d kind
 FailsToLookAt path d errors.Memory = IsNotOpened path d OutOfMemory
@@ -40,7 +40,7 @@ abbrev pub ClearsOne : List ℕ → Disk → Disk → Type 0
 ClearsOne directory old new = ((old.names (temporary_in directory) ≡ None) × (new ≡ old))
     ⊎ Deletes (temporary_in directory) old new
 
--- one directory after the other was cleared
+-- the directories were cleared in order
 abbrev pub ClearsAll : List (List ℕ) → Disk → Disk → Type 0
 ClearsAll [] old new = new ≡ old
 ClearsAll (directory ∷ more) old new = (mid : Disk) × ClearsOne directory old mid × ClearsAll more mid new
@@ -53,7 +53,7 @@ pub data FailsToClearOne (directory : List ℕ) (error : Error) (old new : Disk)
   undeleted : (kind : ErrorKind) → error ≡ errors.Io kind
       → FailsToDelete (temporary_in directory) kind old new → FailsToClearOne directory error old new
 
--- the directories before one were cleared, and why that one wasn't
+-- the directories before one were cleared, and clearing that one failed for this reason
 pub record FailsToClearAll (directories : List (List ℕ)) (error : Error) (old new : Disk) : Type 0 where
   pub before : List (List ℕ)
   pub directory : List ℕ
@@ -69,17 +69,17 @@ pub record FailsToClearAll (directories : List (List ℕ)) (error : Error) (old 
 abbrev pub IsApart : PlacedFile → Type 0
 IsApart file = string_bytes file.path ≡ string_bytes file.temporary → ⊥
 
--- the file as it is read
+-- the file, as it is read
 abbrev pub listed_as : PlacedFile → Handle → ListedFile
 listed_as file handle = record { id = file.id; handle = handle; is_last = file.is_last }
 
--- a file stays: it is gone, or it has no padding
+-- a file stays unchanged: its path has no file, or it has no padding
 pub data LeavesAlone (file : PlacedFile) (old new : Disk) : Type 0 where
   absent : old.names (string_bytes file.path) ≡ None → new ≡ old → LeavesAlone file old new
   plain : (handle : Handle) → IsOpened (string_bytes file.path) ReadOnly handle old
       → NeedsNothing old (listed_as file handle) → new ≡ old → LeavesAlone file old new
 
--- a file has padding, and under its path stands one with its bytes without
+-- a file has padding, and was replaced with its bytes without padding
 pub record WritesAnew (file : PlacedFile) (old new : Disk) : Type 0 where
   pub handle : Handle
   pub opened : IsOpened (string_bytes file.path) ReadOnly handle old
@@ -87,8 +87,8 @@ pub record WritesAnew (file : PlacedFile) (old new : Disk) : Type 0 where
   pub needs : NeedsBytes old (listed_as file handle) bytes
   pub replaces : Replaces (string_bytes file.temporary) (string_bytes file.path) bytes old new
 
--- Why a file isn't done, and what stands then: it wasn't looked at or read, and nothing changed; or it has padding
--- and wasn't written anew, and under its path stands what stood there, or the new file, whole.
+-- Why unpadding a file fails, and what is on the disk then. If it wasn't looked at or read, nothing changed. If it has
+-- padding and wasn't replaced, its path has the old file unchanged, or the whole new one.
 pub data FailsToUnpadOne (file : PlacedFile) (error : Error) (old new : Disk) : Type 0 where
   unopened : FailsToLookAt (string_bytes file.path) old error → new ≡ old → FailsToUnpadOne file error old new
   unread : (handle : Handle) → IsOpened (string_bytes file.path) ReadOnly handle old
@@ -105,14 +105,14 @@ pub data FailsToUnpadOne (file : PlacedFile) (error : Error) (old new : Disk) : 
 abbrev pub AreApart : List PlacedFile → Type 0
 AreApart files = (file : PlacedFile) → Contains files file → IsApart file
 
--- one file after the other was written anew, or left alone; these were written
+-- the files were written anew or left alone, in order; `written` has those that were written anew
 abbrev pub UnpadsAll : List PlacedFile → List FileId → Disk → Disk → Type 0
 UnpadsAll [] written old new = (written ≡ []) × (new ≡ old)
 UnpadsAll (file ∷ files) written old new = (mid : Disk)
     × ((LeavesAlone file old mid × UnpadsAll files written mid new)
     ⊎ ((more : List FileId) × (written ≡ file.id ∷ more) × WritesAnew file old mid × UnpadsAll files more mid new))
 
--- The files before one were done, and that one wasn't; or it was written anew, and memory ran out for saying so.
+-- The files before one were done, and that one failed; or it was written anew, and there was no memory to list it.
 pub record FailsToUnpadAll (files : List PlacedFile) (error : Error) (old new : Disk) : Type 0 where
   pub before : List PlacedFile
   pub file : PlacedFile
@@ -123,10 +123,9 @@ pub record FailsToUnpadAll (files : List PlacedFile) (error : Error) (old new : 
   pub first : UnpadsAll before written old between
   pub fails : FailsToUnpadOne file error between new ⊎ (WritesAnew file between new × (error ≡ errors.Memory))
 
--- The whole.
+-- The whole log.
 
--- The log's files were found, what a call before left was deleted, and of the files those that have padding were
--- written anew.
+-- The log's files were found, what an earlier call left was deleted, and the files that have padding were written anew.
 pub record Unpads (directories : List (List ℕ)) (written : List FileId) (old new : Disk) : Type 0 where
   pub files : List PlacedFile
   pub are : AreLogFiles directories old files
@@ -134,9 +133,12 @@ pub record Unpads (directories : List (List ℕ)) (written : List FileId) (old n
   pub clears : ClearsAll directories old cleared
   pub unpads : UnpadsAll files written cleared new
 
--- Why not all of a log was done, and what stands then: nothing was begun, since the file system had stopped, which
--- goes before all else, or its files weren't found or memory ran out; or what a call before left wasn't deleted;
--- or not all files were done.
+-- Why unpadding a log fails, and what is on the disk then:
+-- - `ended`: the file system had stopped; this comes before all other reasons. Nothing changed.
+-- - `unbegun`: out of memory; nothing changed.
+-- - `unfound`: its files weren't found; nothing changed.
+-- - `uncleared`: what an earlier call left wasn't deleted.
+-- - `cut_short`: not all files were done.
 pub data FailsToUnpad (directories : List (List ℕ)) (error : Error) (old new : Disk) : Type 0 where
   ended : old.stopped ≡ true → error ≡ errors.Io Other → new ≡ old → FailsToUnpad directories error old new
   unbegun : error ≡ errors.Memory → new ≡ old → FailsToUnpad directories error old new

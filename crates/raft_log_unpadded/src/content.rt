@@ -22,7 +22,7 @@ use std::alloc::Global;
 /// How many bytes of a file are read at a time.
 const READ_BLOCK_SIZE: usize = 1 << 16;
 
-/// What stands behind what was read of a file.
+/// What follows the part of a file that was read.
 #[derive(Drop)]
 pub enum Next {
     /// A record, which begins at this offset.
@@ -33,12 +33,16 @@ pub enum Next {
     Broken,
 }
 
-/// What a log file is to hold: a header without an alignment, its records one behind the other, and where one of them
-/// is broken the rest from there on as it is; so it reads as before, damage with it. `None` where its bytes stay: it
-/// has no alignment, or no header, or it is the last one of its queue and has no whole record behind its header, which
-/// an open takes for a torn one.
+/// The contents of a log file without padding: a header without an alignment, then its records without gaps. If a
+/// record is broken, all bytes from there on follow unchanged, so damage reads as before.
 ///
-/// The file's bytes are held twice. `Io` where they can't be read; `Memory`. Nothing is changed.
+/// Returns `None` if the file's bytes can stay:
+/// - it has no alignment, or no header, or
+/// - it is the last file of its queue and has no whole record after its header: an open takes such a header for a torn
+///   one.
+///
+/// Holds the file's bytes in memory twice. Changes nothing on disk. Fails with `Io` if they can't be read, or with
+/// `Memory`.
 pub fn unpadded<F: FileSystem>(
     alloc: Global,
     file_system: &F,
@@ -89,8 +93,8 @@ fn read_whole<F: FileSystem>(alloc: Global, file_system: &F, handle: Handle) -> 
     Ok(bytes)
 }
 
-/// The records behind what was read of the open file, whose bytes these are, come behind what is there, one behind
-/// the other; and where one is broken, all bytes from there on. Refused, some of them do.
+/// Appends to `new` the records after what was read of the open file, without gaps. If one is broken, appends all bytes
+/// from there on. `bytes` has the whole file. If it fails, some of them may have been appended.
 fn join_records<F: FileSystem>(
     alloc: Global,
     file_system: &F,
@@ -121,7 +125,7 @@ fn join_records<F: FileSystem>(
     }
 }
 
-/// Reads the record behind what was read of the open file, if there is one. Its entry block isn't looked at.
+/// Reads the next record of the open file, if there is one. It doesn't look at the entry block.
 fn read_next<F: FileSystem>(
     alloc: Global,
     file_system: &F,
@@ -149,14 +153,14 @@ fn read_next<F: FileSystem>(
     }
 }
 
-/// Whether a refusal is of the bytes that were read.
+/// Whether an error is damage in the bytes that were read.
 fn is_damage(error: &Error) -> bool
     ensures { IsTrue result ↔ IsDamage error.now }
 {
     matches!(error, Error::Corruption(_) | Error::Codec(_))
 }
 
-/// Refuses with what is no refusal of bytes that were read.
+/// Fails with the error unless it is damage in the bytes that were read.
 fn pass_damage(error: Error) -> Result<()>
     ensures ok { OnOk result (IsDamage error) }
     ensures err { IfErr result (λ other. (other ≡ error) × (IsDamage error → ⊥)) }

@@ -1,20 +1,20 @@
-//! What a file reads as once its padding is out: each law is a function without a body.
+//! What an open reads of a file whose padding was removed. Each law is a function without a body.
 
 ghost use Rattle.raft_log_unpadded.specs.Laws.{FilesReadTheSame, RecordsReadTheSame, WrittenFilesReadTheSame};
 
-/// The bytes that are written of a file hold its records, byte for byte and in order, no more and no less, and behind
-/// them damage where there was damage: so a dump and a check find there what they found before.
+/// The new bytes of a file hold exactly its records, byte for byte and in order. There is damage after them exactly if
+/// there was before. A dump and a check find what they found before.
 pub fn records_read_the_same()
     ensures { RecordsReadTheSame }
 {}
 
-/// An open reads of a file without its padding what the file said with it: the same batches, each with the same items
-/// and the same bytes of entries, at other places; and damage behind them where there was damage.
+/// An open reads the same batches with and without padding: the same items, and the same bytes of entries, at other
+/// places. There is damage after them exactly if there was before.
 pub fn files_read_the_same()
     ensures { FilesReadTheSame }
 {}
 
-/// On the disk an open reads of each file that was written anew, by its path, what it read of it before.
+/// For each file that was written anew, an open reads under its path what it read there before.
 pub fn written_files_read_the_same()
     ensures { WrittenFilesReadTheSame }
 {}

@@ -1,5 +1,5 @@
-//! A log whose files have an alignment, which an open refuses, and that nobody has open: its files are written anew
-//! without the padding between their records (`unpad`). Then every open reads it.
+//! Removes the padding between the records of a closed log (`unpad`). A recovery rejects files with an alignment, which
+//! may have padding; afterwards every open reads them.
 #![tactic(auto)]
 
 pub mod content;

@@ -1,4 +1,4 @@
-//! A machine that takes every batch and keeps nothing of it.
+//! A replay machine that takes every batch and keeps nothing of it.
 
 ghost use Rattle.raft_log_unpadded.specs.Passing.{DeclinesNone, ReadsAny};
 
@@ -6,7 +6,7 @@ use raft_log_record_base::{FileId, LogQueue, Result};
 use raft_log_record_items::LogItem;
 use raft_log_table_segments::ReplayMachine;
 
-/// What takes every batch and keeps nothing of it: files are read for what is told of them.
+/// A replay machine for callers that need only what reading returns of a file: it takes every batch and keeps nothing.
 #[derive(Drop)]
 pub struct Passing;
 

@@ -1,8 +1,8 @@
-//! Where a log file lies, and where its bytes are written anew.
+//! The path of a log file, and the temporary path for its new bytes.
 
 use raft_log_record_base::FileId;
 
-/// A log file that was found, and where its bytes are written anew.
+/// A log file that was found, with its path and the temporary path for its new bytes.
 #[derive(Drop, Debug)]
 pub struct PlacedFile {
     /// Which file of the log it is.
@@ -11,6 +11,6 @@ pub struct PlacedFile {
     pub is_last: bool,
     /// Its path.
     pub path: String,
-    /// The path of the new file before it gets the file's own.
+    /// The path of the new file before it is renamed to `path`.
     pub temporary: String,
 }

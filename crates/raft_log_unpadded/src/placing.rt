@@ -1,4 +1,4 @@
-//! The files of a log are found, each with the path where its bytes are written anew.
+//! Finds the files of a log, each with the temporary path for its new bytes.
 
 ghost use Rattle.std.specs.Prelude.{◌≡◌, ◌<◌, [], length, All, IfOk, IfErr, map, slice_index_or};
 ghost use Rattle.std.specs.List.{AllZip};
@@ -19,8 +19,8 @@ use raft_log_open_scan::{FileKind, FileName};
 use raft_log_record_base::{Error, FileId, FileSeq, LogQueue, Result};
 use std::alloc::Global;
 
-/// The files of both queues in these directories, those of Rewrite first; of several with one number that of the last
-/// directory.
+/// The files of both queues in these directories, those of Rewrite first. If several have one number, the one in the
+/// last directory.
 pub(crate) fn find_placed<F: FileSystem>(
     alloc: Global,
     file_system: &F,
@@ -68,7 +68,7 @@ fn kind_of(queue: LogQueue) -> FileKind
     }
 }
 
-/// Files of a queue that were found, each with its paths. `Memory`.
+/// The placed files of these files of a queue. Fails with `Memory`.
 fn place_all(
     alloc: Global,
     queue: LogQueue,
@@ -89,7 +89,7 @@ fn place_all(
     Ok(files)
 }
 
-/// The number of the last of these files; 0 where there are none.
+/// The number of the last of these files; 0 if there are none.
 fn last_number(files: &[FoundFile]) -> FileSeq
     ensures { result ≡ last_number files.now }
 {
@@ -99,7 +99,7 @@ fn last_number(files: &[FoundFile]) -> FileSeq
     }
 }
 
-/// A file of a queue that was found, with its paths; `last` is the number of the queue's last one. `Memory`.
+/// The placed file of a file of a queue; `last` is the number of the queue's last one. Fails with `Memory`.
 fn place(
     alloc: Global,
     queue: LogQueue,
@@ -127,7 +127,7 @@ fn place(
     })
 }
 
-/// The directory in a place.
+/// The directory with this number.
 fn directory_of(paths: &[String], path_id: PathId) -> &str
     requires { path_id < length paths.now }
     ensures { result.now ≡ slice_index_or (map string_bytes paths.now) path_id [] }
@@ -135,7 +135,7 @@ fn directory_of(paths: &[String], path_id: PathId) -> &str
     paths[path_id].as_str()
 }
 
-/// The path of a new file in a directory before it gets the name of the file whose place it takes.
+/// The path of a new file in a directory, before it is renamed to the file that it replaces.
 pub(crate) fn temporary_in(alloc: Global, directory: &str) -> Result<String>
     ensures ok { IfOk result (λ path. string_bytes path ≡ temporary_in directory.now) }
     ensures err { IfErr result (λ error. error ≡ Memory) }

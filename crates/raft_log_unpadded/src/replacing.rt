@@ -1,4 +1,4 @@
-//! A file is written anew under its name.
+//! Replaces a file with new bytes under its name.
 
 ghost use Rattle.std.specs.Prelude.{◌≡◌, OnOk, IfErr};
 ghost use Rattle.raft_log_unpadded.specs.Replacing.{FailsToMake, FailsToReplace, MakesFile, Replaces};
@@ -6,9 +6,9 @@ ghost use Rattle.raft_log_unpadded.specs.Replacing.{FailsToMake, FailsToReplace,
 use raft_log_disk::FileSystem;
 use std::io::ErrorKind;
 
-/// Writes these bytes into a new file under the temporary path, syncs it, and gives it the path of a file, which is
-/// gone then. Refused, the file under that path is as it was, or wholly the new one, and the new one may stand under
-/// the temporary path, in part or whole.
+/// Writes these bytes into a new file under the temporary path, syncs it, and renames it over `path`. If it fails,
+/// `path` has the old file unchanged, or the whole new one. The temporary path may then have the new file, in part or
+/// whole.
 pub fn replace<F: FileSystem>(
     file_system: &mut F,
     temporary: &str,
@@ -26,7 +26,7 @@ pub fn replace<F: FileSystem>(
     Ok(())
 }
 
-/// Makes a file of these bytes, and syncs it. Refused, it may have been begun.
+/// Creates a file, writes these bytes and syncs it. If it fails, the file may have been begun.
 fn make_file<F: FileSystem>(file_system: &mut F, path: &str, bytes: &[u8]) -> Result<(), ErrorKind>
     ensures ok { OnOk result
         (MakesFile path.now bytes.now (F.disk file_system.old) (F.disk file_system.new)) }

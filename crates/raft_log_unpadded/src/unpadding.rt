@@ -1,4 +1,4 @@
-//! The padding is taken out of a log that nobody has open.
+//! Removes the padding from a log that nobody has open.
 
 ghost use Rattle.std.specs.Prelude.{◌≡◌, false, IfOk, IfErr, MatchBool, OnOk, map};
 ghost use Rattle.std.specs.String.{string_bytes};
@@ -18,23 +18,26 @@ use raft_log_record_base::{Error, FileId, Result};
 use std::alloc::Global;
 use std::io::ErrorKind;
 
-/// Takes the padding out of a log that nobody has open, so that every open reads it: each file of both queues that has
-/// an alignment is written anew, and all others stay as they are. Answers which were written anew, those of Rewrite
-/// first, each queue's by their numbers.
+/// Removes the padding from a log that nobody has open, so that every open can read it. Each file of either queue that
+/// has an alignment is written anew; all others stay unchanged. Returns the files written anew: those of Rewrite first,
+/// each queue's by number.
 ///
-/// A file that is written anew has a header without an alignment and its records, byte for byte, one behind the other.
-/// Damage stays damage: behind the last good record the file's bytes stay as they are, so that an open finds it as
-/// before, and cuts it or refuses it by its settings. A last file without a whole record behind its header, which an
-/// open takes for a torn one, stays. Of several files with one number that of the last directory is looked at.
+/// A file written anew has a header without an alignment, then its records byte for byte without gaps. Damage is
+/// kept: after the last good record the file's bytes are unchanged. An open finds the damage as before, and truncates
+/// or rejects it by its settings. A last file without a whole record after its header stays; an open takes its header
+/// for a torn one. If several files have one number, only the one in the last directory counts.
 ///
-/// The new bytes are written to a file `unpadded` in the file's directory, synced, and given the file's name. So each
-/// file is as before or wholly new, whenever the call ends; a file `unpadded` that a crash or a refusal left is deleted
-/// by the next call.
+/// The new bytes are written to a file `unpadded` in the file's directory, synced, and renamed over the file. Each
+/// file is thus unchanged or wholly new, whenever the call ends. The next call deletes a file `unpadded` that a crash
+/// or a failure left.
 ///
-/// Refused as `Io(Other)` of a file system that has stopped, so that no stop is told as want of memory; as `Io` where a
-/// directory of the log isn't there and as `Corruption` where a name in it says a number and
-/// has more between it and the end, with nothing changed; later as `Io` where a call of the file system is refused,
-/// and as `Memory`: the files before are written anew then. The bytes of one file are held twice.
+/// Holds the bytes of one file in memory twice.
+///
+/// # Errors
+/// - `Io(Other)` if the file system has stopped. This is checked first, so that a stop never shows as `Memory`.
+/// - `Io` if a directory of the log doesn't exist. Nothing changed.
+/// - `Corruption` if a name in a directory begins with a number and has more before its end. Nothing changed.
+/// - `Io` if a file system call fails later, or `Memory`. Earlier files may have been written anew.
 pub fn unpad<F: FileSystem>(
     alloc: Global,
     source: &Config,
@@ -56,7 +59,7 @@ pub fn unpad<F: FileSystem>(
     Ok(written)
 }
 
-/// Deletes what a call before left under a temporary path in one of these directories.
+/// Deletes the file that an earlier call left under the temporary path in each of these directories.
 fn clear_all<F: FileSystem>(
     alloc: Global,
     file_system: &mut F,
@@ -73,7 +76,7 @@ fn clear_all<F: FileSystem>(
     Ok(())
 }
 
-/// Deletes what a call before left under the temporary path in a directory, if it left anything.
+/// Deletes the file that an earlier call left under the temporary path in a directory, if there is one.
 fn clear<F: FileSystem>(alloc: Global, file_system: &mut F, directory: &str) -> Result<()>
     ensures ok { OnOk result
         (ClearsOne directory.now (F.disk file_system.old) (F.disk file_system.new)) }
@@ -87,7 +90,7 @@ fn clear<F: FileSystem>(alloc: Global, file_system: &mut F, directory: &str) -> 
     Ok(())
 }
 
-/// Opens the file with a path to read it, if there is one.
+/// Opens the file with this path for reading, if there is one.
 fn look_at<F: FileSystem>(file_system: &F, path: &str) -> Result<Option<Handle>>
     ensures ok { IfOk result (FindsAt path.now (F.disk file_system.now)) }
     ensures err { IfErr result (FailsToLookAt path.now (F.disk file_system.now)) }
@@ -100,7 +103,7 @@ fn look_at<F: FileSystem>(file_system: &F, path: &str) -> Result<Option<Handle>>
     }
 }
 
-/// Writes those of these files anew that have padding, one after the other, and answers which.
+/// Writes those of these files anew that have padding, in order. Returns which.
 fn unpad_files<F: FileSystem>(
     alloc: Global,
     file_system: &mut F,
@@ -122,7 +125,7 @@ fn unpad_files<F: FileSystem>(
     Ok(written)
 }
 
-/// Writes a file anew, if it has padding, and answers whether it has.
+/// Writes a file anew if it has padding. Returns whether it did.
 fn unpad_file<F: FileSystem>(alloc: Global, file_system: &mut F, file: &PlacedFile) -> Result<bool>
     requires { IsApart file.now }
     ensures ok { IfOk result (λ written. MatchBool written

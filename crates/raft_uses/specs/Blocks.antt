@@ -5,7 +5,7 @@ use Rattle.raft_log_file_pair.specs.Pipes.{LogPipes}
 use Rattle.raft_log_file_blocks.specs.Blocks.{ReadsEntry}
 use Rattle.raft_log_file_blocks.specs.declared.block_cache.BlockCache.{BlockCache}
 
--- both entries were read, the second one over the block that was kept of the first
+-- both entries were read, the second one with the block of the first in the cache
 pub record ReadsEnds {M : Type 0} (reading : List ℕ → Option M) (v : LogPipes) (first last : EntryIndex)
     (one other : M) : Type 0 where
   pub empty : BlockCache

@@ -1,4 +1,4 @@
--- What a caller of a builder has read.
+-- What a caller of a builder reads.
 use Rattle.std.specs.Prelude.{◌≡◌, List}
 use Rattle.raft_log_record_base.specs.declared.pipe_log.LogQueue.{LogQueue}
 use Rattle.raft_log_disk.specs.Disk.{Disk}

@@ -4,7 +4,7 @@ use Rattle.raft_log_disk.specs.Disk.{Disk}
 use Rattle.raft_log_closed.specs.Directory.{ChecksDirectory}
 use Rattle.raft_log_closed.specs.Findings.{finding_of}
 
--- the log in the directory was checked, and no group has a hole in it just where it is said to be whole
+-- the log in the directory was checked, and `whole` is true exactly if no group has a hole in it
 pub record FindsNoHole (path : List ℕ) (whole : Bool) (old new : Disk) : Type 0 where
   pub findings : List (ℕ × ℕ)
   pub checks : ChecksDirectory path findings old new

@@ -1,4 +1,4 @@
--- What a caller of a log's pipes does with them.
+-- What a caller does with a log's pipes.
 use Rattle.std.specs.Prelude.{List, ℕ}
 use Rattle.raft_log_record_base.specs.declared.pipe_log.FileBlockHandle.{FileBlockHandle}
 use Rattle.raft_log_record_base.specs.declared.pipe_log.LogFileContext.{LogFileContext}

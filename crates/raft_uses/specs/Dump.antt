@@ -6,7 +6,8 @@ use Rattle.raft_log_file_reader.specs.ItemReader.{GivesFirst}
 use Rattle.raft_log_file_reader.specs.declared.item_reader.LogItemReader.{LogItemReader}
 use Rattle.raft_log_closed.specs.Dump.{Dumps}
 
--- this is the first of what comes of the log files of the directory with this path, or of the log file with it
+-- this is the first item or error that is read from the log files of this directory, or from the log file with this
+-- path
 pub record BeginsDump {F : Type 0} (disk : F → Disk) (file_system : F) (path : List ℕ) (first : Option Answer)
     : Type 0 where
   pub reader : LogItemReader F

@@ -5,7 +5,7 @@ use Rattle.raft_log_file_settings.specs.declared.recovery_mode.RecoveryMode.{Rec
 use Rattle.raft_log_open_scan.specs.Scanned.{Scans}
 use Rattle.raft_log_open_scan.specs.declared.scanning.ScannedFiles.{ScannedFiles}
 
--- the directories were scanned, and of each queue so many files were found that are kept
+-- the directories were scanned, and so many files were found and kept of each queue
 pub record FindsFiles (directories : List (List ℕ)) (mode : RecoveryMode) (append rewrite : ℕ)
     (old new : Disk) : Type 0 where
   pub scanned : ScannedFiles

@@ -1,4 +1,4 @@
--- What a caller of the parts of a purge does with a group.
+-- What a caller does with the parts of a purge for one group.
 use Rattle.std.specs.Prelude.{ℕ}
 use Rattle.raft_log_directory_laws.specs.Calls.Which.{InAppend, InRewrite}
 use Rattle.raft_log_file_pair.specs.Calls.{SyncsQueue}
@@ -7,8 +7,8 @@ use Rattle.raft_log_engine_core.specs.raft_log_engine_laws.specs.Shows.{Shows}
 use Rattle.raft_log_purge_parts.specs.Groups.{RewritesGroup}
 use Rattle.raft_log_purge_parts.specs.Marks.{CarriesMarks}
 
--- Append was synced and the marks carried; then what the group has in Append up to the gate was rewritten, and
--- Rewrite synced
+-- Append was synced and the owed tombstones were written. Then what the group has in Append up to the gate was
+-- rewritten, and Rewrite was synced.
 pub record MovesGroup (group gate : ℕ) (s t : Shows) : Type 0 where
   pub synced : LogPipes
   pub syncs : SyncsQueue InAppend s.pipes synced

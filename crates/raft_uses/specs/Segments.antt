@@ -4,11 +4,11 @@ use Rattle.raft_log_table_segments.specs.Machines.{Batch}
 use Rattle.raft_log_table_segments.specs.Segments.{all_batches}
 use Rattle.raft_log_table_segments.specs.Sources.{HoldEach}
 
--- so many batches were read, at most the greatest number that there is
+-- so many batches were read, at most 2^64 - 1
 abbrev pub IsCountOf : List Batch → ℕ → Type 0
 IsCountOf batches count = count ≡ min (length batches) (2 ^ 64 - 1)
 
--- these are the batches that the first segments hold, so many segments, and all of the batches were counted
+-- these are the batches that the first segments hold, `segments` of them, and all of the batches were counted
 pub record CountsRecords {E : Type 0} (holds : ℕ → List Batch → E → Type 0) (segments count : ℕ) : Type 0 where
   pub batches : List (List Batch)
   pub endings : List E

@@ -1,4 +1,4 @@
--- What a caller says of sessions.
+-- What a caller learns of a session.
 use Rattle.std.specs.Prelude.{◌≡◌, ℕ, List, length, Ok}
 use Rattle.raft_voter_session.specs.Told.{Said}
 use Rattle.raft_voter_session.specs.Session.{session_of}

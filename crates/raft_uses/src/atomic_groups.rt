@@ -1,4 +1,4 @@
-//! A caller of `raft_log_record_marks`: what a reader asks of the items of a record.
+//! A caller of `raft_log_record_marks`: checks how the items of a record count.
 ghost use Rattle.std.specs.Prelude.{◌≡◌, ◌↔◌, Some, IsTrue};
 ghost use Rattle.raft_log_model_laws.specs.Item.Record.{Plain};
 ghost use Rattle.raft_log_record_marks.specs.Meaning.{record_of, tagged_items};
@@ -6,8 +6,8 @@ ghost use Rattle.raft_log_record_marks.specs.Meaning.{record_of, tagged_items};
 use raft_log_record_items::LogItem;
 use raft_log_record_marks::Marking;
 
-/// Whether what the items of a record say counts at once. A part of an atomic group waits for the other
-/// parts, and a broken record says nothing.
+/// Whether the items of a record count at once. A part of an atomic group counts only together with the other parts,
+/// and a broken record never counts.
 pub fn counts_at_once(items: &[LogItem]) -> bool
     ensures { IsTrue result ↔ (record_of (λ e. e) items.now ≡ Some (Plain (tagged_items (λ e. e) items.now))) }
 {

@@ -1,4 +1,4 @@
-//! A caller of `raft_log_file_blocks`: entries are read, and their block once.
+//! A caller of `raft_log_file_blocks`: reads entries, and their block once.
 
 ghost use Rattle.std.specs.Prelude.{IfOk};
 ghost use Rattle.raft_uses.specs.Blocks.{ReadsEnds};
@@ -9,7 +9,7 @@ use raft_log_record_base::Result;
 use raft_log_record_items::{EntryIndex, Message};
 use std::alloc::Global;
 
-/// Reads two entries, as the first and the last one of a log. Where they lie in one block, it is read once.
+/// Reads two entries, for example the first and the last one of a log. If they are in one block, it is read once.
 pub fn read_ends<M: Message, P: PipeLog>(
     alloc: Global,
     pipes: &P,

@@ -1,4 +1,4 @@
-//! A caller of `raft_log_open_builder`: what a log's files say is read, and no pipe is opened.
+//! A caller of `raft_log_open_builder`: reads a log's files without opening a pipe.
 
 ghost use Rattle.std.specs.Prelude.{IfOk};
 ghost use Rattle.raft_uses.specs.Builder.{ReadsInto};
@@ -13,7 +13,7 @@ use std::alloc::Global;
 use std::marker::Send;
 use std::thread::Threads;
 
-/// Reads the log of these settings into machines, that of Append and that of Rewrite.
+/// Reads the log of these settings into two machines, one for Append and one for Rewrite.
 pub fn read_into<
     R: Threads + Log + Sync,
     F: FileSystem + Sync,

@@ -1,4 +1,4 @@
-//! A caller of `raft_log_table_contexts`: the tables of a log whose queues were read.
+//! A caller of `raft_log_table_contexts`: makes the tables of a log whose queues were read.
 
 ghost use Rattle.std.specs.Prelude.{IfErr, IfOk, List, ◌≡◌};
 ghost use Rattle.raft_log_record_base.specs.declared.errors.Error.TheVariants.{Memory};
@@ -11,7 +11,7 @@ use raft_log_record_base::Result;
 use raft_log_table_all::MemTables;
 use raft_log_table_contexts::MemTableRecoverContext;
 
-/// What shows of all groups, once Append was read into one context and Rewrite into another.
+/// The tables of all groups, after Append was read into one context and Rewrite into another.
 pub fn tables_of_log(
     append: MemTableRecoverContext,
     rewrite: MemTableRecoverContext,

@@ -1,5 +1,5 @@
-//! A caller of `raft_log_file_pair` and of `raft_log_file_blocks`: a batch that is written to Append, signed
-//! for the file that it goes into, and made durable.
+//! A caller of `raft_log_file_pair` and of `raft_log_file_blocks`: writes a batch to Append, signed for its file, and
+//! makes it durable.
 
 ghost use Rattle.std.specs.Prelude.{◌≡◌, IfOk};
 ghost use Rattle.raft_log_disk.specs.Causes.{IsLater};
@@ -14,7 +14,7 @@ use raft_log_record_base::{FileBlockHandle, LogQueue, Result};
 use raft_log_record_batches::LogBatch;
 use std::alloc::Global;
 
-/// Writes a batch whose record is made to Append, and makes it durable. Answers its place.
+/// Writes a batch whose record is made to Append, and makes it durable. Returns its place.
 pub fn save_batch<P: PipeLog, L: Log>(
     alloc: Global,
     rt: &L,

@@ -1,4 +1,4 @@
-//! A caller of `raft_log_closed`: where a log's files begin.
+//! A caller of `raft_log_closed`: reads the beginning of a log's files.
 
 ghost use Rattle.std.specs.Prelude.{IfErr, IfOk};
 ghost use Rattle.raft_log_closed.specs.Dump.{IsNoDump};
@@ -10,8 +10,8 @@ use raft_log_record_base::Result;
 use raft_log_record_items::LogItem;
 use std::alloc::Global;
 
-/// What comes first of the log files of a directory, or of the log file with this path: an item, or why the
-/// first file gave none; or nothing.
+/// The first item or error that is read from the log files of a directory, or from the log file with this path; none if
+/// they are empty.
 pub fn first_dumped<F: FileSystem>(
     alloc: Global,
     path: &str,

@@ -8,7 +8,7 @@ use raft_log_disk::FileSystem;
 use raft_log_file_writer::LogFileWriter;
 use std::io::ErrorKind;
 
-/// Writes a record behind the others, and makes it durable.
+/// Appends a record, and makes it durable.
 pub fn save_record<F: FileSystem, L: Log>(
     rt: &L,
     file_system: &mut F,

@@ -1,4 +1,4 @@
-//! A caller of `raft_log_closed`: a log is backed up.
+//! A caller of `raft_log_closed`: backs up a log.
 
 ghost use Rattle.std.specs.Prelude.{IfErr, IfOk};
 ghost use Rattle.raft_log_file_settings.specs.Settings.{settings_of};
@@ -12,7 +12,7 @@ use raft_log_file_settings::Config;
 use raft_log_record_base::Result;
 use std::alloc::Global;
 
-/// Copies the log of these settings, which nobody has open, into a directory; answers how many files it has.
+/// Copies the log of these settings, which nobody has open, into a directory. Returns how many files the copy has.
 pub fn back_up<F: FileSystem, L: Log>(
     rt: &L,
     alloc: Global,

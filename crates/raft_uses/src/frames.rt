@@ -6,7 +6,7 @@ use raft_log_record_frames::decode_record;
 use raft_log_record_items::Result;
 use std::alloc::Global;
 
-/// What stands behind the record at the front of these bytes.
+/// The bytes after the record at the start of these bytes.
 pub fn behind_record(alloc: Global, bytes: &[u8], signature: Option<u32>) -> Result<&[u8]>
     ensures { IfOk result (λ rest. RecordBefore signature bytes.now rest.now) }
 {

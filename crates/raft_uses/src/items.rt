@@ -1,4 +1,4 @@
-//! A caller of `raft_log_record_items`: counters, which a user keeps in the log, and the item that says one.
+//! A caller of `raft_log_record_items`: counters that a user keeps in the log, and the item for one.
 ghost use Rattle.std.specs.Prelude.{◌≡◌, IfOk};
 ghost use Rattle.raft_log_record_items.specs.Items.{IsItem};
 ghost use Rattle.raft_log_record_items.specs.Writing.{item_bytes};
@@ -8,7 +8,7 @@ use raft_log_record_base::codec;
 use raft_log_record_items::{Bytes, Error, LogItem, Message, OpType, Result};
 use std::alloc::{AllocError, Global};
 
-/// A counter of 32 bits: not every number is one, and yet each counter is read back.
+/// A counter of 32 bits: not every number is a counter, and yet each counter is read back.
 #[derive(Clone, Copy, PartialEq, Eq)]
 pub struct Counter {
     pub count: u32,
@@ -38,7 +38,7 @@ impl Message for Counter {
     }
 }
 
-/// The bytes of an item that gives a key the counter.
+/// The bytes of the item that puts the counter at a key.
 pub fn counter_item(
     alloc: Global,
     group: u64,

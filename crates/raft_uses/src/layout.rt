@@ -1,4 +1,4 @@
-//! A caller of `raft_log_file_layout`: how a queue's files are written that lie in one directory.
+//! A caller of `raft_log_file_layout`: the layout of a queue whose files are in one directory.
 
 ghost use Rattle.std.specs.Prelude.{◌≡◌, [], ◌∷◌, IfOk};
 ghost use Rattle.raft_log_file_layout.specs.Layout.{log_paths};
@@ -8,7 +8,7 @@ use raft_log_file_queue::PipeFormat;
 use raft_log_record_base::LogQueue;
 use std::alloc::{AllocError, Global};
 
-/// The layout of a queue whose files all lie in this directory, for its pipe.
+/// The layout of a queue whose files are all in this directory, for its pipe.
 pub fn layout_in(alloc: Global, queue: LogQueue, directory: &str) -> Result<LogLayout, AllocError>
     ensures queue { IfOk result (λ layout. layout.queue ≡ queue) }
     ensures lies { IfOk result (λ layout.

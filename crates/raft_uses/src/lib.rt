@@ -1,4 +1,4 @@
-//! Proved callers of the crates that users call: what the pages `CALLING.md` show.
+//! Proved callers of the crates that users call; the pages `CALLING.md` show them.
 #![tactic(auto)]
 
 pub mod atomic_groups;

@@ -1,11 +1,11 @@
-//! A caller of `raft_log_file_listeners`: up to where a queue may be purged.
+//! A caller of `raft_log_file_listeners`: finds up to which file a queue may be purged.
 
 ghost use Rattle.std.specs.Prelude.{◌≤◌};
 
 use raft_log_file_listeners::{EventListener, Listeners};
 use raft_log_record_base::{FileSeq, LogQueue};
 
-/// The number up to which the files of a queue may be purged: this one, or the one that a listener holds back.
+/// The number up to which the files of a queue may be purged: this one, or the first that a listener pins.
 pub fn purge_end<H: EventListener>(
     listeners: &Listeners<H>,
     queue: LogQueue,

@@ -9,7 +9,7 @@ ghost use Rattle.raft_uses.specs.LogDisk.{FailsToSave};
 use raft_log_disk::{FileSystem, Handle};
 use std::io::ErrorKind;
 
-/// Makes a file with these bytes, which no crash takes back once this has answered.
+/// Creates a file with these bytes. If it succeeds, no crash loses them.
 pub fn save<F: FileSystem>(
     file_system: &mut F,
     path: &str,

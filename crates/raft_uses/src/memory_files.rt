@@ -10,8 +10,8 @@ use raft_log_disk_memory::{MemoryFileSystem, Remainder};
 use std::alloc::AllocError;
 use std::io::ErrorKind;
 
-/// Writes the same bytes at the beginning of two files. The first write stands before the second among
-/// what a crash may take back.
+/// Writes the same bytes at the beginning of two files. The first write comes before the second in the list of what a
+/// crash may lose.
 pub fn write_both(
     system: &mut MemoryFileSystem,
     first: Handle,
@@ -26,7 +26,7 @@ pub fn write_both(
     Ok(())
 }
 
-/// What a crash leaves of which the first change alone is kept.
+/// What a crash leaves that keeps only the first change.
 pub fn first_change_left(system: &MemoryFileSystem) -> Result<MemoryFileSystem, AllocError>
     ensures image { IfOk result (λ after. IsImage (disk_of system.now) (disk_of after)) }
     ensures synced { IfOk result (λ after. unsynced after ≡ []) }

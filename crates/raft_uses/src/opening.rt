@@ -1,4 +1,4 @@
-//! A caller of `raft_log_open_directory`: how much a log has read of its Rewrite files when it is opened.
+//! A caller of `raft_log_open_directory`: counts what an open reads from a log's Rewrite files.
 
 ghost use Rattle.std.specs.Prelude.{IfErr, IfOk};
 ghost use Rattle.raft_log_open_directory.specs.Opening.{FailsToOpenDirectory};
@@ -13,7 +13,7 @@ use raft_log_table_segments::ReplayThreads;
 use std::alloc::Global;
 use std::thread::Threads;
 
-/// Opens the log of these settings and gives it up: how many entries and values its Rewrite files bring.
+/// Opens the log of these settings and drops it. Returns how many entries and values were read from its Rewrite files.
 pub fn count_brought<R: Threads + Log + Sync, F: FileSystem + Sync + Drop>(
     rt: &R,
     alloc: Global,

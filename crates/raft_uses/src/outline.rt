@@ -5,8 +5,8 @@ ghost use Rattle.raft_voter_outline.specs.Outlines.{IsReplyOfEach};
 
 use raft_voter_outline::{Answer, Decision, Memory, Outline, Request};
 
-/// Takes a request, and tells what is answered. A store writes the change where room is made for it and
-/// nothing is changed yet. Where memory is refused the outline is as it was.
+/// Takes a request, and returns the reply. A store writes the change after room was made for it and before anything
+/// changes. If memory runs out, the outline is unchanged.
 pub fn take(outline: &mut Outline, request: &Request) -> Result<Answer, Memory>
     ensures answers { IfOk result (IsReplyOfEach outline.old.voter request.now) }
     ensures ok { OnOk result (OutlineBecomes outline.old.voter request.now outline.new.voter) }

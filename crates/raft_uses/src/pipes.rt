@@ -11,7 +11,7 @@ use raft_log_file_queue::PipeFormat;
 use raft_log_record_base::{FileBlockHandle, Result};
 use std::alloc::Global;
 
-/// Writes a record that no crash takes back once this has answered, and answers its place.
+/// Writes a record and makes it durable: if this succeeds, no crash loses it. Returns its place.
 pub fn save_record<G: PipeFormat, F: FileSystem, L: Log, B: ReactiveBytes>(
     alloc: Global,
     rt: &L,
@@ -30,7 +30,7 @@ pub fn save_record<G: PipeFormat, F: FileSystem, L: Log, B: ReactiveBytes>(
     Ok(place)
 }
 
-/// Goes on in the next file, and lets all files before it go; answers how many.
+/// Rotates, and removes all earlier files from the pipe. Returns how many.
 pub fn keep_last_file<G: PipeFormat, F: FileSystem, L: Log>(
     alloc: Global,
     rt: &L,

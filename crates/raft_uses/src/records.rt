@@ -1,5 +1,5 @@
-//! Callers of `raft_log_record_batches`: a batch that is made, written by whoever has the file, or taken back; and
-//! room that is made in a batch first, so that what comes later isn't refused.
+//! Callers of `raft_log_record_batches`: make a batch's record, take it back, or place it after its write. Others make
+//! room in a batch first, so that what comes later can't fail.
 ghost use Rattle.std.specs.Prelude.{◌≡◌, ◌+◌, ◌<◌, ◌^◌, length, IsOk, IfOk, OnOk, OnErr};
 ghost use Rattle.raft_log_record_base.specs.Files.{signature_of};
 ghost use Rattle.raft_log_record_batches.specs.declared.log_batch.BatchState.TheVariants.{Filling, Signed};
@@ -17,7 +17,8 @@ ghost use Rattle.raft_log_record_batches.specs.Batch.{
 use raft_log_record_batches::LogBatch;
 use raft_log_record_items::{FileBlockHandle, LogFileContext, Result};
 
-/// Makes the record of a batch and signs it for a file, and answers how many bytes it has in whatever file.
+/// Makes the record of a batch and signs it for a file. Returns the record's length in bytes, which is the same in any
+/// file.
 pub fn make_record(batch: &mut LogBatch, context: &LogFileContext) -> Result<usize>
     requires { batch.old.state ≡ Filling }
     ensures ok { OnOk result (IsButBuffer (signed_as (signature_of context.now) batch.old) batch.new) }
@@ -29,7 +30,7 @@ pub fn make_record(batch: &mut LogBatch, context: &LogFileContext) -> Result<usi
     Ok(len)
 }
 
-/// The write was refused: the batch is filled again, with all that was added. It asks for no memory.
+/// The write failed: the batch may be filled again, with all that was added. It needs no memory.
 pub fn take_back(batch: &mut LogBatch, context: &LogFileContext)
     requires { batch.old.state ≡ Signed (signature_of context.now) }
     ensures { batch.new ≡ record batch.old { state = Filling } }
@@ -38,7 +39,7 @@ pub fn take_back(batch: &mut LogBatch, context: &LogFileContext)
     batch.unpopulate();
 }
 
-/// The write was answered: the items have their places.
+/// The write succeeded: the items get their places.
 pub fn place(batch: &mut LogBatch, context: &LogFileContext, handle: FileBlockHandle)
     requires signed { batch.old.state ≡ Signed (signature_of context.now) }
     requires place { handle.offset + 16 < 2 ^ 64 }
@@ -47,7 +48,7 @@ pub fn place(batch: &mut LogBatch, context: &LogFileContext, handle: FileBlockHa
     batch.finish_write(handle);
 }
 
-/// Makes room in a batch for all that another one has, before something that can't be taken back.
+/// Makes room in a batch for all that another one has, before something that can't be undone.
 pub fn make_room(batch: &mut LogBatch, other: &LogBatch) -> Result<()>
     requires { batch.old.state ≡ Filling }
     ensures room { OnOk result (HasRoomFor batch.new other.now) }
@@ -56,7 +57,7 @@ pub fn make_room(batch: &mut LogBatch, other: &LogBatch) -> Result<()>
     batch.reserve(other.len(), other.entries_len())
 }
 
-/// Takes over all that another batch has, for which there is room: it asks for no memory and isn't refused.
+/// Takes over all that another batch has, for which there is room: it needs no memory and can't fail.
 pub fn take_over(batch: &mut LogBatch, other: &mut LogBatch)
     requires own { batch.old.state ≡ Filling }
     requires other { other.old.state ≡ Filling }

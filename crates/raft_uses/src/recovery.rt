@@ -1,4 +1,4 @@
-//! A caller of `raft_log_open_scan`: how many files a log has that nobody has open.
+//! A caller of `raft_log_open_scan`: counts the files of a log that nobody has open.
 
 ghost use Rattle.std.specs.Prelude.{IfErr, IfOk, map};
 ghost use Rattle.std.specs.String.{string_bytes};
@@ -11,7 +11,7 @@ use raft_log_open_scan::scanning::scan;
 use raft_log_record_base::Result;
 use std::alloc::Global;
 
-/// How many files of Append and how many of Rewrite an open would read in these directories. No file is changed.
+/// How many files of Append and of Rewrite an open would read in these directories. Changes no file.
 pub fn count_files<F: FileSystem>(
     alloc: Global,
     file_system: &mut F,

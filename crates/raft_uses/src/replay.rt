@@ -1,4 +1,4 @@
-//! A caller of `raft_log_table_all`: where a group's log ends.
+//! A caller of `raft_log_table_all`: finds the end of a group's log.
 
 ghost use Rattle.std.specs.Prelude.{◌≡◌, option_and_then};
 ghost use Rattle.raft_log_table_all.specs.Tables.{table_of};
@@ -7,8 +7,7 @@ ghost use Rattle.raft_log_table_one.specs.Table.{shown};
 
 use raft_log_table_all::MemTables;
 
-/// The last index of a group's entries: none where the group has taken nothing since it was cleaned, or has no
-/// entries.
+/// The last index of a group's entries; none if the group has taken nothing since it was cleaned, or has no entries.
 pub fn last_index(tables: &MemTables, group: u64) -> Option<u64>
     ensures { result ≡ option_and_then (λ table. last_of (shown table)) (table_of tables.now group) }
 {

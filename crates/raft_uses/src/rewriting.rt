@@ -1,4 +1,4 @@
-//! A caller of `raft_log_purge_parts`: a group's entries and values move from Append to Rewrite.
+//! A caller of `raft_log_purge_parts`: moves a group's entries and values from Append to Rewrite.
 
 ghost use Rattle.std.specs.Prelude.{OnOk};
 ghost use Rattle.raft_log_engine_core.specs.raft_log_engine_laws.specs.Shows.{shows};
@@ -12,7 +12,7 @@ use raft_log_record_base::{FileSeq, LogQueue, Result};
 use raft_log_table_all::MemTables;
 use std::alloc::Global;
 
-/// Rewrites what a group has in Append in files up to the gate, and syncs it; the marks are carried before.
+/// Rewrites what a group has in Append in files up to the gate, and syncs it; writes the owed tombstones before.
 pub fn move_group<P: PipeLog, L: Log>(
     alloc: Global,
     rt: &L,

@@ -1,4 +1,4 @@
-//! A caller of `raft_log_table_segments`: how many records a queue has, counted by a machine of one's own.
+//! A caller of `raft_log_table_segments`: counts the records of a queue with a machine of its own.
 
 ghost use Rattle.std.specs.Prelude.{IfOk};
 ghost use Rattle.raft_log_table_segments.specs.Segments.{read_by};
@@ -34,7 +34,7 @@ impl ReplayMachine for RecordCount {
     }
 }
 
-/// Begins each count at nothing.
+/// Begins each count at zero.
 #[derive(Clone, Copy)]
 pub struct FromNothing;
 

@@ -1,4 +1,4 @@
-//! A caller of `raft_log_file_settings`: settings from a text, made whole.
+//! A caller of `raft_log_file_settings`: reads settings from a text, and completes them.
 ghost use Rattle.std.specs.Prelude.{◌≡◌, Some, Ok, IfOk};
 ghost use Rattle.toml.specs.Data.{Members};
 ghost use Rattle.toml.specs.Parse.{parse_document};
@@ -11,7 +11,7 @@ use raft_log_file_settings::Config;
 use raft_log_record_base::Result;
 use std::alloc::Global;
 
-/// The settings that a text says, if they are sound, made whole.
+/// The settings in a text, if they are sound, completed.
 pub fn settings_from<L: Log>(rt: &L, alloc: Global, text: &str) -> Result<Config>
     ensures { IfOk result (λ config. (table : Members) × (s : Settings)
         × (parse_document text.now ≡ Some table) × (settings_in table ≡ Ok s)

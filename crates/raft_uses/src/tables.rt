@@ -12,8 +12,8 @@ ghost use Rattle.raft_log_table_one.specs.Table.{shown};
 use raft_log_record_items::{EntryIndex, EntryIndexes, FileBlockHandle, Result};
 use raft_log_table_one::MemTable;
 
-/// Writes entries of a group, and has them stand in its table. Room for them is made before the write, so
-/// that nothing can be refused once it is done; where anything is refused the table shows what it showed.
+/// Writes entries of a group, and applies them to its table. It makes room before the write, so that nothing can fail
+/// after it. If anything fails, the table is unchanged.
 pub fn write_entries<F: FnOnce(&[EntryIndex]) -> Result<FileBlockHandle>>(
     table: &mut MemTable,
     entries: &mut EntryIndexes,

@@ -1,4 +1,4 @@
-//! A caller of `raft_log_file_listeners`: a purge that heeds whoever listens.
+//! A caller of `raft_log_file_listeners`: a purge that respects listeners.
 
 ghost use Rattle.std.specs.Prelude.{◌≡◌, OnOk};
 ghost use Rattle.raft_log_file_pair.specs.Pipes.{which_of};
@@ -10,8 +10,7 @@ use raft_log_file_pair::PipeLog;
 use raft_log_record_base::{FileId, FileSeq, LogQueue, Result};
 use std::alloc::Global;
 
-/// Lets the files of a queue below this one go, but for those that the pipes or the listener hold back. Answers
-/// how many.
+/// Removes the files of a queue below this one, except those that the pipes or the listener pin. Returns how many.
 pub fn purge_free<P: PipeLog, E: EventListener, L: Log>(
     alloc: Global,
     rt: &L,
@@ -28,7 +27,7 @@ pub fn purge_free<P: PipeLog, E: EventListener, L: Log>(
     Ok(gone)
 }
 
-/// The lesser number, where something is held back.
+/// `end`, or the first pinned number if that is less.
 fn up_to(held: Option<FileSeq>, end: FileSeq) -> FileSeq
     ensures { result ≡ up_to held end }
 {

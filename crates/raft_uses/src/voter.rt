@@ -5,8 +5,8 @@ ghost use Rattle.raft_voter.specs.State.{state_of};
 
 use raft_voter::{Memory, Request, Voter, VoterState};
 
-/// The state of a voter once it took a request, to be shown on a status page. Where memory is refused it
-/// is as it was.
+/// Takes a request, and returns the voter's state after it, for example for a status page. If memory runs out, the
+/// voter is unchanged.
 pub fn state_after(voter: &mut Voter, request: &Request) -> Result<VoterState, Memory>
     ensures ok { OnOk result (voter.new ≡ next voter.old request.now) }
     ensures state { IfOk result (λ state. state ≡ state_of (next voter.old request.now)) }

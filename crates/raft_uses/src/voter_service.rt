@@ -4,8 +4,8 @@ ghost use Rattle.raft_voter.specs.Service.{AnswersRound};
 
 use raft_voter::{Cause, Items, Reply, Request, RoundFault, RoundService};
 
-/// Serves a round by any store, and once more where memory was short, since nothing was taken then. Whichever
-/// voters were served gave the answer, and a crash after it leaves them.
+/// Serves a round with any store, and tries once more if memory ran out, since nothing was taken then. The replies are
+/// those of the voters that the store served, and a crash after it leaves them.
 pub fn serve_again<R, S: RoundService<R>>(
     rt: &R,
     store: &mut S,

@@ -1,4 +1,4 @@
--- Voters, from their outlines and their entries.
+-- Voters, put together from their outlines and their entries.
 use Rattle.std.specs.Prelude.{◌≡◌, ℕ, ◌+◌, ◌^◌, ◌<◌, List, length}
 use Rattle.raft_voter_outline.specs.Runs.{bare}
 use Rattle.raft_voter_outline.specs.State.{State, fresh}
@@ -9,16 +9,16 @@ use Rattle.raft_voter_outline.specs.declared.outline.decision.Write.TheVariants.
 abbrev pub with_entries : State → List (ℕ × List ℕ) → State
 with_entries o log = record o { log = log }
 
--- the outline knows the terms of these entries, the last of which has an index in range
+-- the outline has the terms of these entries, and the index of the last one is in range
 pub record IsOutlineOf (o : State) (log : List (ℕ × List ℕ)) : Type 0 where
   pub bared : bare log ≡ o.log
   pub small : o.base_index + length log < 2 ^ 63
 
--- a voter of which the base and the entries alone matter
+-- a voter of which only the base and the entries matter
 abbrev pub laid : ℕ → List (ℕ × List ℕ) → State
 laid base_index log = record fresh { base_index = base_index; log = log }
 
--- entries go in
+-- the write appends entries
 abbrev pub BringsEntries : Write → Type 0
 BringsEntries (Entries skipped index) = Unit {0}
 BringsEntries _ = ⊥

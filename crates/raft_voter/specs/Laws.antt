@@ -17,7 +17,7 @@ use Rattle.raft_voter.specs.InRange.{IsInRange, IsStorable}
 use Rattle.raft_voter.specs.Rounds.{World, Explains, Leads}
 use Rattle.raft_voter.specs.Accounts.{group_account, NoRetire, requests_of, voter_after}
 
--- one round that was cut off counts once
+-- a round that was cut off counts as one
 abbrev pub cut_count_of : Outcome → ℕ
 cut_count_of (Answered replies) = 0
 cut_count_of Cut = 1
@@ -27,22 +27,22 @@ abbrev pub cut_count : List Round → ℕ
 cut_count [] = 0
 cut_count (r ∷ rounds) = cut_count_of r.outcome + cut_count rounds
 
--- Rounds that lead from W to X and rounds that lead from X to Y are rounds that lead from W to Y.
+-- If rounds lead from W to X, and later rounds lead from X to Y, then all of them together lead from W to Y.
 abbrev pub RoundsJoin : Type 0
 RoundsJoin =
     (W X Y : World) (first later : List Round) (cuts cuts' : List ℕ) → Leads W first cuts X
     → Leads X later cuts' Y
     → Leads W (first ++ later) (cuts ++ cuts') Y
 
--- Rounds that lead from W to Y part anywhere into rounds to a world between and rounds from there, each
--- with the cuts of its own rounds.
+-- Rounds that lead from W to Y can be split anywhere. The first part leads to some world X, and the second from there
+-- to Y. Each part has the cuts of its own rounds.
 abbrev pub RoundsPart : Type 0
 RoundsPart =
     (W Y : World) (first later : List Round) (cuts : List ℕ) → Leads W (first ++ later) cuts Y
     → (X : World) × Leads W first (take (cut_count first) cuts) X
     × Leads X later (drop (cut_count first) cuts) Y
 
--- No group grants its vote to two candidates in one term, unless a request to retire it came between.
+-- No group grants its vote to two candidates in one term, unless it took a request to retire between them.
 abbrev pub OneVotePerTerm : Type 0
 OneVotePerTerm =
     (rounds : List Round) (cuts : List ℕ) (group : ℕ) → Explains rounds cuts
@@ -52,19 +52,19 @@ OneVotePerTerm =
     ++ (Vote t' candidate' i' u', Some (Granted term)) ∷ later
     → NoRetire between → candidate ≡ candidate'
 
--- A group's term never falls, unless a request to retire it came.
+-- A group's term never falls, unless it took a request to retire.
 abbrev pub TermsNeverFall : Type 0
 TermsNeverFall =
     (W X : World) (rounds : List Round) (cuts : List ℕ) (group : ℕ) → Leads W rounds cuts X
     → NoRetire (group_account group rounds cuts) → (W group).term ≤ (X group).term
 
--- A group's commit never goes down, unless a request to retire it came.
+-- A group's commit never falls, unless it took a request to retire.
 abbrev pub CommitNeverFalls : Type 0
 CommitNeverFalls =
     (W X : World) (rounds : List Round) (cuts : List ℕ) (group : ℕ) → Leads W rounds cuts X
     → NoRetire (group_account group rounds cuts) → (W group).commit ≤ (X group).commit
 
--- A base that isn't above its group's commit never comes to stand above it.
+-- If a group's base is at most its commit, it stays so.
 abbrev pub BaseIsCommitted : Type 0
 BaseIsCommitted =
     (W X : World) (rounds : List Round) (cuts : List ℕ) (group : ℕ) → Leads W rounds cuts X
@@ -74,13 +74,13 @@ BaseIsCommitted =
 abbrev pub sent_at : ℕ → List (ℕ × List ℕ) → ℕ → Option (ℕ × List ℕ)
 sent_at prev sent i = if nat_lt prev i then slice_get sent (i - prev - 1) else None
 
--- an Append brings an entry of a term for this index that doesn't stand there
+-- for this index an Append brings an entry of a term that the voter doesn't have there
 abbrev pub BringsOther : State → ℕ → List (ℕ × List ℕ) → ℕ → Type 0
 BringsOther v prev sent i = IsSomeAnd (sent_at prev sent i) (λ e. term_at v i ≢ Some e.0)
 
--- What a matched Append makes of the log, index by index. Where it brings another term, f being the least
--- such index, the entries below f are the old ones with their bytes, and from f on they are exactly those
--- that it brings. Where it brings none the log is the old one.
+-- The log after a matched Append, index by index. If the Append brings another term, let f be the least such index.
+-- Below f the entries are the old ones with their bytes. From f on they are exactly those that it brings. If it brings
+-- no other term, the log is unchanged.
 abbrev pub MatchedAppend : Type 0
 MatchedAppend =
     (v : State) (term prev prev_term commit last : ℕ) (sent : List (ℕ × List ℕ))
@@ -94,9 +94,11 @@ MatchedAppend =
     ((j : ℕ) → ¬ BringsOther v prev sent j) → (next v (Append term prev prev_term commit sent)).log ≡ v.log
     )
 
--- A request that voter v takes leaves the entry at index i: a matched Append brings no other term at or
--- below i; the base stays below i; an Install whose snapshot goes up to an entry below i holds the very
--- entry that the log has there; and it isn't a request to retire.
+-- Voter v keeps the entry at index i when it takes a request:
+-- - a matched Append brings no other term at or below i;
+-- - a Compact leaves the base below i;
+-- - an Install leaves the base below i; if it moves the base, the log has the snapshot's last entry;
+-- - it isn't a request to retire.
 abbrev pub SparesEntry : State → ℕ → Request → Type 0
 SparesEntry v i (Append term prev prev_term commit sent) =
     (last : ℕ) → reply v (Append term prev prev_term commit sent) ≡ Matched last
@@ -110,18 +112,18 @@ SparesEntry v i (Vote term candidate index last) = Unit {0}
 SparesEntry v i (Read from to) = Unit {0}
 SparesEntry v i Status = Unit {0}
 
--- each of these requests, taken in order from voter v on, does
+-- voter v keeps the entry at index i through all these requests, taken in order
 abbrev pub AllSpare : State → ℕ → List (Request × Option Reply) → Type 0
 AllSpare v i [] = Unit {0}
 AllSpare v i (t ∷ ts) = SparesEntry v i t.0 × AllSpare (next v t.0) i ts
 
--- an Append that was taken, and answered to have matched up to an index
+-- an Append that was taken, with the reply that it matched up to an index
 abbrev pub matched_up_to : ℕ → ℕ → ℕ → ℕ → List (ℕ × List ℕ) → ℕ → Request × Option Reply
 matched_up_to term prev prev_term commit sent last =
     (Append term prev prev_term commit sent, Some (Matched last))
 
--- An entry that an Append was answered to have matched stands, with its term and bytes, until a later
--- Append brings a different term at or below it, or it is compacted, replaced by Install, or retired.
+-- After a matched Append, the voter has each entry that it brought, with its term. The entry keeps its term and bytes
+-- until a later Append brings another term at or below it. A compaction, an Install or a Retire may remove it too.
 abbrev pub MatchedEntriesStand : Type 0
 MatchedEntriesStand =
     (rounds : List Round) (cuts : List ℕ) (group : ℕ) → Explains rounds cuts
@@ -149,7 +151,7 @@ is_repeatable (Read from to) = false
 is_repeatable Status = false
 is_repeatable Retire = false
 
--- A Vote, Append, Compact or Install that is repeated at once gets the same reply and changes nothing.
+-- If a Vote, Append, Compact or Install is repeated at once, it gets the same reply and changes nothing.
 abbrev pub RepeatIsIdempotent : Type 0
 RepeatIsIdempotent =
     (rounds : List Round) (cuts : List ℕ) (group : ℕ) → Explains rounds cuts
@@ -158,8 +160,8 @@ RepeatIsIdempotent =
     → (a ≡ b)
     × (voter_after (before ++ (q, Some a) ∷ (q, Some b) ∷ []) ≡ voter_after (before ++ (q, Some a) ∷ []))
 
--- A reply depends on the requests alone that its own group took: in two transcripts, whatever other groups
--- do, the same requests of a group get the same reply.
+-- A reply depends only on the requests that its own group took. If a group took the same requests in two transcripts,
+-- it gives the same reply, whatever other groups do.
 abbrev pub GroupIsolation : Type 0
 GroupIsolation =
     (rounds rounds' : List Round) (cuts cuts' : List ℕ) (group : ℕ) → Explains rounds cuts
@@ -169,9 +171,9 @@ GroupIsolation =
     → group_account group rounds' cuts' ≡ before' ++ (q, Some a') ∷ later'
     → requests_of before ≡ requests_of before' → a ≡ a'
 
--- After an Append that was answered to have matched up to an index, an entry stands at each index above
--- the base and up to that one, whether the Append brought it or it was there, in a round that was answered
--- or cut off. The same entry stands after whatever follows and spares it.
+-- After an Append whose reply is `Matched`, the voter has an entry at each index above the base and up to the matched
+-- one. The Append or an earlier request brought it. That request's round may have been cut off. The voter keeps that
+-- entry through all requests that spare it.
 abbrev pub MatchedIsAcknowledged : Type 0
 MatchedIsAcknowledged =
     (rounds : List Round) (cuts : List ℕ) (group : ℕ) → Explains rounds cuts
@@ -189,8 +191,8 @@ MatchedIsAcknowledged =
     × (entry_at (voter_after (before ++ matched_up_to term prev prev_term commit sent last ∷ between)) i
     ≡ Some e)
 
--- A Read that is answered with entries is answered one for each index that it asked for, in order: the
--- k-th is the voter's entry at `from + k`.
+-- If a Read returns entries, there is one for each index that it asked for, in order. The k-th is the voter's entry at
+-- `from + k`.
 abbrev pub EntriesAreTheLog : Type 0
 EntriesAreTheLog =
     (v : State) (from to : ℕ) (entries : List Entry) → reply v (Read from to) ≡ Entries entries
@@ -199,30 +201,30 @@ EntriesAreTheLog =
     → (e : Entry) × (slice_get entries k ≡ Some e) × (e.index ≡ from + k)
     × (entry_at v (from + k) ≡ Some (e.term, e.bytes)))
 
--- A fresh voter is in range, and each request leaves a voter in range in range.
+-- A fresh voter is in range, and requests keep a voter in range.
 abbrev pub RangeIsKept : Type 0
 RangeIsKept = IsInRange fresh × ((v : State) (q : Request) → IsInRange v → IsInRange (next v q))
 
--- A fresh voter can be stored, and each request leaves a voter that can be stored so.
+-- A fresh voter can be stored, and requests keep a voter so that it can be stored.
 abbrev pub StorableIsKept : Type 0
 StorableIsKept = IsStorable fresh × ((v : State) (q : Request) → IsStorable v → IsStorable (next v q))
 
--- the entries of a voter with their indexes, the first right above its base
+-- the entries of a voter with their indexes; the first is right above its base
 abbrev pub log_entries : State → List Entry
 log_entries v = numbered (v.base_index + 1) v.log
 
--- each of these bytes is the entry at its index, the first at this one
+-- each of these bytes encodes the entry at its index; the first is at `index`
 abbrev pub AreReadAs : ℕ → List (List ℕ) → List Entry → Type 0
 AreReadAs index [] [] = Unit {0}
 AreReadAs index (bytes ∷ others) (e ∷ es) = IsEntry bytes index e × AreReadAs (index + 1) others es
 AreReadAs index others es = ⊥
 
--- A state and entries are read of what is written of a voter: of its state's bytes, and of each entry's.
+-- The state and the entries that are read from a voter's stored bytes: from its state's bytes, and from each entry's.
 pub record IsReadOfWritten (v : State) (s : VoterState) (es : List Entry) : Type 0 where
   pub state : IsState (state_text (state_of v)) s
   pub entries : AreReadAs (v.base_index + 1) (map entry_text (log_entries v)) es
 
--- What is written of a voter that can be stored is read, and whatever it is read as restores that very voter.
+-- The stored bytes of a voter that can be stored are readable, and whatever is read from them restores that voter.
 abbrev pub StoredVotersAreRestored : Type 0
 StoredVotersAreRestored =
     (v : State) → IsStorable v

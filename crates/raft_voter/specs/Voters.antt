@@ -12,10 +12,10 @@ use Rattle.raft_voter.specs.Rounds.{World}
 abbrev pub world_of : Voters → World
 world_of v = λ g. unwrap_or (get nat_cmp v.voters g) fresh
 
--- a group needs memory for a request: it has no voter here yet, or entries are copied
+-- a request of a group needs memory: the group has no voter here yet, or entries are copied
 abbrev pub NeedsMemory : Voters → ℕ → Request → Type 0
 NeedsMemory v g q = (get nat_cmp v.voters g ≡ None) ⊎ Copies (world_of v g) q
 
--- a group is among these
+-- a group is in the list
 abbrev pub is_listed : List ℕ → ℕ → Bool
 is_listed groups g = list_any (is_at (nat_cmp g)) groups

@@ -1,4 +1,4 @@
-//! Whether voters that never fail explain a transcript.
+//! The judge: decides whether voters that never fail explain a transcript.
 ghost use Rattle.std.specs.Prelude.{◌≡◌, ◌<◌, ◌≤◌, ◌↔◌, IsTrue, IfOk, IfSome, OnErr, OnSome, MatchOption, length, drop};
 ghost use Rattle.raft_voter.specs.Rounds.{after_round, are_rising, cuts_after, Explains, RoundHolds};
 ghost use Rattle.raft_voter.specs.Voters.{world_of};
@@ -6,11 +6,13 @@ ghost use Rattle.raft_voter.specs.Voters.{world_of};
 use crate::{Items, Memory, Outcome, Reply, Round, Transcript, Voters};
 use std::alloc::Global;
 
-/// Whether voters that begin as fresh ones and never fail explain a transcript, where the round that was
-/// cut off as the n-th was taken up to the n-th of these places. It is so exactly if there is one place
-/// for each such round, none past its round's requests, each round's refused places rise and are its own,
-/// and each answered round has the voters' replies, with `Refused` at the refused places. Memory can be
-/// refused only where there is a round.
+/// Whether fresh voters that never fail explain a transcript. The n-th cut is the place up to which the n-th round that
+/// was cut off took its requests. Returns `true` exactly if:
+/// - there is one cut for each round that was cut off, and none is past its round's requests;
+/// - each round's refused places rise and are places of the round;
+/// - each round with replies has the voters' replies, and `Refused` at the refused places.
+///
+/// Memory can run out only if there is a round.
 pub fn judge(alloc: Global, transcript: &Transcript, cuts: &[usize]) -> Result<bool, Memory>
     ensures ok { IfOk result (λ explained. IsTrue explained ↔ Explains transcript.now.rounds cuts.now) }
     ensures errors { OnErr result (0 < length transcript.now.rounds) }
@@ -26,8 +28,7 @@ pub fn judge(alloc: Global, transcript: &Transcript, cuts: &[usize]) -> Result<b
     Ok(used == cuts.len())
 }
 
-/// Whether a round may say what it says, and how many of the cuts that are left it takes. The voters take
-/// what it took.
+/// Whether a round is possible here, and how many of the remaining cuts it uses. The voters take what the round took.
 fn judge_round(voters: &mut Voters, round: &Round, cuts: &[usize]) -> Result<Option<usize>, Memory>
     ensures fails { IfOk result (λ used. MatchOption used
         (RoundHolds (world_of voters.old) round.now cuts.now → ⊥)
@@ -69,7 +70,7 @@ fn same(told: &Items<Reply>, given: &Items<Reply>) -> bool
     told == given
 }
 
-/// Whether these places rise and stay below `end`.
+/// Whether these places rise and are below `end`.
 fn are_rising(places: &[usize], end: usize) -> bool
     ensures { result ≡ are_rising 0 end places.now }
 {

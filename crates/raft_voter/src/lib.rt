@@ -1,13 +1,11 @@
-//! The receiver's side of Raft as a pure machine: many voters, each with its term, its vote and its log,
-//! what a transcript of their replies means, and a judge of such transcripts; and the trait of a store that
-//! keeps them.
+//! The receiver's side of Raft as a pure machine: many voters, each with its term, its vote and its log. Also the
+//! meaning of a transcript of their replies, a judge of transcripts, and the trait of a store that keeps voters.
 //!
-//! Nothing here knows of files, threads or time. A `Voter` answers one `Request` at a time; what it
-//! answers and what it becomes are the rules of `raft_voter_outline`, case by case, and its outline
-//! decides by them. A `Transcript` tells which requests came in which rounds and what was answered;
-//! `judge` says whether voters that never fail explain it. A `RoundService` serves such rounds and keeps
-//! the voters where a crash leaves them, and `StoreFiles` keep them while it isn't open. Requests, replies,
-//! rounds and their stored bytes are those of `raft_voter_messages`.
+//! Nothing here depends on files, threads or time. A `Voter` takes one `Request` at a time and returns its reply. The
+//! rules of `raft_voter_outline` define the reply and the voter's next state, and the voter's outline decides by them.
+//! A `Transcript` has the requests of each round and their replies. `judge` decides whether voters that never fail
+//! explain it. A `RoundService` serves such rounds and keeps the voters so that they survive a crash. `StoreFiles` keep
+//! them while it isn't open. Requests, replies, rounds and their stored bytes are those of `raft_voter_messages`.
 #![tactic(auto)]
 
 mod judging;

@@ -1,4 +1,4 @@
-//! What serves rounds of requests.
+//! The trait of a service that serves rounds of requests.
 ghost use Rattle.std.specs.Prelude.{◌≡◌, ◌≤◌, [], length, IfOk, IfErr, OnOk};
 ghost use Rattle.raft_voter.specs.Service.{AnswersRound, CutsOff, FailsAs, IsAlive, refused_from};
 
@@ -9,37 +9,35 @@ use thiserror::Error;
 /// The most requests of a round.
 pub const MAX_ROUND_REQUESTS: usize = 4096;
 
-/// Why a round was cut off. `TooLong`, `Failed` and `Memory` are looked for in this order, before anything is
-/// taken.
+/// Why a round was cut off. `TooLong`, `Failed` and `Memory` are checked in this order, before any request is taken.
 #[derive(Clone, Copy, Debug, PartialEq, Eq, Error)]
 pub enum Cause {
-    /// What was to be written wasn't: some of the first requests may have been taken, and the service has
-    /// failed.
+    /// A write failed. Some of the first requests may have been taken, and the service has failed.
     #[error("the file system failed")]
     FileSystem,
-    /// There is no room for the replies; nothing was taken.
+    /// There is no memory for the replies. No request was taken.
     #[error("out of memory")]
     Memory,
-    /// The service failed before and must be opened again; nothing was taken.
+    /// The service failed before and must be opened again. No request was taken.
     #[error("the service failed before")]
     Failed,
-    /// There are more than 4,096 requests; nothing was taken.
+    /// There are more than 4,096 requests. No request was taken.
     #[error("more than 4096 requests")]
     TooLong,
 }
 
-/// A round that was cut off: no reply is handed out.
+/// A round that was cut off: it returns no replies.
 #[derive(Debug, Drop, Error)]
 #[error("round cut off: {cause}")]
 pub struct RoundFault {
-    /// The places that weren't taken, rising; none but where the file system failed.
+    /// The places that weren't taken, in rising order. Empty unless the file system failed.
     pub refused: Items<usize>,
-    /// Why.
+    /// The cause.
     pub cause: Cause,
 }
 
 impl RoundFault {
-    /// A fault without refused places.
+    /// Returns a fault without refused places.
     pub fn new(alloc: Global, cause: Cause) -> RoundFault
         ensures { result ≡ record { refused = []; cause = cause } }
     {
@@ -68,23 +66,21 @@ impl From<AllocError> for Cause {
     }
 }
 
-/// Serves rounds of requests to the voters of many groups, and keeps the voters where a crash leaves them. Its
-/// calls are handed the runtime, of whatever type the store needs it.
+/// Serves rounds of requests to the voters of many groups, and keeps the voters so that they survive a crash. Its calls
+/// take the runtime, in the type that the store needs.
 pub trait RoundService<R> {
     ghost use Rattle.raft_voter.specs.Service.{Service};
 
-    /// Which voters it serves, whether it failed, which voters are found once it is closed or a crash came,
-    /// which requests it may refuse, and that a file call failed below it.
+    /// Which voters it serves, and whether it failed. Which voters are found once it is closed, or after a crash. Which
+    /// requests it may refuse, and that a file call failed below it.
     ghost service: { Service Self };
 
-    /// The voters take the requests in order, but for those at refused places. The replies are handed out
-    /// only once all that the voters changed is on the disk for good, so a crash leaves the voters that gave
-    /// them.
+    /// The voters take the requests in order, except those at refused places. The call returns replies only after all
+    /// changes of the voters are durable, so a crash leaves the voters that gave them.
     ///
-    /// An `Err` hands out no reply. Its cause tells whether anything was taken: where the file system failed,
-    /// as a file call did in the round, the requests below one place may have been, but for those at refused
-    /// places, which it may refuse, and so the voters are found by the next open. Else the voters are as they
-    /// were.
+    /// An `Err` returns no reply, and its cause says whether any request was taken. If it is `FileSystem`, a file call
+    /// failed in the round. The voters may have taken the requests below one place, except those at refused places, and
+    /// the next open finds them so. For any other cause the voters are unchanged.
     fn serve(&mut self, rt: &R, requests: &[(u64, Request)]) -> Result<Items<Reply>, RoundFault>
         ensures ok { IfOk result (λ told. AnswersRound service requests.now told self.old self.new) }
         ensures refused { IfOk result (λ told.

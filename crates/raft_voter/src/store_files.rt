@@ -1,30 +1,30 @@
-//! What keeps the voters of a store while it isn't open.
+//! The files that keep the voters of a store while it isn't open.
 ghost use Rattle.std.specs.Prelude.{◌≡◌, false, IfErr, IfOk, OnErr};
 ghost use Rattle.raft_voter.specs.Service.{FindsVoters, IsFromOutside, LeavesInFiles, LeavesStanding};
 
 use crate::{Cause, Memory, RoundService};
 use std::alloc::Global;
 
-/// Files that weren't opened, and why.
+/// The error of an open that failed: the cause, and the files.
 #[derive(Drop)]
 pub struct FilesRefused<F> {
-    /// Why.
+    /// The cause.
     pub cause: Cause,
-    /// The files, which are handed back.
+    /// The files, returned to the caller.
     pub files: F,
 }
 
-/// Files that keep the voters of a store while it isn't open: they can be opened, a close gives them back, and
-/// a crash of the machine leaves what was synced.
+/// Files that keep the voters of a store while it isn't open. They can be opened, a close returns them, and a crash of
+/// the machine leaves what was synced.
 pub trait StoreFiles<R, S: RoundService<R>>: Sized {
     ghost use Rattle.raft_voter.specs.Service.{Files};
 
-    /// Which voters the next open finds, when that is sure, what opens, closes and crashes make of the files,
-    /// and for which causes an open may be refused.
+    /// Which voters the next open finds, and when that is certain. What opens, closes and crashes do to the files, and
+    /// for which causes an open may fail.
     ghost files: { Files S Self };
 
-    /// Opens the store, which hasn't failed then. It is refused for want of memory, or because the file system
-    /// failed or the files can't be read; the files are handed back, and may be opened again.
+    /// Opens the store; a store that was just opened hasn't failed. Fails if memory runs out, the file system fails, or
+    /// the files can't be read. The error returns the files, which may be opened again.
     fn open(self, rt: &R, alloc: Global) -> Result<S, FilesRefused<Self>>
         ensures opens { IfOk result (λ store. files.opens self store) }
         ensures finds { IfOk result (FindsVoters S.service files self) }
@@ -33,12 +33,12 @@ pub trait StoreFiles<R, S: RoundService<R>>: Sized {
         ensures stands { IfErr result (λ refused. LeavesStanding files self self refused.files) }
         ensures errors { IfErr result (λ refused. IsFromOutside refused.cause) };
 
-    /// Closes the store, whether it failed or not.
+    /// Closes the store, whether it has failed or not.
     fn close(store: S, rt: &R) -> Self
         ensures closes { files.closes store result }
         ensures stands { LeavesInFiles S.service files store result };
 
-    /// What a crash of the machine leaves. It is refused for want of memory alone.
+    /// Returns what a crash of the machine leaves. Fails only for lack of memory.
     fn after_crash(self) -> Result<Self, Memory>
         ensures crashes { IfOk result (files.crashes self) }
         ensures stands { IfOk result (λ left. LeavesStanding files left self left) }

@@ -14,8 +14,8 @@ use raft_voter_outline::{Answer, Change, Decision, Outline};
 use std::alloc::Global;
 use std::marker::Model;
 
-/// A Raft voter: its outline, which decides what it answers and becomes, and its log above the base. A
-/// contract sees it as a `State` of `raft_voter_outline`.
+/// A Raft voter: its outline, which decides its replies and next states, and its log above the base. Contracts see it
+/// as a `State` of `raft_voter_outline`.
 #[derive(Debug, Drop)]
 pub struct Voter {
     outline: Outline,
@@ -34,7 +34,7 @@ impl Model for Voter {
 }
 
 impl Voter {
-    /// A fresh voter: term 0, no vote, nothing in its log.
+    /// Returns a fresh voter: term 0, no vote, an empty log.
     pub fn new(alloc: Global) -> Voter
         ensures { result ≡ fresh }
     {
@@ -44,14 +44,14 @@ impl Voter {
         }
     }
 
-    /// The voter's state, without its entries.
+    /// Returns the voter's state, without its entries.
     pub fn state(&self) -> VoterState
         ensures { result ≡ state_of self.now }
     {
         self.outline.state()
     }
 
-    /// The entries above the base, each its term and its bytes; the first stands right above the base.
+    /// Returns the entries above the base, each with its term and its bytes. The first is right above the base.
     pub fn log(&self) -> &[(u64, Items<u8>)]
         ensures entries { result.now ≡ self.now.log }
         ensures in_range { self.now.base_index + length self.now.log < 2 ^ 63 }
@@ -59,9 +59,9 @@ impl Voter {
         self.log.as_slice()
     }
 
-    /// Takes a request and answers it. One that is out of range is answered `Refused` and changes nothing.
-    /// Memory can be refused only where entries are copied: those that an Append brings and that aren't
-    /// there, or those of a Read. Nothing is changed then.
+    /// Takes a request and returns the reply. A request out of range changes nothing, and its reply is `Refused`.
+    /// Memory can run out only if entries are copied: those of an Append that aren't in the log, or those that a Read
+    /// returns. If it runs out, nothing changes.
     pub fn step(&mut self, request: &Request) -> Result<Reply, Memory>
         ensures replies { IfOk result (λ given. given ≡ reply self.old request.now) }
         ensures changes { OnOk result (self.new ≡ next self.old request.now) }
@@ -94,7 +94,7 @@ impl Voter {
         Ok(())
     }
 
-    /// A copy of the entries from one index to below another, which are there.
+    /// Copies the entries from one index to below another. All of them must be in the log.
     fn entries(&self, from: u64, to: u64) -> Result<Reply, Memory>
         requires above { self.now.base_index < from }
         requires some { from < to }

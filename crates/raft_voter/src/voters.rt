@@ -12,7 +12,7 @@ use crate::{Items, Memory, Reply, Request, Voter};
 use std::alloc::Global;
 use std::collections::BTreeMap;
 
-/// The voters of many groups, in memory. A group that has taken nothing has a fresh voter.
+/// The voters of many groups, in memory. A group that has taken no request has a fresh voter.
 #[derive(Drop)]
 pub struct Voters {
     alloc: Global,
@@ -20,7 +20,7 @@ pub struct Voters {
 }
 
 impl Voters {
-    /// No group has taken anything.
+    /// Returns voters of which no group has taken a request.
     pub fn new(alloc: Global) -> Voters
         ensures { world_of result ≡ fresh_world }
     {
@@ -30,8 +30,8 @@ impl Voters {
         }
     }
 
-    /// One group's voter takes a request and answers it. Where memory is refused every voter is as before;
-    /// it can be refused only where the group is new here, or entries are copied.
+    /// One group's voter takes a request and returns the reply. Memory can run out only if the group is new here, or
+    /// entries are copied. If it runs out, no voter changes.
     pub fn take(&mut self, group: u64, request: &Request) -> Result<Reply, Memory>
         ensures replies { IfOk result (λ given. given ≡ reply (world_of self.old group) request.now) }
         ensures changes { OnOk result
@@ -43,7 +43,7 @@ impl Voters {
         voter.step(request)
     }
 
-    /// One group's voter is this one from now on. Where memory is refused every voter is as before.
+    /// Replaces one group's voter. If memory runs out, no voter changes.
     pub fn put(&mut self, group: u64, voter: Voter) -> Result<(), Memory>
         ensures ok { OnOk result (world_of self.new ≡ put (world_of self.old) group voter) }
         ensures err { OnErr result (world_of self.new ≡ world_of self.old) }
@@ -52,7 +52,7 @@ impl Voters {
         Ok(())
     }
 
-    /// The groups that have a voter here, from the least up; the voter of any other is a fresh one.
+    /// Returns the groups that have a voter here, in rising order. The voter of any other group is a fresh one.
     pub fn groups(&self) -> Result<Vec<u64>, Memory>
         ensures { IfOk result (λ groups.
             (g : ℕ) → is_listed groups.items g ≡ false → world_of self.now g ≡ fresh) }
@@ -64,7 +64,7 @@ impl Voters {
         Ok(groups)
     }
 
-    /// Whether a group has the same voter here and there.
+    /// Whether a group has the same voter in both.
     pub fn is_same_at(&self, other: &Voters, group: u64) -> bool
         ensures { Decides result (world_of self.now group ≡ world_of other.now group) }
     {
@@ -72,7 +72,7 @@ impl Voters {
         is_same(self.voter_or(group, &blank), other.voter_or(group, &blank))
     }
 
-    /// A group's voter, or the blank one where it has none.
+    /// Returns a group's voter, or `blank` if it has none.
     fn voter_or<'a>(&'a self, group: u64, blank: &'a Voter) -> &'a Voter
         ensures { result.now ≡ unwrap_or (get nat_cmp self.now.voters group) blank.now }
     {
@@ -82,9 +82,9 @@ impl Voters {
         }
     }
 
-    /// The voters take the requests of a round in order, but for those at the refused places, which rise.
-    /// The replies are theirs, and `Refused` at a refused place. Where memory is refused some of the first
-    /// requests were taken, and the rest were not; it can't be refused where there is no request.
+    /// The voters take the requests of a round in order, except those at the refused places, which rise. Returns their
+    /// replies, and `Refused` at each refused place. If memory runs out, only some of the first requests were taken. It
+    /// can't run out if there are no requests.
     pub fn serve(
         &mut self,
         requests: &[(u64, Request)],
@@ -114,7 +114,7 @@ impl Voters {
     }
 }
 
-/// Whether a place is among the rising places that are left, the first of which isn't before it.
+/// Whether a place is among the remaining rising places, of which none is before it.
 fn is_next(ahead: &[usize], place: usize) -> bool
     requires { (high : ℕ) × IsTrue (are_rising place high ahead.now) }
     ensures { result ≡ is_among ahead.now place }

@@ -1,4 +1,4 @@
-//! Stores of voters tell what voters in memory tell: a law over both.
+//! Stores of voters give the replies that voters in memory give: a law over both.
 #![tactic(auto)]
 
 pub mod logs;

@@ -1,4 +1,4 @@
-//! Stores of voters on a log, and voters in memory that are asked the same rounds.
+//! Stores of voters on a log, and voters in memory that serve the same rounds.
 
 ghost use Rattle.raft_voter_world_laws.specs.Alike.{AnswersAsModel, AnswersTakenAsModel};
 
@@ -8,7 +8,7 @@ use raft_voter::RoundService;
 use raft_voter_plain::PlainVoters;
 use raft_voter_store::LogVoterStore;
 
-/// So it is of a store on a log, over any file system, and whoever listens.
+/// The law of `stores_answer_as_plain` for a store on a log, over any file system, with any listener.
 pub fn logs_answer_as_plain<R: Log, P: PipeLog>()
     ensures rounds { AnswersAsModel
         ⟦<PlainVoters as RoundService<R>>⟧.service ⟦<LogVoterStore<P> as RoundService<R>>⟧.service }

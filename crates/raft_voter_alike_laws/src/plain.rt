@@ -1,13 +1,13 @@
-//! Stores of voters, and voters in memory that are asked the same rounds.
+//! Stores of voters, and voters in memory that serve the same rounds.
 
 ghost use Rattle.raft_voter_world_laws.specs.Alike.{AnswersAsModel, AnswersTakenAsModel};
 
 use raft_voter::RoundService;
 use raft_voter_plain::PlainVoters;
 
-/// Voters in memory, asked the rounds that a store answered which served the same voters, told the same replies, where
-/// the store refused nothing but requests out of range; and asked just what it took of them, they told what it told of
-/// that, whatever it turned down. So it is of any store, one on a log among them.
+/// A store served rounds, and voters in memory that are the same serve them too. Their replies are the same, if the
+/// store refused only requests out of range. If they serve just the requests that the store took, they give the store's
+/// replies to these, whatever it turned down. This holds for any store, including one on a log.
 pub fn stores_answer_as_plain<R, S: RoundService<R>>()
     ensures rounds { AnswersAsModel ⟦<PlainVoters as RoundService<R>>⟧.service S.service }
     ensures taken { AnswersTakenAsModel ⟦<PlainVoters as RoundService<R>>⟧.service S.service }

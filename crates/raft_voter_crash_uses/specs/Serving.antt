@@ -1,4 +1,4 @@
--- A round is answered, the power goes, and another round is answered behind it.
+-- A store serves a round, loses power, and serves another round after it.
 use Rattle.std.specs.Prelude.{ℕ, List}
 use Rattle.raft_voter_messages.specs.declared.reply.Reply.{Reply}
 use Rattle.raft_voter_messages.specs.declared.request.Request.{Request}
@@ -6,10 +6,10 @@ use Rattle.raft_voter.specs.Rounds.{World, fresh_world}
 use Rattle.raft_voter.specs.Service.{Answers, Service, uncut}
 use Rattle.raft_voter_world.specs.Stores.{Disk}
 
--- A store was opened over files in which all voters are fresh, its round was answered, a crash under it left files,
--- and the round of a store that was opened over these was answered. The fresh voters answered the first, and what
--- they became answered the second: unless something passes by chance in the files that an open reads, or in those
--- that the crash left.
+-- A store was opened over files in which all voters are fresh, and served a round. A crash of it left files, and a
+-- store that was opened over these served a round. The replies to the first are those of the fresh voters, and the
+-- replies to the second are those of what they became. This requires that there is no CRC collision in the files that
+-- an open reads, or in those that the crash left.
 pub record ServesAcrossACrash {S F : Type 0} (v : Service S) (d : Disk S F) (files : F)
     (before behind : List (ℕ × Request)) (first second : List Reply) : Type 0 where
   pub store : S

@@ -1,5 +1,4 @@
-//! Callers of a store of voters across a crash: what was answered before it binds the voters behind it, whatever it
-//! left.
+//! Callers of a store of voters across a crash: the replies before it bind the voters after it, whatever it left.
 #![tactic(auto)]
 
 pub mod serving;

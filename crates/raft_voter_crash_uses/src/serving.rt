@@ -1,4 +1,4 @@
-//! A round is answered, the power goes, and another round is answered behind it.
+//! A store serves a round, loses power, and serves another round after it.
 
 ghost use Rattle.std.specs.Prelude.{IfOk};
 ghost use Rattle.raft_voter_crash_uses.specs.Serving.{ServesAcrossACrash};
@@ -8,17 +8,17 @@ use raft_voter_world::{Left, VoterDisk, VoterStorage};
 use std::alloc::Global;
 use std::thread::Threads;
 
-/// Why no two rounds were answered.
+/// Why two rounds weren't served.
 #[derive(Clone, Copy, Debug, PartialEq, Eq)]
 pub enum NotServed {
-    /// The store wasn't opened, or a round of it was cut off.
+    /// Opening the store failed, or a round of it was cut off.
     Cut(Cause),
     /// There was no memory for what the crash left.
     Memory,
 }
 
-/// Opens a store over files, serves a round, loses power, of which this is left, opens the store again and serves
-/// another round. The answer is the replies to both.
+/// Opens a store over files, serves a round, loses power, which leaves this, opens the store again and serves another
+/// round. Returns the replies to both.
 pub fn serve_across_a_crash<
     R: Threads + Sync,
     S: VoterStorage<R> + Drop,

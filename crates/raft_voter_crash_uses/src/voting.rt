@@ -1,4 +1,4 @@
-//! A node votes, loses power, and is asked for the same term's vote by another candidate.
+//! A node votes, loses power, and gets a request for the same term's vote from another candidate.
 
 ghost use Rattle.std.specs.Prelude.{◌≡◌, IfOk};
 ghost use Rattle.raft_voter_crash_uses.specs.Voting.{VotesAcrossACrash};
@@ -9,8 +9,8 @@ use raft_voter_world::{Left, VoterDisk, VoterStorage};
 use std::alloc::Global;
 use std::thread::Threads;
 
-/// Group 1 is asked for its vote in term 5 by candidate 2, the power goes, of which this is left, and then candidate
-/// 3 asks for it. The answer is the replies to both.
+/// Candidate 2 requests the vote of group 1 in term 5, the power goes, which leaves this, and then candidate 3 requests
+/// it. Returns the replies to both.
 pub fn vote_across_a_crash<R: Threads + Sync, S: VoterStorage<R> + Drop, F: VoterDisk<R, S> + Drop>(
     rt: &R,
     alloc: Global,
@@ -24,7 +24,7 @@ pub fn vote_across_a_crash<R: Threads + Sync, S: VoterStorage<R> + Drop, F: Vote
     serve_across_a_crash::<R, S, F>(rt, alloc, files, left, &first, &second)
 }
 
-/// A candidate asks for the vote in term 5.
+/// A candidate requests the vote in term 5.
 fn vote_for(candidate: u64) -> Request
     ensures { result ≡ Request.Vote 5 candidate 0 0 }
 {

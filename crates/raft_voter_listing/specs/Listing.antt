@@ -1,4 +1,4 @@
--- What is written of the voters of a store.
+-- The text that is written for the voters of a store.
 use Rattle.std.specs.Prelude.{◌≡◌, ◌≢◌, ◌<◌, ◌⊎◌, ℕ, List, Option, length, codes}
 use Rattle.std.specs.Io.KnownBytes.{Appends, Keeps}
 use Rattle.std.specs.List.{AllAdjacentBelow}
@@ -10,47 +10,48 @@ use Rattle.raft_voter_world.specs.Stores.{Disk, FindsVoters, TellsVoters}
 use Rattle.raft_voter_run.specs.Writing.{StopsWithin}
 use Rattle.raft_voter_listing.specs.Lines.{voters_text}
 
--- each group is below the next one
+-- the groups rise
 abbrev pub AreRising : List (ℕ × State) → Type 0
 AreRising voters = AllAdjacentBelow (λ one next. one.0 < next.0) voters (length voters)
 
--- these are the lines of the voters that a store serves, from the least group up
+-- these are the lines of the voters that a store serves, by rising group
 pub record TellsLines {S : Type 0} (v : Service S) (store : S) (text : List ℕ) : Type 0 where
   pub voters : List (ℕ × State)
   pub tells : TellsVoters v store voters
   pub rising : AreRising voters
   pub written : text ≡ voters_text voters
 
--- A store was opened on these files by so many workers, serves voters that may stand there, and these are their lines.
+-- A store was opened on these files by this many workers. It serves voters that are possible for them, and these are
+-- their lines.
 pub record OpensAndTells {S F : Type 0} (v : Service S) (d : Disk S F) (files : F) (workers : ℕ) (text : List ℕ) : Type 0 where
   pub store : S
   pub opens : d.opens files workers store
   pub finds : FindsVoters v d files store
   pub lines : TellsLines v store text
 
--- The open was refused, and not for want of memory.
+-- The open failed, though memory didn't run out.
 pub record IsRefused {S F : Type 0} (d : Disk S F) (files : F) (workers : ℕ) : Type 0 where
   pub cause : Cause
   pub outside : cause ≢ causes.Memory
   pub back : F
   pub refuses : d.refuses files workers cause back
 
--- what is written where it is refused
+-- what is written if the open fails
 abbrev pub refused_text : List ℕ
 refused_text = codes "open refused\n"
 
--- of these files this may be written, with this status: a line for each voter, or that the open is refused
+-- what may be written for these files, and the status: a line for each voter, or that the open failed
 abbrev pub MayList : {S F : Type 0} → Service S → Disk S F → F → ℕ → List ℕ → ℕ → Type 0
 MayList v d files workers text status = (OpensAndTells v d files workers text × (status ≡ 0))
     ⊎ (IsRefused d files workers × (text ≡ refused_text) × (status ≡ 4))
 
--- all was written that may be written of them
+-- all that may be written for these files was written
 abbrev pub ListsVoters :
     {S F : Type 0} → Service S → Disk S F → F → ℕ → Option (List ℕ) → Option (List ℕ) → ℕ → Type 0
 ListsVoters v d files workers old new status =
     (text : List ℕ) × MayList v d files workers text status × Appends old new text
 
--- nothing was written, or the front of what may be written, and not all of it
+-- nothing was written, or a prefix of what may be written, but not all of it
 abbrev pub ListsEarly :
     {S F : Type 0} → Service S → Disk S F → F → ℕ → Option (List ℕ) → Option (List ℕ) → Type 0
 ListsEarly v d files workers old new =

@@ -1,7 +1,7 @@
-//! The voters of a store, each written as a line: its group, and its reply to `status`. The store is opened on its
-//! files for that.
+//! Lists the voters of a store, each as a line: its group, and its reply to `status`. Opens the store on its files for
+//! that.
 //!
-//! Nothing else is needed of a store than what `VoterStorage` and `VoterDisk` say.
+//! Needs only what `VoterStorage` and `VoterDisk` promise of a store.
 #![tactic(auto)]
 
 mod listing;

@@ -1,4 +1,4 @@
-//! From a store's files to the text that tells its voters.
+//! Lists the voters of a store's files as text.
 ghost use Rattle.std.specs.Prelude.{◌≡◌, ◌≢◌, ◌++◌, IfErr, IfOk, IsTrue, OnErr, OnOk, string_bytes};
 ghost use Rattle.std.specs.IoError.{error_kind};
 ghost use Rattle.raft_voter_listing.specs.Listing.{AreRising, ListsEarly, ListsVoters, MayList, TellsLines};
@@ -12,16 +12,18 @@ use std::io;
 use std::io::{ErrorKind, Write};
 use std::thread::Threads;
 
-/// What is written where the open is refused.
+/// The text if the open fails.
 const OPEN_REFUSED_TEXT: &str = "open refused\n";
 
-/// The status where the open is refused.
+/// The status if the open fails.
 const OPEN_REFUSED: u8 = 4;
 
-/// Opens a store on its files, by so many workers, and writes a line for each voter that it tells, from the least
-/// group up; the status is 0. Where the open is refused it writes that, and the status is 4. An `Err` tells that
-/// memory, a read of the store or the writer was refused, or that the store told a group twice or not in its order:
-/// then nothing was written, or the front of what may be written, and not all.
+/// Opens a store on its files, with this many workers, and writes a line for each voter, by rising group. The status is
+/// 0. If the open fails, writes that, and the status is 4.
+///
+/// An `Err` says that memory ran out, or that a read of the store or the writer failed. It is also returned if the
+/// store listed its groups twice or out of order. Then nothing was written, or a prefix of what may be written, but not
+/// all.
 pub fn list_voters<
     R: Threads + Sync,
     S: VoterStorage<R> + Drop,
@@ -42,7 +44,7 @@ pub fn list_voters<
     Ok(status)
 }
 
-/// How it is told that there is nothing to write.
+/// The error kind if there is nothing to write.
 fn kind_of(cause: &Cause) -> ErrorKind
     ensures { result ≢ ErrorKind.Interrupted }
 {
@@ -52,7 +54,7 @@ fn kind_of(cause: &Cause) -> ErrorKind
     }
 }
 
-/// What is written of a store's files, and the status that goes with it.
+/// Returns the text for a store's files, and its status.
 fn told_of<R: Threads + Sync, S: VoterStorage<R> + Drop, F: VoterDisk<R, S> + Drop>(
     rt: &R,
     alloc: Global,
@@ -72,7 +74,7 @@ fn told_of<R: Threads + Sync, S: VoterStorage<R> + Drop, F: VoterDisk<R, S> + Dr
     }
 }
 
-/// A line for each voter that a store tells. `FileSystem` where a read is refused, or where the store tells the groups
+/// Returns a line for each voter of a store. Fails with `FileSystem` if a read fails, or if the store lists the groups
 /// in another order.
 fn lines_of<R, S: VoterStorage<R> + Drop>(
     rt: &R,
@@ -88,7 +90,7 @@ fn lines_of<R, S: VoterStorage<R> + Drop>(
     Ok(text_of(alloc, voters.as_slice())?)
 }
 
-/// Whether each group is below the next one.
+/// Whether the groups rise.
 fn are_rising(voters: &[(u64, Voter)]) -> bool
     ensures { IsTrue result → AreRising voters.now }
 {
@@ -100,7 +102,7 @@ fn are_rising(voters: &[(u64, Voter)]) -> bool
     true
 }
 
-/// A line for each of these voters.
+/// Returns a line for each of these voters.
 fn text_of(alloc: Global, voters: &[(u64, Voter)]) -> Result<String, Memory>
     ensures { IfOk result (λ text. string_bytes text ≡ voters_text voters.now) }
 {

@@ -1,4 +1,4 @@
--- Faults and crashes of a world, as the file system has them.
+-- Faults and crashes of a world, in the terms of the file system.
 use Rattle.raft_log_disk.specs.declared.handle.Fault.{Fault as DiskFault}
 use Rattle.raft_log_disk.specs.declared.handle.Fault.TheVariants as faults
 use Rattle.raft_log_disk_memory.specs.raft_log_disk_storage.specs.declared.remainder.Remainder.{Remainder}

@@ -1,4 +1,4 @@
--- A store of voters on a log, and the log's files, as the store and the disk of a world.
+-- A store of voters on a log and the log's files, as the store and the disk of a world.
 use Rattle.std.specs.Prelude.{◌≡◌, ◌⊎◌, ℕ, false, true, List, Option, None}
 use Rattle.raft_log_disk.specs.Disk.{Disk as OnDisk}
 use Rattle.raft_log_disk.specs.Exits.{Arms}
@@ -38,7 +38,7 @@ use Rattle.raft_voter_log.specs.Leaving.{FilesLeave, SparesFiles, SparesStore}
 
 -- The store.
 
--- what a purge that was answered made of an engine, whose pipes hold back so much of Append
+-- what a purge that succeeded made of an engine, whose pipes pin what `held` says of Append
 abbrev pub PurgesLog :
     {P : Type 0} → (LogPipes → Option ℕ → Type 0) → Purge → LogEngine P → LogEngine P → Shows → Shows → Type 0
 PurgesLog held Expired old new s t = (groups : List ℕ)
@@ -46,21 +46,21 @@ PurgesLog held Expired old new s t = (groups : List ℕ)
 PurgesLog held RewriteAppend old new s t = RewritesAppend None None new.tables s t
 PurgesLog held RewriteRewrite old new s t = SyncsAndRewrites new.tables s t
 
--- a purge was refused, for this error, and this is why
+-- a purge failed, with this error and for this reason
 abbrev pub StopsPurgeAs : Purge → Shows → Shows → Error → Type 0
 StopsPurgeAs RewriteAppend s t error = StopsRewritingAppend s t error
 StopsPurgeAs purge s t error = StopsPurgingExpired s t error
 
--- a purge was refused, and that was told as this cause
+-- a purge failed, and returned this cause
 abbrev pub RefusesLogPurge : Purge → Cause → Shows → Shows → Type 0
 RefusesLogPurge purge cause s t =
     (error : Error) × (cause ≡ purge_cause (has_failed s) error) × StopsPurgeAs purge s t error
 
--- a file system has armed a fault, beside what it had armed before
+-- a file system has armed a fault, in addition to those that it had armed before
 abbrev pub IsArmed : Fault → MemoryFileSystem → MemoryFileSystem → Type 0
 IsArmed fault old new = armed new ≡ armed_with (fault_of fault) (armed old)
 
--- a fault is armed below a store; or its file system had stopped, and none is
+-- a fault is armed under a store; or its file system had stopped, and none is
 abbrev pub ArmsStore : Fault → MemoryFileSystem → MemoryFileSystem → Shows → Shows → Type 0
 ArmsStore fault old new s t = (ArmsEngine (fault_of fault) s t × IsArmed fault old new)
     ⊎ ((s.pipes.disk.stopped ≡ true) × (t ≡ s))
@@ -77,7 +77,7 @@ log_upkeep files held engine shows = record {
 
 -- The files of a store.
 
--- these settings say the same
+-- both settings are the same
 abbrev pub AreSame : Config → Config → Type 0
 AreSame settings others = settings_of settings ≡ settings_of others
 
@@ -85,21 +85,20 @@ AreSame settings others = settings_of settings ≡ settings_of others
 abbrev pub HasWorkers : Config → ℕ → Config → Type 0
 HasWorkers config workers settings = (home_of settings ≡ home_of config) × (settings.recovery_threads ≡ workers)
 
--- an open by so many workers made a store of these files that shows this
+-- opening these files with so many workers gave a store that shows this
 abbrev pub OpensFiles : (MemoryFileSystem → List ℕ → ℕ → Type 0) → LogFiles → ℕ → Shows → (ℕ → State) → Type 0
 OpensFiles tells files workers s os =
     (settings : Config) × HasWorkers files.config workers settings
     × OpensVoters disk_of tells settings files.files s os
 
--- an open of these files was refused, for this cause, and leaves others; for want of memory it may not have
--- begun
+-- opening these files failed with this cause, and leaves other files; if memory ran out, it may not have begun
 abbrev pub RefusesFiles : (MemoryFileSystem → List ℕ → ℕ → Type 0) → LogFiles → ℕ → Cause → MemoryFileSystem → Type 0
 RefusesFiles tells files workers cause back = ((cause ≡ Memory) × (back ≡ files.files))
     ⊎ ((settings : Config) × HasWorkers files.config workers settings
     × ((why : Unread) × (cause ≡ unread_cause why)
     × FailsToOpenVoters disk_of tells settings why files.files back))
 
--- a copy into a directory ended, with an answer or without; for want of memory it may not have begun
+-- a copy into a directory succeeded or failed
 abbrev pub EndsCopy : Config → List ℕ → OnDisk → OnDisk → Type 0
 EndsCopy config target old new =
     ((copied : List (List ℕ)) × Forks (settings_of config) target copied old new)
@@ -110,12 +109,12 @@ abbrev pub ArmsFiles : Fault → MemoryFileSystem → MemoryFileSystem → Type 
 ArmsFiles fault old new = (Arms (fault_of fault) (disk_of old) (disk_of new) × IsArmed fault old new)
     ⊎ (((disk_of old).stopped ≡ true) × (disk_of new ≡ disk_of old))
 
--- what a close leaves of a log: of one whose engine ran it is closed, of one that failed nothing is touched
+-- What a close leaves of a log: if the engine hadn't failed, the log is closed; if it had, nothing is touched.
 pub record ClosesStore (s : Shows) (d : OnDisk) : Type 0 where
   pub held : has_failed s ≡ false → ClosesLog s.pipes d
   pub failed : has_failed s ≡ true → d ≡ s.pipes.disk
 
--- a crash under a store left this
+-- a crash of the disk under a store left this
 abbrev pub CrashesUnder : OnDisk → Left → OnDisk → Type 0
 CrashesUnder d gone left = (system : MemoryFileSystem) × (after : MemoryFileSystem) × (disk_of system ≡ d)
     × IsLeftOf (remainder_of gone) system after × (disk_of after ≡ left)

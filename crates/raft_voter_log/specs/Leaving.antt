@@ -1,4 +1,4 @@
--- Which voters stand in a log's files while no store is open on them, and what may pass there by chance.
+-- Which voters a log's files have while no store has them open, and which CRC collisions must not be in them.
 use Rattle.std.specs.Prelude.{◌≡◌}
 use Rattle.raft_log_disk.specs.Disk.{Disk}
 use Rattle.raft_log_disk.specs.Image.{IsImage}
@@ -17,32 +17,32 @@ use Rattle.raft_voter_standing_laws.specs.Standing.{IsLeftAmong}
 use Rattle.raft_voter_opening_laws.specs.raft_voter_store.specs.Service.{LeavesAt}
 use Rattle.raft_voter_opening_laws.specs.raft_voter_store.specs.Service.LeavesAt.{left as is_left, running}
 
--- Behind this round stand the voters that are found in the files of these settings:
--- no log began there, so all voters are fresh,
--- a crash left a log at rest that means voters which may stand behind it,
--- or a log was left there, and whatever a stop leaves of it means such voters.
+-- The files of these settings have voters that may follow this round:
+-- - `bare`: no log began there, so all voters are fresh.
+-- - `rests`: a crash left a log at rest, and it means such voters.
+-- - `left`: a log was left there, and whatever a stop leaves of it means such voters.
 pub data FilesLeave (config : Config) (d : Disk) (cut : CutRound) : Type 0 where
   bare : IsBare config d → cut ≡ uncut fresh_world → FilesLeave config d cut
   rests : (before : Disk) → IsImage before d → (m : LogMap) → LogRestsOn (log_in (home_of config)) d m → (W : World)
       → Means m W → MayFollow cut W → FilesLeave config d cut
   left : IsLeftAmong (home_of config) d (MayFollow cut) → FilesLeave config d cut
 
--- Of a log that was left no checksum is met by chance: in its files as they stand, where these are read, and in
--- what a crash leaves of them, where that is.
+-- A log that was left has no CRC collision: not in its files as they are, if these are read; and not in what a crash
+-- leaves of them, if that is read.
 pub record SparesLeft (home : Home) (d : Disk) (cut : CutRound) (l : IsLeftAmong home d (MayFollow cut)) (read : Disk)
     : Type 0 where
   pub stands : read ≡ d → StandsWithoutChance home l.left.1.lies.state d
   pub crashed : IsImage d read → IsCrashOf home l.left.1.lies.state d read
 
--- What is asked of chance, where these files, or what a crash left of them, are read. Nothing is where no log
--- began, nor of what a crash left: that is just what was synced.
+-- The premise on CRC collisions when these files, or what a crash left of them, are read. There is none if no log
+-- began, or after a crash: then there is just what was synced.
 abbrev pub SparesFiles : (config : Config) (d : Disk) (cut : CutRound) → FilesLeave config d cut → Disk → Type 0
 SparesFiles config d cut (bare is none) read = Unit {0}
 SparesFiles config d cut (rests before image m is W means follows) read = Unit {0}
 SparesFiles config d cut (left l) read = SparesLeft (home_of config) d cut l read
 
--- What is asked of what a crash leaves under a store that is open: of one that runs, that no record is met in
--- the last files but its engine's own; of one that has failed, what is asked of a log that was left.
+-- The premise on CRC collisions in what a crash leaves under an open store. If the store runs, the active files have
+-- only records that its engine wrote. If it has failed, the premise is that of a log that was left.
 abbrev pub SparesStore : (home : Home) (s : Shows) (cut : CutRound) → LeavesAt home s cut → Disk → Type 0
 SparesStore home s cut (running W none keeps) read = LeavesNoChance home s.pipes read
 SparesStore home s cut (is_left failed l) read = IsCrashOf home l.left.1.lies.state s.pipes.disk read

@@ -1,4 +1,4 @@
-//! How refusals of the log are told to whoever serves rounds.
+//! The cause that is returned for an error of the log.
 ghost use Rattle.std.specs.Prelude.{◌≡◌};
 ghost use Rattle.raft_voter_log.specs.Causes.{cause_of, purge_cause, unread_cause};
 
@@ -6,7 +6,7 @@ use raft_log_engine::Error;
 use raft_voter::Cause;
 use raft_voter_reading::Unread;
 
-/// Why a log wasn't opened, or its voters weren't read: want of memory, or else the file system.
+/// Why opening a log, or reading its voters, failed: `Memory` or `FileSystem`.
 pub fn unread_cause(cause: &Unread) -> Cause
     ensures { result ≡ unread_cause cause.now }
 {
@@ -17,7 +17,7 @@ pub fn unread_cause(cause: &Unread) -> Cause
     }
 }
 
-/// Why a purge was refused, of a store that had failed before or not.
+/// Why a purge failed, for a store that had failed before or not.
 pub fn purge_cause(failed: bool, error: &Error) -> Cause
     ensures { result ≡ purge_cause failed error.now }
 {
@@ -27,7 +27,7 @@ pub fn purge_cause(failed: bool, error: &Error) -> Cause
     cause_of(error)
 }
 
-/// Want of memory, or else the file system.
+/// `Memory` for out of memory, else `FileSystem`.
 fn cause_of(error: &Error) -> Cause
     ensures { result ≡ cause_of error.now }
 {

@@ -1,11 +1,11 @@
-//! Faults and crashes of a world, as the file system has them.
+//! Faults and crashes of a world, in the terms of the file system.
 ghost use Rattle.std.specs.Prelude.{◌≡◌};
 ghost use Rattle.raft_voter_log.specs.Faults.{fault_of, remainder_of};
 
 use raft_log_engine::{Fault as DiskFault, Remainder};
 use raft_voter_world::{Fault, Left};
 
-/// A fault.
+/// The fault, as the file system has it.
 pub fn fault_of(fault: &Fault) -> DiskFault
     ensures { result ≡ fault_of fault.now }
 {
@@ -15,7 +15,7 @@ pub fn fault_of(fault: &Fault) -> DiskFault
     }
 }
 
-/// What a crash leaves.
+/// What a crash leaves, as the file system has it.
 pub fn remainder_of(left: &Left) -> Remainder
     ensures { result ≡ remainder_of left.now }
 {

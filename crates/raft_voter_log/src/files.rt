@@ -31,7 +31,7 @@ pub struct LogFiles {
 }
 
 impl LogFiles {
-    /// A file system without a file, in which all voters are fresh.
+    /// A file system without files; all voters are fresh.
     pub fn new(alloc: Global, config: Config) -> LogFiles
         ensures config { result.config ≡ config }
         ensures empty { disk_of result.files ≡ empty_disk }
@@ -43,7 +43,7 @@ impl LogFiles {
         }
     }
 
-    /// The settings with so many workers.
+    /// A copy of the settings with so many workers.
     fn settings_for(&self, workers: u64) -> Result<Config, Memory>
         ensures { IfOk result (HasWorkers self.now.config workers) }
     {

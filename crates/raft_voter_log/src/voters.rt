@@ -1,4 +1,4 @@
-//! A store of voters on a log that is open.
+//! An open store of voters on a log.
 ghost use Rattle.std.specs.Prelude.{◌≡◌, ◌≤◌, length, IfErr, IfOk, OnOk};
 ghost use Rattle.raft_log_engine.specs.raft_log_engine_core.specs.Reads.{shows_of};
 ghost use Rattle.raft_log_file_pair.specs.HoldingBack.{PipesHoldBack};

@@ -1,5 +1,5 @@
--- Crashes under an engine that runs, told by the bytes that they leave of its last files: such as leave nothing to
--- chance, and such as do.
+-- Crashes of a running engine, by the bytes that they leave of its active files: those that leave no CRC collision, and
+-- those that do.
 use Rattle.std.specs.Prelude.{◌≡◌, ◌⊎◌, ◌+◌, ℕ, Bool, Some, List, ◌++◌, length, take}
 use Rattle.raft_log_disk.specs.Disk.{Disk, File, zeros}
 use Rattle.raft_log_disk.specs.Image.{IsImage, IsSound}
@@ -30,12 +30,13 @@ use Rattle.raft_voter_opening_laws.specs.Opens.{FindsVoters}
 abbrev pub IsOwnFrame : Format LogRecord → PipeFiles → List ℕ → LogRecord → Type 0
 IsOwnFrame F files = F.IsFrame files.active.seq (active_header files)
 
--- of what a pipe wrote behind its file's header so many bytes are there, and nothing else: the last record may be torn
+-- the file has its header and so many of the bytes that a pipe wrote after it, and nothing else; the last record may be
+-- torn
 abbrev pub IsTorn : PipeFiles → File → List ℕ → Type 0
 IsTorn files file bytes = (kept : ℕ) × (bytes ≡ active_header files ++ take kept (own_bytes files file))
 
--- Some first records of those that a pipe wrote are there, whole, and behind them bytes that begin no record of the
--- file, as room that was made ahead of a write.
+-- The file has some first records that a pipe wrote, whole. The bytes after them begin no record of the file, such as
+-- space that was allocated ahead of a write.
 pub record IsWhole (F : Format LogRecord) (files : PipeFiles) (file : File) (bytes : List ℕ) : Type 0 where
   pub kept : List (Written LogRecord)
   pub lost : List ℕ
@@ -45,36 +46,35 @@ pub record IsWhole (F : Format LogRecord) (files : PipeFiles) (file : File) (byt
   pub are : bytes ≡ active_header files ++ (spelled kept ++ behind)
   pub refuses : Refuses (IsOwnFrame F files) behind
 
--- Zeros begin no record, so room that was made ahead of a write is such bytes.
+-- Zeros begin no record, and space that was allocated ahead of a write is zeros.
 abbrev pub ZerosBeginNoRecord : Type 0
 ZerosBeginNoRecord = (queue : LogQueue) (directories : List (List ℕ)) (files : PipeFiles) (room : ℕ)
     → Refuses (IsOwnFrame (log_format queue directories) files) (zeros room)
 
--- a crash left so much of the last file of a pipe
+-- what a crash left of a pipe's active file is torn or whole
 abbrev pub LosesOwn : Format LogRecord → PipeFiles → Disk → Disk → Type 0
 LosesOwn F files d image = (file after : File) → d.files files.writer.handle.file ≡ Some file
     → image.files files.writer.handle.file ≡ Some after
     → IsTorn files file after.content ⊎ IsWhole F files file after.content
 
--- so it is of the last files of both queues
+-- the same for the active files of both queues
 pub record LosesWrites (home : Home) (v : LogPipes) (image : Disk) : Type 0 where
   pub append : LosesOwn (log_in home).append.format v.append.files v.disk image
   pub rewrite : LosesOwn (log_in home).rewrite.format v.rewrite.files v.disk image
 
--- Such a crash under an engine that runs leaves nothing to chance, whatever map its log is, and whatever batches are
--- pending.
+-- Such a crash of a running engine leaves no CRC collision, whatever map its log is, and whatever batches are pending.
 abbrev pub LossesLeaveNoChance : Type 0
 LossesLeaveNoChance = (home : Home) (e : Shows) (m : LogMap) (pending : List Said) → Holds home e m pending
     → (image : Disk) → LosesWrites home e.pipes image → LeavesNoChance home e.pipes image
 
--- So what it leaves of a store that keeps voters is opened as these.
+-- Opening what it leaves of a store that keeps voters gives these voters.
 abbrev pub LossesAreFound : {F : Type 0} → (F → Disk) → (F → List ℕ → ℕ → Type 0) → Type 0
 LossesAreFound {F} disk tells = (home : Home) (e : Shows) (W : World) → Keeps home e W → (old : F)
     → IsSound (disk old) → IsImage e.pipes.disk (disk old) → LosesWrites home e.pipes (disk old)
     → ForAllNaming home (λ config. FindsVoters disk tells config old W (λ X. X ≡ W))
 
--- And what it leaves in the midst of a round, between two of its requests, is opened as voters that took some first
--- ones of them: the same by any settings.
+-- Opening what it leaves during a round, between two of its requests, gives voters that took some first ones of them:
+-- the same for all settings.
 abbrev pub LossesInRoundsAreFound : {F : Type 0} → (F → Disk) → (F → List ℕ → ℕ → Type 0) → Type 0
 LossesInRoundsAreFound {F} disk tells = (home : Home) (V : World) (requests : List (ℕ × Request)) (told : List Reply)
     (wrote : Bool) (s t : Shows) (os us : ℕ → State) → Keeps home s V → AreOutlines os V
@@ -85,8 +85,8 @@ LossesInRoundsAreFound {F} disk tells = (home : Home) (V : World) (requests : Li
 
 -- Chosen bytes.
 
--- Behind all that a pipe wrote to its last file, whole records, stands another one, which no write handed in that
--- isn't synced.
+-- After all that a pipe wrote to its active file, which are whole records, there is another record. No unsynced write
+-- passed it to the file.
 pub record HasForeign (F : Format LogRecord) (files : PipeFiles) (file : File) (bytes : List ℕ) : Type 0 where
   pub own : List (Written LogRecord)
   pub frames : AreFrames (IsOwnFrame F files) own
@@ -97,7 +97,7 @@ pub record HasForeign (F : Format LogRecord) (files : PipeFiles) (file : File) (
   pub are : bytes ≡ active_header files ++ (spelled own ++ (foreign.bytes ++ behind))
   pub unhanded : IsHandedIn file.changes (length (active_header files) + length (spelled own)) foreign.bytes → ⊥
 
--- so does it in the last file of a pipe, as a crash left it
+-- there is such a record in a pipe's active file, as a crash left it
 pub record LeavesForeign (F : Format LogRecord) (files : PipeFiles) (d image : Disk) : Type 0 where
   pub file : File
   pub after : File
@@ -105,7 +105,8 @@ pub record LeavesForeign (F : Format LogRecord) (files : PipeFiles) (d image : D
   pub left : image.files files.writer.handle.file ≡ Some after
   pub has : HasForeign F files file after.content
 
--- Where a crash under an engine that runs leaves such a record, in either queue, the premise on chance is broken.
+-- If a crash of a running engine leaves such a record in either queue, the premise that there is no CRC collision is
+-- false.
 abbrev pub ForeignRecordsAreChance : Type 0
 ForeignRecordsAreChance = (home : Home) (e : Shows) (m : LogMap) (pending : List Said) → Holds home e m pending
     → (image : Disk)

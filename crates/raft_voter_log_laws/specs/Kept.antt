@@ -1,4 +1,4 @@
--- What is told of voters that are kept.
+-- What follows from a store keeping its voters.
 use Rattle.std.specs.Prelude.{◌≡◌, IsTrue, ℕ, List, None}
 use Rattle.raft_log_disk.specs.declared.handle.Fault.{Fault}
 use Rattle.raft_log_disk.specs.declared.handle.Fault.TheVariants.{DenyRead}
@@ -27,7 +27,7 @@ abbrev pub DeniesNone : Fault → Type 0
 DeniesNone (DenyRead name place) = ⊥
 DeniesNone fault = Unit {0}
 
--- Where a fault is armed below a store that makes no place unreadable, the store keeps its voters.
+-- If a fault that makes no place unreadable is armed under a store, the store keeps its voters.
 abbrev pub ArmsKeepVoters : Type 0
 ArmsKeepVoters = (home : Home) (V : World) (fault : Fault) (s t : Shows) → DeniesNone fault → Keeps home s V
     → ArmsEngine fault s t → Keeps home t V

@@ -1,4 +1,4 @@
--- Files that are used again, and files that a crash leaves as they stand: of an engine that runs, and so of a run.
+-- Files that are used again, and files that a crash leaves unchanged, of a running engine, and so of a run.
 use Rattle.std.specs.Prelude.{◌≡◌, List, []}
 use Rattle.raft_log_disk.specs.Disk.{Disk}
 use Rattle.raft_log_disk.specs.Image.{IsImage}
@@ -15,8 +15,8 @@ use Rattle.raft_voter_standing_laws.specs.raft_log_engine_laws.specs.Holding.{Ho
 use Rattle.raft_voter_standing_laws.specs.raft_log_engine_laws.specs.Shows.{Home, LogMap, Shows, log_in}
 use Rattle.raft_voter_log_laws.specs.Chance.{LosesOwn}
 
--- A last file behind whose records none begins, and that a crash leaves as it stands, has them whole: such a crash only
--- loses, whatever map the engine's log is.
+-- If no record begins after the records of an active file, and a crash leaves it unchanged, its records are whole: such
+-- a crash only loses writes, whatever map the engine's log is.
 abbrev pub StandingFilesOnlyLose : Type 0
 StandingFilesOnlyLose = (which : Which) (home : Home) (e : Shows) (m : LogMap) (pending : List Said)
     → Holds home e m pending
@@ -24,12 +24,12 @@ StandingFilesOnlyLose = (which : Which) (home : Home) (e : Shows) (m : LogMap) (
     → (image : Disk) → KeepsOwn (one_at which e.pipes).files e.pipes.disk image
     → LosesOwn (layout_at which (log_in home)).format (one_at which e.pipes).files e.pipes.disk image
 
--- the pipe goes on next in a file that is made, or in one that was used under another number
+-- the pipe's next rotation creates a file, or uses one that had another number
 pub data NextIsKnown (F : Format LogRecord) (format : LogFileFormat) (files : PipeFiles) (d : Disk) : Type 0 where
   made : files.recycled.items ≡ [] → NextIsKnown F format files d
   used : NextIsUsed F format files d → NextIsKnown F format files d
 
--- Right behind a rotation into such a file every crash only loses, whatever bytes the file held.
+-- Right after a rotation to such a file every crash only loses writes, whatever bytes the file held.
 abbrev pub RotatedFilesOnlyLose : Type 0
 RotatedFilesOnlyLose = (which : Which) (home : Home) (e : Shows) (m : LogMap) (pending : List Said)
     → Holds home e m pending

@@ -1,4 +1,4 @@
--- Two opens of the same files, each by settings of its own: by any number of workers.
+-- Two opens of the same files with different settings: by any number of workers.
 use Rattle.std.specs.Prelude.{◌≡◌, ◌<◌, ℕ, List, length}
 use Rattle.raft_log_disk.specs.Disk.{Disk}
 use Rattle.raft_log_disk.specs.Image.{IsImage, IsSound}
@@ -18,8 +18,12 @@ use Rattle.raft_voter_standing_laws.specs.Standing.{AreOutlines, IsLeftAmong, Ke
 use Rattle.raft_voter_reading.specs.Reading.{ListsVoters}
 use Rattle.raft_voter_opening_laws.specs.raft_voter_store.specs.Opening.{OpensVoters}
 
--- What a store's files may be, with no checksum met by chance in them: those of no log yet; a log that rests; what a
--- crash left of a store that ran, or of what was left before it; what a close, a failure or a refused open left.
+-- What a store's files may be, without a CRC collision in them:
+-- - `bare`: no log began yet.
+-- - `rests`: a log that rests.
+-- - `of_running`: what a crash left of a running store.
+-- - `of_left`: what a crash left of a log that was left.
+-- - `left`: what a close, a failure or a failed open left.
 pub data AreAStores (home : Home) (d : Disk) : Type 0 where
   bare : (config : Config) → home_of config ≡ home → IsBare config d → AreAStores home d
   rests : (m : LogMap) (W : World) → LogRestsOn (log_in home) d m → Means m W → AreAStores home d
@@ -37,7 +41,7 @@ pub record AreAlike (home : Home) (s t : Shows) (os us : ℕ → State) : Type 0
   pub second : Keeps home t world × AreOutlines us world
   pub listed : (voters others : List (ℕ × State)) → ListsVoters s voters → ListsVoters t others → voters ≡ others
 
--- So it is of two opens of the same files that are answered, whatever else their settings say than the directories.
+-- Two opens of the same files that succeed are alike, whatever their settings have except the directories.
 abbrev pub WorkersOpenAlike : {F : Type 0} → (F → Disk) → (F → List ℕ → ℕ → Type 0) → Type 0
 WorkersOpenAlike {F} disk tells = (home : Home) → 0 < length home.append → 0 < length home.rewrite → (old : F)
     → IsSound (disk old) → AreAStores home (disk old) → (one other : Config) → home_of one ≡ home

@@ -1,19 +1,19 @@
-//! What is told of voters that are kept.
+//! What follows from a store keeping its voters.
 
 ghost use Rattle.raft_voter_log_laws.specs.Kept.{ArmsKeepVoters, KeptVotersAreTold, VotersHaveNoOwnKey};
 
-/// A store that keeps voters lists just these: so a call that keeps them, as every purge does, answered or refused,
-/// changes nothing of what is listed.
+/// A store that keeps voters lists just these. A call that keeps them, as every purge does, succeeded or failed,
+/// therefore changes nothing of the list.
 pub fn kept_voters_are_told()
     ensures { KeptVotersAreTold }
 {}
 
-/// No group of a store's log has one of the log's own keys, so that no purge is refused for one.
+/// No group of a store's log has one of the log's own keys, so no purge fails for one.
 pub fn voters_have_no_own_key()
     ensures { VotersHaveNoOwnKey }
 {}
 
-/// Arming a fault changes no voter, where it makes no place unreadable: all that the store shows is as it was.
+/// Arming a fault that makes no place unreadable changes no voter.
 pub fn arms_keep_voters()
     ensures { ArmsKeepVoters }
 {}

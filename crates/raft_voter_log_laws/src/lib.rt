@@ -1,10 +1,11 @@
-//! What follows for whoever runs a store of voters on a log: laws in the words of its voters.
+//! Laws for programs that run a store of voters on a log, in terms of its voters.
 //!
-//! Each public function is a law over the definitions of `specs/`: it does nothing, and its contract is what is
-//! proved.
-//! * [`workers`]: two opens of the same files; [`chance`]: which crashes leave nothing to chance, and which do;
-//!   [`reuse`]: of files that are used again; [`kept`]: what is told of voters that are kept; [`causes`]: why rounds
-//!   are cut off, and purges refused.
+//! Each public function is a law over the definitions of `specs/`: it does nothing, and its contract is what is proved.
+//! * [`workers`]: two opens of the same files.
+//! * [`chance`]: which crashes leave no CRC collision, and which do.
+//! * [`reuse`]: files that are used again.
+//! * [`kept`]: what follows from a store keeping its voters.
+//! * [`causes`]: why rounds are cut off, and purges fail.
 #![tactic(auto)]
 
 pub mod causes;

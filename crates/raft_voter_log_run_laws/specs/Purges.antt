@@ -1,4 +1,4 @@
--- What a purge of a run makes of the voters of a store, and why it is refused.
+-- What a purge in a run leaves of a store's voters, and why it fails.
 use Rattle.std.specs.Prelude.{◌≡◌, ◌⊎◌, true, List, Some}
 use Rattle.raft_log_disk.specs.Causes.{Fails}
 use Rattle.raft_log_file_settings.specs.declared.config.Config.{Config}
@@ -24,8 +24,8 @@ use Rattle.raft_voter_world_laws.specs.Causes.{IsOfRun}
 use Rattle.raft_voter_log.specs.Causes.{cause_of}
 use Rattle.raft_voter_log_laws.specs.Causes.{VotersHaveReason}
 
--- A purge in a run that is answered keeps the voters, and so does one that is refused; or the store has failed in it, as
--- a file call did, and they are left alone.
+-- A purge in a run keeps the voters if it succeeds. If it fails, either the voters are kept as well; or the store has
+-- failed because a file call failed, and its log means just these voters.
 pub record PurgesKeepOrFail {S : Type 0} (u : Upkeep S) (shows : S → Shows) : Type 0 where
   pub answered : (home : Home) (V : World) (purge : Purge) (old new : S) → Keeps home (shows old) V
       → u.purges purge old new → Keeps home (shows new) V
@@ -35,15 +35,15 @@ pub record PurgesKeepOrFail {S : Type 0} (u : Upkeep S) (shows : S → Shows) : 
       ⊎ ((has_failed (shows new) ≡ true) × Fails (shows old).pipes.disk (shows new).pipes.disk
       × IsLeftWith home (shows new).pipes.disk V)
 
--- Why a purge in a run is refused, of a store that keeps voters: for an error that has its reason, and is told as the
+-- Why a purge in a run fails, for a store that keeps voters: with an error that has its reason, and that gives this
 -- cause.
 abbrev pub RefusedPurgesHaveReasons : {S : Type 0} → Upkeep S → (S → Shows) → Type 0
 RefusedPurgesHaveReasons {S} u shows = (home : Home) (V : World) (purge : Purge) (cause : Cause) (old new : S)
     → Keeps home (shows old) V → u.refuses purge cause old new
     → (error : Error) × (cause ≡ cause_of error) × VotersHaveReason home V error (shows old) (shows new)
 
--- A purge of an open store was refused, for this cause: the store had failed before; or it served voters, and the purge
--- was refused for an error that has its reason in their log, and is told as the cause.
+-- A purge of an open store failed with this cause. Either the store had failed before; or it served voters, and the
+-- purge failed with an error that has its reason in their log and gives this cause.
 pub record WasRefusedFor {S F : Type 0} (v : Service S) (config : S → Config) (shows : S → Shows) (cause : Cause)
     (at now : Storage S F) : Type 0 where
   pub old : S
@@ -55,7 +55,8 @@ pub record WasRefusedFor {S F : Type 0} (v : Service S) (config : S → Config) 
       × ((error : Error) × (cause ≡ cause_of error)
       × VotersHaveReason (home_of (config old)) W error (shows old) (shows new)))
 
--- So it is of each purge that was refused in a run in which each store that was opened served voters, whichever they are.
+-- This holds for each purge that failed in a run, if each store that was opened in it served voters, whichever they
+-- are.
 abbrev pub RunsRefuseForReasons : {S F : Type 0} → Service S → Upkeep S → Disk S F → (S → Config) → (S → Shows) → Type 0
 RunsRefuseForReasons {S} {F} v u d config shows = (files : F) (events : List Event) (report : WorldReport F)
     → (run : IsRun v u d files events report) → ServeSome v (moments_of run.turns)

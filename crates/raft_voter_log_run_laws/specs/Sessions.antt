@@ -1,4 +1,4 @@
--- Sessions on a log whose crashes fall under stores that run, told by the bytes that they leave.
+-- Sessions on a log in which running stores crash, by the bytes that the crashes leave.
 use Rattle.std.specs.Prelude.{◌≡◌, ◌⊎◌, false, List, [], ◌∷◌, ◌++◌}
 use Rattle.raft_log_disk.specs.Disk.{Disk as OnDisk}
 use Rattle.raft_log_disk_memory.specs.Memory.{disk_of}
@@ -23,12 +23,12 @@ use Rattle.raft_voter_log.specs.declared.files.LogFiles.{LogFiles}
 use Rattle.raft_voter_log.specs.Leaving.{SparesStore}
 use Rattle.raft_voter_log_laws.specs.Chance.{LeavesForeign, LosesWrites}
 
--- A crash fell under a store that ran, and left of its last files only what it had written there.
+-- A running store crashed, and left in its active files only what it had written there.
 abbrev pub OnlyLoses : Config → Shows → OnDisk → Type 0
 OnlyLoses config s d = (has_failed s ≡ false) × LosesWrites (home_of config) s.pipes d
 
--- In these moments a store is opened, serves rounds, is purged and has faults armed below it, and is crashed, where each
--- crash only loses; and no round comes while none is open but is idle. Behind the last one it may be closed.
+-- In these moments a store is opened, serves rounds, is purged, has faults armed under it, and crashes; each crash only
+-- loses writes. A round that comes while no store is open is idle. After the last moment the store may be closed.
 abbrev pub CrashesOnlyLose : {S : Type 0} → (S → Config) → (S → Shows) → Storage S LogFiles
     → List (Moment S LogFiles) → Type 0
 CrashesOnlyLose config shows storage [] = Unit {0}
@@ -46,7 +46,7 @@ CrashesOnlyLose config shows (Open store) (crashed gone left ∷ ms) =
 CrashesOnlyLose config shows (Closed files) (idle round now ∷ ms) = CrashesOnlyLose config shows (Closed now) ms
 CrashesOnlyLose config shows storage ms = ⊥
 
--- A run from files on in which no log began, with such moments: each store that it opens serves voters, nothing is lost,
+-- A run with such moments, from files in which no log began: each store that it opens serves voters, nothing is lost,
 -- and voters that never fail explain its transcript.
 abbrev pub RunsAskNothing : {S : Type 0} → Service S → Upkeep S → Disk S LogFiles → (S → Config) → (S → Shows) → Type 0
 RunsAskNothing {S} v u d config shows = (first : LogFiles) (events : List Event) (report : WorldReport LogFiles)
@@ -55,8 +55,8 @@ RunsAskNothing {S} v u d config shows = (first : LogFiles) (events : List Event)
     → ServeSome v (moments_of run.turns) × NoneLost (moments_of run.turns ++ run.closing)
     × Explains report.transcript.rounds report.cuts
 
--- Of a store that runs: where a crash leaves a record that nobody wrote behind all that was written, in either queue,
--- the premise on chance is broken, by whichever knowledge of what the store leaves.
+-- A crash of a running store leaves, after all that was written in either queue, a record that nobody wrote. Then the
+-- premise that there is no CRC collision is false, whatever is known of what the store leaves.
 abbrev pub ForeignRecordsBreakPremise : Type 0
 ForeignRecordsBreakPremise = (config : Config) (s : Shows) (cut : CutRound) → has_failed s ≡ false
     → (under : LeavesAt (home_of config) s cut) → (d : OnDisk)

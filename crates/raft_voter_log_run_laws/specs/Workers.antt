@@ -1,4 +1,4 @@
--- Two opens of a run's files, each by so many workers.
+-- Two opens of a run's files, with different numbers of workers.
 use Rattle.std.specs.Prelude.{ℕ, List}
 use Rattle.raft_log_disk_memory.specs.Memory.{disk_of}
 use Rattle.raft_log_disk_memory.specs.declared.memory.MemoryFileSystem.{MemoryFileSystem}
@@ -11,8 +11,8 @@ use Rattle.raft_voter_log.specs.Instance.{OpensFiles}
 use Rattle.raft_voter_log.specs.Leaving.{FilesLeave, SparesFiles}
 use Rattle.raft_voter_log_laws.specs.Workers.{AreAlike}
 
--- Where something is known to be left in files, and no checksum is met by chance of it, opens by any two numbers of
--- workers make stores that serve the same voters, with the same outlines, and list them alike.
+-- If it is known what is left in files, and they have no CRC collision, opens with any two numbers of workers are
+-- alike. The stores serve the same voters with the same outlines, and list them alike.
 abbrev pub AnyWorkersOpenAlike : (MemoryFileSystem → List ℕ → ℕ → Type 0) → Type 0
 AnyWorkersOpenAlike tells = (files : LogFiles) (cut : CutRound)
     (known : FilesLeave files.config (disk_of files.files) cut)

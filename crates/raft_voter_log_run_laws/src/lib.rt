@@ -1,9 +1,10 @@
-//! Runs of a store of voters on a log, for whoever checks what is asked of chance, or picks a number of workers.
+//! Laws on runs of a store of voters on a log: for checking the premise on CRC collisions, and for choosing a number of
+//! workers.
 //!
-//! Each public function is a law over the definitions of `specs/`: it does nothing, and its contract is what is
-//! proved.
-//! * [`sessions`]: sessions that ask nothing of chance, and such that break its premise; [`workers`]: opens by any number
-//!   of workers; [`purges`]: what a purge makes of the voters, and why it is refused.
+//! Each public function is a law over the definitions of `specs/`: it does nothing, and its contract is what is proved.
+//! * [`sessions`]: sessions that need no premise on CRC collisions, and sessions that make it false.
+//! * [`workers`]: opens with any number of workers.
+//! * [`purges`]: what a purge leaves of the voters, and why it fails.
 #![tactic(auto)]
 
 pub mod purges;

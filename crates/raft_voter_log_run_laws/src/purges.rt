@@ -9,24 +9,27 @@ use raft_voter::RoundService;
 use raft_voter_log::{LogFiles, LogVoters};
 use raft_voter_world::{VoterDisk, VoterStorage};
 
-/// A purge in a run, answered or refused, changes no voter; and a refused one leaves a store failed only where a file call
-/// failed in it.
+/// A purge in a run changes no voter, whether it succeeds or fails. If it leaves a store failed, a file call failed in
+/// it.
 pub fn purges_keep_or_fail<R: Log>()
     ensures { PurgesKeepOrFail ⟦<LogVoters as VoterStorage<R>>⟧.upkeep
         (λ voters. shows_of ⟦<EnginePipes<MemoryFileSystem, Nobody> as PipeLog>⟧.shown voters.store.engine) }
 {}
 
-/// A purge of a store that keeps voters is refused only for one of these causes: as the file system, where a file call
-/// failed, an entry wasn't read, a queue stands at the last number of a file, or the marks that are owed are too long for a
-/// record; or as memory, which ran out. It is never refused as an invalid argument, nor as what a group has is too long, nor
-/// for a file that isn't of its queue.
+/// Why a purge of a store that keeps voters fails:
+/// - `FileSystem`: a file call failed, an entry wasn't read, a queue is at its last file number, or the owed tombstones
+///   are too long for a record;
+/// - `Memory`: out of memory.
+///
+/// It never fails with an invalid argument, with a group whose contents are too long, or for a file that isn't of its
+/// queue.
 pub fn refused_purges_have_reasons<R: Log>()
     ensures { RefusedPurgesHaveReasons ⟦<LogVoters as VoterStorage<R>>⟧.upkeep
         (λ voters. shows_of ⟦<EnginePipes<MemoryFileSystem, Nobody> as PipeLog>⟧.shown voters.store.engine) }
 {}
 
-/// So it is of each purge that was refused in a run, of a store that had not failed before: it served voters, where each
-/// store that the run opened served some.
+/// This holds for each purge that failed in a run, of a store that had not failed before. The store served voters, if
+/// each store that the run opened served some.
 pub fn runs_refuse_for_reasons<R: Log>()
     ensures { RunsRefuseForReasons ⟦<LogVoters as RoundService<R>>⟧.service ⟦<LogVoters as VoterStorage<R>>⟧.upkeep
         ⟦<LogFiles as VoterDisk<R, LogVoters>>⟧.disk (λ voters. voters.config)

@@ -1,5 +1,5 @@
--- What is written of a voter that a request changes: one record, of its entries, then of those that go, and
--- then of its new state.
+-- What is written for a request that changes a voter: one record, with its new entries or those that go, and then its
+-- new state.
 use Rattle.std.specs.Prelude.{ℕ, ◌+◌, ◌==◌, ◌&&◌, Bool, bytes_eq, if◌then◌else◌, List, [], ◌∷◌, ◌++◌, length, drop, map}
 use Rattle.std.specs.List.{common_prefix_len}
 use Rattle.raft_log_model_laws.specs.Item.{Item, Record, Tagged}
@@ -16,38 +16,37 @@ use Rattle.raft_voter_outline.specs.State.{State, last_index}
 use Rattle.raft_voter.specs.Rounds.{World}
 use Rattle.raft_voter_meaning_laws.specs.Voters.{voter_key}
 
--- an item of a group: of entries and of values, each as its bytes
+-- an item of a group, its entries and values as bytes
 abbrev pub Words : Type 0
 Words = Item (List ℕ) (List ℕ)
 
--- By the old voter and the new one.
+-- From the old voter and the new one.
 
--- an entry is the other one: the same term and the same bytes
+-- the two entries are equal: the same term and the same bytes
 abbrev pub is_entry : ℕ × List ℕ → ℕ × List ℕ → Bool
 is_entry d e = (d.0 == e.0) && bytes_eq d.1 e.1
 
--- how many of the old entries the new log has too, up to the first that differs or is new
+-- how many of the old entries the new log shares, up to the first that differs or is new
 abbrev pub shared : State → State → ℕ
 shared v w = common_prefix_len is_entry v.log w.log
 
--- these entries, the first at this index, are written as one run; none aren't
+-- these entries, the first at this index, as one run; nothing if there are none
 abbrev pub run_items : ℕ → List (ℕ × List ℕ) → List Words
 run_items index [] = []
 run_items index (e ∷ es) = Run index (map entry_text (numbered index (e ∷ es))) ∷ []
 
--- the entries from the first on that differs or is new
+-- the entries from the first one that differs or is new
 abbrev pub brought_items : State → State → List Words
 brought_items v w = run_items (v.base_index + shared v w + 1) (drop (shared v w) w.log)
 
--- The entries up to the new base go; where none stays, all up to the last; and where there were none nothing
--- is said.
+-- The entries up to the new base go. If none stays, all up to the last go. If there were none, nothing is written.
 abbrev pub gone_items : State → State → List Words
 gone_items v w =
     if length v.log == 0 then []
     else if length w.log == 0 then Compact (last_index v + 1) ∷ []
     else Compact (w.base_index + 1) ∷ []
 
--- what becomes of the log: entries come where the base stays, and go where it moves
+-- what happens to the log: entries are appended if the base stays, and go if it moves
 abbrev pub log_items : State → State → List Words
 log_items v w = if w.base_index == v.base_index then brought_items v w else gone_items v w
 
@@ -55,8 +54,8 @@ log_items v w = if w.base_index == v.base_index then brought_items v w else gone
 abbrev pub state_items : State → List Words
 state_items w = Put voter_key (state_text (stored_state w)) ∷ []
 
--- What is written of a voter that takes a request: what becomes of its log, and then its new state; of one
--- that is retired, that all of it goes.
+-- What is written for a voter that takes a request: the change of its log, then its new state. If it is retired, a
+-- Clean.
 abbrev pub change_items : State → Request → List Words
 change_items v q =
     if is_retire q then Clean ∷ [] else log_items v (next v q) ++ state_items (next v q)
@@ -73,16 +72,16 @@ record_in g xs = Plain (tagged_with g xs)
 abbrev pub change_record : World → ℕ × Request → Record (List ℕ) (List ℕ)
 change_record W q = record_in q.0 (change_items (W q.0) q.1)
 
--- By what was decided.
+-- From a decision.
 
--- what is written of what is done to a log, where the request brought these entries
+-- what is written for a change of the log, if the request brought these entries
 abbrev pub write_items : Write → List (ℕ × List ℕ) → List Words
 write_items writes.StateAlone sent = []
 write_items (writes.Entries skipped index) sent = run_items index (drop skipped sent)
 write_items (writes.CompactTo index) sent = Compact (index + 1) ∷ []
 write_items writes.Clean sent = Clean ∷ []
 
--- what is written of a change that was decided for a request
+-- what is written for a change that was decided for a request
 abbrev pub decided_items : Change → Request → List Words
 decided_items c q =
     write_items c.write (sent_of q)

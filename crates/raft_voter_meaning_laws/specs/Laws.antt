@@ -14,12 +14,12 @@ use Rattle.raft_voter_meaning_laws.specs.Voters.{Group, Groups, HoldsVoter, IsFo
 use Rattle.raft_voter_meaning_laws.specs.Changes.{change_items, change_record, decided_items}
 use Rattle.raft_voter_meaning_laws.specs.Readings.{HasForeign, IsReadAs, read_voter}
 
--- A request's record leads from the voters before it to those after it, whatever the request is.
+-- A request's record leads from the voters before the request to those after it, whatever the request is.
 abbrev pub RecordsLead : Type 0
 RecordsLead = (m : Groups) (W : World) (q : ℕ × Request) → Means m W
     → Means (taken m (change_record W q ∷ [])) (after_one W q)
 
--- What is written of a change is what was decided by an outline, the same of each voter with that outline.
+-- What is written for a change is what an outline decided, the same for each voter with that outline.
 abbrev pub DecisionsAreWritten : Type 0
 DecisionsAreWritten = (o : State) (q : Request) (c : Change) → ChangesEach o q c
     → (v : State) → without_bytes v ≡ o → change_items v q ≡ decided_items c q
@@ -32,21 +32,21 @@ OneVoter = (grp : Group) (v w : State) → IsVoter grp v → IsVoter grp w → v
 abbrev pub OneWorld : Type 0
 OneWorld = (m : Groups) (V W : World) → Means m V → Means m W → V ≡ W
 
--- A group is foreign exactly where it holds something, and no voter.
+-- A group is foreign if and only if it holds something, and no voter.
 abbrev pub ForeignExactly : Type 0
 ForeignExactly = (grp : Group)
     → (IsForeign grp ↔ ((IsVoid grp → ⊥) × ((v : State) → ¬ HoldsVoter grp v)))
 
--- A map in which nothing stands means fresh voters.
+-- An empty map means fresh voters.
 abbrev pub EmptyMapsAreFresh : Type 0
 EmptyMapsAreFresh = (m : Groups) → ((g : ℕ) → IsVoid (m g)) → Means m fresh_world
 
--- A map that is what another one is means the same voters: so a purge changes none.
+-- Two maps with the same content mean the same voters, so a purge changes none.
 abbrev pub SameMapsMeanTheSame : Type 0
 SameMapsMeanTheSame = (m n : Groups) → ((g : ℕ) (s : Slot) → m g s ≡ n g s)
     → (W : World) → Means m W → Means n W
 
--- A group that is read so holds that voter.
+-- A group that is read this way holds that voter.
 abbrev pub ReadGroupsHoldVoters : Type 0
 ReadGroupsHoldVoters = (grp : Group) (s : VoterState) (es : List VoterEntry) → IsReadAs grp s es
     → HoldsVoter grp (read_voter s es)
@@ -55,6 +55,6 @@ ReadGroupsHoldVoters = (grp : Group) (s : VoterState) (es : List VoterEntry) →
 abbrev pub VotersAreRead : Type 0
 VotersAreRead = (grp : Group) (v : State) → HoldsVoter grp v → IsReadAs grp (stored_state v) (log_entries v)
 
--- A group in which any of this stands is foreign.
+-- A group that has any of this is foreign.
 abbrev pub ForeignGroupsAreForeign : Type 0
 ForeignGroupsAreForeign = (grp : Group) → HasForeign grp → IsForeign grp

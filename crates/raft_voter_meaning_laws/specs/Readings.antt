@@ -1,5 +1,4 @@
--- What of a group has to be read, and is to be read as what, so that it is known to hold a voter, or to be
--- foreign.
+-- What must be read of a group, and with which result, to know that it holds a voter or is foreign.
 use Rattle.std.specs.Prelude.{◌≡◌, ◌≢◌, ℕ, ◌+◌, ◌-◌, ◌^◌, ◌<◌, ◌≤◌, nat_le, if◌then◌else◌, List, length, map, slice_get, Option, Some, None, option_map}
 use Rattle.raft_log_model_laws.specs.Meaning.{Slot, Content}
 use Rattle.raft_log_model_laws.specs.Meaning.Slot.{Index, Key}
@@ -14,12 +13,12 @@ use Rattle.raft_voter_outline.specs.State.{State}
 use Rattle.raft_voter.specs.Laws.{AreReadAs}
 use Rattle.raft_voter_meaning_laws.specs.Voters.{Group, voter_key}
 
--- what stands at an index where these are the bytes of a group's entries, the first at that one
+-- what is at an index, if these are the bytes of a group's entries and the first is at `first`
 abbrev pub run_content : ℕ → List (List ℕ) → ℕ → Option (Content (List ℕ) (List ℕ))
 run_content first texts i = if nat_le first i then option_map Entry (slice_get texts (i - first)) else None
 
--- A group is read: one key and no other, whose bytes are a state; and of its entries, which follow the base of
--- that state one by one, each is read at its index, the last one in range.
+-- A group is read: it has one key and no other, whose bytes are a state. Its entries follow the base of that state one
+-- by one. Each is read at its index, and the last one is in range.
 pub record IsReadAs (grp : Group) (s : VoterState) (es : List VoterEntry) : Type 0 where
   pub bytes : List ℕ
   pub head : grp (Key voter_key) ≡ Some (Value bytes)
@@ -30,13 +29,13 @@ pub record IsReadAs (grp : Group) (s : VoterState) (es : List VoterEntry) : Type
   pub read : AreReadAs (s.base_index + 1) texts es
   pub small : s.base_index + length es < 2 ^ 63
 
--- the voter that is read so
+-- the voter that is read
 abbrev pub read_voter : VoterState → List VoterEntry → State
 read_voter s es = with_log s (map (λ e. (e.term, e.bytes)) es)
 
--- Why a group is foreign: it has another key; something stands in it, and not the one key; the bytes there are
--- no state; an entry stands at or below the base of that state, or behind an index where none does; the bytes
--- of an entry are none; or its index isn't in range.
+-- Why a group is foreign: it has another key; it has something, but not the one key; the bytes under the key are no
+-- state; an entry is at or below the base of that state, or after an index without one; the bytes of an entry are none;
+-- or its index isn't in range.
 pub data HasForeign (grp : Group) : Type 0 where
   other_key : (k : List ℕ) → (voter_key ≡ k → ⊥) → (grp (Key k) ≡ None → ⊥) → HasForeign grp
   no_state : (s : Slot) → (grp s ≡ None → ⊥) → grp (Key voter_key) ≡ None → HasForeign grp

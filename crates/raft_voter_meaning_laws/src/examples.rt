@@ -1,4 +1,4 @@
-//! What the definitions say of short runs: each line is computed.
+//! Short runs of a voter, computed from the definitions.
 
 ghost use Rattle.std.specs.Prelude.{◌≡◌, [], ◌∷◌};
 ghost use Rattle.raft_log_model_laws.specs.Item.Item.{Clean, Compact as CompactItem, Run};
@@ -18,7 +18,7 @@ ghost use Rattle.raft_voter_meaning_laws.specs.Examples.{
   two_entries,
 };
 
-/// A first Append is written whole; one of another leader from the first entry on that differs; and one whose
+/// A first Append is written whole. One of another leader is written from the first entry that differs. One whose
 /// entries are all there with their terms changes nothing, whatever their bytes.
 pub fn appends()
     ensures first { change_items fresh (Append 1 0 0 1 (of_terms (1 ∷ [])))
@@ -38,8 +38,8 @@ pub fn states_alone()
         ≡ put_state (next two_entries (Append 1 2 1 2 [])) ∷ [] }
 {}
 
-/// What goes is written as a Compact of the index behind the new base; where none stays, of the index behind
-/// the last entry; and where there was none nothing is written but the state.
+/// Entries that go are written as a Compact of the index after the new base. If none stays, it is the index after the
+/// last entry. If there was none, only the state is written.
 pub fn entries_go()
     ensures some { change_items three_entries (Compact 2) ≡ CompactItem 3 ∷ put_state compacted_voter ∷ [] }
     ensures to_the_last { change_items compacted_voter (Compact 3)
@@ -51,12 +51,12 @@ pub fn entries_go()
     ensures none { change_items fresh (Install 2 7 2) ≡ put_state (next fresh (Install 2 7 2)) ∷ [] }
 {}
 
-/// Of a voter that is retired all goes.
+/// If a voter is retired, all of it goes: a Clean is written.
 pub fn retires()
     ensures { change_items three_entries Retire ≡ Clean ∷ [] }
 {}
 
-/// A group that was written in the first form holds the voter whose commit stands at its base.
+/// A group that was written in the first form holds the voter whose commit index is its base.
 pub fn old_forms_are_voters()
     ensures { HoldsVoter old_group old_voter }
 {}

@@ -12,18 +12,18 @@ pub fn one_world()
     ensures { OneWorld }
 {}
 
-/// A map in which nothing stands means fresh voters.
+/// An empty map means fresh voters.
 pub fn empty_maps_are_fresh()
     ensures { EmptyMapsAreFresh }
 {}
 
-/// A map that is what another one is means the same voters. A purge leaves the map, so it changes no voter.
+/// Two maps with the same content mean the same voters. A purge keeps the map, so it changes no voter.
 pub fn same_maps_mean_the_same()
     ensures { SameMapsMeanTheSame }
 {}
 
-/// A group whose one key is read as a state, and whose entries are read one by one behind its base, holds the
-/// voter of that state and those entries.
+/// A group holds the voter of a state and entries if its one key is read as that state, and its entries are read after
+/// its base.
 pub fn read_groups_hold_voters()
     ensures { ReadGroupsHoldVoters }
 {}
@@ -33,13 +33,14 @@ pub fn voters_are_read()
     ensures { VotersAreRead }
 {}
 
-/// A group is foreign exactly where it holds something, and no voter.
+/// A group is foreign if and only if it holds something, and no voter.
 pub fn foreign_exactly()
     ensures { ForeignExactly }
 {}
 
-/// A group is foreign that has another key, or no key and yet something, or bytes under the key that are no
-/// state; or that has an entry at or below the base, behind a gap, out of range, or whose bytes are none.
+/// A group is foreign if it has another key, if it has something but no key, or if the bytes under the key are no
+/// state. It is foreign if it has an entry at or below the base, after a gap, out of range, or whose bytes are no
+/// entry.
 pub fn foreign_groups_are_foreign()
     ensures { ForeignGroupsAreForeign }
 {}

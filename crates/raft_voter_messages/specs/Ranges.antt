@@ -22,7 +22,7 @@ entries_fit prev sent =
     fits (prev + length sent) && nat_le (length sent) 1024 && list_all entry_fits sent
     && nat_le (total_bytes sent) 1048576
 
--- a voter takes the requests in range
+-- a voter takes the requests that are in range
 abbrev pub in_range : Request → Bool
 in_range (Vote term candidate index last) = list_all fits (term ∷ candidate ∷ index ∷ last ∷ [])
 in_range (Append term prev prev_term commit sent) =

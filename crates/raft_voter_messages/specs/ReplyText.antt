@@ -1,4 +1,4 @@
--- How a reply is written: its name, and what it says in words parted by one space.
+-- The text of a reply: its name, then its values, separated by single spaces.
 use Rattle.std.specs.Prelude.{ℕ, List, ◌++◌, codes, Option, Some, None}
 use Rattle.std.specs.Fmt.{decimal}
 use Rattle.std.specs.List.{flat_map}
@@ -8,7 +8,7 @@ use Rattle.raft_voter_messages.specs.declared.reply.Reply.{Reply}
 use Rattle.raft_voter_messages.specs.declared.reply.Reply.TheVariants.{Granted, Denied, Matched, Mismatch, Stale, Base, Entries, Gone, Unknown, Status, Retired, Refused}
 use Rattle.raft_voter_messages.specs.declared.reply.VoterState.{VoterState}
 
--- a vote, or `-` where there is none
+-- a vote, or `-` if there is none
 abbrev pub vote_word : Option ℕ → List ℕ
 vote_word None = codes "-"
 vote_word (Some candidate) = decimal candidate
@@ -26,7 +26,7 @@ unfoldable pub entry_word : Entry → List ℕ
 entry_word entry =
     decimal entry.index ++ codes ":" ++ decimal entry.term ++ codes ":" ++ encode_lower entry.bytes
 
--- an entry, `index:term:hex`, behind a space
+-- a space, then an entry as `index:term:hex`
 abbrev pub spaced_entry : Entry → List ℕ
 spaced_entry entry = codes " " ++ entry_word entry
 

@@ -1,4 +1,4 @@
--- The numbers that every form of a state begins with, as they are read.
+-- The numbers that begin every form of a stored state, as they are read.
 use Rattle.std.specs.Prelude.{◌≡◌, ◌≢◌, ℕ, IsTrue, List, ◌∷◌, Option}
 use Rattle.raft_voter_messages.specs.declared.reply.VoterState.{VoterState}
 use Rattle.raft_voter_messages.specs.declared.stored.head.StateHead.{StateHead}

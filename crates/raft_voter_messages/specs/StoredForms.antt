@@ -9,13 +9,13 @@ use Rattle.raft_voter_messages.specs.declared.stored.StoredFault.{StoredFault}
 use Rattle.raft_voter_messages.specs.declared.stored.StoredFault.TheVariants.{Length, Form, Range, Index, Memory}
 use Rattle.raft_voter_messages.specs.Ranges.{fits}
 
--- What the forms are made of.
+-- The parts of the forms.
 
--- a number has eight bytes, the highest first
+-- a number is eight bytes, big-endian
 unfoldable pub number_text : ℕ → List ℕ
 number_text n = to_be_bytes w64 n
 
--- one byte that tells whether there is a vote, and the candidate, 0 without a vote
+-- one byte that says whether there is a vote, then the candidate, or 0 without a vote
 abbrev pub vote_text : Option ℕ → List ℕ
 vote_text None = 0 ∷ number_text 0
 vote_text (Some candidate) = 1 ∷ number_text candidate
@@ -29,7 +29,7 @@ head_text term vote base_index base_term =
 abbrev pub vote_fits : Option ℕ → Bool
 vote_fits vote = option_map_or fits vote true
 
--- the numbers of a state are in range, and its base doesn't stand above its commit
+-- the numbers of a state are in range, and its base is at most its commit
 abbrev pub state_fits : VoterState → Bool
 state_fits s =
     fits s.term && vote_fits s.vote && fits s.base_index && fits s.base_term && fits s.commit
@@ -39,15 +39,15 @@ state_fits s =
 abbrev pub stored_entry_fits : Entry → Bool
 stored_entry_fits e = fits e.index && fits e.term && nat_le (length e.bytes) 65535
 
--- the state is in range, and nothing but its base is known of its log
+-- the state is in range, and only the base of its log is known
 pub record IsBareState (s : VoterState) : Type 0 where
   pub in_range : IsTrue (state_fits s)
   pub last_index : s.last_index ≡ s.base_index
   pub last_term : s.last_term ≡ s.base_term
 
--- State form 1: 34 bytes. It is read, and not written any more.
+-- State form 1: 34 bytes. It is read, but no longer written.
 
--- the term, the vote and the base; of the commit nothing is said, and it stands at the base
+-- the term, the vote and the base; the form has no commit, so the commit is the base's index
 pub record IsStateForm1 (body : List ℕ) (s : VoterState) : Type 0 where
   pub text : body ≡ head_text s.term (vote_text s.vote) s.base_index s.base_term
   pub commit : s.commit ≡ s.base_index
@@ -83,7 +83,7 @@ abbrev pub SpellsState : List ℕ → VoterState → Type 0
 SpellsState [] s = ⊥
 SpellsState (form ∷ body) s = ((form ≡ 1) × IsStateForm1 body s) ⊎ ((form ≡ 2) × (body ≡ state_form_2 s))
 
--- these are the bytes of such a state
+-- the bytes encode this state, in one of the forms, and it is bare
 abbrev pub IsState : List ℕ → VoterState → Type 0
 IsState bytes s = SpellsState bytes s × IsBareState s
 
@@ -105,7 +105,7 @@ pub record IsEntryForm1 (body : List ℕ) (e : Entry) : Type 0 where
   pub text : body ≡ entry_form_1 e
   pub in_range : IsTrue (stored_entry_fits e)
 
--- the first fault of what follows the form byte 1; memory can only run out for an entry without fault
+-- the first fault of what follows the form byte 1; memory can run out only for an entry without a fault
 abbrev pub EntryForm1Fault : StoredFault → List ℕ → ℕ → Type 0
 EntryForm1Fault Length body index = (length body < 16) ⊎ (65551 < length body)
 EntryForm1Fault Range body index =
@@ -120,7 +120,7 @@ EntryForm1Fault _ body index = ⊥
 abbrev pub entry_text : Entry → List ℕ
 entry_text e = 1 ∷ entry_form_1 e
 
--- these are the bytes of an entry in range that stands at this index
+-- the bytes encode an entry in range at this index
 pub record IsEntry (bytes : List ℕ) (index : ℕ) (e : Entry) : Type 0 where
   pub text : bytes ≡ entry_text e
   pub in_range : IsTrue (stored_entry_fits e)

@@ -8,10 +8,10 @@ ghost use Rattle.raft_voter_messages.specs.ReplyText.{entry_word, reply_text, sp
 use crate::{Entry, Reply, VoterState};
 use std::{fmt, str};
 
-/// How many bytes are written as hex digits at once.
+/// How many bytes are encoded as hex digits at once.
 const CHUNK_BYTES: usize = 128;
 
-/// The reply's name and what it says, as `Granted 5`. Entries are each written behind a space.
+/// Writes the reply's name and values, as `Granted 5`. A space precedes each entry.
 impl fmt::Display for Reply {
     ghost output = { λ reply. Some (reply_text reply) };
 
@@ -36,7 +36,7 @@ impl fmt::Display for Reply {
     }
 }
 
-/// The term, the vote (`-` where there is none), the index and the term of the base and of the last entry,
+/// Writes the term, the vote (`-` if there is none), the base's index and term, the last entry's index and term, and
 /// the commit.
 impl fmt::Display for VoterState {
     ghost output = { λ state. Some (state_words state) };
@@ -52,7 +52,7 @@ impl fmt::Display for VoterState {
     }
 }
 
-/// The index, the term and the bytes in hex digits, as `3:2:00ff`.
+/// Writes the index, the term and the bytes as hex digits, as `3:2:00ff`.
 impl fmt::Display for Entry {
     ghost output = { λ entry. Some (entry_word entry) };
 
@@ -64,7 +64,7 @@ impl fmt::Display for Entry {
     }
 }
 
-/// Writes a candidate, or `-` where there is none.
+/// Writes a candidate, or `-` if there is none.
 fn write_vote<W: fmt::Write>(f: &mut fmt::Formatter<W>, vote: Option<u64>) -> fmt::Result
     ensures { WritesOnOk W.write_str_gives f.old result (vote_word vote) f.new }
 {
@@ -74,7 +74,7 @@ fn write_vote<W: fmt::Write>(f: &mut fmt::Formatter<W>, vote: Option<u64>) -> fm
     }
 }
 
-/// Writes entries, each behind a space.
+/// Writes entries, each after a space.
 fn write_entries<W: fmt::Write>(f: &mut fmt::Formatter<W>, entries: &[Entry]) -> fmt::Result
     ensures { WritesOnOk W.write_str_gives f.old result (flat_map spaced_entry entries.now) f.new }
 {

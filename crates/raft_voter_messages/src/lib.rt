@@ -1,10 +1,10 @@
-//! What goes into a Raft voter and what comes out of it: requests, replies, entries of a log, and rounds of
-//! them; the texts of replies, and the bytes in which a voter is stored.
+//! The messages of a Raft voter: requests, replies, log entries, and rounds of them. Also the texts of replies, and the
+//! bytes in which a voter is stored.
 //!
-//! Nothing here knows what a voter does with a request. `Request::in_range` tells which requests one takes at
-//! all. Replies print themselves, as transcripts show them: `Granted 5`, `Entries 3:2:00ff`. What
-//! `state_bytes` and `entry_bytes` write, `read_state` and `read_entry` read, and each other list of bytes is
-//! refused with its first fault.
+//! No code here depends on what a voter does with a request. `Request::in_range` decides which requests a voter takes
+//! at all. Replies print themselves as transcripts show them: `Granted 5`, `Entries 3:2:00ff`. `read_state` and
+//! `read_entry` read what `state_bytes` and `entry_bytes` write; `read_state` reads an older form too. They fail on any
+//! other bytes with the first fault.
 #![tactic(auto)]
 
 mod display;

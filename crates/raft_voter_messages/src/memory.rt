@@ -1,8 +1,8 @@
-//! The one thing that can go wrong: memory runs out.
+//! The only error of these calls: memory runs out.
 use std::alloc::{AllocError, AllocFailed};
 use thiserror::Error;
 
-/// An allocation was refused. The call that answers it changed nothing.
+/// An allocation failed. The call that returns this error changed nothing.
 #[derive(Clone, Copy, Debug, PartialEq, Eq, Drop, Error)]
 #[error("out of memory")]
 pub struct Memory;

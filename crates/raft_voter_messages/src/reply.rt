@@ -1,14 +1,14 @@
-//! What a voter answers.
+//! Replies of a voter.
 use crate::Items;
 
 /// An entry of a log.
 #[derive(Debug, PartialEq, Drop)]
 pub struct Entry {
-    /// Where the entry stands, counted from 1.
+    /// The index in the log, counted from 1.
     pub index: u64,
     /// The term in which its leader made it.
     pub term: u64,
-    /// What the leader's client asked for.
+    /// The payload that the leader's client sent.
     pub bytes: Items<u8>,
 }
 
@@ -17,7 +17,7 @@ pub struct Entry {
 pub struct VoterState {
     /// The current term.
     pub term: u64,
-    /// Whom it voted for in this term.
+    /// The candidate that it voted for in this term.
     pub vote: Option<u64>,
     /// The index up to which the log was compacted, 0 at first.
     pub base_index: u64,
@@ -31,7 +31,7 @@ pub struct VoterState {
     pub commit: u64,
 }
 
-/// What a voter answers to a request.
+/// A voter's reply to a request.
 #[derive(Debug, PartialEq, Drop)]
 pub enum Reply {
     /// The vote is the candidate's, in this term.
@@ -40,7 +40,8 @@ pub enum Reply {
     Denied(u64),
     /// The log agrees with the leader's up to this index.
     Matched(u64),
-    /// The log doesn't hold the leader's entry right before those sent; a hint where it may agree.
+    /// The log doesn't have the leader's entry right before those sent. The value is a hint: an index at which the logs
+    /// may agree.
     Mismatch(u64),
     /// The leader's term is over; the voter's term.
     Stale(u64),
@@ -48,14 +49,14 @@ pub enum Reply {
     Base(u64),
     /// The entries that were asked for.
     Entries(Items<Entry>),
-    /// The index up to which the log was compacted: what was asked for went with it.
+    /// The base's index: the first index that was asked for is not above it.
     Gone(u64),
-    /// The last index: what was asked for lies beyond it.
+    /// The last index: the last index that was asked for is above it.
     Unknown(u64),
     /// The voter's state.
     Status(VoterState),
     /// The voter is a fresh one again.
     Retired,
-    /// The request wasn't taken.
+    /// The voter did not take the request.
     Refused,
 }

@@ -1,4 +1,4 @@
-//! What a voter may be asked.
+//! Requests to a voter.
 ghost use Rattle.std.specs.Prelude.{◌≡◌, ◌^◌, ◌<◌};
 ghost use Rattle.std.specs.List.{list_all};
 ghost use Rattle.raft_voter_messages.specs.Ranges.{entries_fit, entry_fits, fits, in_range, total_bytes};
@@ -17,7 +17,7 @@ pub const MAX_ENTRY_BYTES: usize = 65_535;
 /// The most bytes that the entries of one `Append` have together.
 pub const MAX_APPEND_BYTES: usize = 1_048_576;
 
-/// A request to one voter, as the receiver of Raft's messages sees it, or of its own node.
+/// A request to one voter: a Raft message that it receives, or a call of its own node.
 #[derive(Debug, PartialEq, Drop)]
 pub enum Request {
     /// A candidate asks for a vote (Raft paper, RequestVote).
@@ -31,7 +31,7 @@ pub enum Request {
         /// The term of the candidate's last entry.
         last_term: u64,
     },
-    /// A leader sends entries, or none as a sign of life (Raft paper, AppendEntries).
+    /// A leader sends entries, or none as a heartbeat (Raft paper, AppendEntries).
     Append {
         /// The leader's term.
         term: u64,
@@ -44,12 +44,12 @@ pub enum Request {
         /// The term and the bytes of each entry, from `prev_index + 1` on.
         entries: Items<(u64, Items<u8>)>,
     },
-    /// The node has a snapshot up to an index, so the entries up to there may go.
+    /// The node has a snapshot up to an index, so the voter may delete the entries up to it.
     Compact {
-        /// The last index that goes.
+        /// The last index to delete.
         index: u64,
     },
-    /// A leader's snapshot was taken in (Raft paper, InstallSnapshot).
+    /// The node installed a leader's snapshot (Raft paper, InstallSnapshot).
     Install {
         /// The leader's term.
         term: u64,
@@ -72,9 +72,9 @@ pub enum Request {
 }
 
 impl Request {
-    /// Whether a voter takes this request: all its numbers, and the index of the last entry that it brings,
-    /// are at most `MAX_NUMBER`, and an `Append` keeps the limits on entries and bytes. A voter answers
-    /// `Refused` to any other.
+    /// Whether a voter takes this request. All its numbers, and the index of the last entry of an `Append`, must be at
+    /// most `MAX_NUMBER`. An `Append` must also keep the limits on entries and bytes. A voter replies `Refused` to any
+    /// other request.
     pub fn in_range(&self) -> bool
         ensures { result ≡ in_range self.now }
     {
@@ -114,14 +114,14 @@ pub(crate) fn fits(number: u64) -> bool
     number <= MAX_NUMBER
 }
 
-/// Whether each of these numbers is.
+/// Whether all these numbers are at most `MAX_NUMBER`.
 pub(crate) fn all_fit(numbers: &[u64]) -> bool
     ensures { result ≡ list_all fits numbers.now }
 {
     numbers.iter().all(|number| fits(*number))
 }
 
-/// Whether the entries that an `Append` brings behind this index keep the limits.
+/// Whether the entries that an `Append` brings after this index keep the limits.
 fn entries_fit(prev_index: u64, entries: &[(u64, Items<u8>)]) -> bool
     ensures { result ≡ entries_fit prev_index entries.now }
 {
@@ -139,7 +139,7 @@ fn each_fits(entries: &[(u64, Items<u8>)]) -> bool
     entries.iter().all(|entry| entry_fits(entry))
 }
 
-/// Whether an entry does.
+/// Whether an entry has a term in range and isn't too long.
 fn entry_fits(entry: &(u64, Items<u8>)) -> bool
     ensures { result ≡ entry_fits entry.now }
 {

@@ -1,23 +1,23 @@
-//! Rounds of requests, and what came of them.
+//! Rounds of requests and their outcomes.
 use crate::{Items, Reply, Request};
 
-/// What came of a round.
+/// The outcome of a round.
 #[derive(Debug, PartialEq, Drop)]
 pub enum Outcome {
     /// Each request has its reply, in the same order.
     Answered(Items<Reply>),
-    /// Nothing was answered.
+    /// The round ended without replies.
     Cut,
 }
 
-/// Requests that were handed in together, to the voters of many groups.
+/// Requests to the voters of many groups that were submitted together.
 #[derive(Debug, PartialEq, Drop)]
 pub struct Round {
-    /// Each request with its group, in the order in which they are taken. Places are counted from 0.
+    /// The requests with their groups, in the order in which they are served. Places count from 0.
     pub requests: Items<(u64, Request)>,
-    /// The places that weren't taken, rising.
+    /// The places of the requests that weren't taken, in rising order.
     pub refused: Items<usize>,
-    /// What came of it.
+    /// The outcome of the round.
     pub outcome: Outcome,
 }
 

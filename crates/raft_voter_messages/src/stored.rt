@@ -1,5 +1,5 @@
-//! How a voter's state and its entries are stored as bytes: the first byte names the form, and numbers have
-//! eight bytes, the highest first.
+//! How a voter's state and its entries are stored as bytes. The first byte names the form. A number is eight bytes,
+//! big-endian.
 ghost use Rattle.std.specs.Prelude.{◌≡◌, ◌+◌, ◌^◌, ◌<◌, ◌≤◌, ◌++◌, length, vec_capacity, vec_len};
 ghost use Rattle.raft_voter_messages.specs.StoredForms.{number_text};
 ghost use Rattle.raft_voter_messages.specs.declared.stored.StoredFault.TheVariants as faults;
@@ -17,26 +17,26 @@ use thiserror::Error;
 /// How many bytes a number has.
 const NUMBER_BYTES: usize = 8;
 
-/// Why stored bytes aren't those of a voter.
+/// Why stored bytes do not encode a voter.
 #[derive(Clone, Copy, Debug, PartialEq, Eq, Error)]
 pub enum StoredFault {
     /// There are no bytes, or too few or too many for their form.
     #[error("wrong length")]
     Length,
-    /// The first byte names no form that is known.
+    /// The first byte names no known form.
     #[error("unknown form")]
     Form,
-    /// A number is above the limit, the commit is below the base, the byte of the vote is neither 0 nor 1, or
-    /// a candidate stands where there is no vote.
+    /// A number is above the limit, or the commit is below the base. Or the vote byte is neither 0 nor 1, or a
+    /// candidate is named without a vote.
     #[error("value out of range")]
     Range,
-    /// The entry stands at another index than the one that was asked for.
+    /// The entry has another index than the expected one.
     #[error("wrong index")]
     Index,
-    /// The entries don't stand one behind the other from the base on.
+    /// The entries are not consecutive from the base on.
     #[error("entries out of order")]
     Order,
-    /// An allocation was refused.
+    /// An allocation failed.
     #[error("out of memory")]
     Memory,
 }
@@ -57,7 +57,7 @@ impl From<AllocError> for StoredFault {
     }
 }
 
-/// Adds a number's bytes, for which there is room.
+/// Appends a number's bytes. The caller has reserved room for them.
 fn push_number(bytes: &mut Vec<u8>, number: u64)
     requires { vec_len bytes.old + 8 ≤ vec_capacity bytes.old }
     ensures items { bytes.new.items ≡ bytes.old.items ++ number_text number }
@@ -69,7 +69,7 @@ fn push_number(bytes: &mut Vec<u8>, number: u64)
     };
 }
 
-/// The number that begins these bytes, and the bytes behind it.
+/// Splits the number off the front of these bytes. Returns it and the remaining bytes.
 fn split_number(bytes: &[u8]) -> (u64, &[u8])
     requires { 8 ≤ length bytes.now }
     ensures text { bytes.now ≡ number_text result.0 ++ result.1.now }

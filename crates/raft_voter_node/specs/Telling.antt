@@ -1,4 +1,4 @@
--- What the lines of a round tell of it.
+-- What the lines of a round mean.
 use Rattle.std.specs.Prelude.{◌≡◌, ◌⊎◌, ℕ, List, []}
 use Rattle.raft_voter_messages.specs.declared.reply.Reply.{Reply}
 use Rattle.raft_voter_messages.specs.declared.request.Request.{Request}
@@ -7,7 +7,7 @@ use Rattle.raft_voter_session.specs.Text.{round_text}
 use Rattle.raft_voter.specs.Service.{AnswersRound, CutsOff, Service}
 use Rattle.raft_voter.specs.declared.service.Cause.{Cause}
 
--- These are the lines of a round that was answered, with the replies of the voters.
+-- These are the lines of a round that was served, with the replies of the voters.
 pub record TellsReplies {S : Type 0} (service : Service S) (number : ℕ) (requests : List (ℕ × Request))
     (lines : List ℕ) (old new : S) : Type 0 where
   pub replies : List Reply

@@ -1,4 +1,4 @@
-//! What a node is asked, read line by line.
+//! Reads what a node is to do, line by line.
 use raft_voter_session::read_session;
 use raft_voter_world::Event;
 use std::alloc::Global;
@@ -8,21 +8,21 @@ use std::io::BufRead;
 /// The line with which a round begins.
 const ROUND: &[u8] = b"round\n";
 
-/// The line with which it ends.
+/// The line at the end of a round.
 const END: &[u8] = b"end\n";
 
-/// What lines of input ask.
+/// What lines of input request.
 #[derive(Drop)]
 pub enum Asked {
     /// An event.
     Event(Event),
-    /// Nothing that a session has there.
+    /// Lines that a session doesn't have there.
     Unreadable,
     /// Nothing more: the input has ended.
     End,
 }
 
-/// What the next lines ask: one line, or those of a round up to its end.
+/// Reads what the next lines request: one line, or those of a round up to its end.
 pub fn read_asked<I: BufRead>(alloc: Global, input: &mut I) -> io::Result<Asked> {
     let lines = read_lines(alloc, input)?;
     if lines.is_empty() {
@@ -38,7 +38,7 @@ pub fn read_asked<I: BufRead>(alloc: Global, input: &mut I) -> io::Result<Asked>
     }
 }
 
-/// The next line, and where it begins a round those up to its end.
+/// The next line; if it begins a round, all lines up to the round's end.
 fn read_lines<I: BufRead>(alloc: Global, input: &mut I) -> io::Result<Vec<u8>> {
     let mut lines = Vec::new(alloc);
     for _ in 0..u64::MAX {

@@ -1,8 +1,8 @@
-//! What lies in the directories of a log.
+//! Counts the files in the directories of a log.
 use raft_log_engine::{Config, FileSystem, Permission};
 use std::alloc::Global;
 
-/// How many files lie in directories, and how many bytes they have.
+/// How many files are in directories, and how many bytes they have.
 #[derive(Clone, Copy, Debug, PartialEq, Eq)]
 pub struct Found {
     /// How many files there are.
@@ -11,7 +11,7 @@ pub struct Found {
     pub bytes: u64,
 }
 
-/// What lies in the directories of these settings, as far as it can be told: nothing in one that isn't there.
+/// Counts the files in the directories of these settings, as far as possible; none if a directory doesn't exist.
 pub fn found_by<F: FileSystem>(files: &F, alloc: Global, config: &Config) -> Found {
     let main = found_in(files, alloc, config.dir.as_str());
     let Some(spill) = &config.spill_dir else {
@@ -24,7 +24,7 @@ pub fn found_by<F: FileSystem>(files: &F, alloc: Global, config: &Config) -> Fou
     }
 }
 
-/// What lies in a directory.
+/// Counts the files in a directory.
 fn found_in<F: FileSystem>(files: &F, alloc: Global, directory: &str) -> Found {
     let mut found = Found { files: 0, bytes: 0 };
     let Ok(names) = files.list(directory) else {

@@ -1,5 +1,5 @@
-//! A node of Raft voters, as a program runs it: a store of voters on a log over any file system, which is asked by
-//! lines of the session language, and answers each round by lines once what they tell is durable.
+//! A node of Raft voters, as a program runs it: a store of voters on a log over any file system. It reads lines of the
+//! session language, and writes the lines of each round after what they say is durable.
 #![tactic(auto)]
 
 mod asking;

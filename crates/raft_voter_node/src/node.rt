@@ -1,4 +1,4 @@
-//! A store of voters that a node has open.
+//! An open store of voters in a node.
 use crate::found::found_by;
 use crate::rounds::serve_round;
 use log::{Log, info};
@@ -11,7 +11,7 @@ use std::io;
 use std::thread::Threads;
 use std::time::{Clock, Instant};
 
-/// A store of voters that is open, and how many rounds it was handed.
+/// An open store of voters, and how many rounds it was given.
 #[derive(Drop)]
 pub struct Node<F> {
     alloc: Global,
@@ -20,9 +20,9 @@ pub struct Node<F> {
 }
 
 impl<F: FileSystem + Sync + Drop> Node<F> {
-    /// Opens the store whose log these settings name, and answers it with a line for each voter that is stored, its group
-    /// and its status, sorted by group. A line is logged of what was found, how long the opening took until the voters
-    /// are read, and which files the log has now.
+    /// Opens the store whose log these settings name. Returns it with a line for each stored voter: its group and its
+    /// status, sorted by group. Logs a line with what was found, how long the opening took until the voters were read,
+    /// and which files the log has now.
     pub fn open<R: Threads + Log + Sync + Clock>(
         rt: &R,
         alloc: Global,
@@ -52,7 +52,7 @@ impl<F: FileSystem + Sync + Drop> Node<F> {
         Ok((node, voter_lines(alloc, voters)?))
     }
 
-    /// Does what an event of a session asks, and answers the lines that tell it.
+    /// Does what an event of a session requests, and returns its lines.
     pub fn answer<R: Log>(&mut self, rt: &R, event: Event) -> anyhow::Result<String> {
         match event {
             Event::Round { requests } => {
@@ -106,7 +106,7 @@ fn voter_lines(alloc: Global, voters: Vec<(u64, Voter)>) -> anyhow::Result<Strin
     Ok(lines)
 }
 
-/// How many milliseconds passed since a time that was asked for; 0 where the clock tells none.
+/// How many milliseconds have passed since `start`; 0 if the clock fails.
 fn millis_since<R: Clock>(rt: &R, start: io::Result<Instant>) -> u128 {
     match start.and_then(|start| start.elapsed(rt)) {
         Ok(passed) => passed.as_millis(),

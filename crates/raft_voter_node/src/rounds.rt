@@ -1,4 +1,4 @@
-//! A round is served, and its lines are told.
+//! Serves a round, and returns its lines.
 ghost use Rattle.std.specs.Prelude.{IfOk, string_bytes};
 ghost use Rattle.raft_voter_node.specs.Telling.{TellsRound};
 
@@ -6,8 +6,8 @@ use raft_voter::{Items, Memory, Outcome, Request, Round, RoundService};
 use raft_voter_session::round_lines;
 use std::alloc::Global;
 
-/// Serves a round of this number, and answers its lines: `answered`, and a line for each reply, once all that it
-/// changed is durable; or `cut`. Where memory is refused the round was served or wasn't, and isn't told.
+/// Serves a round of this number, and returns its lines (`round_text`): the outcome and each reply, after all that the
+/// round changed is durable; or `cut`. If memory runs out, the round may have been served, and there are no lines.
 pub fn serve_round<R, S: RoundService<R>>(
     rt: &R,
     alloc: Global,

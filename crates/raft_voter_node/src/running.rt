@@ -1,4 +1,4 @@
-//! A node is run.
+//! Runs a node.
 use crate::asking::{Asked, read_asked};
 use crate::node::Node;
 use anyhow::bail;
@@ -9,9 +9,9 @@ use std::io::{BufRead, Write};
 use std::thread::Threads;
 use std::time::Clock;
 
-/// Runs a node over these files: the voters that stand are told, and then `ready`; what each line or round asks is
-/// done, and told once it is durable. At the end of the input the store is closed, and the files are given back. If the
-/// log fails, or the output, the node ends with that error; so it does if the log can't be closed cleanly.
+/// Runs a node over these files. It writes the stored voters, and then `ready`. It does what each line or round
+/// requests, and writes its lines after they are durable. At the end of the input it closes the store, and returns the
+/// files. If the log or the output fails, the node ends with that error, and also if the log can't be closed cleanly.
 pub fn run<R: Threads + Log + Sync + Clock, F: FileSystem + Sync + Drop, I: BufRead, W: Write>(
     rt: &R,
     alloc: Global,
@@ -43,7 +43,7 @@ pub fn run<R: Threads + Log + Sync + Clock, F: FileSystem + Sync + Drop, I: BufR
     Ok(closed.files)
 }
 
-/// Writes lines, and hands them on.
+/// Writes lines, and flushes them.
 fn tell<W: Write>(output: &mut W, lines: &str) -> anyhow::Result<()> {
     output.write_all(lines.as_bytes())?;
     output.flush()?;

@@ -1,4 +1,4 @@
--- The log of a store is copied, and a store is opened over the copy: laws, each the contract of an empty function.
+-- Copying the log of a store, and opening a store over the copy: laws, each the contract of an empty function.
 use Rattle.std.specs.Prelude.{◌≡◌, ◌<◌, ℕ, List, length}
 use Rattle.raft_log_disk.specs.Disk.{Disk}
 use Rattle.raft_log_disk.specs.Image.{IsSound}
@@ -25,7 +25,7 @@ pub record FindAlike {F : Type 0} (disk : F → Disk) (tells : F → List ℕ �
   pub source : FindsVoters disk tells config now W (λ X. X ≡ W)
   pub before : FindsVoters disk tells config old W (λ X. X ≡ W)
 
--- The log of a store rests, and is copied into a directory: a store over the copy finds its source's voters.
+-- If the log of a store rests and is copied into a directory, a store over the copy finds its source's voters.
 abbrev pub ForkedVotersAreFound : {F : Type 0} → (F → Disk) → (F → List ℕ → ℕ → Type 0) → Type 0
 ForkedVotersAreFound {F} disk tells = (config to : Config) (target : List ℕ) (copied : List (List ℕ)) (old now : F)
     (m : LogMap) (W : World) → IsSound (disk old) → IsSound (disk now) → NamesOnly to target
@@ -33,14 +33,14 @@ ForkedVotersAreFound {F} disk tells = (config to : Config) (target : List ℕ) (
     → Forks (settings_of config) target copied (disk old) (disk now)
     → FindAlike disk tells config to old now W
 
--- Whoever copies the log that these settings name, for settings that name the target alone, finds these voters there.
+-- Any copy of the log that these settings name, for settings that name only the target, gives these voters.
 abbrev pub CopiesVoters : {F : Type 0} → (F → Disk) → (F → List ℕ → ℕ → Type 0) → F → World → Config → Type 0
 CopiesVoters {F} disk tells old W config = (to : Config) (target : List ℕ) (copied : List (List ℕ)) (after : F)
     → IsSound (disk after) → NamesOnly to target → IsClear target (disk old)
     → Forks (settings_of config) target copied (disk old) (disk after)
     → FindsVoters disk tells to after W (λ X. X ≡ W)
 
--- What a store left, closed or failed, is opened in place, or copied and opened there, with no crash between: both
+-- What a store left, closed or failed, is opened in place, or copied and opened there, without a crash in between. Both
 -- find the same voters, which a stop may leave of it, by any settings that name its directories.
 abbrev pub LeftVotersAreCopied : {F : Type 0} → (F → Disk) → (F → List ℕ → ℕ → Type 0) → Type 0
 LeftVotersAreCopied {F} disk tells = (home : Home) → 0 < length home.append → 0 < length home.rewrite → (old : F)
@@ -50,7 +50,7 @@ LeftVotersAreCopied {F} disk tells = (home : Home) → 0 < length home.append �
     × ForAllNaming home (λ config. FindsVoters disk tells config old W (MayFollow cut))
     × ForAllNaming home (CopiesVoters disk tells old W)
 
--- What was left of voters in the directories of these settings is left there still: those that may follow a round,
+-- What was left of voters in the directories of these settings is still left there: those that may follow a round,
 -- those of one world, a log that rests, or none.
 pub record LeavesVoters (config : Config) (old new : Disk) : Type 0 where
   pub left : (cut : CutRound) → IsLeftAmong (home_of config) old (MayFollow cut)
@@ -60,13 +60,12 @@ pub record LeavesVoters (config : Config) (old new : Disk) : Type 0 where
       → LogRestsOn (log_in (home_of config)) new m
   pub bare : IsBare config old → IsBare config new
 
--- wherever a copy ends, answered or refused, it leaves the voters of its source
+-- however a copy ends, it leaves the voters of its source
 abbrev pub ForksLeaveVoters : Type 0
 ForksLeaveVoters = (config : Config) (target : List ℕ) (old new : Disk) → IsSound old
     → EndsFork config target old new → LeavesVoters config old new
 
--- Into one of the log's own directories, that of its spilled files among them, nothing is copied: such a copy is
--- refused, and nothing changes.
+-- A copy into one of the log's own directories, including that of its spilled files, fails, and nothing changes.
 abbrev pub OwnDirectoriesGetNoCopy : Type 0
 OwnDirectoriesGetNoCopy = (config : Config) (target : List ℕ) (old new : Disk)
     → LiesInOne (directories_of (settings_of config)) target → EndsFork config target old new

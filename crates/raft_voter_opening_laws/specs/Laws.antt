@@ -1,4 +1,4 @@
--- What follows: laws on opens, each the contract of an empty function.
+-- Laws about opens, each the contract of an empty function.
 use Rattle.std.specs.Prelude.{◌≡◌, ◌<◌, ℕ, List, length}
 use Rattle.raft_log_disk.specs.Disk.{Disk}
 use Rattle.raft_log_disk.specs.Image.{IsImage, IsSound}
@@ -16,26 +16,25 @@ use Rattle.raft_voter_meaning_laws.specs.Voters.{Means}
 use Rattle.raft_voter_standing_laws.specs.Standing.{IsLeftAmong, Keeps}
 use Rattle.raft_voter_opening_laws.specs.Opens.{BeginsVoters, FindsVoters}
 
--- Directories in which no log began are opened as fresh voters.
+-- Opening directories in which no log began gives fresh voters.
 abbrev pub FirstOpensAreFresh : {F : Type 0} → (F → Disk) → (F → List ℕ → ℕ → Type 0) → Type 0
 FirstOpensAreFresh {F} disk tells = (config : Config) (old : F) → IsSound (disk old) → IsBare config (disk old)
     → BeginsVoters disk tells config old
 
--- A log that rests is opened as the voters that it means.
+-- Opening a log that rests gives the voters that it means.
 abbrev pub RestingVotersAreFound : {F : Type 0} → (F → Disk) → (F → List ℕ → ℕ → Type 0) → Type 0
 RestingVotersAreFound {F} disk tells = (config : Config) (old : F) (m : LogMap) (W : World) → IsSound (disk old)
     → LogRestsOn (log_in (home_of config)) (disk old) m → Means m W
     → FindsVoters disk tells config old W (λ X. X ≡ W)
 
--- Whatever a crash leaves of a store that runs is opened as the voters that it kept, by any settings that name
--- its directories.
+-- Opening any crash image of a running store gives the voters that it kept, for any settings that name its directories.
 abbrev pub CrashedStoresAreFound : {F : Type 0} → (F → Disk) → (F → List ℕ → ℕ → Type 0) → Type 0
 CrashedStoresAreFound {F} disk tells = (home : Home) (e : Shows) (W : World) → Keeps home e W → (old : F)
     → IsSound (disk old) → IsImage e.pipes.disk (disk old) → LeavesNoChance home e.pipes (disk old)
     → ForAllNaming home (λ config. FindsVoters disk tells config old W (λ X. X ≡ W))
 
--- Whatever a crash leaves of a log that was left, closed or failed, is opened as voters that a stop may leave:
--- the same by any settings that name its directories, whatever number of workers.
+-- Opening any crash image of a log that was left, closed or failed, gives voters that a stop may leave. They are the
+-- same for all settings that name its directories, and for any number of workers.
 abbrev pub CrashedVotersAreFound : {F : Type 0} → (F → Disk) → (F → List ℕ → ℕ → Type 0) → Type 0
 CrashedVotersAreFound {F} disk tells = (home : Home) → 0 < length home.append → 0 < length home.rewrite
     → (d : Disk) (cut : CutRound) (left : IsLeftAmong home d (MayFollow cut)) (old : F) → IsSound (disk old)
@@ -43,8 +42,8 @@ CrashedVotersAreFound {F} disk tells = (home : Home) → 0 < length home.append 
     → (W : World) × MayFollow cut W
     × ForAllNaming home (λ config. FindsVoters disk tells config old W (λ X. X ≡ W))
 
--- A log that was left, closed or failed, is opened in place as voters that a stop may leave: the same by any
--- settings that name its directories, whatever number of workers; refused, what was left is left.
+-- Opening a log that was left, closed or failed, in place gives voters that a stop may leave. They are the same for all
+-- settings that name its directories, and for any number of workers. If the open fails, what was left is still left.
 abbrev pub LeftVotersAreFound : {F : Type 0} → (F → Disk) → (F → List ℕ → ℕ → Type 0) → Type 0
 LeftVotersAreFound {F} disk tells = (home : Home) → 0 < length home.append → 0 < length home.rewrite → (old : F)
     (cut : CutRound) (left : IsLeftAmong home (disk old) (MayFollow cut)) → IsSound (disk old)

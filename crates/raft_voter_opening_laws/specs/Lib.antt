@@ -1,5 +1,5 @@
 pub mod Opens
 pub mod Laws
 pub mod Forking
--- libraries below, passed on to who stands on this one
+-- libraries below, re-exported to crates above
 pub use Rattle.raft_voter_store

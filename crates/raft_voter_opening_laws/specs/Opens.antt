@@ -1,4 +1,4 @@
--- What an open of a store finds of the voters that its log tells.
+-- Which voters an open of a store finds in its log.
 use Rattle.std.specs.Prelude.{◌⊎◌, ℕ, List}
 use Rattle.raft_log_disk.specs.Disk.{Disk}
 use Rattle.raft_log_file_settings.specs.declared.config.Config.{Config}
@@ -12,17 +12,17 @@ use Rattle.raft_voter_reading.specs.declared.unread.Unread.{Unread}
 use Rattle.raft_voter_reading.specs.declared.unread.Unread.TheVariants as causes
 use Rattle.raft_voter_store.specs.Opening.{FailsToOpenVoters, OpensVoters}
 
--- answered, an open's engine keeps these voters, and the store's outlines are theirs
+-- if an open succeeds, its engine keeps these voters, and the store's outlines are theirs
 abbrev pub ServesFound : {F : Type 0} → (F → Disk) → (F → List ℕ → ℕ → Type 0) → Config → F → World → Type 0
 ServesFound disk tells config old W = (t : Shows) (os : ℕ → State) → OpensVoters disk tells config old t os
     → Keeps (home_of config) t W × AreOutlines os W
 
--- an open is never refused for a group that holds what is no voter's
+-- an open never fails for a group whose contents aren't a voter
 abbrev pub FindsNoForeign : {F : Type 0} → (F → Disk) → (F → List ℕ → ℕ → Type 0) → Config → F → Type 0
 FindsNoForeign {F} disk tells config old = (group : ℕ) (back : F)
     → FailsToOpenVoters disk tells config (causes.Foreign group) old back → ⊥
 
--- An open finds these voters; refused, whyever, voters that pass the test are left.
+-- An open finds these voters; if it fails, for any reason, voters that pass the test are left.
 pub record FindsVoters {F : Type 0} (disk : F → Disk) (tells : F → List ℕ → ℕ → Type 0) (config : Config)
     (old : F) (W : World) (P : World → Type 0) : Type 0 where
   pub answered : ServesFound disk tells config old W
@@ -30,8 +30,8 @@ pub record FindsVoters {F : Type 0} (disk : F → Disk) (tells : F → List ℕ 
       → IsLeftAmong (home_of config) (disk back) P
   pub own : FindsNoForeign disk tells config old
 
--- An open of directories in which there was no log yet: all voters are fresh. Refused, the directories are
--- bare as before, or a log of fresh voters is left there.
+-- An open of directories in which there was no log yet: all voters are fresh. If it fails, the directories are still
+-- bare, or have a log of fresh voters.
 pub record BeginsVoters {F : Type 0} (disk : F → Disk) (tells : F → List ℕ → ℕ → Type 0) (config : Config)
     (old : F) : Type 0 where
   pub answered : ServesFound disk tells config old fresh_world

@@ -1,5 +1,5 @@
-//! Opens of a voter store, told in the words of its voters: what is found behind a first open, a close, a failure
-//! and a crash, and what a refused open leaves.
+//! Laws about opens of a voter store: which voters are found after a first open, a close, a failure and a crash, and
+//! what an open that fails leaves.
 //!
 //! Each public function here is a law over the definitions of `specs/`: it does nothing, and its contract is
 //! what is proved.

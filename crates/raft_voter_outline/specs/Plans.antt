@@ -1,4 +1,4 @@
--- What requests in range come to, by what an outline knows.
+-- Plans: the reply, state and write of a request in range, from what an outline knows.
 use Rattle.std.specs.Prelude.{◌≡◌, ℕ, nat_lt, if◌then◌else◌, None}
 use Rattle.raft_voter_messages.specs.declared.reply.VoterState.{VoterState}
 use Rattle.raft_voter_messages.specs.declared.request.Request.{Request}
@@ -7,7 +7,7 @@ use Rattle.raft_voter_outline.specs.Outlines.{stored_state, write_of}
 use Rattle.raft_voter_outline.specs.Rules.{next_in_range, reply_in_range}
 use Rattle.raft_voter_outline.specs.State.{State}
 
--- a higher term is taken over, and nobody has the vote in it
+-- a higher term is adopted, and no candidate has the vote in it
 abbrev pub with_term : VoterState → ℕ → VoterState
 with_term s term = if nat_lt s.term term then record s { term = term; vote = None } else s
 

@@ -1,4 +1,4 @@
--- Voters from what was read of them.
+-- Voters, restored from what was read of them.
 use Rattle.std.specs.Prelude.{◌≡◌, ℕ, ◌+◌, ◌==◌, ◌&&◌, Bool, true, IsOk, if◌then◌else◌, List, [], ◌∷◌, map, Result, Ok, Err}
 use Rattle.std.specs.List.{list_all}
 use Rattle.raft_voter_messages.specs.declared.reply.Entry.{Entry}
@@ -8,12 +8,12 @@ use Rattle.raft_voter_messages.specs.declared.stored.StoredFault.TheVariants.{Ra
 use Rattle.raft_voter_messages.specs.StoredForms.{state_fits, stored_entry_fits}
 use Rattle.raft_voter_outline.specs.State.{State}
 
--- each entry stands right behind the one before, the first at this index
+-- the entries are consecutive, and the first is at this index
 abbrev pub are_in_order : ℕ → List Entry → Bool
 are_in_order index [] = true
 are_in_order index (e ∷ es) = e.index == index && are_in_order (index + 1) es
 
--- the voter of this state and this log
+-- the voter with this state and this log
 abbrev pub with_log : VoterState → List (ℕ × List ℕ) → State
 with_log s log = record {
   term = s.term;
@@ -24,8 +24,7 @@ with_log s log = record {
   log = log;
 }
 
--- the voter of this state and these entries, or what is wrong with them: a number out of range goes before
--- the order
+-- the voter with this state and these entries, or their fault: a number out of range is reported before a wrong order
 abbrev pub restored : VoterState → List Entry → Result State StoredFault
 restored s es =
     if state_fits s && list_all stored_entry_fits es then
@@ -34,7 +33,7 @@ restored s es =
     else Err Order)
     else Err Range
 
--- a fault is the one that is there, and memory can only run out where there is none
+-- the fault is the right one; memory can run out only if there is no other fault
 abbrev pub RestoreFault : StoredFault → Result State StoredFault → Type 0
 RestoreFault Memory there = IsOk there
 RestoreFault fault there = there ≡ Err fault

@@ -11,53 +11,52 @@ use Rattle.raft_voter_outline.specs.State.{State, fresh, last_index, last_term, 
 
 -- Votes.
 
--- the voter has no vote out, or this candidate has it already
+-- the voter has not voted, or has voted for this candidate
 abbrev pub may_vote : State → ℕ → Bool
 may_vote v candidate = option_map_or (λ c. c == candidate) v.vote true
 
--- a log that ends at this index with this term is at least as up to date as the voter's: the terms decide,
+-- a log that ends at this index with this term is at least as up to date as the voter's: the terms are compared first,
 -- then the indexes
 abbrev pub is_up_to_date : State → ℕ → ℕ → Bool
 is_up_to_date v index last = nat_lt (last_term v) last || (last == last_term v && nat_le (last_index v) index)
 
--- a vote is granted where the candidate's term isn't over, nobody else has the vote in it, and the
--- candidate's log is up to date
+-- a vote is granted if the candidate's term isn't over, no other candidate has the vote in it, and the candidate's log
+-- is up to date
 abbrev pub grants : State → ℕ → ℕ → ℕ → ℕ → Bool
 grants v term candidate index last =
     nat_le v.term term && may_vote (adopt_term v term) candidate && is_up_to_date v index last
 
 -- Entries.
 
--- an entry, or the base, of this term stands at this index
+-- the entry at this index, or the base, has this term
 abbrev pub agrees_at : State → ℕ → ℕ → Bool
 agrees_at v index term = option_map_or (λ t. t == term) (term_at v index) false
 
--- how many of the entries sent are there already: those before the first whose term differs or that is new
+-- how many of the entries sent are already in the log: those before the first one that is new or whose term differs
 abbrev pub matching : List (ℕ × List ℕ) → List (ℕ × List ℕ) → ℕ
 matching old sent = common_prefix_len (λ e s. e.0 == s.0) old sent
 
--- matching entries stay as they are; the first other one drops what is old from there on and brings what
--- was sent
+-- matching entries are kept; from the first that differs, the old entries are replaced by those sent
 abbrev pub merged : List (ℕ × List ℕ) → List (ℕ × List ℕ) → List (ℕ × List ℕ)
 merged old sent =
     if matching old sent == length sent then old
     else take (matching old sent) old ++ drop (matching old sent) sent
 
--- the log once the entries that follow index `prev` are merged in
+-- the log after merging the entries that follow index `prev`
 abbrev pub merged_log : State → ℕ → List (ℕ × List ℕ) → List (ℕ × List ℕ)
 merged_log v prev sent = take (prev - v.base_index) v.log ++ merged (drop (prev - v.base_index) v.log) sent
 
--- The entries that follow index `prev` are merged in. The commit rises to the leader's, but not past the
--- last entry that the leader is now known to share.
+-- Merges the entries that follow index `prev`. The commit rises to the leader's, but not past the last entry that the
+-- leader is now known to share.
 abbrev pub appended : State → ℕ → ℕ → List (ℕ × List ℕ) → State
 appended v prev commit sent =
     record v { log = merged_log v prev sent; commit = max v.commit (min commit (prev + length sent)) }
 
--- the log can be compacted up to an entry that it holds and that is committed
+-- the log can be compacted up to a committed entry that it has
 abbrev pub can_compact : State → ℕ → Bool
 can_compact v index = nat_lt v.base_index index && nat_le index (last_index v) && nat_le index v.commit
 
--- the voter once its log was compacted up to an entry: that is the base, and what follows it stays
+-- the voter after its log was compacted up to an entry: that entry is the base, and the entries after it are kept
 abbrev pub compacted : State → ℕ → State
 compacted v index =
     record v {
@@ -66,8 +65,8 @@ compacted v index =
       log = drop (index - v.base_index) v.log;
     }
 
--- A snapshot's last entry is the base, and committed. What follows stays where the log held that very
--- entry, and else goes.
+-- A snapshot's last entry becomes the base, and is committed. The entries after it are kept if the log has that entry
+-- with that term, and otherwise removed.
 abbrev pub installed : State → ℕ → ℕ → State
 installed v index entry_term =
     record v {
@@ -88,7 +87,7 @@ entries_between v from to = numbered from (take (to - from) (drop (from - v.base
 
 -- The case table.
 
--- what a request in range is answered
+-- the reply to a request in range
 abbrev pub reply_in_range : State → Request → Reply
 reply_in_range v (Vote term candidate index last) =
     if grants v term candidate index last then Granted term else Denied (adopt_term v term).term
@@ -110,7 +109,7 @@ reply_in_range v (Read from to) =
 reply_in_range v Status = StatusReply (state_of v)
 reply_in_range v Retire = Retired
 
--- what a request in range makes of the voter
+-- the voter after a request in range
 abbrev pub next_in_range : State → Request → State
 next_in_range v (Vote term candidate index last) =
     if grants v term candidate index last then record (adopt_term v term) { vote = Some candidate }
@@ -128,11 +127,11 @@ next_in_range v (Read from to) = v
 next_in_range v Status = v
 next_in_range v Retire = fresh
 
--- what any request is answered: one out of range is refused
+-- the reply to any request; it is `Refused` if the request is out of range
 abbrev pub reply : State → Request → Reply
 reply v q = if in_range q then reply_in_range v q else Refused
 
--- what any request makes of the voter: one out of range changes nothing
+-- the voter after any request; a request out of range changes nothing
 abbrev pub next : State → Request → State
 next v q = if in_range q then next_in_range v q else v
 

@@ -4,14 +4,14 @@ use Rattle.std.specs.List.{prefix_len}
 use Rattle.std.specs.Option.{option_map, option_map_or}
 use Rattle.raft_voter_outline.specs.declared.outline.run.Run.{Run}
 
--- what a call sees of runs: the base, the entries above it, of each its term alone, and for how many more
--- runs there is room
+-- how contracts see runs: the base, the entries above it with only their terms, and for how many more runs there is
+-- room
 pub record Terms : Type 0 where
   pub base : ℕ
   pub log : List (ℕ × List ℕ)
   pub room : ℕ
 
--- the entries of runs, the first right above the base; of each its term alone
+-- the entries of runs, with only their terms; the first is right after the base
 abbrev pub unrolled : ℕ → List Run → List (ℕ × List ℕ)
 unrolled base [] = []
 unrolled base (r ∷ rs) = replicate (r.last - base) (r.term, []) ++ unrolled r.last rs
@@ -21,18 +21,16 @@ abbrev pub are_runs : ℕ → List Run → Bool
 are_runs base [] = nat_lt base (2 ^ 63)
 are_runs base (r ∷ rs) = nat_lt base r.last && are_runs r.last rs
 
--- what stands before has this term
+-- the entry before has this term
 abbrev pub is_behind : Option ℕ → ℕ → Bool
 is_behind before term = option_map_or (λ t. t == term) before false
 
--- no run has the term of the one before it, where the first stands behind an entry of this term, if there
--- is one
+-- no run has the term of the run before it; the first may follow an entry of the term `before`
 abbrev pub are_apart : Option ℕ → List Run → Bool
 are_apart before [] = true
 are_apart before (r ∷ rs) = not (is_behind before r.term) && are_apart (Some r.term) rs
 
 -- These are the runs of a log: their indexes rise and are in range, and neighbours have different terms.
--- So there are as many as the term changes.
 pub record AreRunsOf (base : ℕ) (rs : List Run) : Type 0 where
   pub rise : are_runs base rs ≡ true
   pub apart : are_apart None rs ≡ true
@@ -45,7 +43,7 @@ runs_below index rs = prefix_len (λ r. nat_lt r.last index) rs
 abbrev pub top_term : List (ℕ × List ℕ) → Option ℕ
 top_term log = option_map (λ e. e.0) (slice_get log (length log - 1))
 
--- how many new runs these entries make right behind an entry of this term, if there is one
+-- how many new runs these entries make right after an entry of the term `before`, if there is one
 abbrev pub runs_behind : Option ℕ → List (ℕ × List ℕ) → ℕ
 runs_behind before [] = 0
 runs_behind before (e ∷ es) =

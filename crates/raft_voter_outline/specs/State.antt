@@ -2,9 +2,9 @@ use Rattle.std.specs.Prelude.{ℕ, ◌+◌, ◌-◌, ◌==◌, nat_lt, if◌then
 use Rattle.std.specs.Option.{option_map}
 use Rattle.raft_voter_messages.specs.declared.reply.VoterState.{VoterState}
 
--- What a Raft server keeps of a group: the current term, whom it voted for in it, the index up to which
--- its log was compacted with the term of the entry there, the index up to which it knows entries to be
--- committed, and the entries above the base, each its term and its bytes.
+-- What a Raft server keeps for a group. `vote` is the candidate it voted for in the current term. The base is the index
+-- up to which the log was compacted, with the term of that entry. The commit is the index up to which entries are known
+-- to be committed. The log has the entries above the base, each with its term and its bytes.
 pub record State : Type 0 where
   pub term : ℕ
   pub vote : Option ℕ
@@ -13,12 +13,11 @@ pub record State : Type 0 where
   pub commit : ℕ
   pub log : List (ℕ × List ℕ)
 
--- a voter that has taken nothing yet
+-- a voter that has taken no request yet
 abbrev pub fresh : State
 fresh = record { term = 0; vote = None; base_index = 0; base_term = 0; commit = 0; log = [] }
 
--- the entry at an index above the base, if there is one: the k-th of the log, counted from 1, stands at
--- base + k
+-- the entry at an index above the base, if there is one: the k-th of the log, counted from 1, has index base + k
 abbrev pub entry_at : State → ℕ → Option (ℕ × List ℕ)
 entry_at v i = if nat_lt v.base_index i then slice_get v.log (i - v.base_index - 1) else None
 
@@ -34,7 +33,7 @@ last_index v = v.base_index + length v.log
 abbrev pub last_term : State → ℕ
 last_term v = unwrap_or (option_map (λ e. e.0) (slice_get v.log (length v.log - 1))) v.base_term
 
--- a higher term is taken over, and nobody has this voter's vote in it yet
+-- a higher term is adopted, and this voter hasn't voted in it yet
 abbrev pub adopt_term : State → ℕ → State
 adopt_term v t = if nat_lt v.term t then record v { term = t; vote = None } else v
 

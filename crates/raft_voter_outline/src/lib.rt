@@ -1,10 +1,10 @@
-//! What a Raft voter does with a request, and an outline that decides it: the voter's state and the terms
-//! of its log, without the entries.
+//! The rules of a Raft voter, and an outline that decides by them. An outline is the voter's state and the terms of its
+//! log, without the entries.
 //!
-//! `specs/Rules.antt` says, case by case, what a voter answers and what it becomes. An `Outline` decides
-//! both before anything is written: `decide` tells the answer and the change, `reserve` makes room for the
-//! change, and `apply`, which can't be refused, makes it. It keeps the terms of a log as runs of equal
-//! terms, so it grows with the number of times that the term changes, and not with the number of entries.
+//! `specs/Rules.antt` defines, case by case, a voter's reply and next state. An `Outline` decides both before anything
+//! is written. `decide` returns the reply and the change, and `reserve` makes room for the change. `apply` makes the
+//! change and can't fail. An outline keeps the terms of a log as runs of equal terms. Its size grows with the number of
+//! term changes, not with the number of entries.
 #![tactic(auto)]
 
 mod outline;

@@ -1,4 +1,4 @@
-//! What of a voter its decisions need: its state, and the terms of its log.
+//! The part of a voter that its decisions need: its state, and the terms of its log.
 ghost use Rattle.std.specs.Prelude.{◌≡◌, ◌+◌, ◌-◌, ◌^◌, ◌<◌, ◌≤◌, ◌&&◌, [], ◌∷◌, None, nat_le, is_some, IsTrue, length, drop, OnOk, OnErr};
 ghost use Rattle.raft_voter_outline.specs.Outlines.{ChangesEach, Decides, sent_of, stored_state, without_bytes};
 ghost use Rattle.raft_voter_outline.specs.Rules.{agrees_at, next};
@@ -19,9 +19,8 @@ use std::alloc::Global;
 use std::marker::Model;
 use term_runs::TermRuns;
 
-/// A voter without its entries: its state, and the terms of its log as runs of equal terms. It decides
-/// what the voter would answer and become. A contract sees the voter as a `State` whose entries have no
-/// bytes.
+/// A voter without its entries: its state, and the terms of its log as runs of equal terms. It decides the voter's
+/// reply and next state. Contracts see it as a `State` whose entries have no bytes.
 #[derive(Debug, Drop)]
 pub struct Outline {
     alloc: Global,
@@ -43,7 +42,7 @@ impl Model for Outline {
 }
 
 impl Outline {
-    /// The outline of a fresh voter.
+    /// Returns the outline of a fresh voter.
     pub fn new(alloc: Global) -> Outline
         ensures { result.voter ≡ fresh }
     {
@@ -57,13 +56,13 @@ impl Outline {
         }
     }
 
-    /// The voter's state.
+    /// Returns the voter's state.
     pub fn state(&self) -> VoterState
         ensures value { result ≡ state_of self.now.voter }
         ensures small { result.last_index < 2 ^ 63 }
         ensures committed { result.base_index ≤ result.commit }
 
-        // An outline is that of a voter: itself.
+        // An outline is the outline of a voter: itself.
         ensures own { without_bytes self.now.voter ≡ self.now.voter }
     {
         VoterState {
@@ -77,14 +76,14 @@ impl Outline {
         }
     }
 
-    /// The index of the base.
+    /// Returns the index of the base.
     pub fn base_index(&self) -> u64
         ensures { result ≡ self.now.voter.base_index }
     {
         self.terms.base()
     }
 
-    /// The state as it is stored: with the base in place of the last entry.
+    /// Returns the state as it is stored: with the base in place of the last entry.
     fn stored_state(&self) -> VoterState
         ensures { result ≡ stored_state self.now.voter }
     {
@@ -99,7 +98,7 @@ impl Outline {
         }
     }
 
-    /// The index of the last entry, or the base's.
+    /// Returns the index of the last entry, or the base's.
     fn last_index(&self) -> u64
         ensures value { result ≡ last_index self.now.voter }
         ensures small { result < 2 ^ 63 }
@@ -107,7 +106,7 @@ impl Outline {
         self.terms.last_index()
     }
 
-    /// The term of the last entry, or the base's.
+    /// Returns the term of the last entry, or the base's.
     fn last_term(&self) -> u64
         ensures { result ≡ last_term self.now.voter }
     {
@@ -117,7 +116,7 @@ impl Outline {
         }
     }
 
-    /// The term of the entry at an index, or of the base.
+    /// Returns the term of the entry at an index, or of the base.
     pub fn term_at(&self, index: u64) -> Option<u64>
         ensures value { result ≡ term_at self.now.voter index }
     {
@@ -131,7 +130,7 @@ impl Outline {
         self.terms.term_at(index)
     }
 
-    /// Whether an entry, or the base, of this term stands at this index.
+    /// Whether the entry at this index, or the base, has this term.
     fn agrees_at(&self, index: u64, term: u64) -> bool
         ensures value { result ≡ agrees_at self.now.voter index term }
     {

@@ -6,7 +6,7 @@ use Rattle.raft_voter_outline.specs.Outlines.{Outlined}
 use Rattle.raft_voter_outline.specs.State.{State, fresh}
 use Rattle.raft_voter_outlines.specs.declared.outlines.Outlines.{Outlines}
 
--- what is kept of a group
+-- the outline that is kept for a group
 abbrev pub kept_of : Outlines → ℕ → Option Outlined
 kept_of outlines g = get nat_cmp outlines.kept g
 

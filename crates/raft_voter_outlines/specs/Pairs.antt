@@ -1,4 +1,4 @@
--- Outlines that are listed with their groups.
+-- Outlines in pairs with their groups.
 use Rattle.std.specs.Prelude.{ℕ, List, Option, None}
 use Rattle.std.specs.Map.{update_all}
 use Rattle.std.specs.Ordering.{eq_by_cmp, nat_cmp}
@@ -6,10 +6,10 @@ use Rattle.raft_voter_outline.specs.Outlines.{Outlined}
 use Rattle.raft_voter_outline.specs.State.{State}
 use Rattle.raft_voter_outlines.specs.Kept.{kept_or_fresh}
 
--- what is listed of a group: of several with it the last
+-- the last outline that is listed with a group
 abbrev pub listed_of : List (ℕ × Outlined) → ℕ → Option Outlined
 listed_of pairs g = update_all (eq_by_cmp nat_cmp) (λ h. None) pairs g
 
--- the outline of each group, where these are listed: a fresh voter's, where none is listed with it
+-- the outline of each group, if these are listed: a fresh voter's, if none is listed with it
 abbrev pub outlines_of : List (ℕ × Outlined) → ℕ → State
 outlines_of pairs = λ g. kept_or_fresh (listed_of pairs g)

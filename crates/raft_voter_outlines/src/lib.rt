@@ -1,4 +1,4 @@
-//! The outlines of the voters of many groups, all that of them is kept in memory.
+//! The outlines of the voters of many groups: all that is kept of them in memory.
 #![tactic(auto)]
 
 mod outlines;

@@ -1,4 +1,4 @@
-//! Outlines by their groups.
+//! Outlines by group.
 ghost use Rattle.std.specs.Prelude.{◌≡◌, ◌==◌, ℕ, false, IfOk, MatchOption, None, OnErr, OnOk, Some};
 ghost use Rattle.std.specs.Borrow.{sem};
 ghost use Rattle.raft_voter_outline.specs.Outlines.{Decides, without_bytes};
@@ -7,7 +7,7 @@ use raft_voter_outline::{Decision, Memory, Outline, Request};
 use std::alloc::Global;
 use std::collections::BTreeMap;
 
-/// The outline of each group's voter. A group of which none is kept has a fresh voter.
+/// The outline of each group's voter. A group without an outline here has a fresh voter.
 #[derive(Drop)]
 pub struct Outlines {
     alloc: Global,
@@ -28,7 +28,7 @@ impl Outlines {
         Outlines { alloc, kept }
     }
 
-    /// Keeps an outline as that of a group's voter. Where memory is refused, the voters are as they were.
+    /// Keeps an outline as that of a group's voter. If memory runs out, the voters are unchanged.
     pub fn put(&mut self, group: u64, outline: Outline) -> Result<(), Memory>
         ensures kept { OnOk result (kept_of self.new group ≡ Some outline) }
         ensures own { OnOk result (outlines_in self.new group ≡ outline.voter) }
@@ -42,8 +42,8 @@ impl Outlines {
         }
     }
 
-    /// Outlines that are listed with their groups; of several with one group the last counts. Their tree is full, which
-    /// one isn't where they are put one by one. While it is made, the pairs take their memory twice.
+    /// Outlines from pairs with their groups. If several have one group, the last counts. The tree's nodes are full,
+    /// unlike those of a tree built one `put` at a time. While it is built, the pairs take twice their memory.
     pub fn from_pairs(alloc: Global, pairs: Vec<(u64, Outline)>) -> Result<Outlines, Memory>
         ensures { IfOk result (λ outlines. (g : ℕ) → outlines_in outlines g ≡ outlines_of pairs.items g) }
     {
@@ -51,7 +51,7 @@ impl Outlines {
         Ok(Outlines { alloc, kept })
     }
 
-    /// What the outline of a group's voter decides of a request.
+    /// Decides a request with the outline of the group's voter.
     pub fn decide(&self, group: u64, request: &Request) -> Decision
         ensures decides { Decides (outlines_in self.now group) request.now result }
 
@@ -64,7 +64,7 @@ impl Outlines {
         }
     }
 
-    /// The outline that is kept of a group's voter, to be changed: what is left there is that voter's outline.
+    /// The outline that is kept for a group's voter, to be changed: what is left there is that voter's outline.
     pub fn get_mut(&mut self, group: u64) -> Option<&mut Outline>
         ensures* lends { sem 𝓛 (LendsOutline self.entry group result) }
         ensures value { MatchOption result (kept_of self.old group ≡ None)
@@ -74,12 +74,12 @@ impl Outlines {
     }
 }
 
-/// What an outline decides of a request.
+/// Decides a request with an outline.
 fn decide_by(outline: &Outline, request: &Request) -> Decision
     ensures decides { Decides outline.now.voter request.now result }
     ensures own { without_bytes outline.now.voter ≡ outline.now.voter }
 {
-    // the outline's state tells that it is the outline of a voter: itself
+    // the outline's state shows that it is the outline of a voter: itself
     let _state = outline.state();
     outline.decide(request)
 }

@@ -1,7 +1,7 @@
--- What a file holds.
+-- The content of a plain file.
 use Rattle.std.specs.Prelude.{ℕ, List, [], ◌++◌}
 
--- the bytes that are on the disk for good, and those that were written since
+-- the bytes that are synced, and those that were written since
 pub record PlainContent : Type 0 where
   pub synced : List ℕ
   pub unsynced : List ℕ
@@ -14,10 +14,10 @@ empty_file = record { synced = []; unsynced = [] }
 abbrev pub after_crash : PlainContent → PlainContent
 after_crash file = record { synced = file.synced; unsynced = [] }
 
--- what a read gives
+-- what a read returns
 abbrev pub whole : PlainContent → List ℕ
 whole file = file.synced ++ file.unsynced
 
--- the content, once all that was written is synced
+-- the content, after all that was written is synced
 abbrev pub all_synced : PlainContent → PlainContent
 all_synced file = record { synced = whole file; unsynced = [] }

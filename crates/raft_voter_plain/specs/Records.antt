@@ -18,15 +18,15 @@ use Rattle.raft_voter_messages.specs.StoredForms.{entry_text, number_text, state
 
 -- Bytes.
 
--- an entry, 17 bytes and its own, behind the number of these bytes
+-- an entry: the number of its bytes, then these bytes, 17 and its own
 unfoldable pub stored_entry : Entry → List ℕ
 stored_entry e = number_text (length e.bytes + 17) ++ entry_text e
 
--- an entry of a log, where it stands at this index
+-- an entry of a log, at this index
 abbrev pub stored_at : ℕ → ℕ × List ℕ → List ℕ
 stored_at index e = stored_entry (record { index = index; term = e.0; bytes = e.1 })
 
--- the entries of a log, the first at this index
+-- the entries of a log; the first is at this index
 abbrev pub log_bytes : ℕ → List (ℕ × List ℕ) → List ℕ
 log_bytes first log = flat_map stored_entry (numbered first log)
 
@@ -60,23 +60,23 @@ abbrev pub AreStorable : List (ℕ × State) → Type 0
 AreStorable [] = Unit {0}
 AreStorable (r ∷ records) = IsStorableRecord r × AreStorable records
 
--- the voters of a world once these records follow: the last record of a group is its voter
+-- the voters of a world after these records: the last record of a group is its voter
 abbrev pub with_records : World → List (ℕ × State) → World
 with_records W [] = W
 with_records W (r ∷ records) = with_records (put W r.0 r.1) records
 
--- these bytes are records, one behind another, that lead from voters to voters
+-- these bytes are records, one after another, that lead from the first voters to the second
 pub record LeadTo (W : World) (bytes : List ℕ) (X : World) : Type 0 where
   pub records : List (ℕ × State)
   pub storable : AreStorable records
   pub text : bytes ≡ flat_map voter_record records
   pub world : X ≡ with_records W records
 
--- A file's bytes hold these voters: they are records, and the last of each group is its voter.
+-- A file's bytes keep these voters: they are records, and the last of each group is its voter.
 abbrev pub StandsFor : List ℕ → World → Type 0
 StandsFor bytes W = LeadTo fresh_world bytes W
 
--- stored entries in range, the first at this index
+-- stored entries in range; the first is at this index
 pub record AreEntries (first : ℕ) (entries : List Entry) : Type 0 where
   pub fit : list_all stored_entry_fits entries ≡ true
   pub ordered : are_in_order first entries ≡ true

@@ -1,4 +1,4 @@
--- The plain store: its voters in memory, and the file that holds them.
+-- The plain store: its voters in memory, and the file that keeps them.
 use Rattle.std.specs.Prelude.{◌≡◌, ◌<◌, ◌≤◌, ◌⊎◌, ℕ, Bool, true, false, List, [], ◌∷◌, ◌++◌, length, take}
 use Rattle.raft_voter_messages.specs.declared.reply.Reply.{Reply}
 use Rattle.raft_voter_messages.specs.declared.request.Request.{Request}
@@ -17,7 +17,7 @@ use Rattle.raft_voter_plain.specs.Records.{StandsFor, LeadTo, world_in}
 abbrev pub world_of : PlainVoters → World
 world_of store = world_in store.voters
 
--- what was synced stands for the voters, and nothing else was written
+-- the synced bytes keep the voters, and nothing else was written
 pub record StandsForVoters (store : PlainVoters) : Type 0 where
   pub synced : StandsFor store.file.synced (world_of store)
   pub settled : store.file.unsynced ≡ []
@@ -26,25 +26,25 @@ pub record StandsForVoters (store : PlainVoters) : Type 0 where
 abbrev pub ServesVoters : PlainVoters → World → Type 0
 ServesVoters store W = (world_of store ≡ W) × StandsForVoters store
 
--- these bytes stand for voters that may stand behind this round, and for no others
+-- these bytes keep voters that are possible after this round, and no others
 pub record StandsBehind (bytes : List ℕ) (cut : CutRound) : Type 0 where
   pub world : World
   pub stands : StandsFor bytes world
   pub alone : (X : World) → StandsFor bytes X → X ≡ world
   pub follows : MayFollow cut world
 
--- what a crash leaves of a file, and what a read gives, stands for voters that may stand behind this round
+-- what a crash leaves of a file, and what a read returns, keep voters that are possible after this round
 pub record FileStandsBehind (file : PlainContent) (cut : CutRound) : Type 0 where
   pub synced : StandsBehind file.synced cut
   pub read : StandsBehind (whole file) cut
 
--- the places that a round refuses: those of the requests out of range, and none where the service failed in it
+-- the places that a round refuses: those of the requests out of range, or none if the service failed in it
 abbrev pub refused_by : Bool → List (ℕ × Request) → List ℕ
 refused_by false requests = out_of_range 0 requests
 refused_by true requests = []
 
--- The plain voters as a service: a crash leaves what was synced, and just the requests out of range are
--- refused. The file is in memory, and that memory is refused is all that fails there: the voters have failed then.
+-- The plain voters as a service: a crash leaves what was synced, and exactly the requests out of range are refused. The
+-- file is in memory, so it fails only if memory runs out. Then the voters have failed.
 abbrev pub plain_voters : Service PlainVoters
 plain_voters = record {
   serves = ServesVoters;
@@ -54,16 +54,16 @@ plain_voters = record {
   fails = λ old new. (old.failed ≡ false) × (new.failed ≡ true);
 }
 
--- A file is refused for want of memory, where it isn't empty, or its bytes aren't records, and then the file
--- system is told to have failed.
+-- Why an open of a file fails. Memory may run out, if the file isn't empty. If its bytes aren't records, the cause is
+-- the file system.
 abbrev pub FileIsRefusedFor : PlainContent → Cause → Type 0
 FileIsRefusedFor file Memory = 0 < length (whole file)
 FileIsRefusedFor file FileSystem = StandsForNothing (whole file)
 FileIsRefusedFor file cause = ⊥
 
--- The file of the plain voters: an open syncs it, refused it stays as it is, and so it does at a close; a
--- crash leaves what was synced, and is never refused. Its records have no checksum, so nothing passes by
--- chance.
+-- The file of the plain voters. An open syncs it, and leaves it unchanged if it fails. A close leaves it unchanged. A
+-- crash leaves what was synced, and taking what it leaves can't fail. The records have no checksum, so there are no CRC
+-- collisions.
 abbrev pub plain_files : Files PlainVoters PlainContent
 plain_files = record {
   leaves = FileStandsBehind;
@@ -75,7 +75,7 @@ plain_files = record {
   refuses_crash = λ file. ⊥;
 }
 
--- what wasn't synced leads from these voters to those in memory
+-- the unsynced bytes lead from these voters to those in memory
 abbrev pub LeadsFrom : World → PlainVoters → Type 0
 LeadsFrom W store = LeadTo W store.file.unsynced (world_of store)
 
@@ -86,7 +86,7 @@ pub record Takes (old : PlainVoters) (asked : ℕ × Request) (told : Reply) (ne
   pub synced : new.file.synced ≡ old.file.synced
   pub written : (W : World) → AllInRange (world_of old) → LeadsFrom W old → LeadsFrom W new
 
--- one request isn't answered: it was taken in memory or not, and nothing is written
+-- one request gets no reply: it was taken in memory or not, and nothing is written
 pub record OneIsRefused (old : PlainVoters) (asked : ℕ × Request) (new : PlainVoters) : Type 0 where
   pub taken : (world_of new ≡ world_of old) ⊎ (world_of new ≡ after_one (world_of old) asked)
   pub synced : new.file.synced ≡ old.file.synced
@@ -105,26 +105,26 @@ pub record TakesAll (old : PlainVoters) (asked : List (ℕ × Request)) (told : 
   pub synced : new.file.synced ≡ old.file.synced
   pub written : AllInRange (world_of old) → LeadsFrom (world_of old) old → LeadsFrom (world_of old) new
 
--- some of the first requests were taken, perhaps none, and no others
+-- only some of the first requests were taken, perhaps none
 pub record Stopped (W : World) (requests : List (ℕ × Request)) (X : World) : Type 0 where
   pub count : ℕ
   pub few : count ≤ length requests
   pub taken : X ≡ after W (take count requests)
 
--- what wasn't synced leads from these voters to those that took some of the first requests
+-- the unsynced bytes lead from these voters to those that took some of the first requests
 pub record WroteSome (W : World) (asked : List (ℕ × Request)) (unsynced : List ℕ) : Type 0 where
   pub world : World
   pub taken : Stopped W asked world
   pub written : LeadTo W unsynced world
 
--- requests aren't answered: some of the first were taken in memory, and some written, and what was synced stays
+-- requests get no replies: some of the first were taken in memory, and some were written; what was synced is unchanged
 pub record AnswersNone (old : PlainVoters) (asked : List (ℕ × Request)) (new : PlainVoters) : Type 0 where
   pub taken : Stopped (world_of old) asked (world_of new)
   pub synced : new.file.synced ≡ old.file.synced
   pub written : AllInRange (world_of old) → LeadsFrom (world_of old) old
       → WroteSome (world_of old) asked new.file.unsynced
 
--- some requests are taken, and these are left
+-- some requests are taken, and these remain
 pub record IsAmidst (old : PlainVoters) (asked left : List (ℕ × Request)) (told : List Reply)
     (now : PlainVoters) : Type 0 where
   pub told_is : told ++ replies_in_turn (world_of now) left ≡ replies_in_turn (world_of old) asked

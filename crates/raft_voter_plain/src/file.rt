@@ -1,4 +1,4 @@
-//! A file in memory that a crash can cut short.
+//! A file in memory that loses its unsynced bytes in a crash.
 ghost use Rattle.std.specs.Prelude.{◌≡◌, ◌<◌, [], ◌++◌, length, OnOk, OnErr};
 ghost use Rattle.raft_voter_plain.specs.Content.{after_crash, empty_file, whole};
 
@@ -6,8 +6,7 @@ use raft_voter::Memory;
 use std::alloc::Global;
 use std::marker::Model;
 
-/// A file that is only ever written at its end. What was synced survives a crash, what was written since
-/// doesn't.
+/// An append-only file. Synced bytes survive a crash; bytes written since the last sync don't.
 #[derive(Drop)]
 pub struct PlainFile {
     bytes: Vec<u8>,
@@ -29,7 +28,7 @@ impl Model for PlainFile {
 }
 
 impl PlainFile {
-    /// An empty file.
+    /// Returns an empty file.
     pub fn new(alloc: Global) -> PlainFile
         ensures { result ≡ empty_file }
     {
@@ -39,15 +38,14 @@ impl PlainFile {
         }
     }
 
-    /// What a read gives: all bytes, synced or not.
+    /// Returns what a read returns: all bytes, synced or not.
     pub fn bytes(&self) -> &[u8]
         ensures { result.now ≡ whole self.now }
     {
         self.bytes.as_slice()
     }
 
-    /// Writes bytes at the end. Where memory is refused, which can be only where there are some, nothing is
-    /// written.
+    /// Appends bytes. Memory can run out only if there are some; then nothing is written.
     pub fn append(&mut self, bytes: &[u8]) -> Result<(), Memory>
         ensures synced { self.new.synced ≡ self.old.synced }
         ensures ok { OnOk result (self.new.unsynced ≡ self.old.unsynced ++ bytes.now) }
@@ -58,7 +56,7 @@ impl PlainFile {
         Ok(())
     }
 
-    /// Makes all that was written last.
+    /// Syncs all that was written.
     pub fn sync(&mut self)
         ensures synced { self.new.synced ≡ whole self.old }
         ensures unsynced { self.new.unsynced ≡ [] }
@@ -66,7 +64,7 @@ impl PlainFile {
         self.synced = self.bytes.len();
     }
 
-    /// The machine stops: what wasn't synced is gone.
+    /// The machine stops: the unsynced bytes are lost.
     pub fn crash(&mut self)
         ensures { self.new ≡ after_crash self.old }
     {

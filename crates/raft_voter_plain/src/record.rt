@@ -17,7 +17,7 @@ pub enum OpenFault {
     /// The file's bytes aren't those of records.
     #[error("damaged file")]
     Damaged,
-    /// An allocation was refused.
+    /// An allocation failed.
     #[error("out of memory")]
     Memory,
 }
@@ -55,7 +55,7 @@ impl From<StoredFault> for OpenFault {
     }
 }
 
-/// The bytes of a record.
+/// Encodes a record.
 #[tactic(auto, unfolding(crate::specs::Records::voter_record, crate::specs::Records::voter_bytes))]
 pub fn voter_record(alloc: Global, group: u64, voter: &Voter) -> Result<Vec<u8>, Memory>
     ensures bytes { IfOk result (λ bytes. bytes.items ≡ voter_record (group, voter.now)) }
@@ -71,7 +71,7 @@ pub fn voter_record(alloc: Global, group: u64, voter: &Voter) -> Result<Vec<u8>,
     Ok(bytes)
 }
 
-/// Adds the stored entries of a log of which the first stands at this index.
+/// Appends the stored entries of a log; the first one has this index.
 fn put_entries(bytes: &mut Vec<u8>, first: u64, log: &[(u64, Items<u8>)]) -> Result<(), Memory>
     requires { first + length log.now < 2 ^ 64 }
     ensures { OnOk result (bytes.new.items ≡ bytes.old.items ++ log_bytes first log.now) }
@@ -84,7 +84,7 @@ fn put_entries(bytes: &mut Vec<u8>, first: u64, log: &[(u64, Items<u8>)]) -> Res
     Ok(())
 }
 
-/// Adds a stored entry.
+/// Appends a stored entry.
 #[tactic(auto, unfolding(crate::specs::Records::stored_entry))]
 fn put_entry(bytes: &mut Vec<u8>, index: u64, term: u64, own: &[u8]) -> Result<(), Memory>
     ensures { OnOk result (bytes.new.items ≡ bytes.old.items ++ stored_at index (term, own.now)) }
@@ -93,7 +93,7 @@ fn put_entry(bytes: &mut Vec<u8>, index: u64, term: u64, own: &[u8]) -> Result<(
     append_entry(bytes, index, term, own)
 }
 
-/// Adds a number of eight bytes, the highest first.
+/// Appends a number of eight bytes, big-endian.
 #[tactic(auto, unfolding(raft_voter_messages::specs::StoredForms::number_text))]
 fn put_number(bytes: &mut Vec<u8>, number: u64) -> Result<(), Memory>
     ensures { OnOk result (bytes.new.items ≡ bytes.old.items ++ number_text number) }
@@ -102,7 +102,8 @@ fn put_number(bytes: &mut Vec<u8>, number: u64) -> Result<(), Memory>
     Ok(())
 }
 
-/// The first record of these bytes, and what follows it. Damage is told only where no record comes first.
+/// Reads the record at the front of these bytes. Returns it and the bytes after it. Fails with `Damaged` only if the
+/// bytes don't begin with a record.
 pub fn read_voter_record(alloc: Global, bytes: &[u8]) -> Result<(u64, Voter, &[u8]), OpenFault>
     ensures ok { IfOk result (λ found. BeginsWithRecord bytes.now (found.0, found.1) found.2.now) }
     ensures err { IfErr result (TellsDamage (HasNoVoterRecord bytes.now)) }
@@ -116,8 +117,8 @@ pub fn read_voter_record(alloc: Global, bytes: &[u8]) -> Result<(u64, Voter, &[u
     Ok((group, voter, rest))
 }
 
-/// So many stored entries, the first right above the base, and what follows them. Damage is told only where
-/// they don't come first.
+/// Reads this many stored entries, the first right above the base. Returns them and the bytes after them. Fails with
+/// `Damaged` only if the bytes don't begin with such entries.
 fn read_entries(
     alloc: Global,
     base: u64,
@@ -138,7 +139,8 @@ fn read_entries(
     Ok((entries, left))
 }
 
-/// The stored entry at this index, and what follows it. Damage is told only where it doesn't come first.
+/// Reads the stored entry at this index. Returns it and the bytes after it. Fails with `Damaged` only if the bytes
+/// don't begin with such an entry.
 #[tactic(auto, unfolding(crate::specs::Records::stored_entry))]
 fn read_one(alloc: Global, index: u64, bytes: &[u8]) -> Result<(Entry, &[u8]), OpenFault>
     ensures ok { IfOk result (λ found. BeginsWithEntry bytes.now index found.0 found.1.now) }
@@ -150,7 +152,7 @@ fn read_one(alloc: Global, index: u64, bytes: &[u8]) -> Result<(Entry, &[u8]), O
     Ok((entry, rest))
 }
 
-/// The number of eight bytes that comes first, and what follows it.
+/// Splits the number of eight bytes off the front. Returns it and the bytes after it.
 fn split_number(bytes: &[u8]) -> Result<(u64, &[u8]), OpenFault>
     ensures ok { IfOk result (λ found. BeginsWithNumber bytes.now found.0 found.1.now) }
     ensures err { IfErr result (λ fault. (fault ≡ Damaged) × (length bytes.now < 8)) }
@@ -165,7 +167,7 @@ fn split_number(bytes: &[u8]) -> Result<(u64, &[u8]), OpenFault>
     Ok((number, rest))
 }
 
-/// So many bytes, and what follows them.
+/// Splits this many bytes off the front. Returns them and the bytes after them.
 fn split(bytes: &[u8], count: usize) -> Result<(&[u8], &[u8]), OpenFault>
     ensures ok { IfOk result (λ found. StartsWith bytes.now count found.0.now found.1.now) }
     ensures err { IfErr result (λ fault. (fault ≡ Damaged) × (length bytes.now < count)) }

@@ -17,8 +17,8 @@ use raft_voter::{
 use std::alloc::Global;
 use std::collections::BTreeMap;
 
-/// The voters of many groups in memory, and the file that keeps them. The file is in memory too, so where
-/// memory is refused in the midst of a round it is the file system that failed.
+/// The voters of many groups in memory, and the file that keeps them. The file is in memory too: if memory runs out in
+/// the middle of a round, the cause is the file system.
 #[derive(Drop)]
 pub struct PlainVoters {
     pub alloc: Global,
@@ -27,19 +27,19 @@ pub struct PlainVoters {
     pub failed: bool,
 }
 
-/// A file that wasn't opened, and why.
+/// The error of an open that failed: the fault, and the file.
 #[derive(Drop)]
 pub struct FileRefused {
-    /// Why.
+    /// The fault.
     pub fault: OpenFault,
-    /// The file, which is handed back.
+    /// The file, returned to the caller.
     pub file: PlainFile,
 }
 
 impl PlainVoters {
-    /// Opens a file: reads it whole, and the last record of each group is its voter; then all that was written
-    /// is synced. What it opens hasn't failed. Damage is told only where the bytes aren't those of records, so
-    /// never of what a store wrote. Of an empty file nothing can be refused.
+    /// Opens a file: reads it whole, takes the last record of each group as its voter, and syncs all that was written.
+    /// A store that was just opened hasn't failed. Fails with `Damaged` only if the bytes aren't records, which a store
+    /// never writes. An empty file always opens.
     pub fn open(alloc: Global, file: PlainFile) -> Result<PlainVoters, FileRefused>
         ensures synced { IfOk result (λ store. store.file ≡ all_synced file) }
         ensures voters { IfOk result (λ store. StandsFor (whole file) (world_of store)) }
@@ -63,9 +63,9 @@ impl PlainVoters {
         }
     }
 
-    /// The voters take requests in order, and what they change is written; their replies are put where there
-    /// is room for them. Where memory is refused some of the first were taken, and what was synced stays; it
-    /// can't be refused where there is no request.
+    /// The voters take requests in order, and what they change is written. The replies are put into `replies`, which
+    /// has room for them. If memory runs out, some of the first requests were taken, and what was synced is unchanged.
+    /// It can't run out if there are no requests.
     fn take_all(
         &mut self,
         requests: &[(u64, Request)],
@@ -85,8 +85,8 @@ impl PlainVoters {
         Ok(Items::from_vec(replies))
     }
 
-    /// A group's voter takes a request, and what it changes is written. Where memory is refused it may have
-    /// taken it in memory alone.
+    /// A group's voter takes a request, and what it changes is written. If memory runs out, it may have taken the
+    /// request only in memory.
     fn take(&mut self, group: u64, request: &Request) -> Result<Reply, Memory>
         ensures ok { IfOk result (λ told. Takes self.old (group, request.now) told self.new) }
         ensures err { OnErr result (OneIsRefused self.old (group, request.now) self.new) }
@@ -101,7 +101,7 @@ impl PlainVoters {
         Ok(reply)
     }
 
-    /// The file alone.
+    /// Returns the file.
     pub fn into_file(self) -> PlainFile
         ensures { result ≡ self.file }
     {
@@ -121,7 +121,7 @@ impl<R> RoundService<R> for PlainVoters {
     fn serve(&mut self, _rt: &R, requests: &[(u64, Request)]) -> Result<Items<Reply>, RoundFault>
         ensures ok { IfOk result (λ told. AnswersRound plain_voters requests.now told self.old self.new) }
 
-        // Just the requests out of range are refused.
+        // Exactly the requests out of range are refused.
         ensures refused { IfOk result (λ told. refused_from 0 told ≡ out_of_range 0 requests.now) }
         ensures short { OnOk result (length requests.now ≤ 4096) }
         ensures lives { OnOk result (IsAlive self.old.failed self.new.failed) }
@@ -130,8 +130,8 @@ impl<R> RoundService<R> for PlainVoters {
         ensures errors { IfErr result (λ fault. FailsAs fault.cause (length requests.now) self.old.failed
             self.new.failed) }
 
-        // A fault that takes nothing leaves all as it was, and at any fault some of the first requests were taken
-        // in memory.
+        // A fault that takes no request leaves everything unchanged. After any fault, some of the first requests were
+        // taken in memory.
         ensures same { IfErr result (λ fault. TakesNothing fault.cause → self.new ≡ self.old) }
         ensures taken { IfErr result (λ fault.
             TakesFirst (world_of self.old) requests.now fault.refused (world_of self.new)) }
@@ -166,7 +166,8 @@ impl<R> StoreFiles<R, PlainVoters> for PlainFile {
         ensures stands { IfErr result (λ refused. LeavesStanding plain_files self self refused.files) }
         ensures errors { IfErr result (λ refused. IsFromOutside refused.cause) }
 
-        // What a store wrote can always be read, and of an empty file nothing can be refused.
+        // A file that a store wrote can always be read: its open fails only for lack of memory. An empty file always
+        // opens.
         ensures readable { IfErr result (λ refused.
             (cut : CutRound) → FileStandsBehind self cut → refused.cause ≡ Cause.Memory) }
         ensures some { OnErr result (0 < length (whole self)) }
@@ -212,7 +213,7 @@ impl<R> StoreFiles<R, PlainVoters> for PlainFile {
     }
 }
 
-/// A group's voter takes a request and answers it.
+/// A group's voter takes a request and returns the reply.
 fn step(
     alloc: Global,
     voters: &mut BTreeMap<u64, Voter>,
@@ -228,7 +229,7 @@ fn step(
     voter.step(request)
 }
 
-/// The record of a group's voter.
+/// Returns the record of a group's voter.
 fn record_of(alloc: Global, voters: &BTreeMap<u64, Voter>, group: u64) -> Result<Vec<u8>, Memory>
     ensures bytes { IfOk result (λ bytes. bytes.items ≡ voter_record (group, world_in voters.now group)) }
     ensures small { (world_in voters.now group).base_index + length (world_in voters.now group).log < 2 ^ 63 }
@@ -249,7 +250,7 @@ fn may_change(request: &Request) -> bool
     }
 }
 
-/// The voters that a file's bytes hold.
+/// Reads the voters that a file's bytes keep.
 fn read_voters(alloc: Global, bytes: &[u8]) -> Result<BTreeMap<u64, Voter>, OpenFault>
     ensures ok { IfOk result (λ voters. StandsFor bytes.now (world_in voters)) }
     ensures err { IfErr result (TellsDamage (StandsForNothing bytes.now)) }
@@ -265,7 +266,7 @@ fn read_voters(alloc: Global, bytes: &[u8]) -> Result<BTreeMap<u64, Voter>, Open
     Ok(voters)
 }
 
-/// A group's voter is this one from now on.
+/// Replaces a group's voter.
 fn set_voter(voters: &mut BTreeMap<u64, Voter>, group: u64, voter: Voter) -> Result<(), Memory>
     ensures { OnOk result (world_in voters.new ≡ put (world_in voters.old) group voter) }
 {

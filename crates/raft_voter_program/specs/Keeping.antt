@@ -1,4 +1,4 @@
--- Which files of a run are kept, and with which status a session ends whose log is to be kept.
+-- Which files of a run are kept, and the status of a session whose log is to be kept.
 use Rattle.std.specs.Prelude.{◌≡◌, ◌⊎◌, ℕ, List, [], ◌++◌, Option, None, Some, false, string_bytes}
 use Rattle.std.specs.Option.{option_map}
 use Rattle.raft_log_disk.specs.Disk.{Disk}
@@ -9,12 +9,12 @@ use Rattle.raft_voter_log.specs.declared.files.LogFiles.{LogFiles}
 use Rattle.raft_voter_session.specs.Told.{Said}
 use Rattle.raft_voter_run.specs.Leaving.{EndsLeaving}
 
--- these are the files of a directory, as they are read; none where it isn't there
+-- these are the files of a directory, as they are read; none if it doesn't exist
 abbrev pub AreFilesIn : Disk → List ℕ → List StoredFile → Type 0
 AreFilesIn d directory files =
     AreGathered files directory d ⊎ ((d.directories directory ≡ false) × (files ≡ []))
 
--- these are the files of a second directory, where a log has one
+-- these are the files of a second directory, if the log has one
 abbrev pub AreSpilled : Disk → Option (List ℕ) → List StoredFile → Type 0
 AreSpilled d None files = files ≡ []
 AreSpilled d (Some directory) files = AreFilesIn d directory files
@@ -27,12 +27,13 @@ pub record AreKept (log : LogFiles) (kept : List StoredFile) : Type 0 where
   pub second : AreSpilled (disk_of log.files) (option_map string_bytes log.config.spill_dir) spilled
   pub whole : kept ≡ main ++ spilled
 
--- a status is the one of a run that left nothing to keep; or of one whose files were kept, or 3 where they weren't
+-- The status is that of the run if it left nothing to keep. Else it is that of the run, or 3 if keeping the files
+-- failed.
 abbrev pub IsToldOrUnkept : Option LogFiles → ℕ → ℕ → Type 0
 IsToldOrUnkept None told status = status ≡ told
 IsToldOrUnkept (Some files) told status = (status ≡ told) ⊎ (status ≡ 3)
 
--- a session came to its end, with this status where the files that it leaves were kept
+-- a session ended with this status, and the files that it leaves were kept or gave status 3
 abbrev pub EndsKept :
     (Option LogFiles → Said → List ℕ → ℕ → Type 0)
     → List ℕ → Option (List ℕ) → Option (List ℕ) → ℕ → Type 0

@@ -1,4 +1,4 @@
--- What the settings of a session make.
+-- The files that a session's settings give.
 use Rattle.std.specs.Prelude.{◌≡◌, ◌⊎◌, ℕ, List, Option, None, Some, codes}
 use Rattle.raft_log_disk.specs.Disk.{empty_disk}
 use Rattle.raft_log_disk_memory.specs.Memory.{disk_of}
@@ -14,7 +14,7 @@ use Rattle.raft_voter_run.specs.Setup.{Setup}
 use Rattle.raft_voter_run.specs.declared.setup.NoFiles.{NoFiles}
 use Rattle.raft_voter_run.specs.declared.setup.NoFiles.TheVariants as none
 
--- the settings where a session tells none: the default ones, in the directory `raft`
+-- the settings if a session has none: the default ones, in the directory `raft`
 abbrev pub usual_settings : Settings
 usual_settings = record default_settings { dir = codes "raft" }
 
@@ -23,27 +23,27 @@ abbrev pub TellsSettings : Option (List ℕ) → Settings → Type 0
 TellsSettings None s = s ≡ usual_settings
 TellsSettings (Some text) s = SaysSettings text s
 
--- a text tells no settings: it is no TOML, or has a wrong value under a key
+-- a text has no settings: it isn't TOML, or has a wrong value for a key
 abbrev pub TellsNone : Option (List ℕ) → Type 0
 TellsNone None = ⊥
 TellsNone (Some text) = (parse_document text ≡ None) ⊎ ((key : List ℕ) × HasWrongKey text key)
 
--- why there are none: so it is; nothing is said of want of memory
+-- why there are no settings; for out of memory nothing is claimed
 abbrev pub IsUnset : Option (List ℕ) → NoFiles → Type 0
 IsUnset settings none.Settings = TellsNone settings
 IsUnset settings none.Memory = Unit {0}
 
--- why there are none, where this error says so
+-- the reason that this error gives
 abbrev pub refusal_of : Error → NoFiles
 refusal_of errors.Memory = none.Memory
 refusal_of error = none.Settings
 
--- settings are refused: they aren't told, or have a fault
+-- settings are rejected: there are none, or they have a fault
 abbrev pub SettingsRefused : Option (List ℕ) → Type 0
 SettingsRefused settings = TellsNone settings
     ⊎ ((s : Settings) × TellsSettings settings s × ((fault : ConfigFault) × HasFault s fault))
 
--- A file system in memory without a file, for a log with these settings, made whole.
+-- A file system in memory without files, for a log with these settings, completed.
 abbrev pub MakesFiles : Option (List ℕ) → LogFiles → Type 0
 MakesFiles settings files = ((s : Settings) × TellsSettings settings s × HasNoFault s
     × (settings_of files.config ≡ sanitized s)) × (disk_of files.files ≡ empty_disk)

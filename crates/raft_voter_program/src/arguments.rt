@@ -1,4 +1,4 @@
-//! What the arguments ask of the program.
+//! What the arguments request of the program.
 ghost use Rattle.std.specs.Prelude.{IfOk, map, string_bytes};
 ghost use Rattle.raft_voter_program.specs.Asking.{Asks};
 
@@ -8,7 +8,7 @@ use std::env;
 use std::env::Env;
 use std::io::ErrorKind;
 
-/// How the program is called.
+/// The program's usage.
 pub const USAGE: &str = "usage: raftvoters [--save DIR | --load DIR]
 
   (none)       runs the session on standard input over a log in memory, and writes its transcript and a
@@ -28,24 +28,24 @@ status: 0 the verdict is yes, or the voters were written
         4 the log in DIR could not be opened
 ";
 
-/// What the arguments ask of the program.
+/// What the arguments request of the program.
 #[derive(Debug, Drop)]
 pub enum Arguments {
-    /// To run a session: there are none.
+    /// To run a session: there are no arguments.
     Nothing,
-    /// To tell how the program is called.
+    /// To print the usage.
     Help,
-    /// To tell the voters whose log lies in this directory.
+    /// To list the voters whose log is in this directory.
     Load(String),
     /// To run a session, and to keep its log in this directory.
     Save(String),
-    /// Nothing that the program does: they are refused.
+    /// Arguments that the program rejects.
     Others,
 }
 
 impl Arguments {
-    /// What the arguments behind the program's name ask. One that isn't UTF-8 is none that the program knows. Refused
-    /// for want of memory alone.
+    /// What the arguments after the program's name request. The program knows no argument that isn't UTF-8. Fails only
+    /// for lack of memory.
     pub fn read(rt: &(impl Env + AllocGlobal)) -> Result<Arguments, AllocError> {
         if !has_arguments(rt) {
             return Ok(Arguments::Nothing);
@@ -62,7 +62,7 @@ impl Arguments {
         }
     }
 
-    /// What these words ask. A directory is the word as it is.
+    /// What these words request. The directory is the word, unchanged.
     pub fn of(words: &[String]) -> Result<Arguments, AllocError>
         ensures { IfOk result (Asks (map string_bytes words.now)) }
     {

@@ -1,8 +1,8 @@
-//! The program: a session's events over a store of voters on a log, and what was answered with a verdict on it.
+//! The program: runs a session's events over a store of voters on a log, and writes the replies with a verdict on them.
 //!
-//! The log lies in a file system in memory that refuses, stops and crashes as the session says. `start` is the
-//! whole program but for its exit: with arguments it keeps a session's log in a real directory (`save`), tells the
-//! voters of a log that lies in one (`load`), or prints its usage.
+//! The log is in a file system in memory that fails, stops and crashes as the session says. `start` is the whole
+//! program except for its exit. With arguments it keeps a session's log in a real directory (`save`), lists the voters
+//! of a log in one (`load`), or prints its usage.
 #![tactic(auto)]
 
 mod arguments;

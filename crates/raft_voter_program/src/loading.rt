@@ -1,4 +1,4 @@
-//! The voters of a log that lies in a real directory.
+//! The voters of a log in a real directory.
 ghost use Rattle.std.specs.Prelude.{IfOk, OnErr};
 ghost use Rattle.raft_voter_program.specs.Loading.{IsLoaded, Loads, LoadsEarly};
 
@@ -17,11 +17,12 @@ use std::io::{ErrorKind, Write};
 use std::rt::Files;
 use std::thread::Threads;
 
-/// Copies the files of a real directory into a file system in memory, opens a store on them with the usual settings,
-/// and writes a line for each of its voters, from the least group up, with status 0; or, with status 4, that the open
-/// is refused. Nothing in the real directory is changed. An `Err` tells that it can't be read, which is logged, and then
-/// nothing was written; or that memory, a read of the store or the writer was refused: then nothing was written, or
-/// the front of what may be written.
+/// Copies the files of a real directory into a file system in memory, and opens a store on them with the usual
+/// settings. Writes a line for each of its voters, in ascending order of group, and returns status 0. If the open
+/// fails, it writes that, and returns status 4. It changes nothing in the real directory.
+///
+/// Fails with an `Err` if reading the directory fails, which is logged; then nothing was written. It also fails if
+/// memory, a read of the store or the writer fails. Then nothing was written, or a prefix of what may be written.
 pub fn load<R: Threads + Log + Sync + Files<File = File> + AllocGlobal + Clone + Drop, W: Write>(
     rt: &R,
     alloc: Global,
@@ -38,8 +39,8 @@ pub fn load<R: Threads + Log + Sync + Files<File = File> + AllocGlobal + Clone +
     list_voters::<R, LogVoters, LogFiles, W>(rt, alloc, files, workers, writer)
 }
 
-/// The files of a real directory, in a file system in memory, as a log with the usual settings. Where they can't be
-/// read, that is logged.
+/// The files of a real directory, in a file system in memory, as a log with the usual settings. If reading them fails,
+/// that is logged.
 fn loaded_files<R: Log + Files<File = File> + AllocGlobal + Clone + Drop>(
     rt: &R,
     alloc: Global,
@@ -58,7 +59,7 @@ fn loaded_files<R: Log + Files<File = File> + AllocGlobal + Clone + Drop>(
     }
 }
 
-/// Why files weren't loaded, as an error of reading.
+/// Why loading files failed, as an error of reading.
 fn error_of(fault: &CopyFault) -> io::Error {
     match fault {
         CopyFault::System { error, .. } => error.kind().into(),

@@ -20,9 +20,12 @@ use std::io::{Eprint, Input, Print, Read, Write};
 use std::rt::Files;
 use std::thread::Threads;
 
-/// The whole program over its runtime: without arguments the session on standard input is run, and with `--save` and a
-/// directory its log is kept there; with `--load` and a directory the voters of the log there are told; `--help` prints
-/// the usage. Others are refused, and standard error gets the usage. Returns the status with which the program ends.
+/// The whole program over its runtime. Returns the status with which it ends.
+/// - Without arguments it runs the session on standard input.
+/// - With `--save` and a directory it also keeps its log there.
+/// - With `--load` and a directory it lists the voters of the log there.
+/// - `--help` prints the usage.
+/// - Others are wrong: it prints the usage to standard error.
 pub fn start<
     R: Env
         + Input
@@ -54,7 +57,7 @@ pub fn start<
     exit_status(ended)
 }
 
-/// Writes how the program is called, with status 0.
+/// Writes the usage, with status 0.
 fn print_usage<W: Write>(writer: &mut W) -> io::Result<u8>
     ensures { IfOk result (λ status. status ≡ 0) }
 {
@@ -62,8 +65,8 @@ fn print_usage<W: Write>(writer: &mut W) -> io::Result<u8>
     Ok(0)
 }
 
-/// The program of `raft_voter_run` over a store on a log: with arguments it refuses them and reads nothing,
-/// without it runs a session. An `Err` tells that memory, the reader or the writer was refused, and no verdict is
+/// The program of `raft_voter_run` over a store on a log: rejects arguments without reading anything, and runs a
+/// session without arguments. Fails with an `Err` if memory, the reader or the writer fails; then no verdict is
 /// claimed.
 pub fn program<R: Threads + Log + Sync, I: Read, W: Write>(
     rt: &R,
@@ -92,10 +95,11 @@ pub fn program<R: Threads + Log + Sync, I: Read, W: Write>(
     )
 }
 
-/// The run of `raft_voter_run` over a store on a log: reads a session, runs its events, and writes the transcript
-/// with a verdict, or that its settings are refused, or which line is the first that is unreadable. The status is 0
-/// where the verdict is yes, 1 where it is no or settings are refused, and 2 for an unreadable line. An `Err` tells
-/// that memory, the reader or the writer was refused: then nothing was written, or the front of what may be
+/// The run of `raft_voter_run` over a store on a log: reads a session, runs its events, and writes the transcript with
+/// a verdict. Or it writes that the settings are rejected, or which line is the first unreadable one.
+///
+/// The status is 0 if the verdict is yes, 1 if it is no or the settings are rejected, and 2 for an unreadable line.
+/// Fails with an `Err` if memory, the reader or the writer fails. Then nothing was written, or a prefix of what may be
 /// written, and no verdict.
 pub fn run<R: Threads + Log + Sync, I: Read, W: Write>(
     rt: &R,

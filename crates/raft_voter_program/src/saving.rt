@@ -21,13 +21,13 @@ use std::io::{ErrorKind, Read, Write};
 use std::rt::Files;
 use std::thread::Threads;
 
-/// The status where the files weren't kept.
+/// The status if keeping the files failed.
 const UNKEPT: u8 = 3;
 
-/// Runs a session as `run` does and, where a verdict was written, writes the files that its log has in the end into a
-/// real directory, which has to be there: those of the settings' `dir` and then those of their `spill-dir`, so that of
-/// two files of one name the latter stays. The status is that of `run`, or 3 where the files can't be written, which
-/// is logged. An `Err` is one of `run`, and then nothing is kept.
+/// Runs a session as `run` does. If a verdict was written, it writes the files that the log has at the end into a real
+/// directory, which must exist: those of the settings' `dir`, then those of their `spill-dir`. If two files have one
+/// name, the latter stays. The status is that of `run`, or 3 if writing the files fails, which is logged. An `Err` is
+/// that of `run`, and then nothing is kept.
 pub fn save<R: Threads + Log + Sync + Files<File = File> + AllocGlobal, I: Read, W: Write>(
     rt: &R,
     alloc: Global,
@@ -54,7 +54,7 @@ pub fn save<R: Threads + Log + Sync + Files<File = File> + AllocGlobal, I: Read,
     Ok(kept(rt, alloc, directory, ended.status, &ended.files))
 }
 
-/// Keeps the files that a run left, where it left any; the status is the one that was told, or 3.
+/// Keeps the files that a run left, if any. Returns the status of the run, or 3.
 fn kept<R: Log + Files<File = File> + AllocGlobal>(
     rt: &R,
     alloc: Global,
@@ -76,7 +76,7 @@ fn kept<R: Log + Files<File = File> + AllocGlobal>(
     }
 }
 
-/// Writes the files of a log into a real directory that is there.
+/// Writes the files of a log into a real directory that exists.
 fn keep<R: Files<File = File> + AllocGlobal>(
     rt: &R,
     alloc: Global,
@@ -87,8 +87,8 @@ fn keep<R: Files<File = File> + AllocGlobal>(
     write_directory(rt, files.as_slice(), directory)
 }
 
-/// The files of a log in memory: those of its main directory, and then those of its second one, where it has one. A
-/// directory that isn't there, as where no store was opened, has none. `FileSystem` where a file isn't read.
+/// The files of a log in memory: those of its main directory, then those of its second one, if it has one. A directory
+/// that doesn't exist, for example because no store was opened, has none. Fails with `FileSystem` if a file isn't read.
 pub fn kept_files(alloc: Global, log: &LogFiles) -> Result<Vec<StoredFile>, CopyFault>
     ensures { IfOk result (λ files. AreKept log.now files.items) }
 {
@@ -100,7 +100,7 @@ pub fn kept_files(alloc: Global, log: &LogFiles) -> Result<Vec<StoredFile>, Copy
     Ok(files)
 }
 
-/// The files of a directory, and none where it isn't there.
+/// The files of a directory; none if it doesn't exist.
 fn files_in(
     alloc: Global,
     files: &MemoryFileSystem,

@@ -1,4 +1,4 @@
-//! The files with which a session begins.
+//! The files at the start of a session.
 ghost use Rattle.std.specs.Prelude.{◌≡◌, IfErr, IfOk};
 ghost use Rattle.std.specs.Option.{option_map};
 ghost use Rattle.std.specs.String.{string_bytes};
@@ -11,10 +11,10 @@ use raft_voter_log::{LogFiles, LogVoters};
 use raft_voter_run::{NoFiles, StoreSetup};
 use std::alloc::{AllocError, Global};
 
-/// The directory of the log where a session tells no settings.
+/// The directory of the log if a session has no settings.
 pub(crate) const USUAL_DIRECTORY: &str = "raft";
 
-/// Begins a store in a file system in memory without a file.
+/// Begins a store in a file system in memory without files.
 #[derive(Clone, Copy, Debug, PartialEq, Eq)]
 pub struct LogSetup {}
 
@@ -31,7 +31,7 @@ impl<R: Log> StoreSetup<R, LogVoters, LogFiles> for LogSetup {
     }
 }
 
-/// The settings of this text, or the usual ones in the usual directory where there is none.
+/// The settings in this text; if there is none, the usual ones in the usual directory.
 fn config_of(alloc: Global, settings: &Option<String>) -> Result<Config, NoFiles>
     ensures ok { IfOk result (λ config.
         TellsSettings (option_map string_bytes settings.now) (settings_of config)) }
@@ -58,7 +58,7 @@ pub(crate) fn usual_config(alloc: Global) -> Result<Config, AllocError>
     Ok(config)
 }
 
-/// Why there are no settings: want of memory, or else they are refused.
+/// Why there are no settings: out of memory, or else they are rejected.
 fn refusal_of(error: Error) -> NoFiles
     ensures { result ≡ refusal_of error }
 {

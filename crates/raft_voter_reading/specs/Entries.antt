@@ -1,4 +1,4 @@
--- Entries as they are read of a group, one behind another.
+-- Consecutive entries that are read of a group.
 use Rattle.std.specs.Prelude.{◌≡◌, ◌≢◌, ◌+◌, ◌≤◌, ◌<◌, ℕ, List, [], ◌∷◌, length, slice_get, Some}
 use Rattle.raft_log_model_laws.specs.Meaning.Slot.{Index}
 use Rattle.raft_log_model_laws.specs.Meaning.Content.{Entry}
@@ -13,12 +13,12 @@ use Rattle.raft_voter_reading.specs.declared.unread.Unread.{Unread}
 use Rattle.raft_voter_reading.specs.declared.unread.Unread.TheVariants as causes
 use Rattle.raft_voter_reading.specs.Reading.{Tells}
 
--- these are the bytes of a group's entries from an index on
+-- these are the bytes of a group's consecutive entries from an index on
 abbrev pub StandFrom : Group → ℕ → List (List ℕ) → Type 0
 StandFrom grp i [] = Unit {0}
 StandFrom grp i (bytes ∷ others) = (grp (Index i) ≡ Some (Entry bytes)) × StandFrom grp (i + 1) others
 
--- one of these bytes, the first at this index, are those of no entry at its own
+-- one of these texts isn't an entry at its own index; the first is at index `first`
 pub record HasBroken (first : ℕ) (texts : List (List ℕ)) : Type 0 where
   pub place : ℕ
   pub bytes : List ℕ
@@ -27,13 +27,14 @@ pub record HasBroken (first : ℕ) (texts : List (List ℕ)) : Type 0 where
   pub broken : fault ≢ faults.Memory
   pub why : EntryFault fault bytes (first + place)
 
--- why bytes aren't read as entries: those of one are none, and the group is told to be foreign; or memory ran out
+-- why bytes don't read as entries: one of them isn't an entry, and the error names the group as foreign; or out of
+-- memory
 abbrev pub AreNoEntries : ℕ → ℕ → List (List ℕ) → Unread → Type 0
 AreNoEntries g first texts (causes.Foreign h) = (h ≡ g) × HasBroken first texts
 AreNoEntries g first texts (causes.Engine error) = ⊥
 AreNoEntries g first texts causes.Memory = Unit {0}
 
--- entries of a group were read from an index on
+-- consecutive entries of a group were read from an index on
 pub record ReadsRun (e : Shows) (g first : ℕ) (es : List VoterEntry) : Type 0 where
   pub texts : List (List ℕ)
   pub read : AreReadAs first texts es
@@ -45,7 +46,7 @@ pub record ReadsPiece (e : Shows) (g first end : ℕ) (es : List VoterEntry) : T
   pub some : 0 < length es
   pub within : first + length es ≤ end
 
--- all entries of a group were read that stand behind a base and below an index
+-- all entries of a group after a base and below an index were read
 pub record ReadsBelow (e : Shows) (g base next : ℕ) (es : List VoterEntry) : Type 0 where
   pub run : ReadsRun e g (base + 1) es
   pub count : base + 1 + length es ≡ next

@@ -1,4 +1,4 @@
--- What of a group is read before its entries: its keys, and where its entries begin and end.
+-- What is read of a group before its entries: its keys, and where its entries begin and end.
 use Rattle.std.specs.Prelude.{◌≡◌, ◌⊎◌, ◌+◌, ◌^◌, ◌<◌, ◌≤◌, ℕ, List, [], ◌∷◌, length, Option, None, Some}
 use Rattle.raft_log_model_laws.specs.Meaning.Slot.{Index, Key}
 use Rattle.raft_log_model_laws.specs.Meaning.Content.{Value}
@@ -16,20 +16,19 @@ use Rattle.raft_voter_reading.specs.Reading.{Tells}
 
 -- Keys.
 
--- these are no keys, or the one key with the bytes of a state
+-- there are no keys; or there is the one key, with the bytes of a state
 abbrev pub PairsTell : Option VoterState → List (List ℕ × List ℕ) → Type 0
 PairsTell None es = es ≡ []
 PairsTell (Some s) es = (bytes : List ℕ) × (es ≡ (voter_key, bytes) ∷ []) × IsState bytes s
 
--- these keys are no voter's: one that is another key, or the one key with bytes that are no state, or more
--- than one
+-- these keys aren't a voter's: another key, the one key with bytes that aren't a state, or more than one key
 abbrev pub ArePairsForeign : List (List ℕ × List ℕ) → Type 0
 ArePairsForeign es =
     ((k bytes : List ℕ) × (es ≡ (k, bytes) ∷ []) × (voter_key ≡ k → ⊥))
     ⊎ (((bytes : List ℕ) × (fault : StoredFault) × (es ≡ (voter_key, bytes) ∷ []) × StateFault fault bytes)
     ⊎ (2 ≤ length es))
 
--- a group is told to be foreign, as these keys are no voter's
+-- the error names the group as foreign, since these keys aren't a voter's
 abbrev pub ForeignPairs : ℕ → List (List ℕ × List ℕ) → Unread → Type 0
 ForeignPairs g es cause = (cause ≡ causes.Foreign g) × ArePairsForeign es
 
@@ -42,41 +41,41 @@ pub record HasOneKey (grp : Group) (bytes : List ℕ) : Type 0 where
 abbrev pub HasNoKey : Group → Type 0
 HasNoKey grp = (k : List ℕ) → grp (Key k) ≡ None
 
--- a group's state was read, of the bytes of its one key
+-- a group's state was read from the bytes of its one key
 pub record ReadsState (e : Shows) (g : ℕ) (s : VoterState) : Type 0 where
   pub bytes : List ℕ
   pub state : IsState bytes s
   pub tells : Tells e (λ m. HasOneKey (m g) bytes)
 
--- a group's keys were read: there is none, or this is the state
+-- a group's keys were read: it has none, or this is the state
 abbrev pub ReadsKey : Shows → ℕ → Option VoterState → Type 0
 ReadsKey e g None = Tells e (λ m. HasNoKey (m g))
 ReadsKey e g (Some s) = ReadsState e g s
 
 -- Indexes.
 
--- a group's first index and its last one were read, where it has entries
+-- a group's first and last index were read; none if it has no entries
 abbrev pub ReadsSpan : Shows → ℕ → Option (ℕ × ℕ) → Type 0
 ReadsSpan e g None = ReadsFirst e g None
 ReadsSpan e g (Some span) = ReadsFirst e g (Some span.0) × ReadsLast e g (Some span.1)
 
--- no entry stands at a base or below, nor at an end or behind
+-- no entry is at the base or below, nor at the end or above
 abbrev pub NoneOutside : ℕ → ℕ → Group → Type 0
 NoneOutside base end grp = (i : ℕ) → (i ≤ base) ⊎ (end ≤ i) → grp (Index i) ≡ None
 
--- A group's entries stand behind a base, below an end that is in range, and no others do: the tables have them.
+-- The tables have a group's entries after a base and below an end that is in range. The group has no others.
 pub record ReadsEnd (e : Shows) (g base end : ℕ) : Type 0 where
   pub reaches : base < end
   pub small : end ≤ 2 ^ 63
   pub placed : AreIn (e.tables g) (base + 1) end
   pub outside : Tells e (λ m. NoneOutside base end (m g))
 
--- what was read of a group before its entries: its state, and where its entries end
+-- what was read of a group before its entries: its state, and the end of its entries
 pub record ReadsHead (e : Shows) (g : ℕ) (head : Head) : Type 0 where
   pub state : ReadsState e g head.state
   pub ends : ReadsEnd e g head.state.base_index head.end
 
--- nothing stands in the group, or this was read
+-- the group is empty, or this was read
 abbrev pub TellsHead : Shows → ℕ → Option Head → Type 0
 TellsHead e g None = Tells e (λ m. IsVoid (m g))
 TellsHead e g (Some head) = ReadsHead e g head

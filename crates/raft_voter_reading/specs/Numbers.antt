@@ -1,10 +1,10 @@
--- What stored bytes tell of an entry without its own bytes: its index and its term.
+-- The index and term of an entry in stored bytes, read without the entry's own bytes.
 use Rattle.std.specs.Prelude.{ℕ, ◌==◌, ◌&&◌, nat_le, if◌then◌else◌, bytes_eq, List, [], ◌∷◌, ◌++◌, length, take, drop, Option, None, Some}
 use Rattle.std.specs.Int.{from_be_bytes, w64}
 use Rattle.raft_voter_messages.specs.Ranges.{fits}
 use Rattle.raft_voter_messages.specs.StoredForms.{entry_text, number_text}
 
--- the number that begins these bytes, if one does
+-- the number at the start of these bytes, if there is one
 unfoldable pub number_in : List ℕ → Option ℕ
 number_in bytes =
     if bytes_eq (number_text (from_be_bytes w64 (take 8 bytes))) (take 8 bytes)
@@ -15,19 +15,19 @@ abbrev pub both : Option ℕ → Option ℕ → Option (ℕ × ℕ)
 both (Some index) (Some term) = Some (index, term)
 both _ _ = None
 
--- the index and the term in bytes of the form and the length of an entry; none in any others
+-- the index and the term in bytes with the form and the length of an entry; none in other bytes
 abbrev pub numbers_in : List ℕ → Option (ℕ × ℕ)
 numbers_in [] = None
 numbers_in (form ∷ body) =
     if form == 1 && nat_le 16 (length body) && nat_le (length body) 65551
     then both (number_in body) (number_in (drop 8 body)) else None
 
--- bytes with this index and this term: those of an entry with no bytes of its own
+-- bytes with this index and this term: those of an entry without bytes of its own
 abbrev pub numbers_text : Option (ℕ × ℕ) → List ℕ
 numbers_text None = []
 numbers_text (Some numbers) = entry_text (record { index = numbers.0; term = numbers.1; bytes = [] })
 
--- the term that these numbers tell of the entry at an index, if they are in range and are that entry's
+-- the term of the entry at an index, if these numbers are in range and are that entry's
 abbrev pub term_told : ℕ → Option (ℕ × ℕ) → Option ℕ
 term_told index None = None
 term_told index (Some numbers) =

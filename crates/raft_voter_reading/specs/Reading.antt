@@ -1,4 +1,4 @@
--- What is known of a log's voters once they are read, and why they aren't.
+-- What is known of a log's voters after they were read, and why reading them fails.
 use Rattle.std.specs.Prelude.{◌≡◌, ◌⊎◌, ◌==◌, ℕ, List, [], ◌∷◌, None, unwrap_or}
 use Rattle.std.specs.List.Sorted.{IsStrictlySortedBy}
 use Rattle.std.specs.Map.{keys_of, lookup}
@@ -16,23 +16,23 @@ use Rattle.raft_voter_standing_laws.specs.Requests.{WereUnread}
 use Rattle.raft_voter_reading.specs.declared.unread.Unread.{Unread}
 use Rattle.raft_voter_reading.specs.declared.unread.Unread.TheVariants as causes
 
--- whatever map the engine's log is, with nothing pending, it is so of that
+-- this holds of any map that the engine's log may be, with nothing pending
 abbrev pub Tells : Shows → (LogMap → Type 0) → Type 0
 Tells s P = (home : Home) (m : LogMap) → Holds home s m [] → P m
 
 -- Outlines.
 
--- a map means voters, and these are their outlines
+-- the map means voters, and these are their outlines
 abbrev pub MeansWith : (ℕ → State) → LogMap → Type 0
 MeansWith os m = (W : World) × Means m W × AreOutlines os W
 
--- whatever map the engine's log is, it means voters, and these are their outlines
+-- any map that the engine's log may be means voters, and these are their outlines
 abbrev pub ReadsVoters : Shows → (ℕ → State) → Type 0
 ReadsVoters s os = Tells s (MeansWith os)
 
 -- Voters.
 
--- the voter of each group that is listed, and a fresh one of any other
+-- the voter of each listed group, and a fresh one for any other
 abbrev pub world_in : List (ℕ × State) → World
 world_in vs g = unwrap_or (lookup (λ k. k == g) vs) fresh
 
@@ -41,33 +41,33 @@ abbrev pub HoldEach : LogMap → List (ℕ × State) → Type 0
 HoldEach m [] = Unit {0}
 HoldEach m (e ∷ es) = HoldsVoter (m e.0) e.1 × HoldEach m es
 
--- A map means the listed voters: a listed group holds its voter, and in no other group anything stands.
+-- The map means the listed voters: each listed group holds its voter, and every other group is empty.
 pub record StoresVoters (vs : List (ℕ × State)) (m : LogMap) : Type 0 where
   pub means : Means m (world_in vs)
   pub held : HoldEach m vs
   pub others : (g : ℕ) → lookup (λ k. k == g) vs ≡ None → IsVoid (m g)
 
--- whatever map the engine's log is, it means these voters, which are listed from the least group up
+-- any map that the engine's log may be means these voters, which are listed in ascending order of group
 pub record ListsVoters (s : Shows) (vs : List (ℕ × State)) : Type 0 where
   pub rising : IsStrictlySortedBy nat_cmp (keys_of vs)
   pub stored : Tells s (StoresVoters vs)
 
--- Refusals.
+-- Failures.
 
--- why the engine refused a read: it has failed; or an entry wasn't read, whatever map the log is, for the file
--- that it lies in wasn't
+-- why the engine failed a read: it has failed; or, for any map that the log may be, an entry wasn't read because its
+-- file wasn't
 abbrev pub IsRefused : Error → Shows → Type 0
 IsRefused error s = IsFailed s error
     ⊎ ((g from to : ℕ) × ((home : Home) (m : LogMap) → Holds home s m [] → WereUnread g from to s error))
 
--- why voters aren't read: the engine refused a read; what stands in a group is no voter's, whatever map the
--- engine's log is; or memory ran out
+-- why reading voters fails: the engine failed a read; or a group's contents aren't a voter, for any map that the
+-- engine's log may be; or out of memory
 abbrev pub IsUnreadFor : Unread → Shows → Type 0
 IsUnreadFor (causes.Engine error) s = IsRefused error s
 IsUnreadFor (causes.Foreign g) s = Tells s (λ m. IsForeign (m g))
 IsUnreadFor causes.Memory s = Unit {0}
 
--- what is told of a read that the engine refused: want of memory as such
+-- the cause for a read that the engine failed; out of memory has its own
 abbrev pub cause_of : Error → Unread
 cause_of errors.Memory = causes.Memory
 cause_of error = causes.Engine error

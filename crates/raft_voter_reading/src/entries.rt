@@ -1,4 +1,4 @@
-//! Entries of a group, in pieces.
+//! Reads the entries of a group in pieces.
 ghost use Rattle.std.specs.Prelude.{◌+◌, ◌<◌, map, IfErr, IfOk};
 ghost use Rattle.raft_voter_standing_laws.specs.raft_log_engine_laws.specs.Fetching.{StaysButBlock};
 ghost use Rattle.raft_voter_standing_laws.specs.raft_log_engine_laws.specs.raft_log_table_one.specs.Reads.{AreIn};
@@ -14,11 +14,10 @@ use raft_log_record_items::{RawEntries, RawMessage};
 use raft_voter_messages::{Entry, StoredFault, read_entry};
 use std::alloc::Global;
 
-/// So many bytes of entries are read at once at most, or one entry.
+/// The most bytes of entries that are read at once, except for one longer entry.
 pub const PIECE_BYTES: usize = 1024 * 1024;
 
-/// Entries of a group from one index on, all below another: one at least, and as many as have the bytes of a
-/// piece together.
+/// Entries of a group from one index on, all below another: at least one, and as many as fit in a piece.
 pub fn read_piece<P: PipeLog>(
     alloc: Global,
     engine: &mut LogEngine<P>,
@@ -46,7 +45,7 @@ pub fn read_piece<P: PipeLog>(
     }
 }
 
-/// The entries of a group that these bytes are, the first at this index.
+/// Parses these bytes as entries of the group; the first is at this index.
 fn read_all(
     alloc: Global,
     group: u64,

@@ -1,4 +1,4 @@
-//! What stored bytes tell of an entry without its own bytes.
+//! Reads the index and term of an entry from stored bytes, without its own bytes.
 ghost use Rattle.std.specs.Prelude.{◌≡◌, ◌+◌, ◌^◌, ◌<◌, ◌≤◌, ◌++◌, length, OnErr, OnOk, Some};
 ghost use Rattle.raft_log_record_items.specs.Writing.{KeepsFront};
 ghost use Rattle.raft_voter_messages.specs.StoredForms.{number_text};
@@ -12,18 +12,18 @@ use std::alloc::{AllocError, Global};
 /// The form byte of an entry.
 const ENTRY_FORM: u8 = 1;
 
-/// How many bytes a number has.
+/// The number of bytes of a number.
 const NUMBER_BYTES: usize = 8;
 
-/// The index and the term in stored bytes, where these have the form and the length of an entry. Nothing is
-/// kept of the entry's own bytes, so reading one takes no memory.
+/// The index and the term in stored bytes, if these have the form and the length of an entry. The entry's own bytes
+/// aren't kept, so reading one allocates nothing.
 #[derive(Clone, Copy)]
 pub struct EntryHead {
     numbers: Option<(u64, u64)>,
 }
 
 impl EntryHead {
-    /// The term of the entry at this index, if the bytes are those of one.
+    /// The term of the entry at this index, if the bytes are that entry's.
     pub fn term_at(&self, index: u64) -> Option<u64>
         ensures { result ≡ term_told index self.now.numbers }
     {
@@ -56,7 +56,7 @@ impl Message for EntryHead {
     }
 }
 
-/// A log whose entries are read without their own bytes.
+/// The message type of a log whose entries are read without their own bytes.
 pub struct EntryHeads {}
 
 impl MessageExt for EntryHeads {
@@ -69,7 +69,7 @@ impl MessageExt for EntryHeads {
     }
 }
 
-/// Adds the bytes of an entry of this index and this term, with none of its own.
+/// Appends the bytes of an entry with this index and term, and no bytes of its own.
 fn append_numbers(out: &mut Vec<u8>, index: u64, term: u64) -> std::result::Result<(), AllocError>
     ensures ok { OnOk result (out.new.items ≡ out.old.items ++ numbers_text (Some (index, term))) }
     ensures err { OnErr result (KeepsFront out.old.items out.new.items) }
@@ -81,7 +81,7 @@ fn append_numbers(out: &mut Vec<u8>, index: u64, term: u64) -> std::result::Resu
     }
 }
 
-/// The index and the term in bytes of the form and the length of an entry; none in any others.
+/// The index and the term in bytes with the form and the length of an entry; none in other bytes.
 fn numbers_in(bytes: &[u8]) -> Option<(u64, u64)>
     ensures { result ≡ numbers_in bytes.now }
 {
@@ -99,7 +99,7 @@ fn numbers_in(bytes: &[u8]) -> Option<(u64, u64)>
     Some((index, term))
 }
 
-/// The number that begins these bytes, and the bytes behind it.
+/// The number at the start of these bytes, and the bytes after it.
 fn split_number(bytes: &[u8]) -> (u64, &[u8])
     requires { 8 ≤ length bytes.now }
     ensures text { bytes.now ≡ number_text result.0 ++ result.1.now }

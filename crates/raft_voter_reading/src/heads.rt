@@ -1,4 +1,4 @@
-//! What of a group is read before its entries.
+//! Reads what comes before a group's entries.
 ghost use Rattle.std.specs.Prelude.{IfErr, IfOk};
 ghost use Rattle.raft_log_engine_core.specs.Reads.{shows_of};
 ghost use Rattle.raft_voter_reading.specs.Groups.{ForeignPairs, PairsTell, ReadsEnd, ReadsKey, ReadsSpan, ReadsState, TellsHead};
@@ -18,11 +18,11 @@ const VOTER_KEY: [u8; 5] = *b"voter";
 pub struct Head {
     /// The voter's state, without its entries.
     pub state: VoterState,
-    /// The index behind the last entry, or behind the base.
+    /// The index after the last entry, or after the base.
     pub end: u64,
 }
 
-/// What of a group is read before its entries; nothing, where nothing stands in it.
+/// Reads what comes before a group's entries; none if the group is empty.
 pub fn read_head<P: PipeLog>(engine: &LogEngine<P>, group: u64) -> Result<Option<Head>, Unread>
     ensures ok { IfOk result (TellsHead (shows_of P.shown engine.now) group) }
     ensures err { IfErr result (λ cause. IsUnreadFor cause (shows_of P.shown engine.now)) }
@@ -34,7 +34,7 @@ pub fn read_head<P: PipeLog>(engine: &LogEngine<P>, group: u64) -> Result<Option
     Ok(Some(Head { state, end }))
 }
 
-/// The state that stands under a group's one key, if it has a key.
+/// The state under a group's one key, if it has a key.
 fn read_key<P: PipeLog>(engine: &LogEngine<P>, group: u64) -> Result<Option<VoterState>, Unread>
     ensures ok { IfOk result (ReadsKey (shows_of P.shown engine.now) group) }
     ensures err { IfErr result (λ cause. IsUnreadFor cause (shows_of P.shown engine.now)) }
@@ -65,7 +65,7 @@ fn state_in(group: u64, pairs: &[(Bytes, Bytes)]) -> Result<Option<VoterState>, 
     }
 }
 
-/// That a group which has no key has no entry either.
+/// Checks that a group without a key has no entry either.
 fn read_no_entry<P: PipeLog>(engine: &LogEngine<P>, group: u64) -> Result<Option<Head>, Unread>
     requires { ReadsKey (shows_of P.shown engine.now) group None }
     ensures ok { IfOk result (TellsHead (shows_of P.shown engine.now) group) }
@@ -77,7 +77,7 @@ fn read_no_entry<P: PipeLog>(engine: &LogEngine<P>, group: u64) -> Result<Option
     }
 }
 
-/// The index behind the last entry of a group with this state, or behind its base.
+/// The index after the last entry of a group with this state, or after its base.
 fn read_end<P: PipeLog>(
     engine: &LogEngine<P>,
     group: u64,

@@ -1,8 +1,7 @@
-//! The voters of many groups as an engine's log tells them, once it is opened: their outlines, or the voters
-//! whole.
+//! Reads the voters of many groups from the log of an engine that was just opened: their outlines, or whole voters.
 //!
-//! Each group that has something is read: its one key, and its entries in pieces. Nothing is written. Where
-//! something else than a voter stands in a group, nothing is told but that group.
+//! For each group that isn't empty it reads the one key, and the entries in pieces. It writes nothing. If a group holds
+//! something other than a voter, it returns only that group.
 #![tactic(auto)]
 
 mod entries;

@@ -1,4 +1,4 @@
-//! The outlines of all voters.
+//! Reads the outlines of all voters.
 ghost use Rattle.std.specs.Prelude.{IfErr, IfOk, OnOk};
 ghost use Rattle.raft_voter_standing_laws.specs.raft_log_engine_laws.specs.Fetching.{StaysButBlock};
 ghost use Rattle.raft_log_engine_core.specs.Reads.{shows_of};
@@ -18,13 +18,17 @@ use raft_voter_outline::Outline;
 use raft_voter_outlines::Outlines;
 use std::alloc::Global;
 
-/// The outline of each group's voter, as an engine's log tells it that was just opened: whatever map the log
-/// is, it means voters, and these are their outlines. Of the entries the indexes and the terms are read, in pieces
-/// and not kept, so memory is wanted for a piece and for the outlines alone, of which there are two copies at most
-/// while they are put into their tree; each block of entries is read once.
+/// The outline of each group's voter, read from the log of an engine that was just opened. Any map that the log may be
+/// means voters, and these are their outlines. It reads the index and term of each entry in pieces, and each block of
+/// entries once. It needs memory only for a piece and for the outlines. There are at most two copies of the outlines,
+/// while they are put into their tree.
 ///
-/// `Foreign`: what stands in this group is no voter's. `Engine`: the engine has failed, or didn't read a block
-/// of entries. `Memory`. Answered or refused, the engine is as it was, but for the block that it read last.
+/// Fails with:
+/// - `Foreign` if this group's contents aren't a voter.
+/// - `Engine` if the engine has failed, or failed to read a block of entries.
+/// - `Memory`.
+///
+/// The engine is unchanged in either case, except for the block that it read last.
 pub fn read_outlines<P: PipeLog>(
     alloc: Global,
     engine: &mut LogEngine<P>,
@@ -50,7 +54,7 @@ pub fn read_outlines<P: PipeLog>(
     Ok(outlines)
 }
 
-/// The outline of a group's voter is read and comes behind the others, if something stands in the group.
+/// Reads the outline of a group's voter and appends it to the others, if the group isn't empty.
 fn read_into<P: PipeLog>(
     alloc: Global,
     engine: &mut LogEngine<P>,
@@ -71,7 +75,7 @@ fn read_into<P: PipeLog>(
     Ok(())
 }
 
-/// The outline of a group's voter, if something stands in the group.
+/// Reads the outline of a group's voter, if the group isn't empty.
 fn read_outline<P: PipeLog>(
     alloc: Global,
     engine: &mut LogEngine<P>,
@@ -88,7 +92,7 @@ fn read_outline<P: PipeLog>(
     Ok(Some(outline))
 }
 
-/// The outline of a group's voter, of which this was read before its entries.
+/// Reads the outline of a group's voter; `head` was read before.
 fn read_terms<P: PipeLog>(
     alloc: Global,
     engine: &mut LogEngine<P>,

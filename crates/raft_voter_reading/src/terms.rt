@@ -1,4 +1,4 @@
-//! Terms of a group's entries, in pieces.
+//! Reads the terms of a group's entries in pieces.
 ghost use Rattle.std.specs.Prelude.{◌+◌, ◌-◌, ◌<◌, ◌≤◌, ◌^◌, length, IfErr, IfOk, OnOk};
 ghost use Rattle.raft_voter_standing_laws.specs.raft_log_engine_laws.specs.Fetching.{StaysButBlock};
 ghost use Rattle.raft_voter_standing_laws.specs.raft_log_engine_laws.specs.raft_log_table_one.specs.Reads.{AreIn};
@@ -14,12 +14,12 @@ use raft_log_file_pair::PipeLog;
 use raft_voter_outline::Outline;
 use std::alloc::Global;
 
-/// Of so many entries the terms are read at once at most.
+/// How many entries' terms are read at once, at most.
 const PIECE_ENTRIES: u64 = 1024;
 
-/// The terms of a group's entries from one index on, all below another, come into the outline of its voter, and
-/// the answer is of how many: of one at least, and of no more than a piece has. The entries' own bytes aren't
-/// copied, so a piece takes the same memory however long they are. Refused, whyever, the outline is of no use.
+/// Appends the terms of a group's entries from one index on, all below another, to the outline of its voter. Returns
+/// how many: at least one, and no more than a piece has. The entries' own bytes aren't copied, so a piece takes the
+/// same memory however long they are. If it fails, the outline is of no use.
 pub fn read_terms_piece<P: PipeLog>(
     alloc: Global,
     engine: &mut LogEngine<P>,
@@ -47,7 +47,7 @@ pub fn read_terms_piece<P: PipeLog>(
     }
 }
 
-/// Where a piece of the entries from one index on ends, which stand below another.
+/// The end of a piece of the entries from one index on, all below another.
 fn piece_end(from: u64, end: u64) -> u64
     requires { from < end }
     ensures some { from < result }
@@ -60,8 +60,7 @@ fn piece_end(from: u64, end: u64) -> u64
     from + PIECE_ENTRIES
 }
 
-/// The terms that heads of a group's entries tell, the first at this index, come into the outline of its voter,
-/// right behind its last entry.
+/// Appends the terms in these heads to the outline of a voter. The first is the head of the entry at this index.
 fn push_terms(
     outline: &mut Outline,
     group: u64,

@@ -1,26 +1,26 @@
-//! Why voters weren't read.
+//! Why reading voters fails.
 ghost use Rattle.std.specs.Prelude.{◌≡◌};
 ghost use Rattle.raft_voter_reading.specs.Reading.{cause_of};
 
 use raft_log_record_base::Error as Refusal;
 use thiserror::Error;
 
-/// Why the voters of a log weren't read.
+/// Why reading the voters of a log fails.
 #[derive(Debug, Drop, Error)]
 pub enum Unread {
-    /// The engine refused a read: it has failed, or a block of entries wasn't read.
+    /// The engine failed a read: it has failed, or didn't read a block of entries.
     #[error("a read was refused: {0}")]
     Engine(Refusal),
-    /// What stands in this group is no voter's.
+    /// The contents of this group aren't a voter.
     #[error("group {0} holds no voter")]
     Foreign(u64),
-    /// Memory ran out.
+    /// Out of memory.
     #[error("out of memory")]
     Memory,
 }
 
 impl Unread {
-    /// What is told of a read that the engine refused: want of memory as such.
+    /// The cause for a read that the engine failed; out of memory has its own.
     pub fn from_refusal(refusal: Refusal) -> Unread
         ensures { result ≡ cause_of refusal }
     {

@@ -1,4 +1,4 @@
-//! All voters, whole.
+//! Reads all voters, whole.
 ghost use Rattle.std.specs.Prelude.{◌+◌, ◌<◌, IfErr, IfOk, OnOk};
 ghost use Rattle.raft_voter_standing_laws.specs.raft_log_engine_laws.specs.Fetching.{StaysButBlock};
 ghost use Rattle.raft_log_engine_core.specs.Reads.{shows_of};
@@ -16,10 +16,10 @@ use raft_voter::Voter;
 use raft_voter_messages::{Entry, Items};
 use std::alloc::Global;
 
-/// The voters that an engine's log stores, which was just opened, each with its group, from the least group
-/// up: whatever map the log is, these groups hold these voters, and nothing stands in any other.
+/// The voters in the log of an engine that was just opened, each with its group, in ascending order of group. For any
+/// map that the log may be, these groups hold these voters, and every other group is empty.
 ///
-/// It is refused as [`read_outlines`] is, and leaves the same.
+/// It fails as [`read_outlines`] does, and leaves the same.
 ///
 /// [`read_outlines`]: crate::read_outlines
 pub fn read_voters<P: PipeLog>(
@@ -41,7 +41,7 @@ pub fn read_voters<P: PipeLog>(
     Ok(voters)
 }
 
-/// A group's voter is read and comes behind the others, if something stands in the group.
+/// Reads a group's voter and appends it to the others, if the group isn't empty.
 fn read_onto<P: PipeLog>(
     alloc: Global,
     engine: &mut LogEngine<P>,
@@ -62,7 +62,7 @@ fn read_onto<P: PipeLog>(
     Ok(())
 }
 
-/// A group's voter, if something stands in the group.
+/// Reads a group's voter, if the group isn't empty.
 fn read_voter<P: PipeLog>(
     alloc: Global,
     engine: &mut LogEngine<P>,
@@ -78,12 +78,12 @@ fn read_voter<P: PipeLog>(
     let entries = read_entries(alloc, engine, group, &head)?;
     match Voter::restore(alloc, head.state, Items::from_vec(entries)) {
         Ok(voter) => Ok(Some(voter)),
-        // what was read is in range and in order, so it was memory
+        // what was read is in range and in order, so the error is lack of memory
         Err(_) => Err(Unread::Memory),
     }
 }
 
-/// The entries of a group, of which this was read before them.
+/// Reads the entries of a group; `head` was read before.
 fn read_entries<P: PipeLog>(
     alloc: Global,
     engine: &mut LogEngine<P>,

@@ -1,4 +1,4 @@
--- What the batch of a change says, and how long its record is.
+-- What the batch of a change says, and the length of its record.
 use Rattle.std.specs.Prelude.{◌≡◌, ℕ, ◌<◌, ◌^◌, Some}
 use Rattle.raft_log_record_marks.specs.Meaning.{record_of}
 use Rattle.raft_log_record_frames.specs.Record.{record_len}
@@ -11,13 +11,13 @@ use Rattle.raft_voter_outline.specs.State.{State}
 use Rattle.raft_voter_meaning_laws.specs.Changes.{decided_items, record_in}
 use Rattle.raft_voter_records.specs.Changes.{IsFresh, with_change}
 
--- A batch to which a change of a group's voter was added, and nothing before, says what was decided.
+-- A batch that was empty, and to which a change of a group's voter was added, says what was decided.
 abbrev pub ChangesAreSaid : Type 0
 ChangesAreSaid = (old new : Batch) (g : ℕ) (c : Change) (q : Request) (v : State) → IsFresh old → IsChangeOf v q c
     → Becomes (with_change old g c q) new
     → record_of (entry_bytes new.entries) new.items ≡ Some (record_in g (decided_items c q))
 
--- The record of a batch to which a change was added, and nothing before, has less than two mebibytes.
+-- The record of a batch that was empty, and to which a change was added, has less than two mebibytes.
 abbrev pub ChangesAreShort : Type 0
 ChangesAreShort = (old new : Batch) (g : ℕ) (c : Change) (q : Request) (v : State) → IsFresh old → IsChangeOf v q c
     → Becomes (with_change old g c q) new → record_len new.items new.entries < 2 ^ 21

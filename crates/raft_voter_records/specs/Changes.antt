@@ -1,5 +1,4 @@
--- What is written of a change of a voter: the entries that come or the command that others go, and then the new
--- state.
+-- What is written for a change of a voter: new entries or the command that deletes old ones, and then the new state.
 use Rattle.std.specs.Prelude.{◌≡◌, ℕ, ◌+◌, ◌≤◌, codes, List, drop}
 use Rattle.raft_log_record_items.specs.declared.command.Command.TheVariants as commands
 use Rattle.raft_log_record_items.specs.Items.{put_item}
@@ -20,32 +19,32 @@ use Rattle.raft_voter_records.specs.Entries.{entry_texts}
 abbrev pub voter_key : List ℕ
 voter_key = codes "voter"
 
--- a batch to which these entries of a group are added, the first at this index
+-- the batch with these entries of a group added, the first at this index
 abbrev pub with_stored : Batch → ℕ → ℕ → List (ℕ × List ℕ) → Batch
 with_stored b group index entries =
     with_entries b group (indexes_at index (entry_texts index entries)) (entry_texts index entries)
 
--- A batch to which is added what is done to a group's log, where the request brought these entries: those that
--- go in, or that the ones up to an index go, or all of the group.
+-- The batch with the change of a group's log added, if the request brought these entries: the entries that are new, a
+-- Compact, or a Clean.
 abbrev pub with_write : Batch → ℕ → Write → List (ℕ × List ℕ) → Batch
 with_write b group StateAlone sent = b
 with_write b group (Entries skipped index) sent = with_stored b group index (drop skipped sent)
 with_write b group (CompactTo index) sent = with_item b (command_item group (commands.Compact (index + 1)))
 with_write b group Clean sent = with_item b (command_item group commands.Clean)
 
--- A batch to which is added a group's new state under the key, unless all of the group goes.
+-- The batch with a group's new state added under the key, unless the whole group is deleted.
 abbrev pub with_state : Batch → ℕ → Write → VoterState → Batch
 with_state b group Clean state = b
 with_state b group _ state = with_item b (put_item group voter_key (state_text state))
 
--- a batch to which is added what is written of a change that was decided for a request of a group
+-- the batch with a change added that was decided for a request of a group
 abbrev pub with_change : Batch → ℕ → Change → Request → Batch
 with_change b group c q = with_state (with_write b group c.write (sent_of q)) group c.write c.state
 
--- the batch is being filled, and nothing was added yet
+-- the batch is in state `Filling`, and nothing was added yet
 abbrev pub IsFresh : Batch → Type 0
 IsFresh b = b ≡ empty_batch b.capacity b.buffer
 
--- the batch is being filled again, and nothing was added yet, with no less room for items
+-- the batch is in state `Filling` again, nothing was added yet, and the capacity for items didn't shrink
 abbrev pub StaysFresh : Batch → Batch → Type 0
 StaysFresh old new = IsFresh new × (old.capacity ≤ new.capacity)

@@ -1,4 +1,4 @@
--- The entries of a voter as they are stored.
+-- The entries of a voter in their stored form.
 use Rattle.std.specs.Prelude.{ℕ, List, map}
 use Rattle.raft_voter_messages.specs.StoredForms.{entry_text}
 use Rattle.raft_voter_outline.specs.Rules.{numbered}

@@ -1,4 +1,4 @@
-//! A change of a voter as a batch.
+//! Encodes a change of a voter as a batch.
 ghost use Rattle.std.specs.Prelude.{◌≡◌, ◌≤◌, OnOk, OnErr, IfErr};
 ghost use Rattle.raft_log_record_base.specs.declared.errors.Error.TheVariants as errors;
 ghost use Rattle.raft_log_record_batches.specs.declared.log_batch.BatchState.TheVariants.{Filling};
@@ -18,11 +18,11 @@ use std::alloc::Global;
 /// The one key of a group that has a voter.
 pub const VOTER_KEY: [u8; 5] = *b"voter";
 
-/// Fills a batch with what is written of a change that was decided for a request of a group, whose voter has
-/// this outline: the entries from the first that differs or is new on, or that those up to an index go, and
-/// then the new state; of one that is retired, that all of its group goes.
+/// Fills a batch with the change that an outline decided for a request of a group, whose voter has this outline. It is
+/// the entries from the first that differs or is new, or a Compact, and then the new state. If the voter is retired, it
+/// is a Clean.
 ///
-/// Only memory can be refused, and then the batch is empty.
+/// Fails only for lack of memory, and then the batch is empty.
 pub fn fill_change(
     batch: &mut LogBatch,
     alloc: Global,
@@ -46,7 +46,7 @@ pub fn fill_change(
     }
 }
 
-/// Adds what is written of a change. A refusal may leave a part, and no less room for items.
+/// Adds a change to a batch. If it fails, a part may be added, and the capacity for items doesn't shrink.
 fn add_change(
     batch: &mut LogBatch,
     alloc: Global,
@@ -67,7 +67,7 @@ fn add_change(
     }
 }
 
-/// Adds what is written of what is done to a log. A refusal changes no item.
+/// Adds the change of a log. If it fails, no item changes.
 fn add_write(
     batch: &mut LogBatch,
     alloc: Global,
@@ -98,7 +98,7 @@ fn add_write(
     }
 }
 
-/// Adds a command of a group. A refusal changes nothing.
+/// Adds a command of a group. If it fails, nothing changes.
 fn add_command(batch: &mut LogBatch, group: u64, command: Command) -> Result<()>
     requires fresh { IsFresh batch.old }
     ensures ok { OnOk result (AddsItem batch.old batch.new (command_item group command)) }
@@ -111,7 +111,7 @@ fn add_command(batch: &mut LogBatch, group: u64, command: Command) -> Result<()>
     }
 }
 
-/// Adds the new state under the key, unless the voter is retired. A refusal changes no item.
+/// Adds the new state under the key, unless the voter is retired. If it fails, no item changes.
 fn add_state(batch: &mut LogBatch, alloc: Global, group: u64, change: &Change) -> Result<()>
     requires filling { batch.old.state ≡ Filling }
     ensures ok { OnOk result

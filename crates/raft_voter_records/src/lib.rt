@@ -1,7 +1,7 @@
-//! What is written of voters to a log: a change of one as a batch, and its entries as they are stored.
+//! What is written to a log for voters: a change of a voter as a batch, and its entries as they are stored.
 //!
-//! A voter's group has its state under one key, and its entries by their indexes. A change is one batch: the
-//! entries that come or the command that others go, and then the new state.
+//! A voter's group has its state under one key, and its entries at their indexes. A change is one batch: new entries or
+//! the command that deletes old ones, and then the new state.
 #![tactic(auto)]
 
 mod change;

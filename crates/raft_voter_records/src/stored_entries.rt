@@ -1,12 +1,11 @@
-//! Entries of a voter as they are stored.
+//! Entries of a voter in their stored form.
 ghost use Rattle.std.specs.Prelude.{◌≡◌, ◌+◌, ◌<◌, ◌^◌, length};
 
 use raft_log_record_batches::EntryWriter;
 use raft_voter_messages::{Items, append_entry};
 use std::alloc::AllocError;
 
-/// Entries of a voter, the first with an index, each other one with the next: each is written in its stored
-/// form.
+/// Entries of a voter, the first with an index and each other one with the next. Each is written in its stored form.
 #[derive(Clone, Copy)]
 pub struct StoredEntries<'a> {
     first: u64,

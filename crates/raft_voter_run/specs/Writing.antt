@@ -1,14 +1,14 @@
--- What a writer got of bytes.
+-- Which bytes a writer took.
 use Rattle.std.specs.Prelude.{◌≡◌, ℕ, ◌<◌, List, ◌++◌, length, Option}
 use Rattle.std.specs.Io.KnownBytes.{Appends}
 
--- a writer took the front of these bytes, and this is left of them
+-- a writer took a prefix of these bytes, and `left` is the rest
 pub record TakesFront (old new : Option (List ℕ)) (bytes left : List ℕ) : Type 0 where
   pub front : List ℕ
   pub whole : bytes ≡ front ++ left
   pub gained : Appends old new front
 
--- a writer took the front of these bytes, perhaps none, and not all of them
+-- a writer took a prefix of these bytes, perhaps an empty one, but not all of them
 pub record StopsWithin (old new : Option (List ℕ)) (bytes : List ℕ) : Type 0 where
   pub left : List ℕ
   pub some : 0 < length left

@@ -1,8 +1,8 @@
-//! The program over any store: the events of a session are run on a store of voters and its disk, and what was
-//! answered is written with a verdict on it.
+//! The program over any store: runs the events of a session on a store of voters and its disk, and writes the replies
+//! with a verdict on them.
 //!
-//! `run` needs nothing else of a store than what `VoterStorage`, `VoterDisk` and `StoreSetup` say. Its contract
-//! says what is written, byte by byte.
+//! `run` needs only what `VoterStorage`, `VoterDisk` and `StoreSetup` promise of a store. Its contract defines the
+//! output byte by byte.
 #![tactic(auto)]
 
 mod running;

@@ -1,4 +1,4 @@
-//! From the bytes of a session to those of its transcript.
+//! Runs a session: from its bytes to those of its transcript.
 ghost use Rattle.std.specs.Prelude.{◌≡◌, ◌≢◌, false, true, None, IfErr, IfOk, IfSome, OnErr, string_bytes, take};
 ghost use Rattle.std.specs.IoError.{error_kind};
 ghost use Rattle.raft_voter_session.specs.Told.{said};
@@ -17,47 +17,46 @@ use std::io;
 use std::io::{ErrorKind, Read, Write};
 use std::thread::Threads;
 
-/// The most bytes that are read: one more than a session may have, so that one which is too long is known by
-/// them.
+/// The most bytes that are read: one more than a session may have, so that a session that is too long is recognized.
 const MOST_READ_BYTES: u64 = 268_435_457;
 
-/// The status where the verdict is no, or settings are refused.
+/// The status if the verdict is no, or settings are rejected.
 const REFUSED: u8 = 1;
 
-/// The status where arguments are refused.
+/// The status if arguments are rejected.
 const ARGUMENTS_REFUSED: u8 = 2;
 
-/// The status where memory, reading or writing was refused.
+/// The status if memory ran out, or reading or writing failed.
 const FAULT: u8 = 3;
 
 /// How a session ended.
 #[derive(Drop)]
 pub struct Ended<F> {
-    /// The status that goes with what was written.
+    /// The status for what was written.
     pub status: u8,
-    /// The files that its run left, on which no store is open, where a verdict was written; and none where settings
-    /// are refused or a line is unreadable.
+    /// The files that its run left, on which no store is open. There are files exactly if a verdict was written, not if
+    /// settings are rejected or a line is unreadable.
     pub files: Option<F>,
 }
 
-/// What is written for a session.
+/// The output for a session.
 #[derive(Drop)]
 struct Told<F> {
     /// The text.
     text: String,
-    /// The status that goes with it.
+    /// The status for it.
     status: u8,
-    /// The files that its run left, where the text has a verdict.
+    /// The files that its run left, if the text has a verdict.
     files: Option<F>,
 }
 
-/// Whether there is an argument behind the program's name, be it text or not.
+/// Whether there is an argument after the program's name, even one that isn't text.
 pub fn has_arguments(env: &impl Env) -> bool {
     !matches!(env.arg(1, &mut []), Err(FillError::NotPresent))
 }
 
-/// The status with which the program ends: the answer's own, and 3 where memory, reading or writing was
-/// refused.
+/// Returns the exit status of the program: the status of the session, or 3 if memory ran out or reading or writing
+/// failed.
 pub fn exit_status(ended: io::Result<u8>) -> u8
     ensures ok { IfOk ended (λ status. result ≡ status) }
     ensures err { OnErr ended (result ≡ 3) }
@@ -68,8 +67,8 @@ pub fn exit_status(ended: io::Result<u8>) -> u8
     }
 }
 
-/// The program: with arguments it refuses them and reads nothing, without it runs a session. An `Err` tells
-/// that memory, the reader or the writer was refused, and no verdict is claimed.
+/// The program. With arguments it rejects them and reads nothing; without arguments it runs a session. An `Err` says
+/// that memory ran out, or that the reader or the writer failed, and claims no verdict.
 pub fn program<
     R: Threads + Sync,
     S: VoterStorage<R> + Drop,
@@ -101,11 +100,16 @@ pub fn program<
     run::<R, S, F, C, I, W>(rt, alloc, setup, reader, writer)
 }
 
-/// Reads a session, runs its events on a store with its settings, and writes the transcript with a verdict; or
-/// writes that the settings are refused, or which line is the first that is unreadable. The status is 0 where
-/// the verdict is yes, 1 where it is no or the settings are refused, and 2 for an unreadable line. An `Err`
-/// tells that memory, the reader or the writer was refused: then nothing was written, or the front of what may
-/// be written, and no verdict. Of a session that is too long no more is read than tells so.
+/// Reads a session, runs its events on a store with its settings, and writes the transcript with a verdict. If the
+/// settings are rejected or a line is unreadable, writes that, with the number of the first unreadable line. The status
+/// is
+/// - 0 if the verdict is yes,
+/// - 1 if it is no or the settings are rejected,
+/// - 2 for an unreadable line.
+///
+/// An `Err` says that memory ran out, or that the reader or the writer failed. Then nothing was written, or a prefix of
+/// what may be written, and no verdict is claimed. A session that is too long is read only as far as needed to
+/// recognize that.
 pub fn run<
     R: Threads + Sync,
     S: VoterStorage<R> + Drop,
@@ -128,8 +132,7 @@ pub fn run<
     }
 }
 
-/// Runs a session as `run` does, and answers beside the status the files that its run left, where a verdict was
-/// written.
+/// Runs a session as `run` does. Returns the status and, if a verdict was written, the files that its run left.
 pub fn run_leaving<
     R: Threads + Sync,
     S: VoterStorage<R> + Drop,
@@ -150,9 +153,9 @@ pub fn run_leaving<
     run_bytes_leaving::<R, S, F, C, W>(rt, alloc, setup, front.as_slice(), writer)
 }
 
-/// Runs the session of these bytes, and writes what `run` writes for it. An `Err` tells that memory was
-/// refused, then nothing was written and its kind tells so; or that the writer failed, which took the front of
-/// what may be written.
+/// Runs the session of these bytes, and writes what `run` writes for it. An `Err` says that memory ran out, or that the
+/// writer failed. If memory ran out, nothing was written and the error has that kind. If the writer failed, it took a
+/// prefix of what may be written.
 pub fn run_bytes<
     R: Threads + Sync,
     S: VoterStorage<R> + Drop,
@@ -173,8 +176,8 @@ pub fn run_bytes<
     }
 }
 
-/// Runs the session of these bytes as `run_bytes` does, and answers beside the status the files that its run left,
-/// where a verdict was written.
+/// Runs the session of these bytes as `run_bytes` does. Returns the status and, if a verdict was written, the files
+/// that its run left.
 pub fn run_bytes_leaving<
     R: Threads + Sync,
     S: VoterStorage<R> + Drop,
@@ -203,7 +206,7 @@ pub fn run_bytes_leaving<
     Ok(Ended { status, files })
 }
 
-/// The bytes of a session, and of one that is too long only as many as tell so.
+/// Reads the bytes of a session. Of one that is too long, reads only as many as needed to recognize that.
 fn read_front<I: Read>(alloc: Global, reader: &mut I) -> io::Result<Vec<u8>>
     ensures ok { IfOk result (λ front. IfSome (I.remaining reader.old) (λ input.
         front.items ≡ take 268435457 input)) }
@@ -214,7 +217,7 @@ fn read_front<I: Read>(alloc: Global, reader: &mut I) -> io::Result<Vec<u8>>
     Ok(front)
 }
 
-/// What is written for a session.
+/// Returns the output for a session's bytes.
 fn answer<
     R: Threads + Sync,
     S: VoterStorage<R> + Drop,
@@ -231,7 +234,7 @@ fn answer<
     }
 }
 
-/// What is written for what a session tells.
+/// Returns the output for a session.
 fn shown<
     R: Threads + Sync,
     S: VoterStorage<R> + Drop,
@@ -256,8 +259,8 @@ fn shown<
     })
 }
 
-/// What is written of a transcript and its cuts, with the judge's verdict; and the status that goes with it,
-/// 0 for yes and 1 for no.
+/// Returns the text of a transcript and its cuts, with the judge's verdict, and the status for it: 0 for yes and 1 for
+/// no.
 fn judged(alloc: Global, transcript: &Transcript, cuts: &[usize]) -> Result<(String, u8), Memory>
     ensures { IfOk result (λ told. IsJudged transcript.now.rounds cuts.now (string_bytes told.0) told.1) }
 {
@@ -268,7 +271,7 @@ fn judged(alloc: Global, transcript: &Transcript, cuts: &[usize]) -> Result<(Str
     Ok((text, status))
 }
 
-/// What is written where settings are refused.
+/// Returns the output for settings that are rejected.
 fn settings_refused<F>(alloc: Global) -> Result<Told<F>, Memory>
     ensures text { IfOk result (λ told. string_bytes told.text ≡ settings_refused) }
     ensures status { IfOk result (λ told. told.status ≡ 1) }
@@ -282,7 +285,7 @@ fn settings_refused<F>(alloc: Global) -> Result<Told<F>, Memory>
     })
 }
 
-/// What is written where a line is unreadable.
+/// Returns the output for an unreadable line.
 fn unreadable<F>(alloc: Global, line: usize) -> Result<Told<F>, Memory>
     ensures text { IfOk result (λ told. string_bytes told.text ≡ unreadable_text line) }
     ensures status { IfOk result (λ told. told.status ≡ 2) }

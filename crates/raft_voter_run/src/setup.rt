@@ -1,4 +1,4 @@
-//! The files with which a store begins, by its settings.
+//! The files that a store starts with, by its settings.
 ghost use Rattle.std.specs.Prelude.{IfErr, IfOk};
 ghost use Rattle.std.specs.Option.{option_map};
 ghost use Rattle.std.specs.String.{string_bytes};
@@ -12,20 +12,20 @@ use std::alloc::Global;
 /// Why there are no files.
 #[derive(Clone, Copy, Debug, PartialEq, Eq)]
 pub enum NoFiles {
-    /// The settings are refused.
+    /// The settings are rejected.
     Settings,
-    /// Memory was refused.
+    /// Memory ran out.
     Memory,
 }
 
-/// What makes the files of a store in which no voter is stored, as settings say.
+/// Makes the files of a store that has no voters yet, by its settings.
 pub trait StoreSetup<R, S: VoterStorage<R>, F: VoterDisk<R, S>> {
     ghost use Rattle.raft_voter_run.specs.Setup.{Setup};
 
-    /// Which files the text of settings makes, and which text is refused.
+    /// Which files a settings text makes, and which text is rejected.
     ghost setup: { Setup F };
 
-    /// The files of a store with these settings, or with the usual ones where there is no text.
+    /// Returns the files of a store with these settings, or with the default ones if there is no text.
     fn files(&self, rt: &R, alloc: Global, settings: &Option<String>) -> Result<F, NoFiles>
         ensures makes { IfOk result (setup.makes (option_map string_bytes settings.now)) }
         ensures empty { IfOk result (λ files. F.disk.leaves files (uncut fresh_world)) }

@@ -1,4 +1,4 @@
-//! Writing of which it is known what a writer that fails got.
+//! Writing that says which bytes a failing writer took.
 ghost use Rattle.std.specs.Prelude.{◌≢◌, IfErr, IfOk, OnOk, OnErr};
 ghost use Rattle.std.specs.IoError.{error_kind};
 ghost use Rattle.std.specs.Io.KnownBytes.{Appends, Keeps};
@@ -10,8 +10,8 @@ use std::io::{ErrorKind, Write};
 /// The most calls of a writer for one text.
 const MOST_WRITES: u64 = 1_099_511_627_776;
 
-/// Writes all bytes. Where the writer fails, or takes too many calls, it got the front of them, and not
-/// all. A call that was interrupted is made again.
+/// Writes all bytes. If the writer fails, or takes too many calls, it took a prefix of them, but not all. An
+/// interrupted call is repeated.
 pub fn write_whole<W: Write>(writer: &mut W, bytes: &[u8]) -> io::Result<()>
     ensures ok { OnOk result (Appends (W.contents writer.old) (W.contents writer.new) bytes.now) }
     ensures err { OnErr result (StopsWithin (W.contents writer.old) (W.contents writer.new) bytes.now) }
@@ -30,7 +30,7 @@ pub fn write_whole<W: Write>(writer: &mut W, bytes: &[u8]) -> io::Result<()>
     Err(io::Error::from(ErrorKind::TimedOut))
 }
 
-/// Calls the writer once, and answers what is left; all of it where the call was interrupted.
+/// Calls the writer once. Returns the bytes that are left; all of them if the call was interrupted.
 fn write_front<'a, W: Write>(writer: &mut W, bytes: &'a [u8]) -> io::Result<&'a [u8]>
     ensures ok { IfOk result (λ left.
         TakesFront (W.contents writer.old) (W.contents writer.new) bytes.now left.now) }

@@ -1,4 +1,4 @@
--- The lines that tell an event by themselves.
+-- Events that a single line encodes.
 use Rattle.std.specs.Prelude.{ℕ, nat_lt, List, length, drop, codes, Option, Some, None, if◌then◌else◌}
 use Rattle.std.specs.List.{before_first}
 use Rattle.std.specs.Str.{bytes_eq}
@@ -57,7 +57,7 @@ fork_at text = do
     name ← text_of word.0
     ends word.1 (copy name)) else None
 
--- an event, by the first word of its line and what follows it
+-- an event, from the first word of its line and the rest of it
 unfoldable pub event_at : List ℕ → List ℕ → Option Told
 event_at word text =
     if bytes_eq word (codes "open") then open_at text
@@ -67,7 +67,7 @@ event_at word text =
     else if bytes_eq word (codes "fork") then fork_at text
     else None
 
--- the event that a line tells
+-- the event that a line encodes
 unfoldable pub event_of : List ℕ → Option Told
 event_of line =
     if bytes_eq line (codes "close") then Some (alone Close)

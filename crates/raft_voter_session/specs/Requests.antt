@@ -1,4 +1,4 @@
--- The lines that ask something of a voter.
+-- The lines of requests to a voter.
 use Rattle.std.specs.Prelude.{ℕ, nat_lt, Bool, false, not, List, [], ◌∷◌, length, drop, codes, Option, Some, None, if◌then◌else◌}
 use Rattle.std.specs.List.{before_first, after_first, list_any, position_or_len}
 use Rattle.std.specs.Option.{option_map_or}
@@ -60,7 +60,7 @@ entry_of word = if nat_lt (position_or_len is_colon word) (length word) then (do
   bytes ← data_of (after_first is_colon word)
   Some (term, bytes)) else None
 
--- one entry a word
+-- each word is an entry
 abbrev pub entries_of : List (List ℕ) → Option (List (ℕ × List ℕ))
 entries_of [] = Some []
 entries_of (word ∷ words) = do
@@ -68,21 +68,22 @@ entries_of (word ∷ words) = do
   entries ← entries_of words
   Some (entry ∷ entries)
 
--- the entries that are the words of a text
+-- the entries that the words of a text encode
 unfoldable pub entries_at : List ℕ → Option (List (ℕ × List ℕ))
 entries_at text = do
   words ← words_of text
   entries_of words
 
--- a next word stands there, and it isn't an entry, since it has no colon
+-- there is a next word, and it isn't an entry, because it has no colon
 abbrev pub has_plain_word : List ℕ → Bool
 has_plain_word text = option_map_or (λ word. not (list_any is_colon word.0)) (word_at text) false
 
--- The commit, with what follows it: the next word if it has no colon. Else none was written, and it is 0.
+-- The commit and the text after it. The commit is the next word if that has no colon; otherwise it was omitted, and is
+-- 0.
 unfoldable pub commit_at : List ℕ → Option (ℕ × List ℕ)
 commit_at text = if has_plain_word text then number_at text else Some (0, text)
 
--- `append G T P U C E..`, where C may lack
+-- `append G T P U C E..`, where C is optional
 unfoldable pub append_at : List ℕ → Option (ℕ × Request)
 append_at text = do
   group ← number_at text
@@ -93,7 +94,7 @@ append_at text = do
   entries ← entries_at commit.1
   Some (group.0, Append term.0 prev_index.0 prev_term.0 commit.0 entries)
 
--- a request, by the first word of its line and what follows it
+-- a request, from the first word of its line and the rest of it
 unfoldable pub request_at : List ℕ → List ℕ → Option (ℕ × Request)
 request_at word text =
     if bytes_eq word (codes "append") then append_at text
@@ -105,6 +106,6 @@ request_at word text =
     else if bytes_eq word (codes "retire") then retire_at text
     else None
 
--- the request that a line tells
+-- the request that a line encodes
 abbrev pub request_of : List ℕ → Option (ℕ × Request)
 request_of line = request_at (before_first is_space line) (drop (length (before_first is_space line)) line)

@@ -1,4 +1,4 @@
--- What the lines of a session tell, one after another.
+-- How the lines of a session are read, one after another.
 use Rattle.std.specs.Prelude.{ℕ, ◌+◌, nat_lt, nat_le, Bool, true, false, List, [], ◌∷◌, ◌++◌, length, take}
 use Rattle.std.specs.Prelude.{codes, Option, Some, None, Result, Ok, Err, string_bytes, if◌then◌else◌}
 use Rattle.std.specs.List.{slice_split}
@@ -14,20 +14,19 @@ use Rattle.raft_voter_session.specs.Requests.{request_of}
 
 -- Lines.
 
--- what lines have begun and not ended: nothing, the settings, of which so much was told, or a round with these
--- requests
+-- what lines have begun and not ended: nothing, the settings with their text so far, or a round with these requests
 pub data Part : Type 0 where
   nothing : Part
   settings : List ℕ → Part
   round : List (ℕ × Request) → Part
 
--- what lines have begun and not ended, of what the code keeps of it
+-- the same, from what the code keeps of it
 abbrev pub open_part : Begun → Part
 open_part Nothing = nothing
 open_part (Settings text) = settings (string_bytes text)
 open_part (Round requests) = round requests
 
--- what lines have told so far, and what they have begun
+-- what the lines so far encode, and what they have begun
 pub record Progress : Type 0 where
   pub session : Said
   pub begun : Part
@@ -43,37 +42,37 @@ adds_event so_far event = Some (record {
   begun = nothing;
 })
 
--- the settings may begin: nothing was told
+-- the settings may begin: nothing was read before
 abbrev pub may_begin : Option (List ℕ) → List Told → Bool
 may_begin None [] = true
 may_begin before events = false
 
--- the settings begin, before all else
+-- the settings begin, before anything else
 abbrev pub begins_settings : Said → Option Progress
 begins_settings so_far =
     if may_begin so_far.settings so_far.events then Some (record { session = so_far; begun = settings [] }) else None
 
--- one more line where nothing has begun; None where it is unreadable
+-- one more line after nothing has begun; `None` if it is unreadable
 abbrev pub after_outside : List ℕ → Said → Option Progress
 after_outside line so_far =
     if bytes_eq line (codes "config") then begins_settings so_far
     else if bytes_eq line (codes "round") then Some (record { session = so_far; begun = round [] })
     else event_of line >>= adds_event so_far
 
--- one more line of the settings: the last one is `end`
+-- one more line of the settings, which `end` ends
 abbrev pub after_setting : List ℕ → Said → List ℕ → Option Progress
 after_setting line so_far told =
     if bytes_eq line (codes "end")
     then Some (record { session = record { settings = Some told; events = so_far.events }; begun = nothing })
     else text_of line >>= (λ text. Some (record { session = so_far; begun = settings (told ++ text ++ codes "\n") }))
 
--- one more line of a round: the last one is `end`
+-- one more line of a round, which `end` ends
 abbrev pub after_asked : List ℕ → Said → List (ℕ × Request) → Option Progress
 after_asked line so_far asked =
     if bytes_eq line (codes "end") then adds_event so_far (alone (RoundEvent asked))
     else request_of line >>= (λ q. Some (record { session = so_far; begun = round (asked ++ q ∷ []) }))
 
--- one more line, by what has begun
+-- one more line, depending on what has begun
 abbrev pub after_part : Part → List ℕ → Said → Option Progress
 after_part nothing line so_far = after_outside line so_far
 after_part (settings told) line so_far = after_setting line so_far told
@@ -86,17 +85,17 @@ after_line line so_far =
 
 -- Sessions.
 
--- the session at the end, where nothing is left open; else the number of the missing line
+-- the session at the end, if nothing is left open; otherwise the number of the missing line
 abbrev pub at_end : ℕ → Said → Part → Result Said ℕ
 at_end number told nothing = Ok told
 at_end number told part = Err number
 
--- the session behind the last line: nothing may follow it, and the session must not be too long
+-- the session after the last line: nothing may follow it, and the session must not be too long
 abbrev pub finish : ℕ → Bool → List ℕ → Progress → Result Said ℕ
 finish number whole [] so_far = if whole then at_end number so_far.session so_far.begun else Err number
 finish number whole (b ∷ text) so_far = Err number
 
--- on with the next line, or the number of this one
+-- continues with the next line, or returns the number of this one
 abbrev pub or_unreadable : ℕ → Option Progress → (Progress → Result Said ℕ) → Result Said ℕ
 or_unreadable number None next = Err number
 or_unreadable number (Some so_far) next = next so_far
@@ -106,16 +105,16 @@ abbrev pub is_last : List (List ℕ) → Bool
 is_last [] = true
 is_last (piece ∷ pieces) = false
 
--- What lines tell, of which the first has this number, behind others; or the number of the first line that is
--- unreadable. The last piece of the text is what stands behind its last line feed.
+-- The session that lines encode after earlier ones, or the number of the first unreadable line. The first line has this
+-- number. The last piece is the text after the last line feed.
 abbrev pub read_from : List (List ℕ) → ℕ → Bool → Progress → Result Said ℕ
 read_from [] number whole so_far = Err number
 read_from (piece ∷ pieces) number whole so_far =
     if is_last pieces then finish number whole piece so_far
     else or_unreadable number (after_line piece so_far) (read_from pieces (number + 1) whole)
 
--- What a session tells, or the number of its first unreadable line, counted from 1. Of a session of more than
--- 268,435,456 bytes the line with the first byte past them is unreadable.
+-- The session that a text encodes, or the number of its first unreadable line, counted from 1. If the text has more
+-- than 268,435,456 bytes, the line with the first byte past them is unreadable.
 unfoldable pub session_of : List ℕ → Result Said ℕ
 session_of input =
     read_from (slice_split is_line_feed (take 268435456 input)) 1 (nat_le (length input) 268435456)

@@ -1,5 +1,5 @@
--- How a session is written: the lines of its settings and of its events, each number in as few digits as it has,
--- each commit with its Append.
+-- The text of a session: the lines of its settings and of its events. Each number has as few digits as possible, and
+-- each Append has its commit.
 use Rattle.std.specs.Prelude.{ℕ, ◌^◌, ◌≤◌, ◌&&◌, nat_lt, nat_le, Bool, true, false, not, IsTrue}
 use Rattle.std.specs.Prelude.{List, [], ◌∷◌, ◌++◌, length, map, codes, Option, Some, None}
 use Rattle.std.specs.List.{flat_map, list_all}
@@ -28,7 +28,7 @@ request_word (Read from to) = codes "read"
 request_word Status = codes "status"
 request_word Retire = codes "retire"
 
--- the numbers behind it
+-- the numbers after it
 abbrev pub request_numbers : ℕ → Request → List ℕ
 request_numbers group (Vote term candidate index last) = group ∷ term ∷ candidate ∷ index ∷ last ∷ []
 request_numbers group (Append term prev prev_term commit sent) = group ∷ term ∷ prev ∷ prev_term ∷ commit ∷ []
@@ -38,12 +38,12 @@ request_numbers group (Read from to) = group ∷ from ∷ to ∷ []
 request_numbers group Status = group ∷ []
 request_numbers group Retire = group ∷ []
 
--- the entries behind these
+-- the entries after these
 abbrev pub request_entries : Request → List (ℕ × List ℕ)
 request_entries (Append term prev prev_term commit sent) = sent
 request_entries other = []
 
--- an entry behind a space, `term:hex`
+-- a space, then an entry as `term:hex`
 abbrev pub sent_text : ℕ × List ℕ → List ℕ
 sent_text e = spaced e.0 ++ codes ":" ++ encode_lower e.1
 
@@ -52,13 +52,13 @@ abbrev pub request_line : ℕ × Request → List ℕ
 request_line q =
     request_word q.1 ++ spaced_all (request_numbers q.0 q.1) ++ flat_map sent_text (request_entries q.1)
 
--- what a crash leaves, behind a space
+-- a space, then what a crash leaves
 abbrev pub left_text : Left → List ℕ
 left_text Last = codes " last"
 left_text All = codes " all"
 left_text (First pieces bytes) = codes " first" ++ spaced_all (pieces ∷ bytes ∷ [])
 
--- the lines of an event that is no copy
+-- the lines of an event that isn't a copy
 abbrev pub alone_lines : Event → List (List ℕ)
 alone_lines (Open workers) = (codes "open" ++ spaced_all (workers ∷ [])) ∷ []
 alone_lines Close = codes "close" ∷ []
@@ -81,7 +81,7 @@ abbrev pub settings_lines : Option (List (List ℕ)) → List (List ℕ)
 settings_lines None = []
 settings_lines (Some lines) = codes "config" ∷ lines ++ codes "end" ∷ []
 
--- the lines of a session, with the lines that its settings have
+-- the lines of a session, with these lines of settings
 abbrev pub session_lines : Option (List (List ℕ)) → List Told → List (List ℕ)
 session_lines settings events = settings_lines settings ++ flat_map event_lines events
 
@@ -103,7 +103,7 @@ is_number n = nat_lt n (2 ^ 64)
 abbrev pub is_sent : ℕ × List ℕ → Bool
 is_sent e = is_number e.0 && list_all (λ b. nat_lt b 256) e.1
 
--- each number of a request is one of eight bytes, as is each entry's term, and the entries' data are bytes
+-- each number of a request and each entry's term have eight bytes, and the entries' data are bytes
 abbrev pub is_asked : ℕ × Request → Bool
 is_asked q = list_all is_number (request_numbers q.0 q.1) && list_all is_sent (request_entries q.1)
 
@@ -111,7 +111,7 @@ is_asked q = list_all is_number (request_numbers q.0 q.1) && list_all is_sent (r
 abbrev pub is_count : ℕ → Bool
 is_count n = nat_lt 0 n && is_number n
 
--- the numbers of what a crash leaves are such
+-- the numbers of what a crash leaves have eight bytes
 abbrev pub is_left : Left → Bool
 is_left (First pieces bytes) = is_number pieces && is_number bytes
 is_left left = true
@@ -120,11 +120,11 @@ is_left left = true
 abbrev pub is_within_word : ℕ → Bool
 is_within_word b = not (is_space b) && not (is_line_feed b)
 
--- a directory's name that a line can tell: one word of UTF-8, and not empty
+-- a directory's name that a line can encode: one word of UTF-8, and not empty
 abbrev pub is_name : List ℕ → Bool
 is_name name = nat_lt 0 (length name) && is_utf8 name && list_all is_within_word name
 
--- each request of an event can be told, and each of its numbers
+-- lines can encode an event that isn't a copy: each of its requests and numbers
 abbrev pub is_told_alone : Event → Bool
 is_told_alone (Open workers) = is_count workers
 is_told_alone (Crash left) = is_left left
@@ -134,12 +134,12 @@ is_told_alone (Round requests) = list_all is_asked requests
 is_told_alone (Fork target) = false
 is_told_alone other = true
 
--- a line can tell an event, or a round's lines can
+-- lines can encode an event
 abbrev pub is_told : Told → Bool
 is_told (alone event) = is_told_alone event
 is_told (copy name) = is_name name
 
--- a line of settings: UTF-8 in one line, and not the one that ends them
+-- a line of settings: UTF-8 without a line feed, and not `end`
 abbrev pub is_setting : List ℕ → Bool
 is_setting line = not (bytes_eq line (codes "end")) && is_utf8 line && list_all (λ b. not (is_line_feed b)) line
 
@@ -148,7 +148,7 @@ abbrev pub are_settings : Option (List (List ℕ)) → Bool
 are_settings None = true
 are_settings (Some lines) = list_all is_setting lines
 
--- what a session can tell: lines of at most 4,194,304 bytes, 268,435,456 bytes in all
+-- a session can be written: lines of at most 4,194,304 bytes, 268,435,456 bytes in all
 pub record CanBeTold (settings : Option (List (List ℕ))) (events : List Told) : Type 0 where
   pub settings_fit : IsTrue (are_settings settings)
   pub events_fit : IsTrue (list_all is_told events)

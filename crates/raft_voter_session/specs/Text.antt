@@ -1,4 +1,4 @@
--- How a transcript is written.
+-- The text of a transcript.
 use Rattle.std.specs.Prelude.{◌≡◌, ℕ, ◌+◌, Bool, true, false, List, [], ◌∷◌, ◌++◌, codes, string_bytes, String}
 use Rattle.std.specs.declared.alloc.Global.{Global}
 use Rattle.std.specs.Fmt.{decimal}
@@ -10,15 +10,15 @@ use Rattle.raft_voter_messages.specs.declared.round.Outcome.TheVariants.{Answere
 use Rattle.raft_voter_messages.specs.declared.round.Round.{Round}
 use Rattle.raft_voter_messages.specs.ReplyText.{reply_text}
 
--- a text has these bytes more at its end
+-- these bytes were appended to a text
 abbrev pub Gains : String Global → String Global → List ℕ → Type 0
 Gains old new more = string_bytes new ≡ string_bytes old ++ more
 
--- a number behind a space
+-- a space, then a number
 unfoldable pub spaced : ℕ → List ℕ
 spaced n = codes " " ++ decimal n
 
--- numbers, each behind a space
+-- numbers, each after a space
 abbrev pub spaced_all : List ℕ → List ℕ
 spaced_all ns = flat_map spaced ns
 
@@ -26,19 +26,19 @@ spaced_all ns = flat_map spaced ns
 unfoldable pub place_text : ℕ → ℕ → Reply → List ℕ
 place_text place group reply = decimal place ++ spaced group ++ codes " " ++ reply_text reply ++ codes "\n"
 
--- a line for each request that has a reply, where the first stands at `place`
+-- a line for each request that has a reply; the first one's place is `place`
 abbrev pub places_text : ℕ → List (ℕ × Request) → List Reply → List ℕ
 places_text place [] replies = []
 places_text place (q ∷ qs) [] = []
 places_text place (q ∷ qs) (reply ∷ replies) =
     place_text place q.0 reply ++ places_text (place + 1) qs replies
 
--- refused places, where there are some
+-- refused places, if there are any
 abbrev pub refused_text : List ℕ → List ℕ
 refused_text [] = []
 refused_text (place ∷ places) = codes " refused" ++ spaced_all (place ∷ places)
 
--- what came of a round
+-- the outcome of a round
 abbrev pub outcome_text : Round → Outcome → List ℕ
 outcome_text round (Answered replies) = codes " answered\n" ++ places_text 0 round.requests replies
 outcome_text round Cut = codes " cut" ++ refused_text round.refused ++ codes "\n"
@@ -47,7 +47,7 @@ outcome_text round Cut = codes " cut" ++ refused_text round.refused ++ codes "\n
 unfoldable pub round_text : ℕ → Round → List ℕ
 round_text number round = codes "round" ++ spaced number ++ outcome_text round round.outcome
 
--- rounds, of which the first has this number
+-- rounds; the first has this number
 abbrev pub rounds_text : ℕ → List Round → List ℕ
 rounds_text number [] = []
 rounds_text number (round ∷ rounds) = round_text number round ++ rounds_text (number + 1) rounds
@@ -62,10 +62,10 @@ unfoldable pub transcript_text : List Round → List ℕ → Bool → List ℕ
 transcript_text rounds cuts verdict =
     rounds_text 0 rounds ++ codes "cuts" ++ spaced_all cuts ++ codes "\n" ++ verdict_text verdict
 
--- a text has such a transcript more at its end
+-- such a transcript was appended to a text
 abbrev pub GainsTranscript : String Global → String Global → List Round → List ℕ → Bool → Type 0
 GainsTranscript old new rounds cuts verdict = Gains old new (transcript_text rounds cuts verdict)
 
--- what is written where a line is unreadable
+-- what is written for an unreadable line
 unfoldable pub unreadable_text : ℕ → List ℕ
 unreadable_text number = codes "line" ++ spaced number ++ codes ": unreadable\n"

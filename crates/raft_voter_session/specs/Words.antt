@@ -7,25 +7,25 @@ use Rattle.std.specs.Str.{all_ascii_digits, is_utf8}
 use Rattle.std.specs.Str.Parse.{digits_value_after}
 use Rattle.hex.specs.Hex.{decode_of}
 
--- the ? of the logic: the second step, if the first gave a value
+-- the `?` of the logic: the second step, if the first returned a value
 infixl 10 ◌>>=◌
 abbrev pub ◌>>=◌ : {A B : Type 0} → Option A → (A → Option B) → Option B
 None >>= f = None
 Some x >>= f = f x
 
--- a value, if nothing is left of the text
+-- a value, if no text is left
 abbrev pub ends : {A : Type 0} → List ℕ → A → Option A
 ends [] x = Some x
 ends (b ∷ text) x = None
 
--- what decimal digits say behind those that say n, if that is below 2^64
+-- the value of these decimal digits after digits with value n, if it is below 2^64
 unfoldable pub value_from : ℕ → List ℕ → Option ℕ
 value_from n digits =
     if all_ascii_digits digits && nat_lt (digits_value_after 10 n digits) (2 ^ 64)
     then Some (digits_value_after 10 n digits)
     else None
 
--- what one to twenty digits say, if that is below 2^64
+-- the value of one to twenty digits, if it is below 2^64
 abbrev pub number_of : List ℕ → Option ℕ
 number_of word = if nat_lt 0 (length word) && nat_le (length word) 20 then value_from 0 word else None
 
@@ -49,35 +49,35 @@ is_line_feed b = b == 10
 abbrev pub is_colon : ℕ → Bool
 is_colon b = b == 58
 
--- The next word of a line, behind one space and up to the next one, with what follows it.
+-- The next word of a line, which begins after one space and ends before the next, and the text after it.
 abbrev pub word_at : List ℕ → Option (List ℕ × List ℕ)
 word_at [] = None
 word_at (b ∷ text) =
     if is_space b then Some (before_first is_space text, drop (length (before_first is_space text)) text)
     else None
 
--- the number that is the next word, with what follows it
+-- the number in the next word, and the text after it
 unfoldable pub number_at : List ℕ → Option (ℕ × List ℕ)
 number_at text = do
   word ← word_at text
   n ← number_of word.0
   Some (n, word.1)
 
--- pieces of which the first is empty: what stands behind it
+-- the pieces after the first, which must be empty
 abbrev pub behind_space : List (List ℕ) → Option (List (List ℕ))
 behind_space [] = None
 behind_space (piece ∷ pieces) = ends piece pieces
 
--- the words of a text in which each stands behind one space
+-- the words of a text in which one space precedes each word
 abbrev pub words_of : List ℕ → Option (List (List ℕ))
 words_of text = behind_space (slice_split is_space text)
 
--- a number that is at least 1, with what follows it
+-- a number that is at least 1, and the text after it
 unfoldable pub count_at : List ℕ → Option (ℕ × List ℕ)
 count_at text = do
   count ← number_at text
   if nat_lt 0 count.0 then Some count else None
 
--- bytes that are UTF-8
+-- bytes, if they are UTF-8
 abbrev pub text_of : List ℕ → Option (List ℕ)
 text_of bytes = if is_utf8 bytes then Some bytes else None

@@ -1,4 +1,4 @@
-//! The lines that tell an event by themselves.
+//! Events that a single line encodes.
 ghost use Rattle.std.specs.Prelude.{◌≡◌, IfOk};
 ghost use Rattle.std.specs.Option.{option_map};
 ghost use Rattle.raft_voter_session.specs.Told.{told};
@@ -10,7 +10,7 @@ use raft_voter_messages::Memory;
 use raft_voter_world::{Event, Left};
 use std::alloc::Global;
 
-/// A number that is at least 1, with what follows it.
+/// Returns a number that is at least 1, and the text after it.
 #[tactic(auto, unfolding(crate::specs::Words::count_at))]
 fn split_count(text: &[u8]) -> Option<(u64, &[u8])>
     ensures { option_map (λ field. (field.0, field.1.now)) result ≡ count_at text.now }
@@ -106,7 +106,7 @@ fn read_fork(alloc: Global, text: &[u8]) -> Result<Option<Event>, Memory>
     Ok(Some(Event::Fork { target }))
 }
 
-/// An event, by the first word of its line and what follows it.
+/// Reads an event from the first word of its line and the rest of it.
 #[tactic(auto, unfolding(crate::specs::Events::event_at))]
 fn read_words(alloc: Global, word: &[u8], text: &[u8]) -> Result<Option<Event>, Memory>
     ensures { IfOk result (λ event. option_map told event ≡ event_at word.now text.now) }
@@ -129,7 +129,7 @@ fn read_words(alloc: Global, word: &[u8], text: &[u8]) -> Result<Option<Event>, 
     Ok(None)
 }
 
-/// The event that a line tells, without its line feed; `None` where it tells none.
+/// Returns the event that a line encodes, without its line feed; `None` if it encodes none.
 #[tactic(auto, unfolding(crate::specs::Events::event_of))]
 pub fn read_event(alloc: Global, line: &[u8]) -> Result<Option<Event>, Memory>
     ensures { IfOk result (λ event. option_map told event ≡ event_of line.now) }

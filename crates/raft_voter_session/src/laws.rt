@@ -1,7 +1,7 @@
-//! What follows from the definitions of sessions: a law, the contract of a function that does nothing.
+//! A law that follows from the definitions of sessions: the contract of an empty function.
 ghost use Rattle.raft_voter_session.specs.Laws.{SessionsAreReadBack};
 
-/// The text of a session's events reads as these events, whatever they are, where the text keeps the limits.
+/// Reading the text of a session's settings and events returns them, if a session can be written with them.
 pub fn sessions_are_read_back()
     ensures { SessionsAreReadBack }
 {}

@@ -1,4 +1,4 @@
-//! The text of sessions and transcripts: what a session's lines say, and how a transcript is written.
+//! The texts of sessions and transcripts: reads sessions, and writes transcripts.
 #![tactic(auto)]
 
 mod events;

@@ -1,4 +1,4 @@
-//! What the lines of a session have told so far.
+//! A session while its lines are read.
 ghost use Rattle.std.specs.Prelude.{◌≡◌, Ok, IfOk, IfErr, Some, string_bytes};
 ghost use Rattle.raft_voter_session.specs.Told.{said, told};
 ghost use Rattle.raft_voter_session.specs.Session.{adds_event, after_asked, after_line, after_outside, after_setting, begins_settings, finish, no_progress, nothing};
@@ -22,13 +22,13 @@ const MOST_LINE_BYTES: usize = 4_194_304;
 pub enum Begun {
     /// Nothing.
     Nothing,
-    /// The settings, of which this was told.
+    /// The settings, with their text so far.
     Settings(String),
     /// A round, with these requests.
     Round(Items<(u64, Request)>),
 }
 
-/// What the lines so far have told, and what they have begun.
+/// The session that the lines so far encode, and what they have begun.
 #[derive(Drop)]
 pub struct Reading {
     session: Session,
@@ -45,7 +45,7 @@ impl Model for Reading {
 }
 
 impl Reading {
-    /// Before the first line.
+    /// Returns the state before the first line.
     pub fn new(alloc: Global) -> Reading
         ensures { result ≡ no_progress }
     {
@@ -59,7 +59,7 @@ impl Reading {
         }
     }
 
-    /// One more line, without its line feed; `None` where it is unreadable.
+    /// Reads one more line, without its line feed. Returns `None` if it is unreadable.
     pub fn after(self, alloc: Global, line: &[u8]) -> Result<Option<Reading>, Memory>
         ensures { IfOk result (λ next. next ≡ after_line line.now self) }
     {
@@ -74,7 +74,7 @@ impl Reading {
         }
     }
 
-    /// The session, if nothing follows the last line; else the number of the line that is missing.
+    /// Returns the session if nothing follows the last line. Otherwise fails with the number of the missing line.
     pub fn finish(self, is_whole: bool, rest: &[u8], number: usize) -> Result<Session, SessionFault>
         ensures ok { IfOk result (λ session. finish number is_whole rest.now self ≡ Ok (said session)) }
         ensures err { IfErr result (TellsLineFault (finish number is_whole rest.now self)) }
@@ -87,7 +87,7 @@ impl Reading {
     }
 }
 
-/// Behind a line that ended what was begun.
+/// After a line that ended what was begun.
 fn ended(session: Session) -> Option<Reading>
     ensures { result ≡ Some (record { session = said session; begun = nothing }) }
 {
@@ -97,7 +97,7 @@ fn ended(session: Session) -> Option<Reading>
     })
 }
 
-/// One more event.
+/// Adds an event.
 fn with_event(session: Session, event: Event) -> Result<Option<Reading>, Memory>
     ensures { IfOk result (λ next. next ≡ adds_event (said session) (told event)) }
 {
@@ -109,7 +109,7 @@ fn with_event(session: Session, event: Event) -> Result<Option<Reading>, Memory>
     Ok(ended(Session { settings, events }))
 }
 
-/// The settings begin, before all else.
+/// Begins the settings. Returns `None` if anything was read before.
 fn settings_begin(alloc: Global, session: Session) -> Option<Reading>
     ensures { result ≡ begins_settings (said session) }
 {
@@ -122,7 +122,7 @@ fn settings_begin(alloc: Global, session: Session) -> Option<Reading>
     })
 }
 
-/// One more line, where nothing has begun.
+/// Reads one more line, after nothing has begun.
 fn outside(alloc: Global, session: Session, line: &[u8]) -> Result<Option<Reading>, Memory>
     ensures { IfOk result (λ next. next ≡ after_outside line.now (said session)) }
 {
@@ -139,7 +139,7 @@ fn outside(alloc: Global, session: Session, line: &[u8]) -> Result<Option<Readin
     }
 }
 
-/// One more line of the settings, of which so much was told.
+/// Reads one more line of the settings, after this text of theirs.
 fn with_setting(session: Session, text: String, line: &[u8]) -> Result<Option<Reading>, Memory>
     ensures { IfOk result (λ next. next ≡ after_setting line.now (said session) (string_bytes text)) }
 {
@@ -160,7 +160,7 @@ fn with_setting(session: Session, text: String, line: &[u8]) -> Result<Option<Re
     }))
 }
 
-/// One more line of a round, with these requests so far.
+/// Reads one more line of a round, after these requests.
 fn with_request(
     alloc: Global,
     session: Session,

@@ -1,4 +1,4 @@
-//! The lines that ask something of a voter.
+//! The lines of requests to a voter.
 ghost use Rattle.std.specs.Prelude.{◌≡◌, IfOk};
 ghost use Rattle.std.specs.Option.{option_map};
 ghost use Rattle.raft_voter_session.specs.Words.{ends};
@@ -8,7 +8,7 @@ use crate::words::{end_of_word, read_data, read_number, split_at_byte, split_num
 use raft_voter_messages::{Items, Memory, Request};
 use std::alloc::Global;
 
-/// A request, if nothing is left of its line.
+/// Returns the request, if its line has no more text.
 fn at_end(text: &[u8], asked: (u64, Request)) -> Option<(u64, Request)>
     ensures { result ≡ ends text.now asked }
 {
@@ -107,7 +107,7 @@ fn read_entry(alloc: Global, word: &[u8]) -> Result<Option<(u64, Items<u8>)>, Me
     Ok(Some((term, bytes)))
 }
 
-/// The entries that are the words of a text.
+/// Returns the entries that the words of a text encode.
 #[tactic(auto, unfolding(crate::specs::Requests::entries_at))]
 fn read_entries(alloc: Global, text: &[u8]) -> Result<Option<Items<(u64, Items<u8>)>>, Memory>
     ensures { IfOk result (λ entries. entries ≡ entries_at text.now) }
@@ -127,7 +127,7 @@ fn read_entries(alloc: Global, text: &[u8]) -> Result<Option<Items<(u64, Items<u
     Ok(Some(entries))
 }
 
-/// Whether a next word stands there that is no entry, since it has no colon.
+/// Whether there is a next word that isn't an entry, because it has no colon.
 fn has_plain_word(text: &[u8]) -> bool
     ensures { result ≡ has_plain_word text.now }
 {
@@ -137,7 +137,8 @@ fn has_plain_word(text: &[u8]) -> bool
     }
 }
 
-/// The commit, with what follows it: the next word if it has no colon. Else none was written, and it is 0.
+/// Returns the commit and the text after it. The commit is the next word if that has no colon; otherwise it was
+/// omitted, and is 0.
 #[tactic(auto, unfolding(crate::specs::Requests::commit_at))]
 fn split_commit(text: &[u8]) -> Option<(u64, &[u8])>
     ensures { option_map (λ field. (field.0, field.1.now)) result ≡ commit_at text.now }
@@ -148,8 +149,8 @@ fn split_commit(text: &[u8]) -> Option<(u64, &[u8])>
     split_number(text)
 }
 
-/// `append G T P U C E..`: group, term, index and term right before the entries, the commit, which may lack,
-/// and the entries.
+/// `append G T P U C E..`: group, term, index and term right before the entries, the commit, which is optional, and the
+/// entries.
 #[tactic(auto, unfolding(crate::specs::Requests::append_at))]
 fn append(alloc: Global, text: &[u8]) -> Result<Option<(u64, Request)>, Memory>
     ensures { IfOk result (λ asked. asked ≡ append_at text.now) }
@@ -182,7 +183,7 @@ fn append(alloc: Global, text: &[u8]) -> Result<Option<(u64, Request)>, Memory>
     Ok(Some((group, request)))
 }
 
-/// A request, by the first word of its line and what follows it.
+/// Reads a request from the first word of its line and the rest of it.
 #[tactic(auto, unfolding(crate::specs::Requests::request_at))]
 fn read_words(alloc: Global, word: &[u8], text: &[u8]) -> Result<Option<(u64, Request)>, Memory>
     ensures { IfOk result (λ asked. asked ≡ request_at word.now text.now) }
@@ -211,7 +212,7 @@ fn read_words(alloc: Global, word: &[u8], text: &[u8]) -> Result<Option<(u64, Re
     Ok(None)
 }
 
-/// The request that a line tells, without its line feed, with its group; `None` where it tells none.
+/// Returns the request that a line encodes, without its line feed, with its group; `None` if it encodes none.
 pub fn read_request(alloc: Global, line: &[u8]) -> Result<Option<(u64, Request)>, Memory>
     ensures { IfOk result (λ asked. asked ≡ request_of line.now) }
 {

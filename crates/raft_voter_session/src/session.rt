@@ -15,22 +15,22 @@ use thiserror::Error;
 /// The most bytes of a session.
 const MOST_SESSION_BYTES: usize = 268_435_456;
 
-/// What a session tells.
+/// A session: its settings and its events.
 #[derive(Drop)]
 pub struct Session {
-    /// The text of the settings, lines of TOML; `None` where there are none.
+    /// The text of the settings, lines of TOML; `None` if there are none.
     pub settings: Option<String>,
     /// The events, in order.
     pub events: VecDeque<Event>,
 }
 
-/// Why a session tells nothing.
+/// Why a session couldn't be read.
 #[derive(Clone, Copy, Debug, PartialEq, Eq, Error)]
 pub enum SessionFault {
     /// The line of this number, counted from 1, is the first that is unreadable.
     #[error("line {0}: unreadable")]
     Unreadable(usize),
-    /// An allocation was refused.
+    /// An allocation failed.
     #[error("out of memory")]
     Memory,
 }
@@ -45,7 +45,7 @@ impl From<Memory> for SessionFault {
     }
 }
 
-/// The first bytes, at most so many.
+/// Returns the first bytes, at most `most`.
 fn front(bytes: &[u8], most: usize) -> &[u8]
     ensures { result.now ≡ take most bytes.now }
 {
@@ -55,7 +55,7 @@ fn front(bytes: &[u8], most: usize) -> &[u8]
     &bytes[..most]
 }
 
-/// What a session of these bytes tells.
+/// Reads the session that these bytes encode.
 #[tactic(auto, unfolding(crate::specs::Session::session_of))]
 pub fn read_session(alloc: Global, input: &[u8]) -> Result<Session, SessionFault>
     ensures ok { IfOk result (λ session. session_of input.now ≡ Ok (said session)) }

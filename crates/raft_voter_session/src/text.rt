@@ -5,8 +5,8 @@ ghost use Rattle.raft_voter_session.specs.Text.{Gains, GainsTranscript, spaced, 
 use raft_voter_messages::{Memory, Outcome, Reply, Request, Round, Transcript};
 use std::alloc::Global;
 
-/// Writes a transcript, the places up to which its rounds without an answer were taken, and the verdict on
-/// them. Where memory is refused the text stays as it was.
+/// Appends a transcript, the places up to which its rounds without replies were taken, and the verdict on them. If
+/// memory runs out, the text is unchanged.
 pub fn write_transcript(
     text: &mut String,
     transcript: &Transcript,
@@ -21,7 +21,7 @@ pub fn write_transcript(
     add(text, lines)
 }
 
-/// Writes that the line of this number is unreadable. Where memory is refused the text stays as it was.
+/// Appends that the line of this number is unreadable. If memory runs out, the text is unchanged.
 pub fn write_unreadable(text: &mut String, line: usize) -> Result<(), Memory>
     ensures ok { OnOk result (Gains text.old text.new (unreadable_text line)) }
     ensures err { OnErr result (string_bytes text.new ≡ string_bytes text.old) }
@@ -31,7 +31,7 @@ pub fn write_unreadable(text: &mut String, line: usize) -> Result<(), Memory>
     add(text, told)
 }
 
-/// The lines of a round of this number: what came of it, and one for each request that has a reply.
+/// Returns the lines of a round of this number: its outcome, and one for each request that has a reply.
 pub fn round_lines(alloc: Global, number: usize, round: &Round) -> Result<String, Memory>
     ensures { IfOk result (λ lines. string_bytes lines ≡ round_text number round.now) }
 {
@@ -40,9 +40,8 @@ pub fn round_lines(alloc: Global, number: usize, round: &Round) -> Result<String
     Ok(lines)
 }
 
-/// Adds lines to a text; one that is empty takes them as they are, without a copy. Where memory is refused
-/// the text stays as it was. (What a `write!` that is refused leaves of a `String` isn't known, so lines are
-/// never written into the text.)
+/// Appends lines to a text; an empty text takes them without a copy. If memory runs out, the text is unchanged. (A
+/// `write!` that fails leaves unknown contents in a `String`, so lines are never written into the text directly.)
 fn add(text: &mut String, lines: String) -> Result<(), Memory>
     ensures ok { OnOk result (Gains text.old text.new (string_bytes lines)) }
     ensures err { OnErr result (string_bytes text.new ≡ string_bytes text.old) }
@@ -72,7 +71,7 @@ fn write_all(
     write_verdict(text, verdict)
 }
 
-/// Writes a number behind a space.
+/// Writes a space, then a number.
 #[tactic(auto, unfolding(crate::specs::Text::spaced))]
 fn write_spaced(text: &mut String, number: u64) -> Result<(), Memory>
     ensures { OnOk result (Gains text.old text.new (spaced number)) }
@@ -81,7 +80,7 @@ fn write_spaced(text: &mut String, number: u64) -> Result<(), Memory>
     Ok(())
 }
 
-/// Writes places, each behind a space.
+/// Writes places, each after a space.
 fn write_places(text: &mut String, places: &[usize]) -> Result<(), Memory>
     ensures { OnOk result (Gains text.old text.new (spaced_all places.now)) }
 {
@@ -119,7 +118,7 @@ fn write_replies(
     Ok(())
 }
 
-/// Writes the refused places, where there are some.
+/// Writes the refused places, if there are any.
 fn write_refused(text: &mut String, places: &[usize]) -> Result<(), Memory>
     ensures { OnOk result (Gains text.old text.new (refused_text places.now)) }
 {
@@ -130,7 +129,7 @@ fn write_refused(text: &mut String, places: &[usize]) -> Result<(), Memory>
     write_places(text, places)
 }
 
-/// Writes what came of a round.
+/// Writes the outcome of a round.
 fn write_outcome(text: &mut String, round: &Round) -> Result<(), Memory>
     ensures { OnOk result (Gains text.old text.new (outcome_text round.now round.now.outcome)) }
 {

@@ -11,7 +11,7 @@ use std::alloc::Global;
 /// The most digits that a number may have.
 const MOST_DIGITS: usize = 20;
 
-/// The place of the first space, or the length where there is none.
+/// Returns the place of the first space, or the length if there is none.
 pub fn end_of_word(text: &[u8]) -> usize
     ensures value { result ≡ position_or_len is_space text.now }
     ensures within { result ≤ length text.now }
@@ -26,7 +26,7 @@ pub fn end_of_word(text: &[u8]) -> usize
     end
 }
 
-/// The parts of a text before and behind the first of these bytes; `None` where it has none.
+/// Returns the parts of a text before and after the first of these bytes; `None` if it has none.
 pub fn split_at_byte(text: &[u8], byte: u8) -> Option<(&[u8], &[u8])>
     ensures { MatchOption result (length text.now ≤ position_or_len (λ b. b == byte) text.now)
         (λ parts. (position_or_len (λ b. b == byte) text.now < length text.now)
@@ -41,7 +41,7 @@ pub fn split_at_byte(text: &[u8], byte: u8) -> Option<(&[u8], &[u8])>
     None
 }
 
-/// What digits say, if that fits a `u64`.
+/// Returns the value of digits, if it fits a `u64`.
 #[tactic(auto, using(crate::proofs::Digits::digits_say_more), unfolding(crate::specs::Words::value_from))]
 fn read_digits(digits: &[u8]) -> Option<u64>
     ensures { result ≡ value_from 0 digits.now }
@@ -56,7 +56,7 @@ fn read_digits(digits: &[u8]) -> Option<u64>
     Some(number)
 }
 
-/// What a word of one to twenty digits says, if that fits a `u64`.
+/// Returns the value of a word of one to twenty digits, if it fits a `u64`.
 pub fn read_number(word: &[u8]) -> Option<u64>
     ensures { result ≡ number_of word.now }
 {
@@ -66,7 +66,7 @@ pub fn read_number(word: &[u8]) -> Option<u64>
     read_digits(word)
 }
 
-/// The next word, behind one space and up to the next one, with what follows it.
+/// Returns the next word, which begins after one space and ends before the next, and the text after it.
 pub fn split_word(text: &[u8]) -> Option<(&[u8], &[u8])>
     ensures { option_map (λ word. (word.0.now, word.1.now)) result ≡ word_at text.now }
 {
@@ -77,7 +77,7 @@ pub fn split_word(text: &[u8]) -> Option<(&[u8], &[u8])>
     Some(rest.split_at(end_of_word(rest)))
 }
 
-/// The number that is the next word, with what follows it.
+/// Returns the number in the next word, and the text after it.
 #[tactic(auto, unfolding(crate::specs::Words::number_at))]
 pub fn split_number(text: &[u8]) -> Option<(u64, &[u8])>
     ensures { option_map (λ field. (field.0, field.1.now)) result ≡ number_at text.now }
@@ -100,7 +100,7 @@ fn is_lower_hex(word: &[u8]) -> bool
     word.iter().all(|b| is_lower_hex_digit(*b))
 }
 
-/// The bytes of hex digits in lower case.
+/// Decodes hex digits in lower case.
 pub fn read_data(alloc: Global, word: &[u8]) -> Result<Option<Items<u8>>, Memory>
     ensures { IfOk result (λ bytes. bytes ≡ data_of word.now) }
 {
@@ -114,7 +114,7 @@ pub fn read_data(alloc: Global, word: &[u8]) -> Result<Option<Items<u8>>, Memory
     }
 }
 
-/// Bytes as text; `None` where they aren't UTF-8.
+/// Returns bytes as text; `None` if they aren't UTF-8.
 pub fn read_text(bytes: &[u8]) -> Option<&str>
     ensures { option_map (λ text. text.now) result ≡ text_of bytes.now }
 {

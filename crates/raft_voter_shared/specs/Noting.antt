@@ -1,4 +1,4 @@
--- A round is served, and noted behind the records of a journal.
+-- A round is served, and appended to a journal as a record.
 use Rattle.std.specs.Prelude.{◌≡◌, ◌≤◌, ◌<◌, ℕ, ◌++◌, List, [], ◌∷◌, length, take}
 use Rattle.std.specs.List.{AllZip}
 use Rattle.raft_voter_messages.specs.declared.reply.Reply.{Reply}
@@ -12,7 +12,7 @@ use Rattle.raft_voter_shared.specs.Handing.{HandsOut}
 use Rattle.raft_voter_shared.specs.declared.receipt.SharedFault.{SharedFault}
 use Rattle.raft_voter_shared.specs.declared.receipt.SharedFault.TheVariants as faults
 
--- the record of an answered round; a request that has no reply has no refused place
+-- the record of a round with replies; a request without a reply has no refused place
 abbrev pub answered : List (ℕ × Request) → List Reply → Round
 answered requests replies = record {
   requests = requests;
@@ -24,8 +24,8 @@ answered requests replies = record {
 abbrev pub cut_off : List (ℕ × Request) → List ℕ → Round
 cut_off requests refused = record { requests = requests; refused = refused; outcome = Cut }
 
--- A store answered a round, and it is noted with the replies that are handed out: the store's own, but for reads of
--- which there was no memory for a copy, whose places are refused.
+-- A store replied to a round, and the record has the replies that the caller gets. They are the store's own, except for
+-- reads whose copy ran out of memory: these places are refused.
 pub record NotesAnswered {S : Type 0} (v : Service S) (requests : List (ℕ × Request)) (replies : List Reply)
     (old : S) (rounds : List Round) (new : S) (rounds' : List Round) : Type 0 where
   pub noted : rounds' ≡ rounds ++ answered requests replies ∷ []
@@ -36,7 +36,7 @@ pub record NotesAnswered {S : Type 0} (v : Service S) (requests : List (ℕ × R
   pub short : length requests ≤ 4096
   pub alive : IsAlive (v.is_failed old) (v.is_failed new)
 
--- a store cut a round off, for this cause, and it is noted so, with its refused places
+-- a store cut a round off for this cause, and the record says so, with the refused places
 pub record NotesCut {S : Type 0} (v : Service S) (cause : Cause) (requests : List (ℕ × Request))
     (old : S) (rounds : List Round) (new : S) (rounds' : List Round) : Type 0 where
   pub refused : List ℕ
@@ -44,19 +44,19 @@ pub record NotesCut {S : Type 0} (v : Service S) (cause : Cause) (requests : Lis
   pub cuts : CutsOff v cause refused requests old new
   pub fails : FailsAs cause (length requests) (v.is_failed old) (v.is_failed new)
 
--- Why no receipt is given, and what is noted then: the round was cut off; or nothing was taken for want of memory.
+-- Why there is no receipt, and which record there is: the round was cut off, or memory ran out and nothing was taken.
 abbrev pub GivesNoReceipt : {S : Type 0} → Service S → SharedFault → List (ℕ × Request)
     → S → List Round → S → List Round → Type 0
 GivesNoReceipt v (faults.Cut place cause) requests old rounds new rounds' =
     (place ≡ length rounds) × NotesCut v cause requests old rounds new rounds'
 GivesNoReceipt v faults.Memory requests old rounds new rounds' = (new ≡ old) × (rounds' ≡ rounds)
 
--- how many records a fault leaves
+-- how many records a fault appends
 abbrev pub records_of : SharedFault → ℕ
 records_of faults.Memory = 0
 records_of fault = 1
 
--- a round of so many requests is told to be too long only if it is, and else it isn't
+-- unless memory ran out, the fault is `TooLong` exactly if a round of this many requests is too long
 abbrev pub ToldOfLength : SharedFault → ℕ → Type 0
 ToldOfLength (faults.Cut place TooLong) count = 4096 < count
 ToldOfLength faults.Memory count = Unit {0}

@@ -1,4 +1,4 @@
--- Journals of a store that is shared, settled, closed and opened again, one behind another.
+-- Journals of a store that is shared, settled, closed and opened again, one after another.
 use Rattle.std.specs.Prelude.{◌≡◌, ℕ, ◌≤◌, true, List, [], ◌∷◌, ◌++◌, length, take, drop, Option, Some}
 use Rattle.std.specs.List.{flat_map}
 use Rattle.raft_voter_messages.specs.declared.round.Outcome.{Outcome}
@@ -11,23 +11,22 @@ use Rattle.raft_voter_shared.specs.declared.failure.Failure.TheVariants.{InRound
 use Rattle.raft_voter_shared.specs.Journal.{IsLegal}
 use Rattle.raft_voter_shared.specs.Standing.{is_last, standing}
 
--- a round's own cut, where it was cut off
+-- a round's own cut, if it was cut off
 abbrev pub own_cut : Outcome → ℕ → List ℕ
 own_cut (Answered replies) place = []
 own_cut Cut place = place ∷ []
 
--- the cuts of rounds of which those that were cut off weren't taken at all
+-- the cuts of rounds, if none that was cut off was taken at all
 abbrev pub untaken : List Round → List ℕ
 untaken [] = []
 untaken (r ∷ rounds) = own_cut r.outcome 0 ++ untaken rounds
 
--- the cuts of rounds of which the first was taken up to a place, and the others that were cut off weren't
--- taken at all
+-- the cuts of rounds, if the first was taken up to a place, and no other that was cut off was taken at all
 abbrev pub first_taken : ℕ → List Round → List ℕ
 first_taken place [] = []
 first_taken place (r ∷ rounds) = own_cut r.outcome place ++ untaken rounds
 
--- the cuts of a journal, where the round at which the store failed was taken up to this place
+-- the cuts of a journal, if the round in which the store failed was taken up to this place
 abbrev pub cuts_at : List Round → Option Failure → ℕ → List ℕ
 cuts_at rounds (Some (InRound at)) place = untaken (take at rounds) ++ first_taken place (drop at rounds)
 cuts_at rounds failure place = untaken rounds
@@ -37,15 +36,15 @@ abbrev pub TookUpTo : CutRound → World → ℕ → Type 0
 TookUpTo cut X place =
     (place ≤ length cut.requests) × (X ≡ after cut.before (taken_from 0 place cut.refused cut.requests))
 
--- One opening of a store: the journal of its shared store, how it failed, and the place up to which the voters that
--- the next open shows took the round at which it did.
+-- One opening of a store: the journal of its shared store, how it failed, and the place up to which the round of the
+-- failure was taken. The voters that the next open shows determine that place.
 pub record Session : Type 0 where
   pub journal : List Round
   pub failure : Option Failure
   pub place : ℕ
 
--- Openings lead from voters to others: each has a legal journal of the voters that the one before left, and leaves
--- those that stand behind it.
+-- Openings lead from voters to others. Each has a legal journal, starting from the voters that the one before left, and
+-- leaves voters that are possible after it.
 abbrev pub Openings : World → List Session → World → Type 0
 Openings W [] X = W ≡ X
 Openings W (s ∷ ss) X =
@@ -60,7 +59,7 @@ all_rounds ss = flat_map (λ s. s.journal) ss
 abbrev pub all_cuts : List Session → List ℕ
 all_cuts ss = flat_map (λ s. cuts_at s.journal s.failure s.place) ss
 
--- The journals of openings are rounds that lead from the first voters to the last.
+-- Together, the journals of openings are rounds that lead from the first voters to the last.
 abbrev pub OpeningsLead : Type 0
 OpeningsLead = (W X : World) (ss : List Session) → Openings W ss X → Leads W (all_rounds ss) (all_cuts ss) X
 
@@ -68,8 +67,8 @@ OpeningsLead = (W X : World) (ss : List Session) → Openings W ss X → Leads W
 abbrev pub OpeningsAreExplained : Type 0
 OpeningsAreExplained = (X : World) (ss : List Session) → Openings fresh_world ss X → Explains (all_rounds ss) (all_cuts ss)
 
--- What a store is left with once it was closed, a crash came, and it was opened again: unless something passed by
--- chance, it serves voters that may stand behind what stood in it before.
+-- A store is closed, crashes and is opened again. Unless there was a CRC collision, it serves voters that are possible
+-- after what it left before.
 abbrev pub OpeningsGoOn : {S F : Type 0} → Service S → Files S F → Type 0
 OpeningsGoOn {S} {F} v f =
     (old new : S) (files left : F) (cut : CutRound) → ∥ v.leaves old cut ∥₁ → LeavesInFiles v f old files

@@ -1,37 +1,37 @@
--- Which receipts stand in a journal.
+-- Which receipts match a journal.
 use Rattle.std.specs.Prelude.{◌≡◌, ℕ, ◌<◌, ◌==◌, ◌&&◌, ◌||◌, nat_le, nat_lt, not, Bool, false, List, length, slice_get, Option, None, Some}
 use Rattle.std.specs.List.{enumerate_from, list_any}
 use Rattle.raft_voter_messages.specs.declared.round.Outcome.TheVariants.{Answered}
 use Rattle.raft_voter_messages.specs.declared.round.Round.{Round}
 use Rattle.raft_voter_shared.specs.declared.receipt.Receipt.{Receipt}
 
--- a record is a receipt's: its requests, answered with its replies
+-- a record matches a receipt: it has the same requests, and the receipt's replies
 abbrev pub IsRecordOf : Receipt → Round → Type 0
 IsRecordOf r round = (round.requests ≡ r.requests) × (round.outcome ≡ Answered r.replies)
 
--- a receipt's record stands at its place
+-- a receipt's record is in the journal, at its place
 pub record StandsIn (rounds : List Round) (r : Receipt) : Type 0 where
   pub round : Round
   pub at : slice_get rounds r.place ≡ Some round
   pub is : IsRecordOf r round
 
--- another receipt can't be right where this one is: it has the same place, or it is of the same seat, with a lower
--- turn and no lower place
+-- another receipt contradicts this one: it has the same place, or it is of the same seat, with a lower turn and a place
+-- that isn't lower
 abbrev pub clash : Receipt → Receipt → Bool
 clash r other =
     (other.place == r.place)
     || ((other.seat == r.seat) && nat_lt other.turn r.turn && nat_le r.place other.place)
 
--- there is such a one among these, of which this one is that at an index
+-- among these, another receipt than the one at this index contradicts it
 abbrev pub clashes : List Receipt → ℕ → Receipt → Bool
 clashes receipts index r = list_any (λ other. not (other.0 == index) && clash r other.1) (enumerate_from 0 receipts)
 
--- The receipt at an index of these is right: its record stands at its place, and no other one clashes with it.
+-- The receipt at this index is right: its record is at its place, and no other receipt contradicts it.
 pub record IsRight (rounds : List Round) (receipts : List Receipt) (index : ℕ) (r : Receipt) : Type 0 where
   pub stands : StandsIn rounds r
   pub alone : clashes receipts index r ≡ false
 
--- the receipts at indexes below one are right
+-- the receipts below an index are right
 abbrev pub AllRightBelow : List Round → List Receipt → ℕ → Type 0
 AllRightBelow rounds receipts end =
     (index : ℕ) (r : Receipt) → index < end → slice_get receipts index ≡ Some r → IsRight rounds receipts index r
@@ -47,7 +47,7 @@ pub record IsWrongBelow (rounds : List Round) (receipts : List Receipt) (end pla
   pub least : (index : ℕ) (r : Receipt) → index < end → slice_get receipts index ≡ Some r → r.place < place
       → IsRight rounds receipts index r
 
--- the least place at which one of those isn't right; none where all are
+-- the least place at which one of those isn't right, or `None` if all are right
 abbrev pub IsLeastBelow : List Round → List Receipt → ℕ → Option ℕ → Type 0
 IsLeastBelow rounds receipts end None = AllRightBelow rounds receipts end
 IsLeastBelow rounds receipts end (Some place) = IsWrongBelow rounds receipts end place

@@ -1,4 +1,4 @@
--- What stands behind a journal: the voters that its records lead to, or a round that was cut off.
+-- The voters after a journal: those that its records lead to, or those after a round that was cut off.
 use Rattle.std.specs.Prelude.{ℕ, Bool, true, false, List, [], ◌∷◌, take, drop, Option, Some}
 use Rattle.std.specs.List.{list_all}
 use Rattle.raft_voter_messages.specs.declared.round.Outcome.{Outcome}
@@ -12,12 +12,12 @@ use Rattle.raft_voter_shared.specs.declared.failure.Failure.{Failure}
 use Rattle.raft_voter_shared.specs.declared.failure.Failure.TheVariants.{InRound}
 use Rattle.raft_voter_shared.specs.Journal.{reached}
 
--- the first of these rounds, cut off at a place that isn't known, behind these voters
+-- the first of these rounds, cut off at an unknown place, with these voters before it
 abbrev pub cut_first : World → List Round → CutRound
 cut_first W [] = uncut W
 cut_first W (r ∷ rounds) = record { before = W; requests = r.requests; refused = r.refused }
 
--- behind what a store's voters stand: behind all records of its journal, or behind the one at which it failed
+-- after which round a store's voters are found: after all records of its journal, or after the one in which it failed
 abbrev pub standing : World → List Round → Option Failure → CutRound
 standing W rounds (Some (InRound place)) = cut_first (reached W (take place rounds)) (drop place rounds)
 standing W rounds failure = uncut (reached W rounds)
@@ -32,12 +32,12 @@ abbrev pub are_cut : List Round → Bool
 are_cut [] = false
 are_cut (r ∷ rounds) = list_all (λ round. is_cut round.outcome) (r ∷ rounds)
 
--- the record at which a store failed is there, it was cut off, and so was each behind it
+-- the record of the round in which a store failed exists; it was cut off, and so was each after it
 abbrev pub is_last : Option Failure → List Round → Bool
 is_last (Some (InRound place)) rounds = are_cut (drop place rounds)
 is_last failure rounds = true
 
--- how a store came to fail, once the round of a record at this place was cut off for this cause
+-- how a store failed, after the round at this place was cut off for this cause
 abbrev pub failure_behind : Cause → ℕ → Option Failure → Option Failure
 failure_behind FileSystem place failure = Some (InRound place)
 failure_behind cause place failure = failure

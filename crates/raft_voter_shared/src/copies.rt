@@ -1,11 +1,11 @@
-//! Requests and replies once more.
+//! Copies of requests and replies.
 ghost use Rattle.std.specs.Prelude.{◌≡◌, true, IfOk, OnErr};
 ghost use Rattle.raft_voter_shared.specs.Handing.{is_read};
 
 use raft_voter::{Entry, Items, Memory, Reply, Request};
 use std::alloc::Global;
 
-/// A copy of the requests, each with its group.
+/// Copies the requests, each with its group.
 pub fn copy_requests(
     alloc: Global,
     requests: &[(u64, Request)],
@@ -20,7 +20,7 @@ pub fn copy_requests(
     Ok(Items::from_vec(copy))
 }
 
-/// A copy of the request.
+/// Copies a request.
 fn copy_request(alloc: Global, request: &Request) -> Result<Request, Memory>
     ensures { IfOk result (λ copy. copy ≡ request.now) }
 {
@@ -69,7 +69,7 @@ fn copy_request(alloc: Global, request: &Request) -> Result<Request, Memory>
     Ok(copy)
 }
 
-/// A copy of the entries of an `Append`.
+/// Copies the entries of an `Append`.
 fn copy_sent(alloc: Global, entries: &[(u64, Items<u8>)]) -> Result<Items<(u64, Items<u8>)>, Memory>
     ensures { IfOk result (λ copy. copy ≡ entries.now) }
 {
@@ -80,7 +80,7 @@ fn copy_sent(alloc: Global, entries: &[(u64, Items<u8>)]) -> Result<Items<(u64, 
     Ok(Items::from_vec(copy))
 }
 
-/// A copy of the reply. Only one of entries that were read needs memory.
+/// Copies a reply. Only a reply with entries that were read needs memory.
 pub fn copy_reply(alloc: Global, reply: &Reply) -> Result<Reply, Memory>
     ensures ok { IfOk result (λ copy. copy ≡ reply.now) }
     ensures err { OnErr result (is_read reply.now ≡ true) }
@@ -102,7 +102,7 @@ pub fn copy_reply(alloc: Global, reply: &Reply) -> Result<Reply, Memory>
     Ok(copy)
 }
 
-/// A copy of the entries that were read.
+/// Copies entries that were read.
 fn copy_read(alloc: Global, entries: &[Entry]) -> Result<Items<Entry>, Memory>
     ensures { IfOk result (λ copy. copy ≡ entries.now) }
 {

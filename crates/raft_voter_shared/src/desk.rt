@@ -1,4 +1,4 @@
-//! What lies under the lock.
+//! The state under the lock.
 ghost use Rattle.std.specs.Prelude.{◌≡◌, ◌+◌, ◌<◌, ◌++◌, ◌∷◌, [], false, true, is_some, length, vec_capacity, vec_len, None};
 ghost use Rattle.raft_voter.specs.Rounds.{World};
 ghost use Rattle.raft_voter.specs.Service.{IsOpenAt};
@@ -19,13 +19,15 @@ use std::alloc::Global;
 use std::marker::PhantomData;
 use std::sync::ledger::Book;
 
-/// What lies under the lock: the store, the journal of the rounds that it was asked to serve, how it came to
-/// fail, and the ledger's book, which counts the records.
+/// The state under the lock: the store, the journal of the rounds that it served, how it failed, and the ledger's book,
+/// which counts the records.
 ///
-/// Whichever voters the store served as it was shared, the journal is a legal history of them; unless it
-/// failed, the store serves what they became; and what a crash leaves of it are those voters or, where it
-/// failed in a round, voters that took that round up to some place. Where it is noted how it came to fail, a file
-/// call failed then, between two states of the store, of which the first served what the records before had led to.
+/// For any voters that the store served when it was shared:
+/// - The journal is a legal history of them.
+/// - Unless the store failed, it serves the voters that the journal leads to.
+/// - A crash leaves these voters or, if the store failed in a round, voters that took that round up to some place.
+/// - If a failure is noted, a file call failed between two states of the store. The first served the voters that the
+///   records before had led to.
 #[derive(Drop)]
 pub struct Desk<R, S: RoundService<R>, L: Opening> {
     store: S,
@@ -51,7 +53,7 @@ impl<R, S: RoundService<R>, L: Opening> Desk<R, S, L> {
     ghost use Rattle.raft_voter_shared.specs.Noting.{records_of, GivesNoReceipt, NotesAnswered};
     ghost use Rattle.raft_voter_shared.specs.Settling.{SettlesUnless};
 
-    /// A desk with an empty journal.
+    /// Returns a desk with an empty journal.
     pub fn new(alloc: Global, store: S, book: Book<L>) -> Desk<R, S, L>
         requires served { (W : World) → L.served W → ∥ IsOpenAt S.service store W ∥₁ }
         requires failed { L.had_failed ≡ S.service.is_failed store }
@@ -68,11 +70,12 @@ impl<R, S: RoundService<R>, L: Opening> Desk<R, S, L> {
         }
     }
 
-    /// The store serves a round of a seat, and the round is noted behind the others: with the replies that are
-    /// handed out, or as it was cut off. The receipt tells whose round it was, and where it stands.
+    /// The store serves a round of a seat. The round is appended to the journal, with the replies that the caller gets,
+    /// or as cut off. The receipt names the seat and the place in the journal.
     ///
-    /// There is none where the round was cut off (`Cut`); and nothing was taken where there was no memory for the
-    /// record (`Memory`). The draft is of these requests. A read of which there is no memory for a copy is refused.
+    /// Fails with `Cut` if the round was cut off. Fails with `Memory` if there is no memory for the record; then
+    /// nothing was taken. The draft must be of these requests. If a read can't be copied for lack of memory, its reply
+    /// is `Refused`.
     pub fn serve(
         &mut self,
         rt: &R,
@@ -132,8 +135,8 @@ impl<R, S: RoundService<R>, L: Opening> Desk<R, S, L> {
         }
     }
 
-    /// Why these seats and receipts don't settle the store, which has a ledger of so many parts; none where they
-    /// do. The seats are looked at first.
+    /// Returns why these seats and receipts can't settle the store, which has a ledger of this many parts, or `None` if
+    /// they can. Checks the seats first.
     pub fn fault(&self, parts: u64, seats: &[Seat<L>], receipts: &[Receipt]) -> Option<SettleCause>
         requires { parts ≡ L.all }
         ensures { SettlesUnless self.now.journal.items L.all (sum_by (λ seat. seat.parts) seats.now)
@@ -148,7 +151,7 @@ impl<R, S: RoundService<R>, L: Opening> Desk<R, S, L> {
         }
     }
 
-    /// What is left once all seats are there: the journal has as many records as they count.
+    /// Returns the store and the journal. All seats must be there; the journal has as many records as they count.
     pub fn close(self, seats: Vec<Seat<L>>) -> Settled<S>
         requires all { sum_by (λ seat. seat.parts) seats.items ≡ L.parts }
         requires some { 0 < L.parts }
@@ -178,8 +181,8 @@ impl<R, S: RoundService<R>, L: Opening> Desk<R, S, L> {
 impl<R, S: Maintenance<R>, L: Opening> Desk<R, S, L> {
     ghost use Rattle.raft_voter_shared.specs.Purging.{KeepsServed};
 
-    /// Purges the store's files; the answer is the groups that are to be compacted. Nothing is noted, and no voter
-    /// changed, answered or refused.
+    /// Purges the store's files. Returns the groups to compact. Appends nothing to the journal. Whether it succeeds or
+    /// fails, no voter changes.
     pub fn maintain(&mut self, rt: &R) -> Result<Vec<u64>, S::Refusal>
         ensures journal { self.new.journal ≡ self.old.journal }
         ensures keeps { KeepsServed S.service self.old.store self.new.store }
@@ -198,7 +201,7 @@ impl<R, S: Maintenance<R>, L: Opening> Desk<R, S, L> {
     }
 }
 
-/// Adds a record to a journal that has room for it; the book and the seat count it.
+/// Appends a record to a journal that has room for it; the book and the seat count it.
 fn note<L: Opening>(journal: &mut Vec<Round>, book: &mut Book<L>, seat: &mut Seat<L>, round: Round)
     requires counted { length journal.old.items ≡ book.old.total }
     requires room { vec_len journal.old < vec_capacity journal.old }

@@ -1,4 +1,4 @@
-//! What a round needs of memory before it is served.
+//! The memory that a round needs, allocated before it is served.
 ghost use Rattle.std.specs.Prelude.{◌≡◌, ◌+◌, ◌≤◌, [], length, take, vec_capacity, vec_len, IfOk};
 ghost use Rattle.std.specs.List.{AllZip};
 ghost use Rattle.raft_voter.specs.Service.{is_refused, refused_from};
@@ -9,7 +9,7 @@ use crate::copies::{copy_reply, copy_requests};
 use raft_voter::{Items, Memory, Outcome, Reply, Request, Round};
 use std::alloc::Global;
 
-/// The requests of a round for its record and for its receipt, and room for the replies of both and for the refused
+/// The requests of a round for its record and for its receipt. Also room for the replies of both, and for the refused
 /// places.
 #[derive(Drop)]
 pub struct Draft {
@@ -25,7 +25,7 @@ pub struct Draft {
 }
 
 impl Draft {
-    /// A draft of a round of these requests.
+    /// Returns a draft of a round of these requests.
     pub fn new(alloc: Global, requests: &[(u64, Request)]) -> Result<Draft, Memory>
         ensures requests { IfOk result (λ draft. draft.requests ≡ requests.now) }
         ensures asked { IfOk result (λ draft. draft.asked ≡ requests.now) }
@@ -45,8 +45,8 @@ impl Draft {
         })
     }
 
-    /// The record of the round, once the store answered it, and its requests and replies for the receipt. A read of
-    /// which there is no memory for a copy is refused.
+    /// Returns the record of the round with the store's replies, and the requests and replies for the receipt. If a
+    /// read can't be copied for lack of memory, its reply is `Refused`.
     pub fn answered(self, told: Items<Reply>) -> (Round, Items<(u64, Request)>, Items<Reply>)
         ensures round { result.0 ≡ answered self.requests result.2 }
         ensures asked { result.1 ≡ self.asked }
@@ -73,7 +73,7 @@ impl Draft {
         (round, asked, handed)
     }
 
-    /// The record of the round, once it was cut off.
+    /// Returns the record of the round if it was cut off.
     pub fn cut_off(self, refused: Items<usize>) -> Round
         ensures { result ≡ cut_off self.requests refused }
     {
@@ -93,7 +93,7 @@ impl Draft {
     }
 }
 
-/// What is handed out of replies, twice; there is room for them.
+/// Returns the replies for the record and for the receipt, which are the same. There must be room for both.
 fn hand_out(
     alloc: Global,
     told: Vec<Reply>,
@@ -114,7 +114,7 @@ fn hand_out(
     (Items::from_vec(noted), Items::from_vec(handed))
 }
 
-/// What is handed out of a reply, twice: `Refused` in place of entries of which there is no memory for a copy.
+/// Returns a reply twice, or `Refused` twice if its entries can't be copied for lack of memory.
 fn twice(alloc: Global, reply: Reply) -> (Reply, Reply)
     ensures same { result.0 ≡ result.1 }
     ensures handed { HandsOut reply result.0 }
@@ -125,7 +125,7 @@ fn twice(alloc: Global, reply: Reply) -> (Reply, Reply)
     }
 }
 
-/// The places whose reply is `Refused`; there is room for them.
+/// Returns the places whose reply is `Refused`. There must be room for them.
 fn refused_places(replies: &[Reply], room: Vec<usize>) -> Items<usize>
     requires empty { room.items ≡ [] }
     requires room { vec_len room + length replies.now ≤ vec_capacity room }

@@ -1,14 +1,14 @@
-//! How a store came to fail.
+//! How a store failed.
 ghost use Rattle.std.specs.Prelude.{◌≡◌};
 ghost use Rattle.raft_voter_shared.specs.Purging.{failure_in_purge};
 ghost use Rattle.raft_voter_shared.specs.Standing.{failure_behind};
 
 use raft_voter::Cause;
 
-/// How a store that hadn't failed before came to fail while it was shared: a file call failed then.
+/// How a store failed while it was shared, if it hadn't failed before: a file call failed.
 #[derive(Clone, Copy, Debug, PartialEq, Eq)]
 pub enum Failure {
-    /// In a round that was cut off: that of the record at this place of the journal. It may have been taken up to
+    /// In a round that was cut off, whose record is at this place of the journal. The round may have been taken up to
     /// some place.
     InRound {
         /// The place of the record, counted from 0.
@@ -18,7 +18,7 @@ pub enum Failure {
     InPurge,
 }
 
-/// How a store came to fail, once the round of the record at this place was cut off for this cause.
+/// How a store failed, after the round at this place was cut off for this cause.
 pub fn failure_behind(cause: Cause, place: usize, failure: Option<Failure>) -> Option<Failure>
     ensures { result ≡ failure_behind cause place failure }
 {
@@ -28,7 +28,7 @@ pub fn failure_behind(cause: Cause, place: usize, failure: Option<Failure>) -> O
     }
 }
 
-/// How a store came to fail, behind a purge before which it had failed or not, and now has or not.
+/// How a store failed, after a purge. The flags say whether it had failed before and has failed after it.
 pub fn failure_in_purge(before: bool, now: bool, failure: Option<Failure>) -> Option<Failure>
     ensures { result ≡ failure_in_purge before now failure }
 {

@@ -1,5 +1,5 @@
-//! One store of voters that many threads share: they serve their rounds by turns, under one lock, and what was
-//! served is a legal history of voters.
+//! A store of voters that many threads share. They serve their rounds in turn, under one lock, and the journal of the
+//! rounds is a legal history of voters.
 #![tactic(auto)]
 
 mod copies;

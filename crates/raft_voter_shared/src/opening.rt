@@ -1,8 +1,8 @@
-//! What a shared store was as it was made.
+//! The state of a store when it was shared.
 use std::marker::Brand;
 use std::sync::ledger::Ledger;
 
-/// Names the ledger of a shared store, and what its store was as it was made.
+/// Names the ledger of a shared store, and the state of the store when it was shared.
 pub trait Opening: Ledger {
     ghost use Rattle.std.specs.Prelude.{ℕ, Bool};
     ghost use Rattle.raft_voter.specs.Rounds.{World};
@@ -10,7 +10,7 @@ pub trait Opening: Ledger {
     /// All parts of the ledger.
     ghost all: { ℕ };
 
-    /// The voters that the store served, whichever they are.
+    /// The voters that the store served.
     ghost served: { World → Type 0 };
 
     /// Whether the store had failed.

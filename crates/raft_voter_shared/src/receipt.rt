@@ -1,13 +1,13 @@
-//! What a seat is told of its rounds.
+//! Receipts of served rounds.
 use raft_voter::{Cause, Items, Reply, Request};
 use thiserror::Error;
 
-/// A round that was answered: whose it was, where it stands in the journal, and its replies.
+/// A round with replies: its seat, its place in the journal, its requests and its replies.
 #[derive(Debug, PartialEq, Drop)]
 pub struct Receipt {
-    /// The number of the seat that asked for it.
+    /// The number of the seat that submitted it.
     pub seat: u64,
-    /// How many rounds of that seat stand in the journal before it.
+    /// How many rounds of that seat are in the journal before it.
     pub turn: u64,
     /// The place of its record in the journal, counted from 0.
     pub place: usize,
@@ -17,18 +17,18 @@ pub struct Receipt {
     pub replies: Items<Reply>,
 }
 
-/// Why there is no receipt of a round.
+/// Why there is no receipt for a round.
 #[derive(Clone, Copy, Debug, PartialEq, Eq, Error)]
 pub enum SharedFault {
-    /// The round was cut off, for this cause, and stands so in the journal at this place.
+    /// The round was cut off for this cause, and its record is in the journal at this place.
     #[error("round {place} cut off: {cause}")]
     Cut {
         /// The place of its record.
         place: usize,
-        /// Why.
+        /// The cause.
         cause: Cause,
     },
-    /// There was no memory for its record or for its receipt: nothing was taken, and nothing stands in the journal.
+    /// There was no memory for its record or for its receipt: nothing was taken, and the journal has no record of it.
     #[error("out of memory")]
     Memory,
 }

@@ -1,4 +1,4 @@
-//! Receipts beside a journal.
+//! Checks receipts against a journal.
 ghost use Rattle.std.specs.Prelude.{◌≡◌, ◌+◌, ◌<◌, length, None, IfSome};
 ghost use Rattle.std.specs.Bool.{Decides};
 ghost use Rattle.raft_voter_shared.specs.Receipts.{clash, clashes, AllRight, IsLeastBelow, IsLeastWrong, IsRecordOf, IsRight, StandsIn};
@@ -6,7 +6,7 @@ ghost use Rattle.raft_voter_shared.specs.Receipts.{clash, clashes, AllRight, IsL
 use crate::receipt::Receipt;
 use raft_voter::{Items, Outcome, Reply, Request, Round};
 
-/// The least place at which a receipt isn't right; none where all are.
+/// Returns the least place at which a receipt isn't right, or `None` if all are right.
 pub fn least_wrong(journal: &[Round], receipts: &[Receipt]) -> Option<usize>
     ensures none { result ≡ None → AllRight journal.now receipts.now }
     ensures some { IfSome result (λ place. IsLeastWrong journal.now receipts.now place) }
@@ -18,7 +18,7 @@ pub fn least_wrong(journal: &[Round], receipts: &[Receipt]) -> Option<usize>
     least
 }
 
-/// The least place so far at which a receipt isn't right, once that at an index was looked at.
+/// Returns the least place so far at which a receipt isn't right, after also checking the receipt at this index.
 fn lesser(
     journal: &[Round],
     receipts: &[Receipt],
@@ -46,7 +46,7 @@ fn is_right(journal: &[Round], receipts: &[Receipt], index: usize, receipt: &Rec
     stands_in(journal, receipt) && !clashes(receipts, index, receipt)
 }
 
-/// Whether a receipt's record stands at its place.
+/// Whether a receipt's record is at its place in the journal.
 fn stands_in(journal: &[Round], receipt: &Receipt) -> bool
     ensures { Decides result (StandsIn journal.now receipt.now) }
 {
@@ -56,7 +56,7 @@ fn stands_in(journal: &[Round], receipt: &Receipt) -> bool
     }
 }
 
-/// Whether a record is a receipt's.
+/// Whether a record matches a receipt.
 fn is_record_of(receipt: &Receipt, round: &Round) -> bool
     ensures { Decides result (IsRecordOf receipt.now round.now) }
 {
@@ -82,7 +82,7 @@ fn are_told(replies: &Items<Reply>, others: &Items<Reply>) -> bool
     replies == others
 }
 
-/// Whether another of these receipts clashes with the one at an index.
+/// Whether another of these receipts contradicts the one at an index.
 fn clashes(receipts: &[Receipt], index: usize, receipt: &Receipt) -> bool
     ensures { result ≡ clashes receipts.now index receipt.now }
 {
@@ -90,7 +90,7 @@ fn clashes(receipts: &[Receipt], index: usize, receipt: &Receipt) -> bool
         && clash(receipt, other))
 }
 
-/// Whether two receipts can't both be right, for what the second says.
+/// Whether the second receipt contradicts the first.
 fn clash(receipt: &Receipt, other: &Receipt) -> bool
     ensures { result ≡ clash receipt.now other.now }
 {

@@ -1,12 +1,12 @@
-//! A thread's place at a shared store.
+//! A thread's seat at a shared store.
 ghost use Rattle.std.specs.Prelude.{◌≡◌, ◌+◌, ◌/◌, ◌<◌, ◌≤◌, ◌^◌, [], sum_by, None, IfSome};
 ghost use Rattle.std.specs.Bool.{Decides};
 
 use crate::opening::Opening;
 use std::sync::ledger::{Book, Share};
 
-/// A seat at a shared store: some of the parts into which the store's ledger is cut, and how many rounds it had
-/// noted. Its number is that of its first part, so that no two seats have the same.
+/// A seat at a shared store: some of the parts of the store's ledger, and how many of its rounds are in the journal.
+/// Its number is that of its first part, so no two seats have the same number.
 #[derive(Drop)]
 pub struct Seat<L: Opening> {
     share: Share<L>,
@@ -21,7 +21,7 @@ pub struct Seat<L: Opening> {
 }
 
 impl<L: Opening> Seat<L> {
-    /// The seat with all parts of a ledger.
+    /// Returns the seat with all parts of a ledger.
     pub(crate) fn first(share: Share<L>, parts: u64) -> Seat<L>
         requires held { (share.parts ≡ parts) × (L.all ≡ parts) }
         requires some { 0 < parts }
@@ -38,29 +38,29 @@ impl<L: Opening> Seat<L> {
         }
     }
 
-    /// Which seat it is.
+    /// Returns the number of the seat.
     pub fn number(&self) -> u64
         ensures { result ≡ self.now.number }
     {
         self.number
     }
 
-    /// How many parts of the ledger it has.
+    /// Returns how many parts of the ledger it has.
     pub fn parts(&self) -> u64
         ensures { result ≡ self.now.parts }
     {
         self.parts
     }
 
-    /// How many of its rounds stand in the journal.
+    /// Returns how many of its rounds are in the journal.
     pub fn turn(&self) -> u64
         ensures { result ≡ self.now.turn }
     {
         self.turn
     }
 
-    /// Half of its parts, rounded down, as a seat of its own that has had no round; none where it has one part,
-    /// and then nothing is changed.
+    /// Splits off half of its parts, rounded down, as a seat of its own without rounds. Returns `None` if it has only
+    /// one part; then nothing changes.
     pub fn split(&mut self) -> Option<Seat<L>>
         ensures parts { IfSome result (λ seat. seat.parts ≡ self.old.parts / 2) }
         ensures left { IfSome result (λ seat. self.new.parts + seat.parts ≡ self.old.parts) }
@@ -89,7 +89,7 @@ impl<L: Opening> Seat<L> {
         })
     }
 
-    /// Another of its rounds is noted: the book counts one more, and so does the seat.
+    /// Counts another of its rounds, in the book and in the seat.
     pub(crate) fn count(&mut self, book: &mut Book<L>)
         requires { book.old.total + 1 < 2 ^ 64 }
         ensures total { book.new.total ≡ book.old.total + 1 }
@@ -108,7 +108,7 @@ impl<L: Opening> Seat<L> {
     }
 }
 
-/// Whether these seats have so many parts together.
+/// Whether these seats together have this many parts.
 pub(crate) fn have_all<L: Opening>(seats: &[Seat<L>], parts: u64) -> bool
     ensures { Decides result (sum_by (λ seat. seat.parts) seats.now ≡ parts) }
 {
@@ -118,7 +118,7 @@ pub(crate) fn have_all<L: Opening>(seats: &[Seat<L>], parts: u64) -> bool
     }
 }
 
-/// How many parts these seats have together; none where they are 2^64 or more.
+/// Returns how many parts these seats have together, or `None` if they are 2^64 or more.
 fn all_parts<L: Opening>(seats: &[Seat<L>]) -> Option<u64>
     ensures some { IfSome result (λ parts. parts ≡ sum_by (λ seat. seat.parts) seats.now) }
     ensures none { result ≡ None → 2 ^ 64 ≤ sum_by (λ seat. seat.parts) seats.now }
@@ -130,7 +130,7 @@ fn all_parts<L: Opening>(seats: &[Seat<L>]) -> Option<u64>
     Some(parts)
 }
 
-/// The shares of these seats in one; none where there is no seat.
+/// Merges the shares of these seats. Returns `None` if there are no seats.
 pub(crate) fn merged<L: Opening>(seats: Vec<Seat<L>>) -> Option<Share<L>>
     ensures parts { IfSome result (λ share. share.parts ≡ sum_by (λ seat. seat.parts) seats.items) }
     ensures amount { IfSome result (λ share. share.amount ≡ sum_by (λ seat. seat.turn) seats.items) }
@@ -144,7 +144,7 @@ pub(crate) fn merged<L: Opening>(seats: Vec<Seat<L>>) -> Option<Share<L>>
     Some(whole)
 }
 
-/// The share of a seat.
+/// Returns the share of a seat.
 fn into_share<L: Opening>(seat: Seat<L>) -> Share<L>
     ensures parts { result.parts ≡ seat.parts }
     ensures amount { result.amount ≡ seat.turn }

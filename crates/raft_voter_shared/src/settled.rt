@@ -1,4 +1,4 @@
-//! What a shared store leaves.
+//! The results of settling a shared store.
 use crate::failure::Failure;
 use crate::opening::Opening;
 use crate::receipt::Receipt;
@@ -6,33 +6,33 @@ use crate::seat::Seat;
 use crate::shared::SharedStore;
 use raft_voter::{Round, RoundService};
 
-/// What is left of a shared store once it is settled.
+/// A shared store after it was settled.
 #[derive(Drop)]
 pub struct Settled<S> {
     /// The store.
     pub store: S,
-    /// The rounds that the store was asked to serve, in order, with what came of them.
+    /// The rounds that the store served or cut off, in order, with their outcomes.
     pub journal: Vec<Round>,
-    /// How the store came to fail while it was shared, if it did.
+    /// How the store failed while it was shared, if it did.
     pub failure: Option<Failure>,
 }
 
-/// Why a shared store isn't settled.
+/// Why a shared store can't be settled.
 #[derive(Clone, Copy, Debug, PartialEq, Eq)]
 pub enum SettleCause {
-    /// The seats don't have all parts of the ledger together: some aren't there.
+    /// The seats together don't have all parts of the ledger: some seats are missing.
     SeatCount,
-    /// A receipt doesn't stand in the journal at this place, the least of such. It differs from the record there,
-    /// another one has its place, or one of its seat has a lower turn and no lower place.
+    /// A receipt is wrong at this place, the least such place. Its record isn't there, another receipt has the same
+    /// place, or another receipt of its seat has a lower turn and a place that isn't lower.
     Receipt(usize),
 }
 
-/// A shared store that isn't settled, with all that was handed in.
+/// A shared store that couldn't be settled, with all that the caller passed.
 #[derive(Drop)]
 pub struct SettleFault<R, S: RoundService<R>, L: Opening> {
-    /// Why.
+    /// The cause.
     pub cause: SettleCause,
-    /// The shared store, as it was.
+    /// The shared store, unchanged.
     pub store: SharedStore<R, S, L>,
     /// The seats.
     pub seats: Vec<Seat<L>>,

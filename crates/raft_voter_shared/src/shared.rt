@@ -35,8 +35,8 @@ impl<R, S: RoundService<R>, L: Opening> SharedStore<R, S, L> {
     ghost use Rattle.raft_voter_shared.specs.Standing.{is_last, standing};
     ghost use Rattle.raft_voter_shared.specs.Settling.{IsCause};
 
-    /// Shares a store, and gives the first seat, which has all parts of the ledger. Whichever voters the store
-    /// serves, the opening's are among them.
+    /// Shares a store, and returns the first seat, which has all parts of the ledger. The store must serve the voters
+    /// that the opening names.
     pub fn new(alloc: Global, store: S, blank: Blank, parts: u64) -> (SharedStore<R, S, L>, Seat<L>)
         requires name { blank.name ≡ L.name }
         requires parts { (blank.parts ≡ parts) × (L.parts ≡ parts) × (L.all ≡ parts) }
@@ -55,11 +55,12 @@ impl<R, S: RoundService<R>, L: Opening> SharedStore<R, S, L> {
         )
     }
 
-    /// Serves a round of a seat while no other thread does: the round is noted in the journal, and the receipt
-    /// tells where. The seat counts it.
+    /// Serves a round of a seat while no other thread does. The round is recorded in the journal, and the receipt has
+    /// its place there. The seat counts the record.
     ///
-    /// There is no receipt where the round was cut off (`Cut`), which is noted. Nothing was taken where there was no
-    /// memory for the record or the receipt (`Memory`). A read of which there is no memory for a copy is refused.
+    /// Fails with `Cut` if the round was cut off, which is recorded. Fails with `Memory` if there is no memory for the
+    /// record or the receipt; then nothing was taken. If a read can't be copied for lack of memory, its reply is
+    /// `Refused`.
     pub fn serve(
         &self,
         rt: &R,
@@ -72,7 +73,7 @@ impl<R, S: RoundService<R>, L: Opening> SharedStore<R, S, L> {
         ensures turn { IfOk result (λ receipt. receipt.turn ≡ seat.old.turn) }
         ensures requests { IfOk result (λ receipt. receipt.requests ≡ requests.now) }
 
-        // A round is too long exactly if it is told so.
+        // Unless memory ran out, the fault is `TooLong` exactly if the round is too long.
         ensures short { OnOk result (length requests.now ≤ 4096) }
         ensures long { IfErr result (λ fault. ToldOfLength fault (length requests.now)) }
 
@@ -81,18 +82,19 @@ impl<R, S: RoundService<R>, L: Opening> SharedStore<R, S, L> {
         ensures faults { IfErr result (λ fault. seat.new.turn ≡ seat.old.turn + records_of fault) }
         ensures same { (seat.new.number ≡ seat.old.number) × (seat.new.parts ≡ seat.old.parts) }
     {
-        // (what needs no store is done before the lock is taken)
+        // (work that needs no store comes before the lock)
         let Ok(draft) = Draft::new(self.alloc, requests) else {
             return Err(SharedFault::Memory);
         };
         self.desk.lock(rt).serve(rt, seat, requests, draft)
     }
 
-    /// The store and its journal, once all seats are there. Whichever voters it served as it was shared, the
-    /// journal is a legal history of them, which has as many records as the seats counted; each receipt stands in
+    /// Returns the store and its journal, given all seats. For any voters that the store served when it was shared, the
+    /// journal is a legal history of them. It has as many records as the seats counted, and each receipt's record is in
     /// it at its own place.
     ///
-    /// `SeatCount` comes first, then `Receipt` with the least place; all is handed back then.
+    /// Fails with `SeatCount` first, then with `Receipt` for the least place. The error returns all that the caller
+    /// passed.
     pub fn settle(
         self,
         seats: Vec<Seat<L>>,
@@ -104,8 +106,8 @@ impl<R, S: RoundService<R>, L: Opening> SharedStore<R, S, L> {
         ensures legal { IfOk result (λ settled. (W : World) → L.served W → IsLegal W settled.journal.items) }
         ensures receipts { IfOk result (λ settled. AllRight settled.journal.items receipts.items) }
 
-        // Unless it failed it serves what they became; and what is left of it stands behind the journal. Where it came
-        // to fail while it was shared it is told how, and a file call failed then.
+        // Unless it failed, the store serves the voters that the journal leads to. What it leaves are voters possible
+        // after the journal. If it failed while it was shared, `failure` says how, and a file call failed.
         ensures serves { IfOk result (λ settled. (W : World) → L.served W
             → S.service.is_failed settled.store ≡ false
             → ∥ IsOpenAt S.service settled.store (reached W settled.journal.items) ∥₁) }
@@ -140,8 +142,8 @@ impl<R, S: RoundService<R>, L: Opening> SharedStore<R, S, L> {
 }
 
 impl<R, S: Maintenance<R>, L: Opening> SharedStore<R, S, L> {
-    /// Purges the store's files while no other thread uses it; the answer is the groups that are to be compacted.
-    /// Nothing is noted in the journal, and no voter changed, answered or refused.
+    /// Purges the store's files while no other thread uses it. Returns the groups to compact. Records nothing in the
+    /// journal. Whether it succeeds or fails, no voter changes.
     pub fn maintain(&self, rt: &R) -> Result<Vec<u64>, S::Refusal>
     where
         R: Wait,

@@ -1,4 +1,4 @@
--- A store that threads shared is closed, and its log is opened again, behind a crash or without one.
+-- A store that threads shared is closed, and its log is opened again, after a crash or without one.
 use Rattle.std.specs.Prelude.{◌≡◌, ℕ, List}
 use Rattle.raft_log_disk.specs.Disk.{Disk}
 use Rattle.raft_log_disk.specs.Image.{IsSound}
@@ -14,8 +14,8 @@ use Rattle.raft_voter_opening_laws.specs.Opens.{FindsVoters}
 use Rattle.raft_voter_store.specs.Service.{LeavesAt}
 use Rattle.raft_voter_log.specs.Instance.{ClosesStore}
 
--- Whatever a crash leaves of a log that is left so is opened as voters that may stand behind the round, the
--- same by any settings that name its directories, unless something passes by chance.
+-- Opening any crash image of a log that is left so gives voters that may follow the round, unless there is a CRC
+-- collision. They are the same for all settings that name its directories.
 abbrev pub GoesOnBehindACrash :
     {F : Type 0} → (F → Disk) → (F → List ℕ → ℕ → Type 0) → (home : Home) (d : Disk) (cut : CutRound)
     → IsLeftAmong home d (MayFollow cut) → Type 0
@@ -23,8 +23,8 @@ GoesOnBehindACrash {F} disk tells home d cut left = (old : F) → IsSound (disk 
     → IsCrashOf home left.left.1.lies.state d (disk old)
     → (W : World) × MayFollow cut W × ForAllNaming home (λ config. FindsVoters disk tells config old W (λ X. X ≡ W))
 
--- A log that is left so is opened in place as voters that may stand behind the round, the same by any
--- settings that name its directories, unless something passes by chance.
+-- Opening a log that is left so in place gives voters that may follow the round, unless there is a CRC collision. They
+-- are the same for all settings that name its directories.
 abbrev pub GoesOnInPlace :
     {F : Type 0} (disk : F → Disk) → (F → List ℕ → ℕ → Type 0) → (home : Home) (closed : F) (cut : CutRound)
     → IsLeftAmong home (disk closed) (MayFollow cut) → Type 0
@@ -33,8 +33,8 @@ GoesOnInPlace disk tells home closed cut left =
     → (W : World) × MayFollow cut W
     × ForAllNaming home (λ config. FindsVoters disk tells config closed W (MayFollow cut))
 
--- A store in whose log's directories these voters stand behind a round, cut off or not, is closed: its log is left so,
--- and goes on.
+-- A store whose voters follow a round, cut off or not, in its log's directories, is closed. Its log is left so, and
+-- opens as above, after a crash and in place.
 abbrev pub ClosedStoresGoOn : {F : Type 0} → (F → Disk) → (F → List ℕ → ℕ → Type 0) → Type 0
 ClosedStoresGoOn {F} disk tells = (config : Config) (s : Shows) (closed : F) (cut : CutRound)
     → LeavesAt (home_of config) s cut → ClosesStore s (disk closed)

@@ -1,4 +1,4 @@
--- Openings of a log, one behind another.
+-- Consecutive openings of a log.
 use Rattle.std.specs.Prelude.{◌≡◌, ◌⊎◌, ℕ, List, [], ◌∷◌, map}
 use Rattle.raft_log_disk.specs.Disk.{Disk}
 use Rattle.raft_log_disk.specs.Image.{IsImage, IsSound}
@@ -21,11 +21,11 @@ use Rattle.raft_voter_shared_log.specs.declared.store.LogStore.{LogStore}
 use Rattle.raft_voter_shared_log.specs.Joining.{HasPlace, Settles, Sharing, ShowsPlace, behind, sessions_of}
 use Rattle.raft_voter_shared_log.specs.Opening.{OpensStore}
 
--- a store on a log, of which so much of its engine is shown, as a service
+-- a store on a log, whose engine is shown so, as a service
 abbrev pub log_service : {F : Type 0} → (LogStore F → Shows) → Service (LogStore F)
 log_service shows = service_in (λ store. home_of store.config) shows (λ store. outlines_in store.store.outlines)
 
--- One opening of a log: the files that were opened, the store that threads shared, and the files once it was closed.
+-- One opening of a log: the files that were opened, the store that threads shared, and the files after it was closed.
 pub record LogSharing (F : Type 0) : Type 0 where
   pub found : F
   pub shared : Sharing (LogStore F)
@@ -35,7 +35,7 @@ pub record LogSharing (F : Type 0) : Type 0 where
 abbrev pub home_behind : {F : Type 0} → LogSharing F → Home
 home_behind x = home_of x.shared.settled.config
 
--- As its calls promise: the store was opened, shared and settled, and closed.
+-- The store was opened, shared and settled, and closed, as the contracts of its calls say.
 pub record IsShared {F : Type 0} (disk : F → Disk) (tells : F → List ℕ → ℕ → Type 0) (shows : LogStore F → Shows)
     (x : LogSharing F) : Type 0 where
   pub opens : OpensStore disk tells x.shared.opened.config x.found (shows x.shared.opened)
@@ -43,27 +43,26 @@ pub record IsShared {F : Type 0} (disk : F → Disk) (tells : F → List ℕ →
   pub settles : Settles (log_service shows) x.shared
   pub closes : ClosesStore (shows x.shared.settled) (disk x.closed)
 
--- Of files in which a log was left so, a crash left others, or they are opened as they stand; no checksum is met by
--- chance there.
+-- The files in which a log was left so are opened after a crash, or as they are. There is no CRC collision in them.
 abbrev pub IsLeftNext : {F : Type 0} (disk : F → Disk) (home : Home) (cut : CutRound) (closed found : F)
     → IsLeftAmong home (disk closed) (MayFollow cut) → Type 0
 IsLeftNext disk home cut closed found left = IsCrashOf home left.left.1.lies.state (disk closed) (disk found)
     ⊎ ((found ≡ closed) × StandsWithoutChance home left.left.1.lies.state (disk closed))
 
--- The next opening is by settings that name the same directories, of what the close left, and nothing passes by chance,
--- whichever log is seen to be left there.
+-- The next opening has settings that name the same directories, and opens what the close left. There is no CRC
+-- collision, for any log that may be left there.
 pub record ComesNext {F : Type 0} (disk : F → Disk) (x next : LogSharing F) : Type 0 where
   pub named : home_of next.shared.opened.config ≡ home_behind x
   pub sound : IsSound (disk next.found)
   pub spares : (cut : CutRound) (left : IsLeftAmong (home_behind x) (disk x.closed) (MayFollow cut))
       → IsLeftNext disk (home_behind x) cut x.closed next.found left
 
--- what comes behind an opening
+-- what follows an opening
 abbrev pub IsFollowedInLog : {F : Type 0} → (F → Disk) → (LogStore F → Shows) → LogSharing F → List (LogSharing F) → Type 0
 IsFollowedInLog disk shows x [] = HasPlace (log_service shows) x.shared
 IsFollowedInLog disk shows x (y ∷ ys) = ComesNext disk x y × ShowsPlace (log_service shows) x.shared y.shared.opened
 
--- openings of a log, one behind another
+-- consecutive openings of a log
 abbrev pub AreLogOpenings :
     {F : Type 0} → (F → Disk) → (F → List ℕ → ℕ → Type 0) → (LogStore F → Shows) → List (LogSharing F) → Type 0
 AreLogOpenings disk tells shows [] = Unit {0}
@@ -79,31 +78,31 @@ BeginsBare disk (x ∷ xs) = IsSound (disk x.found) × IsBare x.shared.opened.co
 abbrev pub stores_of : {F : Type 0} → List (LogSharing F) → List (Sharing (LogStore F))
 stores_of xs = map (λ x. x.shared) xs
 
--- Voters that never fail explain their journals, one behind another, with the places that the next opens show as cuts.
+-- Voters that never fail explain their journals, one after another, with the places that the next opens show as cuts.
 abbrev pub LogOpeningsAreExplained :
     {F : Type 0} → (F → Disk) → (F → List ℕ → ℕ → Type 0) → (LogStore F → Shows) → Type 0
 LogOpeningsAreExplained {F} disk tells shows = (xs : List (LogSharing F)) → BeginsBare disk xs
     → AreLogOpenings disk tells shows xs
     → Explains (all_rounds (sessions_of (stores_of xs))) (all_cuts (sessions_of (stores_of xs)))
 
--- a log rests on a disk that means voters which pass the test
+-- a log rests on a disk, and means voters that pass the test
 abbrev pub RestsMeaning : Home → Disk → (World → Type 0) → Type 0
 RestsMeaning home d P = (W : World) × P W × (m : LogMap) × LogRestsOn (log_in home) d m × Means m W
 
--- Whatever a crash leaves under a store means voters that may stand behind this round, unless something passes by chance.
+-- Any crash image under a store means voters that may follow this round, unless there is a CRC collision.
 abbrev pub ImagesMean : Home → Shows → CutRound → Type 0
 ImagesMean home s cut = (known : LeavesAt home s cut)
     × ((image : Disk) → IsSound image → IsImage s.pipes.disk image → SparesStore home s cut known image
     → RestsMeaning home image (MayFollow cut))
 
--- And so does whatever a crash leaves of its files, once it is closed.
+-- The same of any crash image of its files, after it is closed.
 abbrev pub ClosedImagesMean : Home → Disk → CutRound → Type 0
 ClosedImagesMean home d cut = (left : IsLeftAmong home d (MayFollow cut))
     × ((image : Disk) → IsCrashOf home left.left.1.lies.state d image → RestsMeaning home image (MayFollow cut))
 
--- What settling gives back, failed or not: whatever a crash leaves of its files, before they are closed or behind that,
--- means the voters that the store served as it was opened after the answered records and, of the one record at which it
--- failed, after its requests below some place.
+-- What settling returns, whether it fails or not. Any crash image of its files, before or after they are closed, means
+-- the voters that the store served at its open, after the records with replies. If the store failed at a record, they
+-- also took its requests below some place.
 abbrev pub SettledStoresMean : {F : Type 0} → (LogStore F → Shows) → Type 0
 SettledStoresMean {F} shows = (x : Sharing (LogStore F)) (W : World) → Settles (log_service shows) x
     → IsOpenAt (log_service shows) x.opened W

@@ -1,4 +1,4 @@
--- When a store of voters is opened, and when it isn't.
+-- Opening a store of voters succeeds or fails.
 use Rattle.std.specs.Prelude.{◌≡◌, ◌⊎◌, ℕ, List}
 use Rattle.raft_log_disk.specs.Disk.{Disk}
 use Rattle.raft_voter_standing_laws.specs.raft_log_engine_laws.specs.Shows.{Shows}
@@ -9,14 +9,13 @@ use Rattle.raft_voter_reading.specs.declared.unread.Unread.{Unread}
 use Rattle.raft_voter_reading.specs.declared.unread.Unread.TheVariants.{Memory}
 use Rattle.raft_voter_store.specs.Opening.{FailsToOpenVoters, OpensVoters}
 
--- A store was opened, by settings that say the same.
+-- A store was opened, with the same settings.
 abbrev pub OpensStore :
     {F : Type 0} → (F → Disk) → (F → List ℕ → ℕ → Type 0) → Config → F → Shows → (ℕ → State) → Type 0
 OpensStore disk tells config old t os =
     (settings : Config) × (settings_of settings ≡ settings_of config) × OpensVoters disk tells settings old t os
 
--- The open was refused, by settings that say the same; or there was no memory for these, and the file system is as
--- it was.
+-- The open failed, with the same settings; or there was no memory for them, and the file system is unchanged.
 abbrev pub FailsToOpenStore : {F : Type 0} → (F → Disk) → (F → List ℕ → ℕ → Type 0) → Config → Unread → F → F → Type 0
 FailsToOpenStore disk tells config cause old new = ((cause ≡ Memory) × (new ≡ old))
     ⊎ ((settings : Config) × (settings_of settings ≡ settings_of config)

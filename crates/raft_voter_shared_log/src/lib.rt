@@ -1,5 +1,5 @@
-//! A store of voters on a log that many threads share: what [`SharedStore`] asks of a store, over the log in any file
-//! system, a real directory's among them.
+//! A store of voters on a log that many threads share. It has what [`SharedStore`] requires of a store, over a log in
+//! any file system, including that of a real directory.
 #![tactic(auto)]
 
 pub mod laws;

@@ -1,4 +1,4 @@
-//! The store serves rounds, and its files are purged between them.
+//! The store serves rounds, and purges its files between them.
 ghost use Rattle.std.specs.Prelude.{◌≡◌};
 ghost use Rattle.raft_log_engine.specs.raft_log_engine_core.specs.Reads.{shows_of};
 ghost use Rattle.raft_log_open_laws.specs.ByCalls.{home_of};

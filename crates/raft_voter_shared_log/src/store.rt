@@ -24,8 +24,8 @@ pub struct LogStore<F> {
 }
 
 impl<F: FileSystem + Sync> LogStore<F> {
-    /// Opens the store whose log these settings name, as `VoterStore::open` does. Refused, the file system is handed
-    /// back, as it was where there was no memory for the settings.
+    /// Opens the store whose log these settings name, as `VoterStore::open` does. If it fails, the file system is
+    /// returned; it is unchanged if there was no memory for the settings.
     pub fn open<R: Threads + Log + Sync>(
         rt: &R,
         alloc: Global,
@@ -51,8 +51,8 @@ impl<F: FileSystem + Sync> LogStore<F> {
         }
     }
 
-    /// Closes the log, and gives the file system back, whatever happened. If the result is `Ok`, everything
-    /// that the store wrote is durable; else it is why not, as `VoterStore::close` has it.
+    /// Closes the log, and returns the file system in any case. If the result is `Ok`, everything that the store wrote
+    /// is durable. Else it fails as `VoterStore::close` does.
     pub fn close<R: Log>(self, rt: &R) -> Closed<F>
         ensures closes { ClosesStore (shows_of ⟦<EnginePipes<F, Nobody> as PipeLog>⟧.shown self.store.engine)
             (F.disk result.files) }

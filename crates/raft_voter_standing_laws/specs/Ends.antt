@@ -14,9 +14,8 @@ use Rattle.raft_voter_meaning_laws.specs.Among.{MeansAmong}
 use Rattle.raft_voter_standing_laws.specs.Standing.{AreOutlines, IsLeftAmong, Keeps}
 use Rattle.raft_voter_standing_laws.specs.Rounds.{AreTold, IsPassed, IsPassedOrOneMore, took}
 
--- A round came so far, and told these replies: what was said since leads to the voters behind what was taken,
--- by way of the voters behind each first part of it, and the replies are theirs. Where nothing was written
--- nothing was said.
+-- A round went so far, with these replies. What it wrote leads to the voters after the requests taken, through the
+-- voters after each first part of them. The replies are theirs. If it wrote nothing, nothing was added to the log.
 pub record Went (qs : List (ℕ × Request)) (told : List Reply) (wrote : Bool) (s t : Shows) (os us : ℕ → State)
     : Type 0 where
   pub said : List Said
@@ -32,8 +31,8 @@ pub record Went (qs : List (ℕ × Request)) (told : List Reply) (wrote : Bool) 
   pub tells : (home : Home) (m : LogMap) (W : World) → Holds home s m [] → Means m W → AreOutlines os W
       → AreTold W qs told
 
--- A round was answered: the engine goes on and keeps the voters behind what was taken, these are their
--- outlines, and the replies are theirs.
+-- A round ended with replies: the engine runs on and keeps the voters after what was taken. These are their outlines,
+-- and the replies are theirs.
 pub record Answered (home : Home) (V : World) (qs : List (ℕ × Request)) (told : List Reply) (s t : Shows)
     (us : ℕ → State) : Type 0 where
   pub alive : has_failed t ≡ false
@@ -42,8 +41,8 @@ pub record Answered (home : Home) (V : World) (qs : List (ℕ × Request)) (told
   pub outlines : AreOutlines us (after V (took qs told))
   pub tells : AreTold V qs told
 
--- A round was given up at a request at which the engine failed: the replies so far are the voters', and what
--- is left means voters behind some first requests, that one perhaps among them.
+-- A round was given up at a request at which the engine failed. The replies so far are the voters'. The log that is
+-- left means voters after some first requests, perhaps with that one.
 pub record GaveUp (home : Home) (V : World) (qs : List (ℕ × Request)) (told : List Reply) (s t : Shows)
     : Type 0 where
   pub failed : has_failed t ≡ true
@@ -51,7 +50,7 @@ pub record GaveUp (home : Home) (V : World) (qs : List (ℕ × Request)) (told :
   pub tells : AreTold V qs told
   pub left : IsLeftAmong home t.pipes.disk (IsPassedOrOneMore V qs told)
 
--- A round's sync was refused: what is left means voters behind some first requests.
+-- A round's sync failed: the log that is left means voters after some first requests.
 pub record Unsynced (home : Home) (V : World) (qs : List (ℕ × Request)) (told : List Reply) (s t : Shows)
     : Type 0 where
   pub failed : has_failed t ≡ true

@@ -34,24 +34,24 @@ use Rattle.raft_voter_standing_laws.specs.Calls.{KeepsMap, KeepsOrLeaves, KeepsO
 
 -- One request.
 
--- an outline is that of a voter: itself
+-- the outline is that of a voter without entries' bytes: itself
 abbrev pub IsBare : State → Type 0
 IsBare o = without_bytes o ≡ o
 
--- A request that leaves its voter was told by the outline: nothing was written.
+-- A request that leaves its voter unchanged is served by the outline: nothing was written.
 abbrev pub ToldRequestsAreServed : Type 0
 ToldRequestsAreServed = (q : ℕ × Request) (a : Reply) (s : Shows) (os : ℕ → State) → has_failed s ≡ false
     → IsBare (os q.0) → IsReplyOfEach (os q.0) q.1 (answers.Told a) → LeavesEach (os q.0) q.1
     → Served q a false s s os os
 
--- A request's change was written, and the outline of its group made the step.
+-- A request is served if its change was written, and the outline of its group made the step.
 abbrev pub WrittenRequestsAreServed : Type 0
 WrittenRequestsAreServed = (q : ℕ × Request) (a : Reply) (c : Change) (b : Batch) (len : ℕ) (s t : Shows)
     (os us : ℕ → State) → IsBare (os q.0) → IsReplyOfEach (os q.0) q.1 (answers.Told a)
     → ChangesEach (os q.0) q.1 c → SaysChange q.0 q.1 c b → StepsOutlines q os us
     → WritesBytes b false len s t → Served q a true s t os us
 
--- The entries that a request asks for were read.
+-- A request for entries is served if they were read.
 abbrev pub ReadRequestsAreServed : Type 0
 ReadRequestsAreServed = (q : ℕ × Request) (from to : ℕ) (es : List VoterEntry) (s t : Shows) (os : ℕ → State)
     → IsReplyOfEach (os q.0) q.1 (answers.Entries from to) → LeavesEach (os q.0) q.1
@@ -61,8 +61,7 @@ ReadRequestsAreServed = (q : ℕ × Request) (from to : ℕ) (es : List VoterEnt
 abbrev pub EnginesAreCounted : Type 0
 EnginesAreCounted = (v : LogPipes) (tables : MemTables) (cache : BlockCache) → IsCounted (shows v tables cache)
 
--- Entries that were fetched are read, where an entry's messages are its bytes, and each is read as an entry at
--- its index.
+-- Fetched entries are read, if messages are raw bytes, and each parses as an entry at its index.
 abbrev pub FetchedEntriesAreRead : Type 0 → Type 0
 FetchedEntriesAreRead M = (text : M → List ℕ) (reading : List ℕ → Option M) (q : ℕ × Request)
     (from to count : ℕ) (s t : Shows) (os : ℕ → State) (messages : List M) (es : List VoterEntry)
@@ -70,33 +69,33 @@ FetchedEntriesAreRead M = (text : M → List ℕ) (reading : List ℕ → Option
     → FetchesTo reading q.0 from to None s t [] messages count → AreReadAs from (map text messages) es
     → ReadsEntries q.0 from to s t os es
 
--- Entries that weren't fetched aren't read, and this is why.
+-- Entries that weren't fetched aren't read, for one of these reasons.
 abbrev pub UnfetchedEntriesAreUnread : Type 0 → Type 0
 UnfetchedEntriesAreUnread M = (text : M → List ℕ) (reading : List ℕ → Option M) (q : ℕ × Request)
     (from to : ℕ) (error : Error) (s t : Shows) (os : ℕ → State) → IsRaw text reading
     → IsReplyOfEach (os q.0) q.1 (answers.Entries from to) → FailsToFetch reading q.0 from to s t error
     → ReadsNone q error s t os
 
--- A request's record wasn't written: the request is turned down, or the engine failed at it.
+-- If a request's record wasn't written, the request is turned down, or the engine failed at it.
 abbrev pub UnwrittenRequests : Type 0
 UnwrittenRequests = (q : ℕ × Request) (c : Change) (b : Batch) (error : Error) (s t : Shows) (os : ℕ → State)
     → has_failed s ≡ false → ChangesEach (os q.0) q.1 c → SaysChange q.0 q.1 c b
     → record_len b.items b.entries < 2 ^ 56 → NotWritten b error s t
     → TurnedDown q error s t os ⊎ ((error ≡ errors.Failed) × Broke q s t os)
 
--- Memory ran out before anything was done.
+-- If memory ran out before anything was done, the request is turned down.
 abbrev pub UnmadeRequestsAreTurnedDown : Type 0
 UnmadeRequestsAreTurnedDown = (q : ℕ × Request) (s : Shows) (os : ℕ → State) → has_failed s ≡ false
     → TurnedDown q errors.Memory s s os
 
--- The entries that a request asks for weren't read.
+-- A request for entries is turned down if they weren't read.
 abbrev pub UnreadRequestsAreTurnedDown : Type 0
 UnreadRequestsAreTurnedDown = (q : ℕ × Request) (error : Error) (s t : Shows) (os : ℕ → State)
     → ReadsNone q error s t os → TurnedDown q error s t os
 
 -- Rounds.
 
--- A round begins, goes on by a request that was served, and by one that was turned down.
+-- A round begins, and continues with a request that was served, or with one that was turned down.
 pub record RoundsGoOn : Type 0 where
   pub begins : (qs : List (ℕ × Request)) (s : Shows) (os : ℕ → State) → has_failed s ≡ false
       → Went qs [] false s s os os
@@ -109,8 +108,11 @@ pub record RoundsGoOn : Type 0 where
       → slice_get qs (length told) ≡ Some q → TurnedDown q error t u us
       → Went qs (told ++ replies.Refused ∷ []) wrote s u os us
 
--- A round ends: nothing was written, and no sync is needed; or its sync was answered; or the engine failed at
--- a request; or its sync was refused.
+-- A round ends in one of these ways:
+-- - nothing was written, and no sync is needed
+-- - its sync succeeds
+-- - the engine fails at a request
+-- - its sync fails
 pub record RoundsEnd : Type 0 where
   pub unwritten : (home : Home) (V : World) (qs : List (ℕ × Request)) (told : List Reply) (s t : Shows)
       (os us : ℕ → State) → Keeps home s V → AreOutlines os V → Went qs told false s t os us
@@ -128,36 +130,35 @@ pub record RoundsEnd : Type 0 where
 
 -- Replies and refused places.
 
--- the replies of an answered round are the voters', and what was taken of it is what its refused places tell
+-- the refused places of a round, which its replies show, determine the voters' replies and what was taken
 pub record RepliesTellPlaces (V : World) (qs : List (ℕ × Request)) (told : List Reply) : Type 0 where
   pub rising : IsTrue (are_rising 0 (length qs) (refused_from 0 told))
   pub told_is : told ≡ replies_from 0 (refused_from 0 told) V qs
   pub taken_is : took qs told ≡ taken_from 0 (length qs) (refused_from 0 told) qs
 
--- the replies of every round that told all of them are the voters', and what was taken is what the refused
--- places tell
+-- if all requests of a round got the voters' replies, its refused places determine the replies and what was taken
 abbrev pub ToldRoundsAreAnswered : Type 0
 ToldRoundsAreAnswered = (V : World) (qs : List (ℕ × Request)) (told : List Reply) → AreTold V qs told
     → length told ≡ length qs → RepliesTellPlaces V qs told
 
--- What a round passed that was cut off took its requests below one place, but for those at refused places.
+-- The voters that a cut-off round passed took its requests below one place, except those at refused places.
 abbrev pub PassedVotersTookFirst : Type 0
 PassedVotersTookFirst = (V : World) (qs : List (ℕ × Request)) (told : List Reply) → AreTold V qs told
     → (X : World) → IsPassedOrOneMore V qs told X → TakesFirst V qs (refused_from 0 told) X
 
 -- The engine's other calls.
 
--- A purge, answered or refused, changes no voter.
+-- A purge changes no voter, whether it succeeds or fails.
 pub record PurgesKeepVoters : Type 0 where
   pub answered : (home : Home) (V : World) (s t : Shows) → Keeps home s V → KeepsMap s t → Keeps home t V
   pub refused : (home : Home) (V : World) (error : Error) (s t : Shows) → Keeps home s V
       → KeepsOrLeavesMap error s t → KeepsOrLeaves home error t V
 
--- An engine that is let go, as by a crash, leaves its log on its disk.
+-- An engine that is dropped, as by a crash, leaves its log on its disk.
 abbrev pub EnginesLeaveLogs : Type 0
 EnginesLeaveLogs = (s : Shows) → LeavesLog s s.pipes.disk
 
--- An engine that is gone, closed or let go, leaves its voters alone; a fork leaves what was left.
+-- An engine that is closed or dropped leaves its voters on the disk. A fork leaves what was left as it was.
 pub record VotersAreLeft : Type 0 where
   pub gone : (home : Home) (V : World) (s : Shows) (d : Disk) → Keeps home s V → LeavesLog s d
       → IsLeftWith home d V
@@ -165,13 +166,14 @@ pub record VotersAreLeft : Type 0 where
       → IsLeftAmong home d (TakesFirst V qs refused) → LeavesLeft home d e
       → IsLeftAmong home e (TakesFirst V qs refused)
 
--- A log in which nothing stands means fresh voters: those of an engine that is opened for the first time, and
--- what such an open leaves where it is refused.
+-- An empty log means fresh voters. An engine that is opened for the first time has them, and such an open leaves them
+-- if it fails.
 pub record FreshLogsHaveFreshVoters : Type 0 where
   pub answered : (home : Home) (e : Shows) → Holds home e nothing_stands [] → Keeps home e fresh_world
   pub refused : (home : Home) (d : Disk) → IsLeftAt home d nothing_stands [] → IsLeftWith home d fresh_world
 
--- What is left behind a round that was cut off, and behind any other call, is left behind one of some places.
+-- A round that was cut off leaves voters that took its requests below one place. Any other call leaves those before
+-- it.
 pub record LeftBehindRounds : Type 0 where
   pub gave_up : (home : Home) (V : World) (qs : List (ℕ × Request)) (told : List Reply) (s t : Shows)
       → GaveUp home V qs told s t
@@ -182,8 +184,7 @@ pub record LeftBehindRounds : Type 0 where
   pub alone : (home : Home) (V : World) (d : Disk) → IsLeftWith home d V
       → IsLeftAmong home d (TakesFirst V [] [])
 
--- An open, in place, behind a crash or of a fork, finds voters that a stop may leave, and so do all that come
--- behind it.
+-- An open in place, after a crash or of a fork finds voters that a stop may leave, and so do all opens after it.
 abbrev pub OpensFindVoters : Type 0
 OpensFindVoters = (home : Home) (d : Disk) (V : World) (qs : List (ℕ × Request)) (refused : List ℕ)
     (left : IsLeftAmong home d (TakesFirst V qs refused)) (k : ℕ) → k ≤ length left.pending

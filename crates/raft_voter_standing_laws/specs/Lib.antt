@@ -6,6 +6,6 @@ pub mod Ends
 pub mod Calls
 pub mod Laws
 pub mod Examples
--- libraries below, passed on to who stands on this one
+-- libraries below, passed on to the crates above
 pub use Rattle.raft_log_engine_laws
 pub use Rattle.raft_voter_meaning_laws

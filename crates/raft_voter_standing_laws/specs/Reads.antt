@@ -15,7 +15,7 @@ use Rattle.raft_voter_meaning_laws.specs.Voters.{Means}
 use Rattle.raft_voter_standing_laws.specs.Standing.{AreOutlines}
 use Rattle.raft_voter_standing_laws.specs.Requests.{WasTurnedDown}
 
--- messages are bytes as they stand: all bytes are read as one, and that is these bytes
+-- messages are raw bytes: any bytes parse as a message, whose text is these bytes
 abbrev pub IsRaw : {M : Type 0} → (M → List ℕ) → (List ℕ → Option M) → Type 0
 IsRaw {M} text reading = (bytes : List ℕ) → (x : M) × (reading bytes ≡ Some x) × (text x ≡ bytes)
 
@@ -23,15 +23,14 @@ IsRaw {M} text reading = (bytes : List ℕ) → (x : M) × (reading bytes ≡ So
 abbrev pub IsCounted : Shows → Type 0
 IsCounted s = (g : ℕ) → s.counts g ≡ false → length (s.tables g).places ≡ 0
 
--- Entries were read: those of the group's voter from one index on, below another. Nothing else changed but
--- the kept block.
+-- Entries were read: those of the group's voter from one index on, below another. Only the cached block changed.
 pub record ReadsEntries (g from to : ℕ) (s t : Shows) (os : ℕ → State) (es : List VoterEntry) : Type 0 where
   pub alive : has_failed s ≡ false
   pub stays : StaysButBlock s t
   pub exact : (home : Home) (m : LogMap) (pending : List Said) (W : World) → Holds home s m pending
       → Means (taken m pending) W → AreOutlines os W → es ≡ entries_between (W g) from to
 
--- Entries weren't read, and this is why: nothing changed but the kept block.
+-- Entries weren't read, for one of these reasons. Only the cached block changed.
 pub record ReadsNone (q : ℕ × Request) (error : Error) (s t : Shows) (os : ℕ → State) : Type 0 where
   pub alive : has_failed s ≡ false
   pub stays : StaysButBlock s t

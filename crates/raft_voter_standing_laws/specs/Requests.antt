@@ -1,4 +1,4 @@
--- A request at one place of a round, at each exit: what it makes of an engine's log, and of the outlines.
+-- A request at one place of a round, at each exit: what it does to an engine's log, and to the outlines.
 use Rattle.std.specs.Prelude.{◌≡◌, ◌⊎◌, ◌≤◌, ◌<◌, ℕ, Bool, true, false, ◌==◌, List, [], ◌++◌, length, Some}
 use Rattle.raft_log_disk.specs.Causes.{Fails, IsLater}
 use Rattle.raft_log_model_laws.specs.Groups.{taken}
@@ -30,18 +30,18 @@ use Rattle.raft_voter_meaning_laws.specs.Voters.{Means}
 use Rattle.raft_voter_meaning_laws.specs.Changes.{decided_items, record_in}
 use Rattle.raft_voter_standing_laws.specs.Standing.{AreOutlines}
 
--- a batch says the change that was decided for a request of a group, and may be written
+-- a batch says the change that was decided for a group's request, and may be written
 pub record SaysChange (g : ℕ) (q : Request) (c : Change) (b : Batch) : Type 0 where
   pub says : record_of (entry_bytes b.entries) b.items ≡ Some (record_in g (decided_items c q))
   pub writable : IsWritable b.state
 
--- the outline of the request's group is what the request makes of it, and the others are as they were
+-- the request changed the outline of its group as it decided, and no other
 pub record StepsOutlines (q : ℕ × Request) (os us : ℕ → State) : Type 0 where
   pub own : OutlineBecomes (os q.0) q.1 (us q.0)
   pub others : (g : ℕ) → (g == q.0) ≡ false → us g ≡ os g
 
--- A request was served: its record is the one that was said, if any was; the voters behind it are those after
--- the request, and the reply is their own. It is `Refused` for a request out of range alone.
+-- A request was served: at most one record was written. The voters after it are those after the request, and the
+-- reply is their own. Only a request out of range gets the reply `Refused`.
 pub record Served (q : ℕ × Request) (a : Reply) (wrote : Bool) (s t : Shows) (os us : ℕ → State) : Type 0 where
   pub said : List Said
   pub short : length said ≤ 1
@@ -56,8 +56,11 @@ pub record Served (q : ℕ × Request) (a : Reply) (wrote : Bool) (s t : Shows) 
       → Means (taken m pending) W → AreOutlines os W → a ≡ reply (W q.0) q.1
   pub refuses : is_refused a ≡ true → in_range q.1 ≡ false
 
--- Why a request's record wasn't written, though the engine lives on: a file call failed, in one file or in two;
--- Append's last file has the last number; or memory was refused. No other error comes.
+-- Why a request's record wasn't written, though the engine hasn't failed:
+-- - `Io`, `TryAgain`: a file call failed
+-- - `NumberRange`: Append's last file has the last number
+-- - `Memory`: memory ran out
+-- No other error occurs.
 abbrev pub IsUnwrittenFor : Error → Shows → Shows → Type 0
 IsUnwrittenFor (errors.Io kind) s t = Fails s.pipes.disk t.pipes.disk
 IsUnwrittenFor (errors.TryAgain text) s t = Fails s.pipes.disk t.pipes.disk
@@ -65,8 +68,8 @@ IsUnwrittenFor errors.NumberRange s t = HasLastNumber InAppend t.pipes
 IsUnwrittenFor errors.Memory s t = Unit {0}
 IsUnwrittenFor _ s t = ⊥
 
--- Why a group's entries weren't read from one index on, below another, though the tables show them: the file that
--- one of them lies in wasn't, or memory was refused. None is told as damaged.
+-- Why a group's entries between two indexes weren't read, though the tables show them: the file of one isn't read, or
+-- memory ran out. None is reported as damaged.
 pub record WereUnread (g from to : ℕ) (s : Shows) (error : Error) : Type 0 where
   pub index : ℕ
   pub entry : EntryIndex
@@ -76,14 +79,14 @@ pub record WereUnread (g from to : ℕ) (s : Shows) (error : Error) : Type 0 whe
   pub placed : entry.entries ≡ Some block
   pub why : IsFileUnread s.pipes block error
 
--- Why a request was turned down: its record wasn't written; or the entries that it asks for weren't read; or
--- memory was refused.
+-- Why a request was turned down: its record wasn't written, the entries that it asks for weren't read, or memory ran
+-- out.
 pub data WasTurnedDown (q : ℕ × Request) (error : Error) (s t : Shows) : Type 0 where
   unwritten : IsUnwrittenFor error s t → WasTurnedDown q error s t
   unread : (from to : ℕ) → q.1 ≡ Read from to → WereUnread q.0 from to s error → WasTurnedDown q error s t
   no_memory : error ≡ errors.Memory → WasTurnedDown q error s t
 
--- A request was turned down: the voters and their outlines are as they were, and this is why.
+-- A request was turned down: the voters and their outlines are unchanged, and this is why.
 pub record TurnedDown (q : ℕ × Request) (error : Error) (s t : Shows) (os : ℕ → State) : Type 0 where
   pub alive : has_failed t ≡ false
   pub later : IsLater s.pipes.disk t.pipes.disk
@@ -91,7 +94,8 @@ pub record TurnedDown (q : ℕ × Request) (error : Error) (s t : Shows) (os : �
   pub why : (home : Home) (m : LogMap) (pending : List Said) (W : World) → Holds home s m pending
       → Means (taken m pending) W → AreOutlines os W → WasTurnedDown q error s t
 
--- The engine failed at a request, as a file call did: its log is left with the request's record, or without it.
+-- The engine failed at a request because a file call failed. Its log is left with the request's record, or without
+-- it.
 pub record Broke (q : ℕ × Request) (s t : Shows) (os : ℕ → State) : Type 0 where
   pub said : List Said
   pub short : length said ≤ 1

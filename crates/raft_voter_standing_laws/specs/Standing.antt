@@ -1,4 +1,4 @@
--- Which voters stand behind an engine, and which may be left on a disk.
+-- Which voters an engine keeps, and which may be left on a disk.
 use Rattle.std.specs.Prelude.{◌≡◌, ℕ, List, []}
 use Rattle.raft_log_disk.specs.Disk.{Disk}
 use Rattle.raft_log_engine_laws.specs.Shows.{Home, LogMap, Shows}
@@ -27,6 +27,6 @@ pub record IsLeftAmong (home : Home) (d : Disk) (P : World → Type 0) : Type 0 
 abbrev pub IsLeftWith : Home → Disk → World → Type 0
 IsLeftWith home d W = IsLeftAmong home d (λ X. X ≡ W)
 
--- of each group this is the voter's outline
+-- each group's outline is that of its voter
 abbrev pub AreOutlines : (ℕ → State) → World → Type 0
 AreOutlines os W = (g : ℕ) → os g ≡ without_bytes (W g)

@@ -2,23 +2,23 @@
 
 ghost use Rattle.raft_voter_standing_laws.specs.Laws.{EnginesAreCounted, FetchedEntriesAreRead, ReadRequestsAreServed, ToldRequestsAreServed, UnfetchedEntriesAreUnread, UnmadeRequestsAreTurnedDown, UnreadRequestsAreTurnedDown, UnwrittenRequests, WrittenRequestsAreServed};
 
-/// A request that leaves its voter is served by the outline alone: nothing is read, and nothing written.
+/// A request that leaves its voter unchanged is served by the outline: nothing is read, and nothing written.
 pub fn told_requests_are_served()
     ensures { ToldRequestsAreServed }
 {}
 
-/// A request is served once the batch that says its change was written, and its group's outline made the step.
+/// A request is served if the batch that says its change was written, and its group's outline made the step.
 pub fn written_requests_are_served()
     ensures { WrittenRequestsAreServed }
 {}
 
-/// A request for entries is served once they were read.
+/// A request for entries is served if they were read.
 pub fn read_requests_are_served()
     ensures { ReadRequestsAreServed }
 {}
 
-/// A request whose batch wasn't written is turned down, and this is why: a file call failed, the numbers of
-/// files have run out, or memory was refused. Or the engine failed at it. No other error comes.
+/// If a request's batch wasn't written, the request is turned down or the engine failed at it. It is turned down if a
+/// file call failed, the file numbers have run out, or memory ran out. No other error occurs.
 pub fn unwritten_requests()
     ensures { UnwrittenRequests }
 {}
@@ -33,7 +33,7 @@ pub fn unread_requests_are_turned_down()
     ensures { UnreadRequestsAreTurnedDown }
 {}
 
-/// An engine shows no entry of a group that doesn't count, so a fetch of entries that stand there reads them.
+/// An engine shows no entry of a group that doesn't count, so a fetch of entries that are there reads them.
 pub fn engines_are_counted()
     ensures { EnginesAreCounted }
 {}
@@ -43,7 +43,7 @@ pub fn fetched_entries_are_read<M>()
     ensures { FetchedEntriesAreRead M }
 {}
 
-/// Entries that it didn't fetch, though the outline says that they are there, weren't read, and this is why.
+/// If an engine fails to fetch entries that the outline has, they weren't read, for one of these reasons.
 pub fn unfetched_entries_are_unread<M>()
     ensures { UnfetchedEntriesAreUnread M }
 {}

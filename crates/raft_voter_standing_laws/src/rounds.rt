@@ -2,30 +2,30 @@
 
 ghost use Rattle.raft_voter_standing_laws.specs.Laws.{LeftBehindRounds, PassedVotersTookFirst, RoundsEnd, RoundsGoOn, ToldRoundsAreAnswered};
 
-/// A round begins with no reply, and goes on by each request that is served, or turned down.
+/// A round begins with no reply, and continues with each request that is served, or turned down.
 pub fn rounds_go_on()
     ensures { RoundsGoOn }
 {}
 
-/// A round is answered behind the sync, or without one where nothing was written; it is given up where the
-/// engine fails at a request, and cut off where the sync is refused.
+/// A round ends with replies after its sync, or without one if nothing was written. It is given up if the engine
+/// fails at a request, and cut off if the sync fails.
 pub fn rounds_end()
     ensures { RoundsEnd }
 {}
 
-/// The places of a round that were refused are those whose reply is `Refused`, and by these the replies are the
-/// voters', and so is what was taken.
+/// The refused places of a round are those with the reply `Refused`. They determine the voters' replies, and what was
+/// taken.
 pub fn told_rounds_are_answered()
     ensures { ToldRoundsAreAnswered }
 {}
 
-/// What a round passed that was cut off took its requests below one place, but for those at refused places.
+/// The voters that a cut-off round passed took its requests below one place, except those at refused places.
 pub fn passed_voters_took_first()
     ensures { PassedVotersTookFirst }
 {}
 
-/// What is left behind a round that was cut off means voters that took its requests below one place; what is
-/// left behind any other call means those before it.
+/// A round that was cut off leaves voters that took its requests below one place, except those at refused places. Any
+/// other call leaves the voters before it.
 pub fn left_behind_rounds()
     ensures { LeftBehindRounds }
 {}

@@ -1,4 +1,4 @@
--- A store is opened over its log, or isn't.
+-- Opening a store over its log succeeds or fails.
 use Rattle.std.specs.Prelude.{◌≡◌, ℕ, false, List, None}
 use Rattle.raft_log_disk.specs.Disk.{Disk}
 use Rattle.raft_log_record_base.specs.declared.errors.Error.{Error}
@@ -14,7 +14,7 @@ use Rattle.raft_voter_outline.specs.State.{State}
 use Rattle.raft_voter_reading.specs.Reading.{IsUnreadFor, ReadsVoters, cause_of}
 use Rattle.raft_voter_reading.specs.declared.unread.Unread.{Unread}
 
--- the log of these settings was opened as an engine that shows this, and keeps no block
+-- the log of these settings was opened as an engine that shows this, and has no block cached
 pub record OpensEngine {F : Type 0} (disk : F → Disk) (tells : F → List ℕ → ℕ → Type 0) (config : Config)
     (old : F) (s : Shows) : Type 0 where
   pub pipes : LogPipes
@@ -24,7 +24,7 @@ pub record OpensEngine {F : Type 0} (disk : F → Disk) (tells : F → List ℕ 
   pub none : cache.place ≡ None
   pub is : s ≡ shows pipes tables cache
 
--- The voters were read of an opened engine, and these are their outlines: so it is a store.
+-- The voters were read from an opened engine, and these are their outlines. Together they are a store.
 pub record OpensVoters {F : Type 0} (disk : F → Disk) (tells : F → List ℕ → ℕ → Type 0) (config : Config)
     (old : F) (t : Shows) (os : ℕ → State) : Type 0 where
   pub engine : Shows
@@ -32,7 +32,7 @@ pub record OpensVoters {F : Type 0} (disk : F → Disk) (tells : F → List ℕ 
   pub reads : ReadsVoters engine os
   pub stays : StaysButBlock engine t
 
--- The voters weren't read of an opened engine, for this cause, and it was closed again.
+-- Reading the voters from an opened engine failed for this cause, and the engine was closed again.
 pub record ClosesUnread {F : Type 0} (disk : F → Disk) (tells : F → List ℕ → ℕ → Type 0) (config : Config)
     (cause : Unread) (old back : F) : Type 0 where
   pub engine : Shows
@@ -42,8 +42,8 @@ pub record ClosesUnread {F : Type 0} (disk : F → Disk) (tells : F → List ℕ
   pub stays : StaysButBlock engine after
   pub closes : has_failed after ≡ false → ClosesLog after.pipes (disk back)
 
--- A store isn't opened: its log isn't, for this error, which is told as want of memory where it is that; or its
--- voters aren't read of it.
+-- Opening a store fails: opening its log failed with this error, and out of memory has its own cause; or reading its
+-- voters failed.
 pub data FailsToOpenVoters {F : Type 0} (disk : F → Disk) (tells : F → List ℕ → ℕ → Type 0) (config : Config)
     (cause : Unread) (old back : F) : Type 0 where
   unopened : (error : Error) → cause ≡ cause_of error

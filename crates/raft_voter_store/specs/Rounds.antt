@@ -1,4 +1,4 @@
--- A round of requests, as a store's loop goes through it, and its ends.
+-- A round of requests, as a store's loop serves it, and how it ends.
 use Rattle.std.specs.Prelude.{◌≡◌, ◌⊎◌, ◌≤◌, ℕ, Bool, false, List, length, slice_get, Some, take}
 use Rattle.raft_log_disk.specs.Causes.{IsLater}
 use Rattle.raft_log_record_base.specs.declared.errors.Error.{Error}
@@ -14,8 +14,8 @@ use Rattle.raft_voter_standing_laws.specs.Standing.{AreOutlines, Keeps}
 use Rattle.raft_voter_standing_laws.specs.Requests.{Broke, TurnedDown}
 use Rattle.raft_voter_standing_laws.specs.Ends.{Answered, GaveUp, Unsynced, Went}
 
--- A round came so far, and the next request was turned down, for this error. The disk behind the call is no earlier
--- than the one behind the request: a failure that is told of the request is one that was counted in the call.
+-- A round came so far, and the next request was turned down with this error. The disk after the call is no earlier than
+-- the one after the request, so a failure of the request is counted in the call.
 pub record TurnsDown (qs : List (ℕ × Request)) (told : List Reply) (q : ℕ × Request) (s t : Shows) (os : ℕ → State)
     : Type 0 where
   pub wrote : Bool
@@ -27,18 +27,18 @@ pub record TurnsDown (qs : List (ℕ × Request)) (told : List Reply) (q : ℕ �
   pub turned : TurnedDown q error mid next outlines
   pub later : IsLater next.pipes.disk t.pipes.disk
 
--- Why each place is refused: its request is out of range, or it was turned down behind those before it.
+-- Why each place is refused: its request is out of range, or it was turned down after those before it.
 abbrev pub AreExcused : List (ℕ × Request) → List Reply → Shows → Shows → (ℕ → State) → Type 0
 AreExcused qs told s t os = (place : ℕ) (q : ℕ × Request) → slice_get told place ≡ Some Refused
     → slice_get qs place ≡ Some q → (in_range q.1 ≡ false) ⊎ TurnsDown qs (take place told) q s t os
 
--- a round came so far, and each place that is refused is so for a cause
+-- a round came so far, and each refused place has a cause
 pub record Passes (qs : List (ℕ × Request)) (told : List Reply) (wrote : Bool) (s t : Shows) (os us : ℕ → State)
     : Type 0 where
   pub went : Went qs told wrote s t os us
   pub excused : AreExcused qs told s t os
 
--- A round went as far as one request, at which the engine failed.
+-- A round came as far as one request, at which the engine failed.
 pub record StopsAt (qs : List (ℕ × Request)) (told : List Reply) (s t : Shows) (os : ℕ → State) : Type 0 where
   pub wrote : Bool
   pub mid : Shows
@@ -48,13 +48,13 @@ pub record StopsAt (qs : List (ℕ × Request)) (told : List Reply) (s t : Shows
   pub at : slice_get qs (length told) ≡ Some request
   pub broke : Broke request mid t outlines
 
--- whichever voters the engine kept, whose outlines these were, the round is answered
+-- the round was served, for any voters that the engine kept and that had these outlines
 abbrev pub RoundIsAnswered : List (ℕ × Request) → List Reply → Shows → Shows → (ℕ → State) → (ℕ → State) → Type 0
 RoundIsAnswered qs told s t os us =
     (home : Home) (V : World) → Keeps home s V → AreOutlines os V → Answered home V qs told s t us
 
--- Whichever voters the engine kept, whose outlines these were, the round was cut off: it was given up at a
--- request, or its sync was refused. The refused places are those of its replies, each for a cause.
+-- The round was cut off, for any voters that the engine kept and that had these outlines: it was abandoned at a
+-- request, or its sync failed. The refused places are those of its replies, each for a cause.
 pub record CutsRoundOff (qs : List (ℕ × Request)) (refused : List ℕ) (s t : Shows) (os : ℕ → State) : Type 0 where
   pub told : List Reply
   pub few : length told ≤ length qs
@@ -63,7 +63,7 @@ pub record CutsRoundOff (qs : List (ℕ × Request)) (refused : List ℕ) (s t :
   pub left : (home : Home) (V : World) → Keeps home s V → AreOutlines os V
       → GaveUp home V qs told s t ⊎ Unsynced home V qs told s t
 
--- one request was served or turned down: a round that came so far goes on behind it
+-- one request was served or turned down: a round that came so far continues after it
 abbrev pub GoesOn : ℕ × Request → Bool → Bool → List Reply → List Reply → Shows → Shows → (ℕ → State) → (ℕ → State) → Type 0
 GoesOn q wrote more told now t u us ws = (qs : List (ℕ × Request)) (s : Shows) (os : ℕ → State)
     → Passes qs told wrote s t os us → slice_get qs (length told) ≡ Some q → Passes qs now more s u os ws

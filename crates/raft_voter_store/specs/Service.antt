@@ -1,4 +1,4 @@
--- The store as a service of rounds, whichever directories its log lies in.
+-- The store as a service of rounds, in whichever directories its log is.
 use Rattle.std.specs.Prelude.{◌≡◌, ℕ, true, List}
 use Rattle.raft_log_disk.specs.Causes.{Fails}
 use Rattle.raft_log_engine.specs.raft_log_engine_laws.specs.Shows.{Home, Shows, has_failed}
@@ -14,19 +14,18 @@ use Rattle.raft_voter_store.specs.Rounds.{AreExcused}
 abbrev pub ServesVoters : Shows → (ℕ → State) → World → Type 0
 ServesVoters s os W = (home : Home) × Keeps home s W × AreOutlines os W
 
--- the engine's log is left on its disk, and whatever a stop leaves of it means voters that may stand behind
--- this round
+-- the engine's log is left on its disk, and whatever a stop leaves of it means voters that may follow this round
 abbrev pub LeavesBehind : Shows → CutRound → Type 0
 LeavesBehind s cut = (home : Home) × IsLeftAmong home s.pipes.disk (MayFollow cut)
 
--- Behind this round stand the voters that are left of a store whose log lies in these directories: none was cut
--- off, and its engine keeps those before it; or it has failed, and its log is left on its disk.
+-- The voters of a store whose log is in these directories follow this round. Either the round wasn't cut off, and the
+-- engine keeps the voters before it; or the engine has failed, and its log is left on its disk.
 pub data LeavesAt (home : Home) (s : Shows) (cut : CutRound) : Type 0 where
   running : (W : World) → cut ≡ uncut W → Keeps home s W → LeavesAt home s cut
   left : has_failed s ≡ true → IsLeftAmong home s.pipes.disk (MayFollow cut) → LeavesAt home s cut
 
--- places of a round that may be refused, which went from the first state to the second: those of some replies, each
--- for a cause that it had in between
+-- the places of a round from the first state to the second that may be refused: those of some replies, each for a cause
+-- in between
 abbrev pub MayRefuse : Shows → Shows → (ℕ → State) → List (ℕ × Request) → List ℕ → Type 0
 MayRefuse s t os qs refused = (told : List Reply) × (refused ≡ refused_from 0 told) × AreExcused qs told s t os
 
@@ -34,7 +33,7 @@ MayRefuse s t os qs refused = (told : List Reply) × (refused ≡ refused_from 0
 abbrev pub HasFailedCall : Shows → Shows → Type 0
 HasFailedCall s t = Fails s.pipes.disk t.pipes.disk
 
--- a store that shows so much of its engine, and of its outlines, as a service
+-- a store, whose engine and outlines are shown so, as a service
 abbrev pub voter_service : {S : Type 0} → (S → Shows) → (S → ℕ → State) → Service S
 voter_service shows outlines = record {
   serves = λ store W. ServesVoters (shows store) (outlines store) W;
@@ -44,7 +43,7 @@ voter_service shows outlines = record {
   fails = λ old new. HasFailedCall (shows old) (shows new);
 }
 
--- a store of which it is known in which directories its log lies, as a service
+-- a store whose log's directories are known, as a service
 abbrev pub service_in : {S : Type 0} → (S → Home) → (S → Shows) → (S → ℕ → State) → Service S
 service_in home shows outlines = record {
   serves = λ store W. Keeps (home store) (shows store) W × AreOutlines (outlines store) W;

@@ -1,4 +1,4 @@
--- A change as it is written.
+-- Writing a change.
 use Rattle.std.specs.Prelude.{◌≡◌, ◌<◌, ◌^◌, ℕ, false}
 use Rattle.raft_log_record_base.specs.declared.errors.Error.{Error}
 use Rattle.raft_log_record_base.specs.declared.errors.Error.TheVariants as errors
@@ -10,14 +10,14 @@ use Rattle.raft_voter_messages.specs.declared.request.Request.{Request}
 use Rattle.raft_voter_outline.specs.declared.outline.decision.Change.{Change}
 use Rattle.raft_voter_standing_laws.specs.Requests.{SaysChange}
 
--- what was decided for a request of a group was written: a batch that says it
+-- what was decided for a request of a group was written in a batch that says it
 pub record WritesChange (q : ℕ × Request) (c : Change) (s t : Shows) : Type 0 where
   pub batch : Batch
   pub len : ℕ
   pub says : SaysChange q.0 q.1 c batch
   pub writes : WritesBytes batch false len s t
 
--- It wasn't written: memory ran out before, or the engine refused a batch that says it.
+-- Writing it failed: out of memory before; or the engine failed to write a batch that says it.
 pub data FailsToWriteChange (q : ℕ × Request) (c : Change) (error : Error) (s t : Shows) : Type 0 where
   unsaid : error ≡ errors.Memory → t ≡ s → FailsToWriteChange q c error s t
   unwritten : (batch : Batch) → SaysChange q.0 q.1 c batch → record_len batch.items batch.entries < 2 ^ 56

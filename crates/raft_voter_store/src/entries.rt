@@ -1,4 +1,4 @@
-//! Entries as they are read back.
+//! Parses entries that are read back.
 ghost use Rattle.std.specs.Prelude.{map, IfOk};
 ghost use Rattle.raft_voter.specs.Laws.{AreReadAs};
 
@@ -6,8 +6,8 @@ use raft_log_record_items::RawMessage;
 use raft_voter_messages::{Entry, Items, Memory, read_entry};
 use std::alloc::Global;
 
-/// The entries that these bytes are, the first at this index. It is refused where memory is, and where bytes
-/// are those of no entry, which no store writes.
+/// Parses these bytes as entries; the first is at this index. Fails if memory runs out, or if bytes aren't an entry,
+/// which no store writes.
 pub fn read_entries(
     alloc: Global,
     first: u64,

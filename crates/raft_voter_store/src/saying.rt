@@ -1,4 +1,4 @@
-//! Changes as batches.
+//! Encodes changes as batches.
 ghost use Rattle.std.specs.Prelude.{◌≡◌, ◌^◌, ◌<◌, IfErr, OnOk};
 ghost use Rattle.raft_log_engine.specs.raft_log_record_base.specs.declared.errors.Error.TheVariants as errors;
 ghost use Rattle.raft_log_record_frames.specs.Record.{record_len};
@@ -11,8 +11,7 @@ use raft_voter_outline::{Change, Outline, Request};
 use raft_voter_records::fill_change;
 use std::alloc::Global;
 
-/// Makes of a batch, whatever it held, the one that says a change which an outline decided for a request. Memory may
-/// run out.
+/// Clears the batch and encodes the change that the outline decided on for this request. Fails only for lack of memory.
 pub fn say_change(
     batch: &mut LogBatch,
     alloc: Global,

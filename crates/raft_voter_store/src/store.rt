@@ -19,20 +19,20 @@ use raft_voter_outline::{Answer, Change, Decision, Outline};
 use raft_voter_outlines::Outlines;
 use std::alloc::{AllocError, Global};
 
-/// The voters of many groups: the engine that keeps their log, over any pipes, and the outline of each.
+/// The voters of many groups: the engine that keeps their log, over any pipes, and the outline of each voter.
 #[derive(Drop)]
 pub struct LogVoterStore<P> {
     alloc: Global,
     engine: LogEngine<P>,
     outlines: Outlines,
-    /// The batch of the last change that was written, whose memory the next one takes.
+    /// The batch of the last change that was written; the next one uses its memory.
     batch: Option<LogBatch>,
 }
 
 /// A request that was served: its reply, and whether a record was written for it.
 #[derive(Drop)]
 struct Taken {
-    /// What is answered.
+    /// The reply.
     reply: Reply,
     /// Whether a record was written.
     wrote: bool,
@@ -51,7 +51,7 @@ impl<P: PipeLog> LogVoterStore<P> {
     ghost use Rattle.raft_voter_store.specs.Taking.{FailsToTake};
     ghost use Rattle.raft_voter_store.specs.Writing.{FailsToWriteChange, WritesChange};
 
-    /// A store over an engine in whose log nothing stands: each group's voter is a fresh one.
+    /// A store over an engine with an empty log: each group's voter is fresh.
     pub fn over_fresh(alloc: Global, engine: LogEngine<P>) -> LogVoterStore<P>
         ensures engine { result.engine ≡ engine }
         ensures outlines { (g : ℕ) → outlines_in result.outlines g ≡ fresh }
@@ -65,8 +65,8 @@ impl<P: PipeLog> LogVoterStore<P> {
         }
     }
 
-    /// A group's voter takes a request: the outline decides it, and what it changes is written, or the entries
-    /// that it asks for are read. It is refused where the request is turned down, or the engine fails at it.
+    /// Serves one request of a group. The outline decides it, and the store writes what it changes, or reads the
+    /// entries that it requests. Fails if the request is turned down, or the engine fails at it.
     fn take<R: Log>(&mut self, rt: &R, group: u64, request: &Request) -> Result<Taken>
         requires { has_failed (shows_of P.shown self.old.engine) ≡ false }
         ensures ok { IfOk result (λ taken. Served (group, request.now) taken.reply taken.wrote
@@ -96,7 +96,7 @@ impl<P: PipeLog> LogVoterStore<P> {
         }
     }
 
-    /// What a request changes is written, and the outline makes the change.
+    /// Writes what a request changes, and the outline makes the change.
     fn write<R: Log>(
         &mut self,
         rt: &R,
@@ -128,7 +128,7 @@ impl<P: PipeLog> LogVoterStore<P> {
         }
     }
 
-    /// What was decided for a request is written by way of this batch, and its group's outline makes the change.
+    /// Writes what was decided for a request in this batch, and its group's outline makes the change.
     fn put_change<R: Log>(
         &mut self,
         rt: &R,
@@ -162,7 +162,7 @@ impl<P: PipeLog> LogVoterStore<P> {
         }
     }
 
-    /// The same where no outline of the group is kept: a fresh one is, before anything is written.
+    /// The same for a group without an outline: keeps a fresh one before anything is written.
     fn put_first<R: Log>(
         &mut self,
         rt: &R,
@@ -200,7 +200,7 @@ impl<P: PipeLog> LogVoterStore<P> {
         }
     }
 
-    /// The entries of a group from one index on, below another, are read.
+    /// Reads the entries of a group from one index on, below another.
     fn read(&mut self, group: u64, from: u64, to: u64, request: &Request) -> Result<Taken>
         requires lives { has_failed (shows_of P.shown self.old.engine) ≡ false }
         requires told { IsReplyOfEach (outlines_in self.old.outlines group) request.now
@@ -233,7 +233,7 @@ impl<P: PipeLog> LogVoterStore<P> {
     }
 }
 
-/// A batch that was kept, or a new one.
+/// The batch that was kept, or a new one.
 fn or_new(alloc: Global, kept: Option<LogBatch>) -> Result<LogBatch, AllocError> {
     match kept {
         Some(batch) => Ok(batch),

@@ -1,4 +1,4 @@
-//! Changes as they are written.
+//! Writes changes.
 ghost use Rattle.std.specs.Prelude.{◌≡◌, false, IfErr, OnErr, OnOk};
 ghost use Rattle.raft_log_engine.specs.raft_log_engine_core.specs.Reads.{shows_of};
 ghost use Rattle.raft_log_engine.specs.raft_log_engine_laws.specs.Shows.{has_failed};
@@ -13,8 +13,8 @@ use raft_log_engine::{Error, LogBatch, LogEngine, PipeLog, Result};
 use raft_voter_outline::{Change, Outline, Request};
 use std::alloc::Global;
 
-/// Writes what was decided for a request of a group, said in this batch, and its outline makes the change. Refused,
-/// it is the outline of the same voter: memory ran out, or the engine refused the batch.
+/// Writes what was decided for a request of a group in this batch, and its outline makes the change. If it fails, the
+/// outline is unchanged: out of memory, or the engine failed to write the batch.
 pub fn write_change<P: PipeLog, R: Log>(
     rt: &R,
     alloc: Global,

@@ -1,4 +1,4 @@
--- What the picture of a run is.
+-- The picture of a run.
 use Rattle.std.specs.Prelude.{◌≡◌, ℕ, List, map}
 use Rattle.raft_voter_messages.specs.declared.round.Round.{Round}
 use Rattle.raft_voter.specs.Service.{Service}
@@ -11,7 +11,7 @@ use Rattle.raft_voter_timeline.specs.declared.line.Mark.{Mark}
 use Rattle.raft_voter_timeline.specs.Marks.{all_marks, event_mark, marks_of}
 use Rattle.raft_voter_timeline.specs.Picture.{ShowsLines}
 
--- a picture of events with these marks, and of what came of their rounds: it shows lines with just the marks of both
+-- a picture of events with these marks and of their rounds' results: it shows lines with exactly the marks of both
 pub record DrawsRounds (events : List Mark) (rounds : List Round) (cuts picture : List ℕ) : Type 0 where
   pub lines : List Line
   pub marked : marks_of lines ≡ all_marks events rounds cuts

@@ -1,17 +1,18 @@
--- How text stands in XML.
+-- How text is escaped for XML.
 use Rattle.std.specs.Prelude.{◌≡◌, ℕ, ◌==◌, ◌||◌, nat_lt, Bool, false, List, ◌++◌, String, codes, encode_utf8, flat_map, if◌then◌else◌, string_bytes}
 use Rattle.std.specs.List.{list_any}
 use Rattle.std.specs.declared.alloc.Global.{Global}
 
--- a text has these bytes more at its end
+-- these bytes were appended to a text
 abbrev pub Gains : String Global → String Global → List ℕ → Type 0
 Gains old new more = string_bytes new ≡ string_bytes old ++ more
 
--- whether XML has no place for a character: one below the space, or one of the last two of the first plane
+-- whether XML can't contain a character: one below the space, or one of the last two of the first plane
 abbrev pub has_no_place : ℕ → Bool
 has_no_place c = nat_lt c 32 || (c == 0xFFFE || c == 0xFFFF)
 
--- the bytes of a character: the name of one that is a mark in XML, U+FFFD for one that has no place, and else its own
+-- the bytes of a character: the name of one that is a mark in XML, U+FFFD for one that XML can't contain, otherwise its
+-- own
 unfoldable pub escaped : ℕ → List ℕ
 escaped c =
     if c == 38 then codes "&amp;"
@@ -26,6 +27,6 @@ escaped c =
 abbrev pub is_mark : ℕ → Bool
 is_mark b = b == 60 || b == 62 || b == 34 || b == 39
 
--- no byte of a text that is escaped does
+-- no byte of an escaped text is such a mark
 abbrev pub EscapedHasNoMark : Type 0
 EscapedHasNoMark = (cs : List ℕ) → list_any is_mark (flat_map escaped cs) ≡ false

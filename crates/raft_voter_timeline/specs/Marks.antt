@@ -1,4 +1,4 @@
--- Which lines a picture shows.
+-- The lines that a picture shows, by their marks.
 use Rattle.std.specs.Prelude.{ℕ, ◌+◌, ◌==◌, Bool, true, false, List, [], ◌∷◌, ◌++◌, codes, drop, if◌then◌else◌, length, map, min, take}
 use Rattle.std.specs.List.{list_any}
 use Rattle.raft_voter_messages.specs.declared.request.Request.{Request}
@@ -29,7 +29,7 @@ mark_name marks.Cut = codes "cut"
 abbrev pub marks_of : List Line → List Mark
 marks_of lines = map (λ line. line.mark) lines
 
--- whether a mark waits for what came of a round
+-- whether a mark is that of a round without its result
 abbrev pub is_round : Mark → Bool
 is_round marks.Round = true
 is_round mark = false
@@ -42,33 +42,32 @@ event_mark (events.CrashAt calls left) = marks.Armed
 event_mark (events.Refuse calls) = marks.Armed
 event_mark event = marks.Event
 
--- what became of the request at a place: it was refused, or else what became of the others
+-- the result of the request at a place: refused, or the same as that of the others
 abbrev pub fate : List ℕ → Mark → ℕ → Mark
 fate refused mark place = if list_any (λ other. other == place) refused then marks.Refused else mark
 
--- what became of each of these requests, of which the first stands at a place
+-- the result of each of these requests; the first one's place is `place`
 abbrev pub fates : List ℕ → Mark → ℕ → List (ℕ × Request) → List Mark
 fates refused mark place [] = []
 fates refused mark place (q ∷ qs) = fate refused mark place ∷ fates refused mark (place + 1) qs
 
--- a round was answered, or cut off
+-- a round got replies, or was cut off
 abbrev pub head_mark : Outcome → Mark
 head_mark (outcomes.Answered replies) = marks.Answered
 head_mark outcomes.Cut = marks.CutOff
 
--- where what was taken of a round ends: all of it is durable, or there is its cut
+-- the end of what a round took: all of it is durable, or its cut is here
 abbrev pub end_mark : Outcome → Mark
 end_mark (outcomes.Answered replies) = marks.Durable
 end_mark outcomes.Cut = marks.Cut
 
--- a round that was taken up to a place: how it ended, the requests before that place, where they end, and those that
--- are lost
+-- a round that was taken up to a place: how it ended, the requests before that place, their end, and the lost requests
 abbrev pub round_marks : Round → ℕ → List Mark
 round_marks round up_to =
     head_mark round.outcome ∷ fates round.refused marks.Taken 0 (take up_to round.requests)
     ++ end_mark round.outcome ∷ fates round.refused marks.Lost up_to (drop up_to round.requests)
 
--- the place up to which a round with this outcome and so many requests was taken: all of it, or up to the next cut
+-- the place up to which a round with this outcome and this many requests was taken: all of it, or up to the next cut
 abbrev pub place_of : Outcome → List ℕ → ℕ → ℕ
 place_of (outcomes.Answered replies) cuts count = count
 place_of outcomes.Cut [] count = 0
@@ -78,18 +77,18 @@ place_of outcomes.Cut (cut ∷ cuts) count = min count cut
 abbrev pub taken_up_to : Round → List ℕ → ℕ
 taken_up_to round cuts = place_of round.outcome cuts (length round.requests)
 
--- the cuts of the rounds behind one with this outcome
+-- the cuts of the rounds after one with this outcome
 abbrev pub behind_outcome : Outcome → List ℕ → List ℕ
 behind_outcome (outcomes.Answered replies) cuts = cuts
 behind_outcome outcomes.Cut [] = []
 behind_outcome outcomes.Cut (cut ∷ cuts) = cuts
 
--- the cuts of the rounds behind this one
+-- the cuts of the rounds after this one
 abbrev pub cuts_behind : Round → List ℕ → List ℕ
 cuts_behind round cuts = behind_outcome round.outcome cuts
 
--- The marks of a picture, from top to bottom: one for each event, in order, and in place of a round's those of the next
--- of the rounds that were served, with the next of the cuts.
+-- The marks of a picture, from top to bottom: one for each event, in order. In place of a round's event come the marks
+-- of the next round that was served, with the next of the cuts.
 abbrev pub all_marks : List Mark → List Round → List ℕ → List Mark
 all_marks [] rounds cuts = []
 all_marks (marks.Round ∷ ms) (round ∷ rounds) cuts =

@@ -1,4 +1,4 @@
--- How lines stand in the picture.
+-- The lines of the picture, as SVG.
 use Rattle.std.specs.Prelude.{◌≡◌, ℕ, ◌+◌, ◌*◌, List, [], ◌∷◌, ◌++◌, chars, codes, flat_map, string_bytes}
 use Rattle.std.specs.Fmt.{decimal}
 use Rattle.raft_voter_timeline.specs.declared.line.Line.{Line}
@@ -6,7 +6,7 @@ use Rattle.raft_voter_timeline.specs.declared.line.Mark.{Mark}
 use Rattle.raft_voter_timeline.specs.Escape.{escaped}
 use Rattle.raft_voter_timeline.specs.Marks.{mark_name}
 
--- how far below the top a line of this number, counted from 0, stands
+-- how far below the top a line of this number is, counted from 0
 abbrev pub top_of : ℕ → ℕ
 top_of number = 122 + 22 * number
 
@@ -14,11 +14,11 @@ top_of number = 122 + 22 * number
 unfoldable pub class_text : Mark → List ℕ
 class_text mark = codes "<g class='" ++ mark_name mark
 
--- how far below the top it stands
+-- how far below the top the line is
 unfoldable pub top_text : ℕ → List ℕ
 top_text top = codes "' transform='translate(0 " ++ decimal top
 
--- what is drawn there: the head's shape of this name
+-- what is drawn in the line: the head's shape of this name
 unfoldable pub use_text : Mark → List ℕ
 use_text mark = codes ")'><use href='#" ++ mark_name mark
 
@@ -26,7 +26,7 @@ use_text mark = codes ")'><use href='#" ++ mark_name mark
 unfoldable pub happened_text : List ℕ → List ℕ
 happened_text words = codes "'/><text x='84'>" ++ flat_map escaped (chars words)
 
--- what came of it, escaped
+-- the result, escaped
 unfoldable pub outcome_text : List ℕ → List ℕ
 outcome_text words = codes "</text><text x='600'>" ++ flat_map escaped (chars words)
 
@@ -34,17 +34,17 @@ outcome_text words = codes "</text><text x='600'>" ++ flat_map escaped (chars wo
 unfoldable pub end_text : List ℕ
 end_text = codes "</text></g>\n"
 
--- a line: its place, its mark and its words
+-- a line: its position, its mark and its words
 unfoldable pub line_text : ℕ → Line → List ℕ
 line_text number line =
     class_text line.mark ++ top_text (top_of number) ++ use_text line.mark
     ++ happened_text (string_bytes line.text) ++ outcome_text (string_bytes line.outcome) ++ end_text
 
--- lines below one another, the first of this number
+-- lines, one below another; the first has this number
 abbrev pub lines_text : ℕ → List Line → List ℕ
 lines_text number [] = []
 lines_text number (line ∷ lines) = line_text number line ++ lines_text (number + 1) lines
 
--- a picture shows just these lines, one below another, behind a head
+-- a picture shows exactly these lines, one below another, after a head
 abbrev pub ShowsLines : List Line → List ℕ → Type 0
 ShowsLines lines picture = (head : List ℕ) × (picture ≡ head ++ lines_text 0 lines ++ codes "</svg>\n")

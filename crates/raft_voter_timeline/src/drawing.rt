@@ -1,4 +1,4 @@
-//! From the events of a session to their picture.
+//! Draws the events of a session as a picture.
 ghost use Rattle.std.specs.Prelude.{IfOk, string_bytes};
 ghost use Rattle.raft_voter_timeline.specs.Drawing.{DrawsRounds, DrawsRun};
 ghost use Rattle.raft_voter_timeline.specs.Marks.{marks_of};
@@ -13,9 +13,9 @@ use std::alloc::Global;
 use std::collections::VecDeque;
 use std::thread::Threads;
 
-/// The picture of these events, as SVG: they are run over these files, and drawn with what came of them.
+/// Returns the picture of these events, as SVG: runs them over these files, and draws them with their results.
 ///
-/// `Memory`: there was no room for the run or for the picture.
+/// Fails with `Memory` if there is no room for the run or for the picture.
 pub fn draw_run<R: Threads + Sync, S: VoterStorage<R> + Drop, F: VoterDisk<R, S> + Drop>(
     rt: &R,
     alloc: Global,
@@ -42,7 +42,7 @@ pub fn draw_run<R: Threads + Sync, S: VoterStorage<R> + Drop, F: VoterDisk<R, S>
     )
 }
 
-/// What stands above the lines: how many events and rounds there are, and the verdict on them.
+/// Returns the heading above the lines: the numbers of events and rounds, and the verdict.
 fn heading_of(
     alloc: Global,
     events: usize,
@@ -59,7 +59,7 @@ fn heading_of(
     Ok(format!(in alloc; "events {events}, rounds {rounds}, cut off {cut_off}, verdict {verdict}")?)
 }
 
-/// The picture of these events, with what came of their rounds.
+/// Returns the picture of these events, with the results of their rounds.
 fn picture_of(
     alloc: Global,
     heading: &str,

@@ -1,11 +1,11 @@
-//! Text as it stands in XML.
+//! Escapes text for XML.
 ghost use Rattle.std.specs.Prelude.{chars, flat_map, OnOk};
 ghost use Rattle.raft_voter_timeline.specs.Escape.{escaped, Gains};
 
 use raft_voter_messages::Memory;
 
-/// Adds a text so that XML reads it back: the five characters that are marks there by their names, and a character
-/// that XML has no place for as U+FFFD. Where memory is refused a front of it may have been added.
+/// Appends a text so that XML reads it back. The five characters that are marks in XML are written by their names. A
+/// character that XML can't contain is written as U+FFFD. If memory runs out, a prefix may have been appended.
 pub fn push_escaped(text: &mut String, part: &str) -> Result<(), Memory>
     ensures { OnOk result (Gains text.old text.new (flat_map escaped (chars part.now))) }
 {
@@ -15,7 +15,7 @@ pub fn push_escaped(text: &mut String, part: &str) -> Result<(), Memory>
     Ok(())
 }
 
-/// Adds a character.
+/// Appends a character.
 #[tactic(auto, unfolding(crate::specs::Escape::escaped))]
 fn push_character(text: &mut String, character: char) -> Result<(), Memory>
     ensures { OnOk result (Gains text.old text.new (escaped character)) }

@@ -1,4 +1,4 @@
-//! What stands in a picture before its lines: how marks are drawn, and what they mean.
+//! The part of a picture before its lines: how marks are drawn, and what they mean.
 ghost use Rattle.std.specs.Prelude.{◌≡◌, ◌<◌, ◌^◌};
 ghost use Rattle.raft_voter_timeline.specs.Picture.{top_of};
 
@@ -6,7 +6,7 @@ use crate::escape::push_escaped;
 use raft_voter_messages::Memory;
 use std::alloc::Global;
 
-/// How texts look; a line's own text has the line's class.
+/// The style of texts; a line's own text has the line's class.
 const STYLE: &str = "<style>
 text { font: 13px 'DejaVu Sans Mono', Menlo, Consolas, 'Liberation Mono', monospace; fill: #1f2328; }
 .event text, .answered text:first-of-type, .cut-off text:first-of-type { font-weight: bold; }
@@ -22,7 +22,7 @@ text { font: 13px 'DejaVu Sans Mono', Menlo, Consolas, 'Liberation Mono', monosp
 </style>
 ";
 
-/// How each mark is drawn: upon the line of time at 60 from the left, over the strip of its round.
+/// How each mark is drawn: on the time line at 60 from the left, over the strip of its round.
 const SHAPES: &str = "<defs>
 <g id=\"time\"><path d=\"M60 -15v22\" stroke=\"#8c959f\" stroke-width=\"2\"/></g>
 <g id=\"strip\"><rect x=\"44\" y=\"-15\" width=\"1040\" height=\"22\" fill=\"#eef5ef\"/><use href=\"#time\"/></g>
@@ -64,10 +64,10 @@ const LEGEND: &str = "<g class=\"legend\">
 /// How high a line is.
 const LINE_HEIGHT: usize = 22;
 
-/// How far below the top the first line stands.
+/// How far below the top the first line is.
 const FIRST_LINE: usize = 122;
 
-/// How far below the top the line of this number stands.
+/// Returns how far below the top the line of this number is.
 pub fn top_of(number: usize) -> usize
     requires { top_of number < 2 ^ 64 }
     ensures { result ≡ top_of number }
@@ -75,9 +75,9 @@ pub fn top_of(number: usize) -> usize
     FIRST_LINE + LINE_HEIGHT * number
 }
 
-/// A picture's text up to its first of so many lines.
+/// Returns a picture's text up to its first line, for this many lines.
 ///
-/// `Memory`: there was no room for it.
+/// Fails with `Memory` if there is no room for it.
 pub fn head_of(alloc: Global, heading: &str, count: usize) -> Result<String, Memory>
     requires { top_of count < 2 ^ 64 }
 {

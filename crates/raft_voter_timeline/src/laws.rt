@@ -1,4 +1,4 @@
-//! What holds of text in a picture.
+//! A law about text in a picture.
 ghost use Rattle.raft_voter_timeline.specs.Escape.{EscapedHasNoMark};
 
 /// No text of a session begins or ends a tag of the picture, or ends one of its attributes.

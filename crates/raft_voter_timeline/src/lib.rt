@@ -1,7 +1,7 @@
-//! A session as a picture: its events from top to bottom, each round with its requests and what came of them, as SVG.
+//! Draws a session as SVG: its events from top to bottom, each round with its requests and their results.
 //!
-//! `titles_of` says a line for each event, `lines_of` what a run made of the rounds, and `svg_of` writes the lines.
-//! `draw_run` is all of it, from events on, over any store.
+//! `titles_of` makes a line for each event, `lines_of` the lines of the rounds of a run, and `svg_of` writes the lines.
+//! `draw_run` does all of it for events on any store.
 #![tactic(auto)]
 
 mod drawing;

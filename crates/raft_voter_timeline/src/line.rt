@@ -1,25 +1,25 @@
-//! What the picture shows, line by line.
+//! The lines of the picture.
 ghost use Rattle.std.specs.Prelude.{◌≡◌, IfOk};
 ghost use Rattle.raft_voter_timeline.specs.Marks.{is_round, mark_name};
 
 use raft_voter_messages::Memory;
 use std::alloc::Global;
 
-/// The most characters of a text of a line: as many as have room in the picture's narrower column.
+/// The most characters of a text of a line: as many as the picture's narrower column can show.
 const MOST_CHARACTERS: usize = 60;
 
-/// What a line shows: it decides what is drawn beside its words.
+/// What a line shows: it decides what is drawn next to its words.
 #[derive(Clone, Copy)]
 pub enum Mark {
-    /// An event that its words alone tell: an open, a close, a purge, a copy.
+    /// An event that needs only its words: an open, a close, a purge, a copy.
     Event,
     /// A fault that is set for a later call.
     Armed,
     /// The machine stops.
     Crash,
-    /// A round of which it isn't told what came of it.
+    /// A round without its result.
     Round,
-    /// A round that was answered.
+    /// A round that got replies.
     Answered,
     /// A round that was cut off.
     CutOff,
@@ -29,14 +29,14 @@ pub enum Mark {
     Refused,
     /// A request that was lost with its round.
     Lost,
-    /// The end of a round that was answered: what was taken is durable.
+    /// The end of a round that got replies: what was taken is durable.
     Durable,
     /// The cut of a round that was cut off: the requests below are lost.
     Cut,
 }
 
 impl Mark {
-    /// Its name in the picture, by which its line is drawn.
+    /// Returns its name in the picture, by which its line is drawn.
     pub fn name(self) -> &'static str
         ensures { result.now ≡ mark_name self }
     {
@@ -59,16 +59,16 @@ impl Mark {
 /// A line of the picture.
 #[derive(Drop)]
 pub struct Line {
-    /// What it shows.
+    /// Its mark.
     pub mark: Mark,
     /// What happened.
     pub text: String,
-    /// What came of it.
+    /// The result.
     pub outcome: String,
 }
 
 impl Line {
-    /// A line with these words, each cut to the room that there is.
+    /// Returns a line with these words, each shortened if it is too long.
     pub fn new(alloc: Global, mark: Mark, text: &str, outcome: &str) -> Result<Line, Memory>
         ensures { IfOk result (λ line. line.mark ≡ mark) }
     {
@@ -81,7 +81,7 @@ impl Line {
         })
     }
 
-    /// Whether it is the line of a round of which it isn't told what came of it.
+    /// Whether it is the line of a round without its result.
     pub fn is_round(&self) -> bool
         ensures { result ≡ is_round self.now.mark }
     {
@@ -89,7 +89,7 @@ impl Line {
     }
 }
 
-/// A text, or where there is no room for all of it its front with two dots behind it.
+/// Returns a text or, if it is too long, a prefix of it followed by two dots.
 fn shortened(alloc: Global, text: &str) -> Result<String, Memory> {
     let mut short = String::new(alloc);
     for (place, character) in text.chars().enumerate() {

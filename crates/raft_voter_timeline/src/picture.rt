@@ -10,9 +10,9 @@ use crate::line::{Line, Mark};
 use raft_voter_messages::Memory;
 use std::alloc::Global;
 
-/// The picture of these lines below a heading, from top to bottom.
+/// Returns the picture of these lines below a heading, from top to bottom.
 ///
-/// `Memory`: there was no room for it.
+/// Fails with `Memory` if there is no room for it.
 pub fn svg_of(alloc: Global, heading: &str, lines: &[Line]) -> Result<String, Memory>
     ensures { IfOk result (λ picture. ShowsLines lines.now (string_bytes picture)) }
 {
@@ -24,7 +24,7 @@ pub fn svg_of(alloc: Global, heading: &str, lines: &[Line]) -> Result<String, Me
     Ok(text)
 }
 
-/// Adds the line of this number.
+/// Appends the line of this number.
 #[tactic(auto, unfolding(crate::specs::Picture::line_text))]
 fn push_line(text: &mut String, number: usize, line: &Line) -> Result<(), Memory>
     requires { top_of number < 2 ^ 64 }
@@ -39,7 +39,7 @@ fn push_line(text: &mut String, number: usize, line: &Line) -> Result<(), Memory
     Ok(())
 }
 
-/// Adds the beginning of a line of this mark.
+/// Appends the beginning of a line of this mark.
 #[tactic(auto, unfolding(crate::specs::Picture::class_text))]
 fn push_class(text: &mut String, mark: Mark) -> Result<(), Memory>
     ensures { OnOk result (Gains text.old text.new (class_text mark)) }
@@ -49,7 +49,7 @@ fn push_class(text: &mut String, mark: Mark) -> Result<(), Memory>
     Ok(())
 }
 
-/// Adds how far below the top a line stands.
+/// Appends how far below the top a line is.
 fn push_top(text: &mut String, top: usize) -> Result<(), Memory>
     ensures { OnOk result (Gains text.old text.new (top_text top)) }
 {
@@ -58,7 +58,7 @@ fn push_top(text: &mut String, top: usize) -> Result<(), Memory>
     Ok(())
 }
 
-/// Adds a number.
+/// Appends a number.
 fn push_number(text: &mut String, number: usize) -> Result<(), Memory>
     ensures { OnOk result (Gains text.old text.new (decimal number)) }
 {
@@ -66,7 +66,7 @@ fn push_number(text: &mut String, number: usize) -> Result<(), Memory>
     Ok(())
 }
 
-/// Adds what is drawn for a mark.
+/// Appends what is drawn for a mark.
 #[tactic(auto, unfolding(crate::specs::Picture::use_text))]
 fn push_use(text: &mut String, mark: Mark) -> Result<(), Memory>
     ensures { OnOk result (Gains text.old text.new (use_text mark)) }
@@ -76,7 +76,7 @@ fn push_use(text: &mut String, mark: Mark) -> Result<(), Memory>
     Ok(())
 }
 
-/// Adds what happened.
+/// Appends what happened.
 fn push_happened(text: &mut String, words: &str) -> Result<(), Memory>
     ensures { OnOk result (Gains text.old text.new (happened_text words.now)) }
 {
@@ -85,7 +85,7 @@ fn push_happened(text: &mut String, words: &str) -> Result<(), Memory>
     Ok(())
 }
 
-/// Adds what came of it.
+/// Appends the result.
 #[tactic(auto, unfolding(crate::specs::Picture::outcome_text))]
 fn push_outcome(text: &mut String, words: &str) -> Result<(), Memory>
     ensures { OnOk result (Gains text.old text.new (outcome_text words.now)) }
@@ -94,7 +94,7 @@ fn push_outcome(text: &mut String, words: &str) -> Result<(), Memory>
     push_escaped(text, words)
 }
 
-/// Adds the end of a line.
+/// Appends the end of a line.
 #[tactic(auto, unfolding(crate::specs::Picture::end_text))]
 fn push_end(text: &mut String) -> Result<(), Memory>
     ensures { OnOk result (Gains text.old text.new end_text) }

@@ -2,16 +2,16 @@
 use raft_voter_messages::{Memory, Request};
 use std::alloc::Global;
 
-/// What a request asks of a group's voter, as `group 1: vote, term 5, for 2`.
+/// Returns the request to a group's voter in words, as `group 1: vote, term 5, for 2`.
 ///
-/// `Memory`: there was no room for it.
+/// Fails with `Memory` if there is no room for it.
 pub fn request_words(alloc: Global, group: u64, request: &Request) -> Result<String, Memory> {
     let mut words = format!(in alloc; "group {group}: ")?;
     push_request(&mut words, request)?;
     Ok(words)
 }
 
-/// Adds what a request asks.
+/// Appends a request in words.
 fn push_request(words: &mut String, request: &Request) -> Result<(), Memory> {
     match request {
         Request::Vote {
@@ -36,7 +36,7 @@ fn push_request(words: &mut String, request: &Request) -> Result<(), Memory> {
     Ok(())
 }
 
-/// Adds what a leader sends: so many entries behind an index.
+/// Appends an Append in words: this many entries after an index.
 fn push_append(words: &mut String, term: u64, prev_index: u64, count: usize) -> Result<(), Memory> {
     let noun = if count == 1 { "entry" } else { "entries" };
     write!(

@@ -1,4 +1,4 @@
-//! The lines of rounds, with what came of them.
+//! The lines of rounds, with their results.
 ghost use Rattle.std.specs.Prelude.{◌≡◌, ◌≤◌, ◌<◌, ◌+◌, ◌^◌, ◌++◌, IfOk, OnOk, length};
 ghost use Rattle.raft_voter_timeline.specs.Marks.{all_marks, cuts_behind, end_mark, fate, fates, head_mark, marks_of, round_marks, taken_up_to};
 
@@ -8,10 +8,10 @@ use raft_voter_messages::{Memory, Outcome, Request, Round};
 use std::alloc::Global;
 use std::collections::VecDeque;
 
-/// The lines of a picture, from top to bottom: those of the events, where the one of a round gives way to the lines of
-/// the next of these rounds, and each of them that was cut off takes the next cut.
+/// Returns the lines of a picture, from top to bottom: those of the events. The lines of the next round replace the
+/// line of a round's event. Each round that was cut off uses the next cut.
 ///
-/// `Memory`: there was no room for them.
+/// Fails with `Memory` if there is no room for them.
 pub fn lines_of(
     alloc: Global,
     mut titles: VecDeque<Line>,
@@ -41,7 +41,8 @@ pub fn lines_of(
     Ok(lines)
 }
 
-/// Up to which place a round was taken: an answered one as a whole, else up to the next of these cuts.
+/// Returns the place up to which a round was taken: all of it if it got replies, otherwise up to the next of these
+/// cuts.
 fn taken_up_to(round: &Round, cuts: &[usize]) -> usize
     ensures { result ≡ taken_up_to round.now cuts.now }
 {
@@ -53,7 +54,7 @@ fn taken_up_to(round: &Round, cuts: &[usize]) -> usize
     }
 }
 
-/// The cuts of the rounds behind this one.
+/// Returns the cuts of the rounds after this one.
 fn cuts_behind<'a>(round: &Round, cuts: &'a [usize]) -> &'a [usize]
     ensures { result.now ≡ cuts_behind round.now cuts.now }
 {
@@ -63,8 +64,8 @@ fn cuts_behind<'a>(round: &Round, cuts: &'a [usize]) -> &'a [usize]
     }
 }
 
-/// Adds the lines of a round: how it ended, a line for each request that was taken up to this place, where that ends,
-/// and a line for each request behind it.
+/// Appends the lines of a round: how it ended, a line for each request that was taken up to this place, their end, and
+/// a line for each request after it.
 fn push_round(
     alloc: Global,
     lines: &mut Vec<Line>,
@@ -82,7 +83,7 @@ fn push_round(
     push_requests(alloc, lines, round, Mark::Lost, up_to, below)
 }
 
-/// The line with which a round begins.
+/// Returns the line with which a round begins.
 fn head_line(alloc: Global, number: usize, round: &Round) -> Result<Line, Memory>
     ensures { IfOk result (λ line. line.mark ≡ head_mark round.now.outcome) }
 {
@@ -93,7 +94,7 @@ fn head_line(alloc: Global, number: usize, round: &Round) -> Result<Line, Memory
     }
 }
 
-/// The line where what was taken of a round ends.
+/// Returns the line where what was taken of a round ends.
 fn end_line(alloc: Global, round: &Round, up_to: usize) -> Result<Line, Memory>
     ensures { IfOk result (λ line. line.mark ≡ end_mark round.now.outcome) }
 {
@@ -106,8 +107,8 @@ fn end_line(alloc: Global, round: &Round, up_to: usize) -> Result<Line, Memory>
     }
 }
 
-/// Adds a line for each of these requests of a round, of which the first stands at this place. They have this mark, but
-/// for those that were refused.
+/// Appends a line for each of these requests of a round; the first one's place is `from`. They have this mark, except
+/// those that were refused.
 fn push_requests(
     alloc: Global,
     lines: &mut Vec<Line>,
@@ -127,7 +128,7 @@ fn push_requests(
     Ok(())
 }
 
-/// The line of the request at a place of a round, with these words and this mark, unless it was refused.
+/// Returns the line of the request at a place of a round, with these words and this mark, unless it was refused.
 fn request_line(
     alloc: Global,
     round: &Round,
@@ -144,7 +145,7 @@ fn request_line(
     Line::new(alloc, mark, words, outcome.as_str())
 }
 
-/// What came of the request at a place: its reply, and where the round was cut off the name of its mark.
+/// Returns the result of the request at a place: its reply or, if the round was cut off, the name of its mark.
 fn outcome_words(alloc: Global, round: &Round, place: usize, mark: Mark) -> Result<String, Memory> {
     if let Outcome::Answered(replies) = &round.outcome {
         if let Some(reply) = replies.as_slice().get(place) {

@@ -1,4 +1,4 @@
-//! The first line of each event, before it is known what comes of it.
+//! The first line of each event, before its result is known.
 ghost use Rattle.std.specs.Prelude.{◌≡◌, IfOk, map};
 ghost use Rattle.raft_voter_timeline.specs.Marks.{event_mark, marks_of};
 
@@ -8,9 +8,9 @@ use raft_voter_world::{Event, Left};
 use std::alloc::Global;
 use std::collections::VecDeque;
 
-/// A line for each event, in order. A round has none of its words: `lines_of` says what came of it.
+/// Returns a line for each event, in order. The line of a round has no words: `lines_of` adds its result.
 ///
-/// `Memory`: there was no room for them.
+/// Fails with `Memory` if there is no room for them.
 pub fn titles_of(alloc: Global, events: &VecDeque<Event>) -> Result<VecDeque<Line>, Memory>
     ensures { IfOk result (λ titles. marks_of titles.items ≡ map event_mark events.now.items) }
 {
@@ -21,7 +21,7 @@ pub fn titles_of(alloc: Global, events: &VecDeque<Event>) -> Result<VecDeque<Lin
     Ok(titles)
 }
 
-/// The line of an event.
+/// Returns the line of an event.
 fn title_of(alloc: Global, event: &Event) -> Result<Line, Memory>
     ensures { IfOk result (λ title. title.mark ≡ event_mark event.now) }
 {
@@ -39,7 +39,7 @@ fn title_of(alloc: Global, event: &Event) -> Result<Line, Memory>
     }
 }
 
-/// The line of an open by so many workers.
+/// Returns the line of an open by this many workers.
 fn opened(alloc: Global, workers: u64) -> Result<Line, Memory>
     ensures { IfOk result (λ title. title.mark ≡ Mark.Event) }
 {
@@ -48,7 +48,7 @@ fn opened(alloc: Global, workers: u64) -> Result<Line, Memory>
     Line::new(alloc, Mark::Event, text.as_str(), "")
 }
 
-/// The line of a crash, with what is left then.
+/// Returns the line of a crash, with what it leaves.
 fn crash(alloc: Global, left: &Left) -> Result<Line, Memory>
     ensures { IfOk result (λ title. title.mark ≡ Mark.Crash) }
 {
@@ -56,7 +56,7 @@ fn crash(alloc: Global, left: &Left) -> Result<Line, Memory>
     Line::new(alloc, Mark::Crash, "crash", outcome.as_str())
 }
 
-/// The line of a crash that is set for a later call.
+/// Returns the line of a crash that is set for a later call.
 fn armed_crash(alloc: Global, calls: u64, left: &Left) -> Result<Line, Memory>
     ensures { IfOk result (λ title. title.mark ≡ Mark.Armed) }
 {
@@ -65,7 +65,7 @@ fn armed_crash(alloc: Global, calls: u64, left: &Left) -> Result<Line, Memory>
     Line::new(alloc, Mark::Armed, text.as_str(), outcome.as_str())
 }
 
-/// The line of a refusal that is set for a later call.
+/// Returns the line of a failure that is set for a later call.
 fn armed_refusal(alloc: Global, calls: u64) -> Result<Line, Memory>
     ensures { IfOk result (λ title. title.mark ≡ Mark.Armed) }
 {
@@ -73,7 +73,7 @@ fn armed_refusal(alloc: Global, calls: u64) -> Result<Line, Memory>
     Line::new(alloc, Mark::Armed, text.as_str(), "")
 }
 
-/// The line of a copy into this directory.
+/// Returns the line of a copy into this directory.
 fn copied(alloc: Global, target: &str) -> Result<Line, Memory>
     ensures { IfOk result (λ title. title.mark ≡ Mark.Event) }
 {
@@ -81,7 +81,7 @@ fn copied(alloc: Global, target: &str) -> Result<Line, Memory>
     Line::new(alloc, Mark::Event, text.as_str(), "")
 }
 
-/// What a crash leaves of what wasn't synced.
+/// Returns what a crash leaves of the unsynced changes, in words.
 fn left_words(alloc: Global, left: &Left) -> Result<String, Memory> {
     match left {
         Left::Last => Ok(String::from_str(alloc, "left: what was synced")?),

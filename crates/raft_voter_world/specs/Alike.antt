@@ -1,11 +1,11 @@
--- Two stores that are handed the same rounds.
+-- Two stores that serve the same rounds.
 use Rattle.std.specs.Prelude.{◌≡◌, ℕ, List, [], ◌∷◌, map}
 use Rattle.raft_voter_messages.specs.declared.reply.Reply.{Reply}
 use Rattle.raft_voter_messages.specs.declared.request.Request.{Request}
 use Rattle.raft_voter.specs.Rounds.{World}
 use Rattle.raft_voter.specs.Service.{AnswersRound, IsOpenAt, Service, refused_from}
 
--- a store answered these rounds with these replies, one after another
+-- a store gave these replies to these rounds, one after another
 abbrev pub AnswersRounds : {S : Type 0} → Service S → List (List (ℕ × Request)) → List (List Reply) → S → S → Type 0
 AnswersRounds v [] [] old new = new ≡ old
 AnswersRounds {S} v (requests ∷ rounds) (replies ∷ told) old new =
@@ -16,8 +16,8 @@ AnswersRounds v rounds told old new = ⊥
 abbrev pub refused_in : List (List Reply) → List (List ℕ)
 refused_in told = map (refused_from 0) told
 
--- Where two stores serve the same voters, and refuse the same places of the same rounds (none, say), all their
--- replies are the same.
+-- If two stores serve the same voters, and refuse the same places (or none) of the same rounds, they give the same
+-- replies.
 abbrev pub AllReplyAlike : {S T : Type 0} → Service S → Service T → Type 0
 AllReplyAlike {S} {T} v w =
     (voters : World) (rounds : List (List (ℕ × Request))) (told others : List (List Reply)) (old new : S) (first last : T)

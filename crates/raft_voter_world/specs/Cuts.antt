@@ -10,39 +10,37 @@ use Rattle.raft_voter_world.specs.History.Moment.{opened, answered, cut_off, idl
 use Rattle.raft_voter_world.specs.Places.{IsPlaceFound}
 use Rattle.raft_voter_world.specs.Stores.{world_in}
 
--- the place behind which the next open finds the voters that it shows; `last` where none follows, 0 where it
--- finds none
+-- the place at which the next open finds the voters that it shows; `last` if no open follows, 0 if no place was found
 abbrev pub next_place : {S F : Type 0} → ℕ → List (Moment S F) → ℕ
 next_place last [] = last
 next_place last (opened workers store voters place now ∷ ms) = unwrap_or place 0
 next_place last (m ∷ ms) = next_place last ms
 
--- the place up to which a round was taken that was cut off for this cause: that of the next open where some of it
--- may have been, else 0
+-- the place up to which a round that was cut off for this cause was taken: the next open's if some of it may have been
+-- taken, otherwise 0
 abbrev pub place_for : Cause → ℕ → ℕ
 place_for FileSystem place = place
 place_for cause place = 0
 
--- the places up to which the rounds that were cut off were taken, `last` being that of the one that no open
--- follows
+-- the places up to which the rounds that were cut off were taken; `last` is the place for the one that no open follows
 abbrev pub cuts_in : {S F : Type 0} → ℕ → List (Moment S F) → List ℕ
 cuts_in last [] = []
 cuts_in last (cut_off round cause now ∷ ms) = place_for cause (next_place last ms) ∷ cuts_in last ms
 cuts_in last (idle round files ∷ ms) = 0 ∷ cuts_in last ms
 cuts_in last (m ∷ ms) = cuts_in last ms
 
--- the round that was cut off, and may have been taken up to some place, once this one was, for this cause
+-- the round that was cut off and may have been taken up to some place, after this round was cut off for this cause
 abbrev pub cut_by : Cause → CutRound → Round → CutRound
 cut_by FileSystem cut round =
     record { before = cut.before; requests = round.requests; refused = round.refused }
 cut_by cause cut round = cut
 
--- the voters once an answered round was taken
+-- the voters after a round with replies
 abbrev pub cut_after : CutRound → Round → CutRound
 cut_after cut round = uncut (after cut.before (taken_below round (length round.requests)))
 
--- behind a round that was cut off, or none, each open finds the least place that fits the voters that it shows, or
--- none where no place does
+-- each open finds the least place of the round before it at which the voters that it shows fit, or finds none if no
+-- place fits
 abbrev pub AreLeast : {S F : Type 0} → CutRound → List (Moment S F) → Type 0
 AreLeast cut [] = Unit {0}
 AreLeast cut (opened workers store voters place now ∷ ms) =
@@ -51,19 +49,19 @@ AreLeast cut (answered round now ∷ ms) = AreLeast (cut_after cut round) ms
 AreLeast cut (cut_off round cause now ∷ ms) = AreLeast (cut_by cause cut round) ms
 AreLeast cut (m ∷ ms) = AreLeast cut ms
 
--- this event, once for each open of it that shows voters which no place fits
+-- lists this event once for each of its opens that shows voters which no place fits
 abbrev pub lost_at : {S F : Type 0} → ℕ → List (Moment S F) → List ℕ
 lost_at event [] = []
 lost_at event (opened workers store voters None now ∷ ms) = event ∷ lost_at event ms
 lost_at event (m ∷ ms) = lost_at event ms
 
--- these events, each once for each open of it that shows voters which no place fits; the first has this
+-- lists these events, each once for each of its opens that shows voters which no place fits; the first one has this
 -- number
 abbrev pub lost_from : {S F : Type 0} → ℕ → List (List (Moment S F)) → List ℕ
 lost_from event [] = []
 lost_from event (ms ∷ mss) = lost_at event ms ++ lost_from (event + 1) mss
 
--- each store that was opened serves voters, whichever they are
+-- each store that was opened serves some voters
 abbrev pub ServeSome : {S F : Type 0} → Service S → List (Moment S F) → Type 0
 ServeSome v [] = Unit {0}
 ServeSome v (opened workers store voters place now ∷ ms) = ((W : World) × IsOpenAt v store W) × ServeSome v ms

@@ -1,4 +1,4 @@
--- Groups whose voters differ in two worlds.
+-- The groups whose voters differ in two worlds.
 use Rattle.std.specs.Prelude.{◌≡◌, ◌≢◌, ◌⊎◌, ℕ, true, false}
 use Rattle.std.specs.BTreeSet.{BTreeSet, contains}
 use Rattle.std.specs.Ordering.{nat_cmp}
@@ -9,6 +9,6 @@ pub record Marks (W X : World) (differing : BTreeSet ℕ) (g : ℕ) : Type 0 whe
   pub differ : contains nat_cmp differing g ≡ true → W g ≢ X g
   pub same : contains nat_cmp differing g ≡ false → W g ≡ X g
 
--- a group is in the set as it was, or exactly if its voters differ
+-- whether a group is in the set is unchanged, or it is in the set exactly if its voters differ
 abbrev pub Leave : World → World → BTreeSet ℕ → BTreeSet ℕ → ℕ → Type 0
 Leave W X old new g = (contains nat_cmp new g ≡ contains nat_cmp old g) ⊎ Marks W X new g

@@ -1,4 +1,4 @@
--- What happened to a store of voters and its disk.
+-- What happens to a store of voters and its disk, as a list of moments.
 use Rattle.std.specs.Prelude.{◌≡◌, ℕ, ◌≤◌, ◌==◌, Bool, true, false, if◌then◌else◌, List, [], ◌∷◌, length, Option, None, Some, map}
 use Rattle.std.specs.List.{flat_map}
 use Rattle.std.specs.String.{string_bytes}
@@ -24,7 +24,7 @@ use Rattle.raft_voter_world.specs.Stores.{KeepsVoters, RefusesPurge, StaysAsItWa
 
 -- Moments.
 
--- calls that keep the voters: a close, a purge, answered or refused for a cause, a fault that is armed, a copy into
+-- calls that keep the voters: a close, a purge that succeeded or failed for a cause, the arming of a fault, a copy into
 -- a directory
 pub data Change : Type 0 where
   closes : Change
@@ -32,16 +32,17 @@ pub data Change : Type 0 where
   arms : Fault → Change
   copies : List ℕ → Change
 
--- What happens, and the store or the files that are there behind it:
--- so many workers opened a store; these voters were read from it, to be looked for among those that a round
--- that was cut off may have left, and found behind this place, or behind none,
--- the same, but its voters weren't read, and it was closed again, which left these files,
--- the same, but the disk stopped in it, and a crash left these files,
--- an open was refused, and handed back these files,
--- a crash left these files,
--- a call kept the voters,
--- a store answered a round, or cut it off for a cause,
--- and a round was cut off as no store was open.
+-- What happens, and the store or the files after it, in the order of the constructors:
+-- - this many workers opened a store, and its voters were read; they fit the round that was cut off at this place, or
+--   at none;
+-- - a store was opened, but its voters weren't read; it was closed again, which left these files;
+-- - a store was opened, but the disk stopped in the open, and a crash left these files;
+-- - an open failed, and returned these files;
+-- - a crash left these files;
+-- - a call kept the voters;
+-- - a store replied to a round;
+-- - a store cut a round off for a cause;
+-- - a round was cut off because no store was open.
 pub data Moment (S F : Type 0) : Type 0 where
   opened : ℕ → S → List (ℕ × State) → Option ℕ → S → Moment S F
   unread : ℕ → S → S → F → Moment S F
@@ -53,7 +54,7 @@ pub data Moment (S F : Type 0) : Type 0 where
   cut_off : Round → Cause → S → Moment S F
   idle : Round → F → Moment S F
 
--- the storage behind a moment
+-- the storage after a moment
 abbrev pub behind : {S F : Type 0} → Moment S F → Storage S F
 behind (opened workers store voters place now) = Open now
 behind (unread workers store now files) = Closed files
@@ -65,7 +66,7 @@ behind (answered round now) = Open now
 behind (cut_off round cause now) = Open now
 behind (idle round files) = Closed files
 
--- the storage behind several
+-- the storage after several moments
 abbrev pub behind_all : {S F : Type 0} → Storage S F → List (Moment S F) → Storage S F
 behind_all storage [] = storage
 behind_all storage (m ∷ ms) = behind_all (behind m) ms
@@ -83,11 +84,11 @@ rounds_in ms = flat_map rounds_of ms
 
 -- What each moment is.
 
--- a round of which nothing was taken, as no store was open
+-- a round of which nothing was taken, because no store was open
 abbrev pub IsIdle : Round → Type 0
 IsIdle round = (round.outcome ≡ Cut) × (round.refused ≡ [])
 
--- a store answered a round: its refused places are those of its replies, which it may refuse
+-- a store replied to a round; its refused places are those of its replies, and the store may refuse them
 pub record IsAnswered {S : Type 0} (v : Service S) (old : S) (round : Round) (new : S) : Type 0 where
   pub replies : List Reply
   pub told : round.outcome ≡ Answered replies
@@ -97,7 +98,7 @@ pub record IsAnswered {S : Type 0} (v : Service S) (old : S) (round : Round) (ne
   pub short : length round.requests ≤ 4096
   pub alive : IsAlive (v.is_failed old) (v.is_failed new)
 
--- a store cut a round off, for this cause
+-- a store cut off a round for this cause
 pub record IsCutOff {S : Type 0} (v : Service S) (old : S) (round : Round) (cause : Cause) (new : S) : Type 0 where
   pub told : round.outcome ≡ Cut
   pub cuts : CutsOff v cause round.refused round.requests old new
@@ -109,21 +110,21 @@ pub record IsOpened {S F : Type 0} (v : Service S) (d : Disk S F) (files : F) (w
   pub alive : v.is_failed store ≡ false
   pub finds : FindsVoters v d files store
 
--- an open of files was refused
+-- an open of files failed
 pub record IsUnopened {S F : Type 0} (v : Service S) (d : Disk S F) (files : F) (workers : ℕ) (cause : Cause) (back : F)
     : Type 0 where
   pub refuses : d.refuses files workers cause back
   pub outside : IsFromOutside cause
   pub stands : LeavesStanding v d files files back
 
--- a crash left these files of a storage, and nothing is armed in them
+-- a crash left these files of a storage, and the disk runs again
 abbrev pub Crashes : {S F : Type 0} → Service S → Disk S F → Storage S F → Left → F → Type 0
 Crashes v d (Closed files) gone left =
     d.crashes files gone left × LeavesStanding v d files left left × (d.has_stopped left ≡ false)
 Crashes v d (Open store) gone left =
     d.crashes_under store gone left × LeavesUnder v d store left × (d.has_stopped left ≡ false)
 
--- a purge was answered, and did what it does; or it was refused, for this cause
+-- a purge succeeded and did its work, or it failed for this cause
 abbrev pub EndsPurge : {S : Type 0} → Service S → Upkeep S → Purge → Option Cause → S → S → Type 0
 EndsPurge v u purge None old new = u.purges purge old new × IsAlive (v.is_failed old) (v.is_failed new)
 EndsPurge v u purge (Some cause) old new =
@@ -140,12 +141,12 @@ Keeps v u d (arms fault) (Closed old) (Closed new) = d.arms fault old new × Sta
 Keeps v u d (copies target) (Closed old) (Closed new) = d.forks target old new × StaysInFiles v d old new
 Keeps v u d change old new = ⊥
 
--- the files of a storage, where a store that is open is closed
+-- the files of a storage; a store that is open is closed first
 abbrev pub IsClosedAs : {S F : Type 0} → Service S → Disk S F → Storage S F → F → Type 0
 IsClosedAs v d (Closed files) given = given ≡ files
 IsClosedAs v d (Open store) given = d.closes store given × LeavesInFiles v d store given
 
--- this may happen to a storage
+-- this moment may happen to a storage
 abbrev pub Happens :
     {S F : Type 0}
     → Service S → Upkeep S → Disk S F → Storage S F → Moment S F → Type 0
@@ -163,7 +164,7 @@ Happens v u d (Open store) (cut_off round cause now) = IsCutOff v store round ca
 Happens v u d (Closed files) (idle round now) = IsIdle round × (now ≡ files)
 Happens v u d storage moment = ⊥
 
--- these may happen to it one after another
+-- these moments may happen to a storage, one after another
 abbrev pub Happen :
     {S F : Type 0}
     → Service S → Upkeep S → Disk S F → Storage S F → List (Moment S F) → Type 0
@@ -177,14 +178,14 @@ abbrev pub has_stopped : {S F : Type 0} → Upkeep S → Disk S F → Storage S 
 has_stopped u d (Closed files) = d.has_stopped files
 has_stopped u d (Open store) = u.has_stopped store
 
--- where the disk has stopped a crash follows at once, of which this is left; else nothing does
+-- if the disk has stopped, a crash follows at once and leaves this; otherwise nothing follows
 abbrev pub Falls :
     {S F : Type 0} → Upkeep S → Disk S F → Left → Storage S F → List (Moment S F) → Type 0
 Falls u d gone storage [] = has_stopped u d storage ≡ false
 Falls u d gone storage (crashed gone' files ∷ []) = (has_stopped u d storage ≡ true) × (gone' ≡ gone)
 Falls u d gone storage ms = ⊥
 
--- one such moment, and the crash that follows where the disk stopped in it
+-- one such moment, and the crash that follows if the disk stopped in it
 abbrev pub One :
     {S F : Type 0} → Upkeep S → Disk S F → Left → (Moment S F → Type 0)
     → List (Moment S F) → Type 0
@@ -200,7 +201,7 @@ abbrev pub IsChange : {S F : Type 0} → Change → Moment S F → Type 0
 IsChange change (kept other now) = other ≡ change
 IsChange change moment = ⊥
 
--- this purge, answered or refused
+-- this purge, whether it succeeded or failed
 abbrev pub IsPurge : {S F : Type 0} → Purge → Moment S F → Type 0
 IsPurge purge (kept (purges other refusal) now) = other ≡ purge
 IsPurge purge moment = ⊥
@@ -210,7 +211,7 @@ abbrev pub IsCrash : {S F : Type 0} → Left → Moment S F → Type 0
 IsCrash gone (crashed other files) = other ≡ gone
 IsCrash gone moment = ⊥
 
--- an open by so many workers; where the disk stops in it, a crash leaves this
+-- an open by this many workers; if the disk stops in it, a crash leaves this
 abbrev pub IsOpening : {S F : Type 0} → Upkeep S → ℕ → Left → Moment S F → Type 0
 IsOpening u workers gone (opened n store voters place now) = (n ≡ workers) × (u.has_stopped now ≡ false)
 IsOpening u workers gone (unread n store now files) = (n ≡ workers) × (u.has_stopped now ≡ false)
@@ -218,7 +219,7 @@ IsOpening u workers gone (fell n store gone' files) = (n ≡ workers) × (gone' 
 IsOpening u workers gone (unopened n cause files) = n ≡ workers
 IsOpening u workers gone moment = ⊥
 
--- the first where this is so, else the second
+-- the first type if the flag is `true`, otherwise the second
 abbrev pub Either : Bool → Type 0 → Type 0 → Type 0
 Either true First Second = First
 Either false First Second = Second
@@ -229,8 +230,8 @@ abbrev pub Opens :
 Opens u d workers gone files ms =
     Either (d.has_stopped files) (Falls u d gone (Closed files) ms) (One u d gone (IsOpening u workers gone) ms)
 
--- An event makes these moments. Behind each the crash follows at which the disk stops, if it did in it, and of
--- which what the last event that armed one says is left.
+-- An event makes these moments. If the disk stops in a moment, a crash follows at once. It leaves what the last event
+-- that armed a stop says.
 abbrev pub Turns :
     {S F : Type 0} → Upkeep S → Disk S F → Left → Storage S F → Event → List (Moment S F) → Type 0
 Turns u d gone storage (RoundEvent requests) ms = One u d gone (IsRoundOf requests) ms
@@ -249,7 +250,7 @@ Turns u d gone storage (Refuse calls) ms =
 Turns u d gone (Closed files) (Fork target) ms = One u d gone (IsChange (copies (string_bytes target))) ms
 Turns u d gone storage event ms = Falls u d gone storage ms
 
--- what a stop leaves from an event on
+-- what a stop leaves, from an event on
 abbrev pub left_from : Event → Left → Left
 left_from (CrashAt calls gone') gone = if calls == 0 then gone else gone'
 left_from event gone = gone
@@ -264,7 +265,7 @@ Plays v u d gone storage (e ∷ es) (ms ∷ mss) =
     × Plays v u d (left_from e gone) (behind_all storage ms) es mss
 Plays v u d gone storage es mss = ⊥
 
--- behind the last event a store that is open is closed
+-- after the last event, a store that is open is closed
 abbrev pub Ends :
     {S F : Type 0} → Upkeep S → Disk S F → Left → Storage S F → List (Moment S F) → Type 0
 Ends u d gone (Closed files) ms = Falls u d gone (Closed files) ms

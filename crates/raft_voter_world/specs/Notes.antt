@@ -8,7 +8,7 @@ use Rattle.raft_voter_world.specs.declared.notes.Notes.{Notes}
 use Rattle.raft_voter_world.specs.declared.notes.Unsettled.{Unsettled}
 use Rattle.raft_voter_world.specs.Places.{IsPlaceFound}
 
--- the round that was cut off, if one is unsettled, from these voters on
+-- the round that was cut off, if one is unsettled, with these voters before it
 abbrev pub cut_from : World → Option Unsettled → CutRound
 cut_from W None = uncut W
 cut_from W (Some u) = record { before = W; requests = u.round.requests; refused = u.round.refused }
@@ -25,34 +25,34 @@ waiting (Some u) = u.round ∷ u.rounds.items
 abbrev pub all_rounds : Notes → List Round
 all_rounds n = n.rounds.items ++ waiting n.unsettled
 
--- the cuts of the rounds that wait for the next open, where that of the first is this place
+-- the cuts of the rounds that wait for the next open; the first round's cut is this place
 abbrev pub waiting_cuts : ℕ → Option Unsettled → List ℕ
 waiting_cuts place None = []
 waiting_cuts place (Some u) = place ∷ u.cuts.items
 
--- all cuts, where that of the unsettled round is this place
+-- all cuts; the unsettled round's cut is this place
 abbrev pub all_cuts : Notes → ℕ → List ℕ
 all_cuts n place = n.cuts.items ++ waiting_cuts place n.unsettled
 
--- nothing waits any more, as the unsettled round was taken up to this place
+-- nothing waits any more, because the unsettled round was taken up to this place
 pub record Settles (old : Notes) (place : ℕ) (new : Notes) : Type 0 where
   pub none : new.unsettled ≡ None
   pub rounds : new.rounds.items ≡ all_rounds old
   pub cuts : new.cuts.items ≡ all_cuts old place
 
--- what is lost at an open that shows voters which this place, or none, fits
+-- the events to add to the lost ones: this event if its open shows voters which no place fits
 abbrev pub lost_by : Option ℕ → ℕ → List ℕ
 lost_by None event = event ∷ []
 lost_by (Some place) event = []
 
--- voters were shown, and looked for
+-- an open showed voters, and the place at which they fit was looked for
 pub record Shows (old : Notes) (event : ℕ) (X : World) (place : Option ℕ) (new : Notes) : Type 0 where
   pub found : IsPlaceFound (cut_of old) X place
   pub settled : Settles old (unwrap_or place 0) new
   pub world : world_of new.voters ≡ X
   pub lost : new.lost.items ≡ old.lost.items ++ lost_by place event
 
--- a round was answered
+-- a round got replies
 pub record NotesAnswered (old : Notes) (round : Round) (new : Notes) : Type 0 where
   pub none : new.unsettled ≡ None
   pub rounds : new.rounds.items ≡ old.rounds.items ++ round ∷ []
@@ -60,14 +60,14 @@ pub record NotesAnswered (old : Notes) (round : Round) (new : Notes) : Type 0 wh
   pub world : world_of new.voters ≡ after (world_of old.voters) (taken_below round (length round.requests))
   pub lost : new.lost.items ≡ old.lost.items
 
--- a round was cut off that may have been taken up to some place
+-- a round was cut off, and may have been taken up to some place
 pub record NotesCut (old : Notes) (round : Round) (new : Notes) : Type 0 where
   pub cut : cut_of new ≡ record { before = world_of old.voters; requests = round.requests; refused = round.refused }
   pub rounds : all_rounds new ≡ old.rounds.items ++ round ∷ []
   pub cuts : (place : ℕ) → all_cuts new place ≡ old.cuts.items ++ place ∷ []
   pub lost : new.lost.items ≡ old.lost.items
 
--- a round was cut off of which nothing was taken
+-- a round was cut off, and nothing of it was taken
 pub record NotesIdle (old : Notes) (round : Round) (new : Notes) : Type 0 where
   pub cut : cut_of new ≡ cut_of old
   pub rounds : all_rounds new ≡ all_rounds old ++ round ∷ []

@@ -23,7 +23,7 @@ pub record AddTurns {S F : Type 0} (old : Notes) (turns : List (List (Moment S F
   pub least : (rest : List (Moment S F)) → AreLeast (cut_of new) rest → AreLeast (cut_of old) (moments_of turns ++ rest)
   pub lost : new.lost.items ≡ old.lost.items ++ lost_from 0 turns
 
--- these events happened in a world, and are noted
+-- these events happened in a world, and were noted
 pub record HasPlayed {S F : Type 0} (v : Service S) (u : Upkeep S) (d : Disk S F) (old : World S F) (events : List Event)
     (new : World S F) : Type 0 where
   pub turns : List (List (Moment S F))
@@ -33,14 +33,14 @@ pub record HasPlayed {S F : Type 0} (v : Service S) (u : Upkeep S) (d : Disk S F
   pub noted : AddTurns old.notes turns new.notes
   pub ready : IsReady v old → IsReady v new
 
--- these files stand as they are or, where the disk has stopped, a crash left others of them
+-- these files are unchanged, or the disk has stopped and a crash left others of them
 abbrev pub Stands : {S F : Type 0} → Service S → Disk S F → F → Left → F → Type 0
 Stands v d files gone kept =
     ((d.has_stopped files ≡ false) × (kept ≡ files))
     ⊎ ((d.has_stopped files ≡ true) × Crashes v d (Closed files) gone kept)
 
--- a run ended in this world: a store that was open is closed, and of a round that no open followed nothing is said
--- to be taken
+-- A run ended in this world: a store that was open is closed. A round that was cut off and that no open followed counts
+-- as not taken.
 pub record Ended {S F : Type 0} (v : Service S) (u : Upkeep S) (d : Disk S F) (world : World S F) (report : WorldReport F)
     : Type 0 where
   pub closing : List (Moment S F)

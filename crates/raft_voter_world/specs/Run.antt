@@ -1,4 +1,4 @@
--- A run, and what holds of it.
+-- A run of events, and what holds for it.
 use Rattle.std.specs.Prelude.{◌≡◌, ℕ, List, [], ◌∷◌, ◌++◌, IsSome}
 use Rattle.raft_voter.specs.Rounds.{World, Explains, Leads, fresh_world}
 use Rattle.raft_voter.specs.Service.{CutRound, IsOpenAt, MayFollow, Service, uncut}
@@ -13,15 +13,14 @@ use Rattle.raft_voter_world.specs.History.{Ends, Happen, Moment, Plays, behind_a
 use Rattle.raft_voter_world.specs.History.Moment.{opened, unread, fell, unopened, crashed, kept, answered, cut_off, idle}
 use Rattle.raft_voter_world.specs.Stores.{Disk, Upkeep}
 
--- behind such a round, cut off or not, stand the voters that are found in a storage
+-- a storage leaves voters that are possible after this round, cut off or not
 abbrev pub Knows : {S F : Type 0} → Service S → Disk S F → Storage S F → CutRound → Type 0
 Knows v d (Closed files) cut = d.leaves files cut
 Knows v d (Open store) cut = v.leaves store cut
 
--- What is known to be left in a storage goes on being so from moment to moment, and this holds in the end, unless
--- something passes by chance of what is known: in the files that an open reads, or in those that a crash leaves.
--- An open then shows voters that may have been left, and the place is found; one whose voters weren't read leaves
--- in its files what it served.
+-- What is known to be left in a storage stays known from moment to moment, and `End` holds at the end. Nothing is
+-- claimed after a CRC collision in files that an open reads or a crash leaves. An open shows voters that are possible
+-- there, and finds the place. If an open doesn't read the voters, its files leave what it served.
 abbrev pub Goes :
     {S F : Type 0}
     → (v : Service S) (d : Disk S F) → (Storage S F → CutRound → Type 0)
@@ -57,7 +56,7 @@ Goes v d End (Closed files) cut known (idle round now ∷ ms) =
     (still : d.leaves now cut) × Goes v d End (Closed now) cut still ms
 Goes v d End storage cut known ms = ⊥
 
--- what a stop leaves behind these events
+-- what a stop leaves after these events
 abbrev pub ending_left : Left → List Event → Left
 ending_left gone [] = gone
 ending_left gone (e ∷ es) = ending_left (left_from e gone) es
@@ -67,34 +66,33 @@ abbrev pub moments_of : {S F : Type 0} → List (List (Moment S F)) → List (Mo
 moments_of [] = []
 moments_of (ms ∷ mss) = ms ++ moments_of mss
 
--- Voters that never fail explain the rounds. Whatever is found in what is left in the end stands behind all of
--- them, where the last round that was cut off, and that no open followed, may have been taken up to some other
--- place.
+-- Voters that never fail explain the rounds. Voters found in what is left at the end are possible after all of them.
+-- For that, the last round that was cut off without a later open may need another cut.
 pub record EndsWell {S F : Type 0} (ms : List (Moment S F)) (cut : CutRound) : Type 0 where
   pub explained : Explains (rounds_in ms) (cuts_in 0 ms)
   pub found : (X : World) → MayFollow cut X → (place : ℕ) × Leads fresh_world (rounds_in ms) (cuts_in place ms) X
 
--- Whatever happens from files on, with the least place found behind each round that was cut off: where nothing was
--- lost, and each store that was opened serves voters, voters that never fail explain the rounds.
+-- Whatever happens, starting from files, if the least place is found for each round that was cut off. If nothing was
+-- lost, and each store that was opened serves some voters, then voters that never fail explain the rounds.
 abbrev pub AllExplained : {S F : Type 0} → Service S → Upkeep S → Disk S F → Type 0
 AllExplained {S} {F} v u d =
     (files : F) (ms : List (Moment S F)) → Happen v u d (Closed files) ms → AreLeast (uncut fresh_world) ms
     → ServeSome v ms → NoneLost ms → Explains (rounds_in ms) (cuts_in 0 ms)
 
--- Whatever happens from files on in which no voter is stored: unless something passes by chance of what is known
--- to be left, each open shows voters behind some place, voters that never fail explain the rounds, and what is
--- left in the end means what they led to.
+-- Whatever happens, starting from files that store no voter, unless there is a CRC collision. Each open shows voters
+-- that fit at some place. Voters that never fail explain the rounds, and what is left at the end means the voters that
+-- they led to.
 abbrev pub AllTransparent : {S F : Type 0} → Service S → Upkeep S → Disk S F → Type 0
 AllTransparent {S} {F} v u d =
     (files : F) (ms : List (Moment S F)) → Happen v u d (Closed files) ms → AreLeast (uncut fresh_world) ms
     → (known : d.leaves files (uncut fresh_world))
     → Goes v d (λ storage cut. EndsWell ms cut) (Closed files) (uncut fresh_world) known ms
 
--- A run of these events, which began with these files: what happened, what its report says of it, and what holds
--- of it.
--- Where nothing was lost, and each store that was opened served voters, whichever they were, voters that never
--- fail explain the transcript.
--- And unless something passed by chance nothing is lost, they explain it, and what is left means them.
+-- A run of these events that began with these files: what happened, what its report says, and what holds for it.
+-- - If nothing was lost, and each store that was opened served some voters, then voters that never fail explain the
+--   transcript.
+-- - Suppose the files stored no voter, and there was no CRC collision. Then nothing is lost, such voters explain the
+--   transcript, and what is left means them.
 pub record IsRun {S F : Type 0} (v : Service S) (u : Upkeep S) (d : Disk S F) (files : F) (events : List Event)
     (report : WorldReport F) : Type 0 where
   pub turns : List (List (Moment S F))

@@ -23,16 +23,16 @@ pub record Grows {S F : Type 0} (event : ℕ) (old : Notes) (ms : List (Moment S
   pub least : (rest : List (Moment S F)) → AreLeast (cut_of new) rest → AreLeast (cut_of old) (ms ++ rest)
   pub lost : new.lost.items ≡ old.lost.items ++ lost_at event ms
 
--- where a store is open that hasn't failed, this is so
+-- if a store is open and hasn't failed, this holds
 abbrev pub WhereAlive : {S F : Type 0} → Service S → Storage S F → Type 0 → Type 0
 WhereAlive v (Closed files) IsSo = Unit {0}
 WhereAlive v (Open store) IsSo = v.is_failed store ≡ false → IsSo
 
--- where a store is open that hasn't failed, no round waits
+-- if a store is open and hasn't failed, no round waits
 abbrev pub IsReady : {S F : Type 0} → Service S → World S F → Type 0
 IsReady v world = WhereAlive v world.storage (world.notes.unsettled ≡ None)
 
--- these moments happened in a world, and are noted
+-- these moments happened in a world, and were noted
 pub record Moves {S F : Type 0} (v : Service S) (u : Upkeep S) (d : Disk S F) (event : ℕ) (old : World S F)
     (ms : List (Moment S F)) (new : World S F) : Type 0 where
   pub happened : Happen v u d old.storage ms
@@ -40,7 +40,7 @@ pub record Moves {S F : Type 0} (v : Service S) (u : Upkeep S) (d : Disk S F) (e
   pub noted : Grows event old.notes ms new.notes
   pub ready : IsReady v old → IsReady v new
 
--- where the disk has stopped, a crash followed, of which was left what a world says
+-- if the disk has stopped, a crash followed, and left what the world's `left` says
 pub record Falling {S F : Type 0} (v : Service S) (u : Upkeep S) (d : Disk S F) (event : ℕ) (old : World S F)
     (new : World S F) : Type 0 where
   pub moments : List (Moment S F)

@@ -1,4 +1,4 @@
--- What a store of voters, and the disk that it lies on, say of themselves.
+-- What a store of voters and its disk promise.
 use Rattle.std.specs.Prelude.{◌≡◌, ◌==◌, ℕ, Bool, true, false, List, unwrap_or}
 use Rattle.std.specs.Map.{lookup}
 use Rattle.raft_voter_outline.specs.State.{State, fresh}
@@ -12,23 +12,23 @@ use Rattle.raft_voter_world.specs.declared.faults.Purge.{Purge}
 
 -- Open stores.
 
--- What an open store says of its calls between rounds: whether the disk below it has stopped, what a purge makes
--- of it that is answered, and one that is refused for a cause, and what it is once a fault is armed.
+-- An open store between rounds. `has_stopped`: the disk below it has stopped. `purges`: what a purge that succeeds
+-- does. `refuses`: what a purge that fails for a cause does. `arms`: what arming a fault does.
 pub record Upkeep (S : Type 0) : Type 1 where
   pub has_stopped : S → Bool
   pub purges : Purge → S → S → Type 0
   pub refuses : Purge → Cause → S → S → Type 0
   pub arms : Fault → S → S → Type 0
 
--- the voters that a list tells: the one that is listed for a group, and else a fresh one
+-- the voters of a list: the one listed for a group, otherwise a fresh one
 abbrev pub world_in : List (ℕ × State) → World
 world_in voters = λ g. unwrap_or (lookup (λ k. k == g) voters) fresh
 
--- these are the voters that a store serves, whichever it does
+-- any voters that the store serves are those of the list
 abbrev pub TellsVoters : {S : Type 0} → Service S → S → List (ℕ × State) → Type 0
 TellsVoters v store voters = (W : World) → IsOpenAt v store W → W ≡ world_in voters
 
--- what is left of voters stays so
+-- every round that the store left is still left
 abbrev pub StaysLeft : {S : Type 0} → Service S → S → S → Type 0
 StaysLeft v old new = (cut : CutRound) → v.leaves old cut → v.leaves new cut
 
@@ -38,15 +38,15 @@ pub record StaysAsItWas {S : Type 0} (v : Service S) (old new : S) : Type 0 wher
   pub served : (W : World) → IsOpenAt v old W → IsOpenAt v new W
   pub left : StaysLeft v old new
 
--- A purge keeps the voters that are served, unless the store failed in it, and what is left. A store that
--- failed before has failed still.
+-- A purge keeps the voters that are served, unless the store failed in it. It keeps what is left. A store that had
+-- failed before has still failed.
 pub record KeepsVoters {S : Type 0} (v : Service S) (old new : S) : Type 0 where
   pub failed : v.is_failed old ≡ true → v.is_failed new ≡ true
   pub served : (W : World) → IsOpenAt v old W → v.is_failed new ≡ false → IsOpenAt v new W
   pub left : StaysLeft v old new
 
--- When a purge is refused for this cause, of a store that had failed before or not, and has failed now or not.
--- It fails by the file system alone.
+-- When a purge fails for this cause. `before` and `now` say whether the store had failed before the purge, and has
+-- failed after it. Only the file system can make the store fail.
 abbrev pub RefusesPurge : Cause → Bool → Bool → Type 0
 RefusesPurge FileSystem before now = before ≡ false
 RefusesPurge Memory before now = (before ≡ false) × (now ≡ false)
@@ -55,17 +55,19 @@ RefusesPurge TooLong before now = ⊥
 
 -- Disks.
 
--- What a disk says of itself while no store is open on it:
--- behind which round, cut off or not, stand the voters that the next open finds, be it after a crash,
--- that nothing passes by chance for what was written, where such is known to be left: in files that a crash
--- left of these or, where both are the same, in these as they stand,
--- behind which round stand the voters that a crash under an open store leaves, and the same of the files that it
--- left,
--- what an open by so many workers may make of it, for which causes it may be refused, and what it leaves then,
--- what a close of a store may make of it,
--- what a crash may leave of it, and of an open store,
--- what a copy into a directory may make of it, answered or refused, and what it is once a fault is armed,
--- and whether it has stopped.
+-- A disk while no store is open on it:
+-- - `leaves`: after which round, cut off or not, the next open finds the voters, even after a crash;
+-- - `without_chance`: no CRC collision, given what is known to be left, in the second files: those that a crash left,
+--   or the same ones, unchanged;
+-- - `leaves_under`: after which round the voters are found that a crash under an open store leaves;
+-- - `spares`: no CRC collision, given what is known to be left, in the files that such a crash left;
+-- - `opens`: what an open by this many workers may return;
+-- - `refuses`: for which causes such an open may fail, and which files it leaves then;
+-- - `closes`: what a close of a store may leave;
+-- - `crashes`, `crashes_under`: what a crash may leave of the files, and of those under an open store;
+-- - `forks`: what a copy into a directory may do to the files, whether it succeeds or fails;
+-- - `arms`: what arming a fault does;
+-- - `has_stopped`: the disk has stopped.
 pub record Disk (S F : Type 0) : Type 1 where
   pub leaves : F → CutRound → Type 0
   pub without_chance : (files : F) (cut : CutRound) → leaves files cut → F → Type 0
@@ -80,28 +82,29 @@ pub record Disk (S F : Type 0) : Type 1 where
   pub arms : Fault → F → F → Type 0
   pub has_stopped : F → Bool
 
--- a store that was opened serves voters that may stand in the files, unless something there passed by chance
+-- a store that was opened serves voters that are possible for these files, unless they have a CRC collision
 abbrev pub FindsVoters : {S F : Type 0} → Service S → Disk S F → F → S → Type 0
 FindsVoters v d files store =
     (cut : CutRound) (known : d.leaves files cut) → d.without_chance files cut known files
     → (W : World) × MayFollow cut W × IsOpenAt v store W
 
--- Of the first files a crash, or an open that was refused, left the last: what stood in those stands in
--- these, unless something passed by chance in the files that were read.
+-- A crash, or an open that failed, made the last files from the first. They leave every round that the first left,
+-- unless there was a CRC collision in the files that were read.
 abbrev pub LeavesStanding : {S F : Type 0} → Service S → Disk S F → F → F → F → Type 0
 LeavesStanding v d files read left =
     (cut : CutRound) (known : d.leaves files cut) → d.without_chance files cut known read → d.leaves left cut
 
--- a crash left these files under an open store: what stood in it stands in them, unless something passed by chance
+-- a crash left these files under an open store: they leave every round that the store left, unless there was a CRC
+-- collision
 abbrev pub LeavesUnder : {S F : Type 0} → Service S → Disk S F → S → F → Type 0
 LeavesUnder v d store left =
     (cut : CutRound) → v.leaves store cut
     → (known : d.leaves_under store cut) × (d.spares store cut known left → d.leaves left cut)
 
--- what stood in an open store stands in its files
+-- the files leave every round that the open store left
 abbrev pub LeavesInFiles : {S F : Type 0} → Service S → Disk S F → S → F → Type 0
 LeavesInFiles v d store files = (cut : CutRound) → v.leaves store cut → d.leaves files cut
 
--- what stands in files stays
+-- the files still leave every round that they left
 abbrev pub StaysInFiles : {S F : Type 0} → Service S → Disk S F → F → F → Type 0
 StaysInFiles v d old new = (cut : CutRound) → d.leaves old cut → d.leaves new cut

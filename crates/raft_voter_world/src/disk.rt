@@ -1,4 +1,4 @@
-//! The disk of a store of voters, while no store is open on it.
+//! The trait of a disk that keeps the voters of a store while it isn't open.
 ghost use Rattle.std.specs.Prelude.{◌≡◌, false, IfErr, IfOk, OnOk};
 ghost use Rattle.std.specs.Thread.{IsSync};
 ghost use Rattle.raft_voter.specs.Service.{IsFromOutside};
@@ -11,17 +11,17 @@ use raft_voter::{Cause, FilesRefused, Memory};
 use std::alloc::Global;
 use std::thread::Threads;
 
-/// Files that keep the voters of a store while it isn't open: they can be opened and copied, a close gives them
-/// back, a crash of the machine leaves others of them, and calls that change them can be made to fail.
+/// Files that keep the voters of a store while it isn't open. They can be opened and copied, and a close returns them.
+/// A crash of the machine leaves others of them. Calls that change them can be made to fail.
 pub trait VoterDisk<R, S: VoterStorage<R>>: Sized {
     ghost use Rattle.raft_voter_world.specs.Stores.{Disk};
 
-    /// Which voters the next open finds, when that is sure, and what calls and crashes make of the files.
+    /// Which voters the next open finds, and when that is certain. What calls and crashes do to the files.
     ghost disk: { Disk S Self };
 
-    /// Opens the store, by at least one worker, which may be threads of the runtime that is handed in; it hasn't failed then. It is
-    /// refused for want of memory, or because the file system failed or the files can't be read; the files are
-    /// handed back, and may be opened again.
+    /// Opens the store with at least one worker, which may be threads of the runtime; a store that was just opened
+    /// hasn't failed. Fails if memory runs out, the file system fails, or the files can't be read. The error returns
+    /// the files, which may be opened again.
     fn open<T: Threads + Sync>(
         self,
         rt: &T,
@@ -36,38 +36,37 @@ pub trait VoterDisk<R, S: VoterStorage<R>>: Sized {
         ensures stands { IfErr result (λ refused. LeavesStanding S.service disk self self refused.files) }
         ensures errors { IfErr result (λ refused. IsFromOutside refused.cause) };
 
-    /// Closes the store, whether it failed or not.
+    /// Closes the store, whether it has failed or not.
     fn close(store: S, rt: &R) -> Self
         ensures closes { disk.closes store result }
         ensures stands { LeavesInFiles S.service disk store result };
 
-    /// What a crash of the machine leaves of these files, with no fault armed. It is refused for want of memory
-    /// alone.
+    /// Returns what a crash of the machine leaves of these files, with no fault armed. Fails only for lack of memory.
     fn crashed(&self, left: &Left) -> Result<Self, Memory>
         ensures crashes { IfOk result (disk.crashes self.now left.now) }
         ensures stands { IfOk result (λ files. LeavesStanding S.service disk self.now files files) }
         ensures runs { IfOk result (λ files. disk.has_stopped files ≡ false) };
 
-    /// What a crash of the machine leaves of the files below an open store, with no fault armed. It is refused
-    /// for want of memory alone.
+    /// Returns what a crash of the machine leaves of the files below an open store, with no fault armed. Fails only for
+    /// lack of memory.
     fn crashed_under(store: &S, left: &Left) -> Result<Self, Memory>
         ensures crashes { IfOk result (disk.crashes_under store.now left.now) }
         ensures stands { IfOk result (LeavesUnder S.service disk store.now) }
         ensures runs { IfOk result (λ files. disk.has_stopped files ≡ false) };
 
-    /// Copies the files into a directory. Answered or refused, they mean what they meant.
+    /// Copies the files into a directory. Whether it succeeds or fails, the files keep the voters.
     fn fork(&mut self, rt: &R, alloc: Global, target: &str) -> Result<(), Cause>
         ensures forks { disk.forks target.now self.old self.new }
         ensures stands { StaysInFiles S.service disk self.old self.new };
 
-    /// Makes a later call that changes files fail, also one of a store that is opened on them. Nothing else is
-    /// changed, and refused nothing is.
+    /// Arms a fault: a later call that changes files fails, also one of a store that is opened on them. Whether arming
+    /// succeeds or fails, the files keep the voters.
     fn arm(&mut self, fault: &Fault) -> Result<(), Memory>
         ensures arms { OnOk result (disk.arms fault.now self.old self.new) }
         ensures stands { StaysInFiles S.service disk self.old self.new }
         ensures stopped { disk.has_stopped self.new ≡ disk.has_stopped self.old };
 
-    /// Whether the files have stopped: each call that changes them is refused from then on.
+    /// Whether the files have stopped: every later call that changes them fails.
     fn has_stopped(&self) -> bool
         ensures { result ≡ disk.has_stopped self.now };
 }

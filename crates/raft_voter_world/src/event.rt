@@ -1,20 +1,20 @@
-//! What happens to a store of voters, and to the disk that it lies on.
+//! Events: what happens to a store of voters and to its disk.
 use raft_voter_messages::{Items, Request};
 use std::string::String;
 
 /// One event.
 #[derive(Debug, Drop)]
 pub enum Event {
-    /// Requests are handed in together, each with its group.
+    /// Requests are submitted together, each with its group.
     Round {
         /// The requests, in order.
         requests: Items<(u64, Request)>,
     },
-    /// Both queues are purged where they are past the thresholds of the settings.
+    /// Both queues are purged if they are past the thresholds of the settings.
     Maintain,
-    /// What stands in Append is written to Rewrite, and its files go.
+    /// The live records of Append are written to Rewrite, and its files are deleted or recycled.
     RewriteAppend,
-    /// What stands in Rewrite is written there again, and its old files go.
+    /// The live records of Rewrite are written to it again, and its old files are deleted or recycled.
     RewriteRewrite,
     /// The store is opened; one that is open is closed first.
     Open {
@@ -25,19 +25,19 @@ pub enum Event {
     Close,
     /// The machine stops.
     Crash {
-        /// What is left of what wasn't synced.
+        /// What remains of the unsynced changes.
         left: Left,
     },
     /// The machine stops at a call that changes files.
     CrashAt {
-        /// Which one, counted from here; none where it is 0.
+        /// The number of the call, counted from here; 0 means none.
         calls: u64,
-        /// What is left of what wasn't synced.
+        /// What remains of the unsynced changes.
         left: Left,
     },
-    /// A call that changes files is refused.
+    /// A call that changes files fails.
     Refuse {
-        /// Which one, counted from here; none where it is 0.
+        /// The number of the call, counted from here; 0 means none.
         calls: u64,
     },
     /// The files of a store that isn't open are copied into a directory.
@@ -47,15 +47,15 @@ pub enum Event {
     },
 }
 
-/// What a crash leaves of what wasn't synced.
+/// What a crash leaves of the unsynced changes.
 #[derive(Debug, Drop)]
 pub enum Left {
-    /// Nothing: what was synced last stands.
+    /// Nothing: only what was synced remains.
     Last,
-    /// All that wasn't synced.
+    /// All of them.
     All,
-    /// The first pieces that weren't synced, in the order of the calls over all files, so many bytes of the next
-    /// one, if it is a write, and nothing else.
+    /// Only the first unsynced pieces, in the order of the calls over all files. If the next piece is a write, its
+    /// first `bytes` bytes remain too.
     First {
         /// How many pieces are left whole.
         pieces: u64,

@@ -1,16 +1,16 @@
-//! What an event does to a store or its disk.
+//! Faults and purges: what an event does to a store or its disk.
 
-/// How a later call that changes files is made to fail.
+/// How a later call that changes files fails.
 #[derive(Debug, Drop)]
 pub enum Fault {
     /// The disk stops at the call of this number, counted from here, at least 1.
     Stop {
-        /// Which one.
+        /// The number of the call.
         calls: u64,
     },
-    /// The call of this number is refused, counted from here, at least 1.
+    /// The call of this number fails, counted from here, at least 1.
     Refuse {
-        /// Which one.
+        /// The number of the call.
         calls: u64,
     },
 }
@@ -18,10 +18,10 @@ pub enum Fault {
 /// A purge of a store's files.
 #[derive(Clone, Copy, Debug, PartialEq, Eq)]
 pub enum Purge {
-    /// Of both queues, where they are past the thresholds of the settings.
+    /// Purges both queues if they are past the thresholds of the settings.
     Expired,
-    /// What stands in Append is written to Rewrite, and its files go.
+    /// Writes the live records of Append to Rewrite, and deletes or recycles its files.
     RewriteAppend,
-    /// What stands in Rewrite is written there again, and its old files go.
+    /// Writes the live records of Rewrite to it again, and deletes or recycles its old files.
     RewriteRewrite,
 }

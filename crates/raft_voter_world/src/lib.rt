@@ -1,4 +1,4 @@
-//! What happens to a store of voters and its disk, played event by event.
+//! Plays events on a store of voters and its disk, one by one, and explains the replies.
 #![tactic(auto)]
 
 mod disk;

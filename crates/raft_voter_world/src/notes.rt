@@ -1,4 +1,4 @@
-//! What is noted of a run: its rounds, how far those were taken that were cut off, and the voters.
+//! The notes of a run: its rounds, how far those that were cut off were taken, and the voters.
 ghost use Rattle.std.specs.Prelude.{◌≡◌, ℕ, ◌++◌, ◌∷◌, [], IsTrue, Option, None, IfOk, OnOk};
 ghost use Rattle.raft_voter.specs.Rounds.{are_rising, fresh_world};
 ghost use Rattle.raft_voter.specs.Voters.{world_of};
@@ -10,8 +10,8 @@ use crate::report::WorldReport;
 use raft_voter::{Items, Memory, Round, Transcript, Voters};
 use std::alloc::Global;
 
-/// A round that was cut off and may have been taken up to some place, which the next open will show; and the
-/// rounds behind it, of which nothing was taken, with their cuts.
+/// A round that was cut off and may have been taken up to some place, which the next open will show. Also the rounds
+/// after it, of which nothing was taken, with their cuts.
 #[derive(Drop)]
 struct Unsettled {
     round: Round,
@@ -19,8 +19,8 @@ struct Unsettled {
     cuts: Vec<usize>,
 }
 
-/// What is noted of a run: the rounds that are settled, with the cuts of those that were cut off; the voters
-/// behind them; the round that isn't settled, if there is one; and the events that were lost.
+/// The notes of a run: the settled rounds, with the cuts of those that were cut off; the voters after them; the round
+/// that isn't settled, if there is one; and the events that were lost.
 #[derive(Drop)]
 pub struct Notes {
     alloc: Global,
@@ -32,7 +32,7 @@ pub struct Notes {
 }
 
 impl Notes {
-    /// Nothing happened yet.
+    /// Returns the notes of a run in which nothing happened yet.
     pub fn new(alloc: Global) -> Notes
         ensures world { world_of result.voters ≡ fresh_world }
         ensures none { result.unsettled ≡ None }
@@ -50,7 +50,7 @@ impl Notes {
         }
     }
 
-    /// A round was answered: the voters take it.
+    /// A round got replies: the voters take it.
     pub fn answered(&mut self, round: Round) -> Result<(), Memory>
         requires none { self.old.unsettled ≡ None }
         requires rising { (high : ℕ) × IsTrue (are_rising 0 high round.refused) }
@@ -74,7 +74,7 @@ impl Notes {
         });
     }
 
-    /// A round was cut off of which nothing was taken.
+    /// A round was cut off, and nothing of it was taken.
     pub fn idle(&mut self, round: Round) -> Result<(), Memory>
         ensures { OnOk result (NotesIdle self.old round self.new) }
     {
@@ -92,8 +92,8 @@ impl Notes {
         }
     }
 
-    /// An open shows these voters: the unsettled round was taken up to the least place that fits, and where
-    /// none does this event is lost.
+    /// An open shows these voters: the unsettled round was taken up to the least place that fits. If no place fits,
+    /// this event is lost.
     pub fn show(&mut self, event: usize, shown: Voters) -> Result<(), Memory>
         ensures { OnOk result ((place : Option ℕ) × Shows self.old event (world_of shown) place self.new) }
     {
@@ -108,8 +108,8 @@ impl Notes {
         }
     }
 
-    /// The least place up to which the unsettled round was taken where these voters stand behind it, or 0 where
-    /// none is unsettled and these are the voters; the voters take it up to there.
+    /// Returns the least place up to which taking the unsettled round leads to these voters. If no round is unsettled,
+    /// returns 0 if these are the voters. The voters take the round up to there.
     fn look_for(&mut self, shown: &Voters) -> Result<Option<usize>, Memory>
         ensures found { IfOk result (IsPlaceFound (cut_of self.old) (world_of shown.now)) }
         ensures rounds { self.new.rounds ≡ self.old.rounds }
@@ -128,7 +128,7 @@ impl Notes {
         }
     }
 
-    /// What is told of a run, behind which these files are left.
+    /// Returns the report of a run that left these files.
     pub fn into_report<F>(self, files: F) -> WorldReport<F>
         ensures { result ≡ record {
           transcript = record { rounds = self.rounds.items };
@@ -147,7 +147,7 @@ impl Notes {
         }
     }
 
-    /// Nothing waits any more: the unsettled round, if there is one, was taken up to this place.
+    /// Settles the run: the unsettled round, if there is one, was taken up to this place.
     pub fn settle(&mut self, place: usize) -> Result<(), Memory>
         ensures settles { OnOk result (Settles self.old place self.new) }
         ensures voters { self.new.voters ≡ self.old.voters }

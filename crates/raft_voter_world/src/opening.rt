@@ -1,4 +1,4 @@
-//! How an open of a store's files came out.
+//! Opens a store's files.
 ghost use Rattle.std.specs.Prelude.{◌≡◌, IfOk};
 ghost use Rattle.raft_voter.specs.Voters.{world_of};
 ghost use Rattle.raft_voter_world.specs.Openings.{ComesOf, ComesOut};
@@ -11,17 +11,17 @@ use raft_voter::{Memory, Voter, Voters};
 use std::alloc::Global;
 use std::thread::Threads;
 
-/// How an open came out.
+/// The outcome of an open.
 #[derive(Drop)]
 pub enum Opened<S, F> {
     /// The store is open, and shows these voters.
     Shown(S, Voters),
-    /// No store is open, and these files are there.
+    /// No store is open, and these are the files.
     Closed(F),
 }
 
-/// Opens a store over its files by so many workers, unless the disk has stopped. Where it stops in the open, this
-/// is left of it; where the voters can't be read, the store is closed again.
+/// Opens a store over its files with this many workers, unless the disk has stopped. If it stops in the open, a crash
+/// leaves `left`. If the voters can't be read, closes the store again.
 pub fn open_files<R: Threads + Sync, S: VoterStorage<R> + Drop, F: VoterDisk<R, S> + Drop>(
     rt: &R,
     alloc: Global,
@@ -40,8 +40,8 @@ pub fn open_files<R: Threads + Sync, S: VoterStorage<R> + Drop, F: VoterDisk<R, 
     }
 }
 
-/// Reads the voters of a store that was just opened, unless the disk stopped in the open. Where they can't be
-/// read, no round may follow of which it isn't known which voters served it: the store is closed.
+/// Reads the voters of a store that was just opened, unless the disk stopped in the open. If they can't be read, closes
+/// the store. A later round would otherwise be served by unknown voters.
 fn read_store<R, S: VoterStorage<R> + Drop, F: VoterDisk<R, S> + Drop>(
     rt: &R,
     alloc: Global,
@@ -59,7 +59,7 @@ fn read_store<R, S: VoterStorage<R> + Drop, F: VoterDisk<R, S> + Drop>(
     }
 }
 
-/// The voters that a list tells: the one that is listed first for a group.
+/// The voters of a list; the first one listed for a group counts.
 fn gather(alloc: Global, mut listed: Vec<(u64, Voter)>) -> Result<Voters, Memory>
     ensures { IfOk result (λ voters. world_of voters ≡ world_in listed.items) }
 {

@@ -1,4 +1,4 @@
-//! How far a round that was cut off was taken, by the voters that stand behind it.
+//! Finds how far a round that was cut off was taken, by the voters after it.
 ghost use Rattle.std.specs.Prelude.{◌≡◌, ℕ, true, false, ◌⊎◌, IfOk, IfErr, OnOk};
 ghost use Rattle.std.specs.BTreeSet.{contains};
 ghost use Rattle.std.specs.Ordering.{nat_cmp};
@@ -10,9 +10,9 @@ use raft_voter::{Memory, Request, Voters};
 use std::alloc::Global;
 use std::collections::BTreeSet;
 
-/// The least place of a round up to which, once it was taken from these voters on, those that are shown stand
-/// behind it; none where no place fits. The voters take the round up to there, or all of it. Each request is
-/// taken once, and only its own group compared behind it.
+/// Returns the least place up to which taking the round leads from `voters` to those shown, or `None` if no place fits.
+/// `voters` take the round up to there, or all of it. Each request is taken once, and only its own group is compared
+/// after it.
 pub fn find_place(
     alloc: Global,
     voters: &mut Voters,
@@ -41,7 +41,7 @@ pub fn find_place(
     Ok(None)
 }
 
-/// The groups whose voters aren't the same here and there.
+/// Returns the groups whose voters differ.
 fn differing_groups(alloc: Global, voters: &Voters, shown: &Voters) -> Result<BTreeSet<u64>, Memory>
     ensures { IfOk result (λ differing. (g : ℕ) → Marks (world_of voters.now) (world_of shown.now) differing g) }
 {
@@ -53,7 +53,7 @@ fn differing_groups(alloc: Global, voters: &Voters, shown: &Voters) -> Result<BT
     Ok(differing)
 }
 
-/// Marks those of these groups whose voters differ, and leaves the others as they were, or marks them so.
+/// Marks those of these groups whose voters differ. Other groups stay unchanged, or are marked rightly.
 fn mark_all(
     differing: &mut BTreeSet<u64>,
     voters: &Voters,
@@ -70,7 +70,7 @@ fn mark_all(
     Ok(())
 }
 
-/// Marks a group where its voters differ, and only there. Other groups stay as they were.
+/// Marks a group exactly if its voters differ. Other groups are unchanged.
 fn mark(
     differing: &mut BTreeSet<u64>,
     voters: &Voters,

@@ -8,15 +8,15 @@ use std::alloc::Global;
 /// How a round was served.
 #[derive(Drop)]
 pub enum Served {
-    /// The round was answered.
+    /// The round got its replies.
     Answered(Round),
-    /// The round was cut off as the file system failed, and may have been taken up to some place.
+    /// The round was cut off because the file system failed, and may have been taken up to some place.
     TookSome(Round),
     /// The round was cut off, and nothing of it was taken.
     TookNone(Round),
 }
 
-/// A round that was cut off.
+/// Returns a round that was cut off.
 pub fn cut_off(requests: Items<(u64, Request)>, refused: Items<usize>) -> Round
     ensures { result ≡ record { requests = requests; refused = refused; outcome = Outcome.Cut } }
 {
@@ -27,7 +27,7 @@ pub fn cut_off(requests: Items<(u64, Request)>, refused: Items<usize>) -> Round
     }
 }
 
-/// A round with its replies.
+/// Returns a round with its replies.
 pub fn answered(
     alloc: Global,
     requests: Items<(u64, Request)>,
@@ -47,7 +47,7 @@ pub fn answered(
     })
 }
 
-/// The places whose reply is `Refused`.
+/// Returns the places whose reply is `Refused`.
 fn refused_places(alloc: Global, replies: &[Reply]) -> Result<Items<usize>, Memory>
     ensures { IfOk result (λ places. places ≡ refused_from 0 replies.now) }
 {

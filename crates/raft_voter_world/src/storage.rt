@@ -35,7 +35,7 @@ impl<S: Drop, F: Drop> Storage<S, F> {
         }
     }
 
-    /// The files, where the store is closed if it is open.
+    /// Returns the files. Closes the store first if it is open.
     pub fn into_files<R>(self, rt: &R) -> F
     where
         S: VoterStorage<R>,
@@ -48,7 +48,7 @@ impl<S: Drop, F: Drop> Storage<S, F> {
         }
     }
 
-    /// What a crash of the machine leaves: no store is open.
+    /// Returns what a crash of the machine leaves. No store is open then.
     pub fn crashed<R>(&self, left: &Left) -> Result<F, Memory>
     where
         S: VoterStorage<R>,
@@ -61,7 +61,7 @@ impl<S: Drop, F: Drop> Storage<S, F> {
         }
     }
 
-    /// Serves a round, which is cut off where no store is open. Its requests, places and outcome are handed back.
+    /// Serves a round. It is cut off if no store is open. Returns its requests, places and outcome.
     pub fn serve<R>(
         &mut self,
         rt: &R,
@@ -85,7 +85,8 @@ impl<S: Drop, F: Drop> Storage<S, F> {
         }
     }
 
-    /// Purges an open store; answered or refused, its voters are kept. Of files nothing is changed.
+    /// Purges an open store. Whether the purge succeeds or fails, the voters are kept. If no store is open, nothing
+    /// changes.
     pub fn purge<R>(&mut self, rt: &R, purge: Purge)
     where
         S: VoterStorage<R>,
@@ -101,7 +102,7 @@ impl<S: Drop, F: Drop> Storage<S, F> {
         }
     }
 
-    /// Makes a later call that changes files fail.
+    /// Arms a fault: a later call that changes files fails.
     pub fn arm<R>(&mut self, fault: &Fault) -> Result<(), Memory>
     where
         S: VoterStorage<R>,
@@ -114,7 +115,8 @@ impl<S: Drop, F: Drop> Storage<S, F> {
         }
     }
 
-    /// Copies files into a directory; answered or refused, they are kept. Of an open store nothing is changed.
+    /// Copies the files into a directory if no store is open. Whether the copy succeeds or fails, the files keep the
+    /// voters. If a store is open, nothing changes.
     pub fn fork<R>(&mut self, rt: &R, alloc: Global, target: &str)
     where
         S: VoterStorage<R>,

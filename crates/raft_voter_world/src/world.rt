@@ -21,8 +21,8 @@ use std::alloc::Global;
 use std::string::String;
 use std::thread::Threads;
 
-/// A store of voters and its disk: what is there, what is noted of the run so far, and what a stop leaves at
-/// the call that was armed last.
+/// A store of voters and its disk: the storage, the notes of the run so far, and what a stop leaves at the call that
+/// was armed last.
 #[derive(Drop)]
 pub struct World<S, F> {
     alloc: Global,
@@ -32,7 +32,7 @@ pub struct World<S, F> {
 }
 
 impl<S: Drop, F: Drop> World<S, F> {
-    /// These files, with nothing noted and nothing armed.
+    /// Returns a world with these files, with nothing noted and nothing armed.
     pub fn new(alloc: Global, files: F) -> World<S, F>
         ensures storage { result.storage ≡ Storage.Closed files }
         ensures world { cut_of result.notes ≡ uncut fresh_world }
@@ -49,7 +49,7 @@ impl<S: Drop, F: Drop> World<S, F> {
         }
     }
 
-    /// Where the disk has stopped a crash follows.
+    /// If the disk has stopped, a crash follows.
     fn fallen<R>(self) -> Result<World<S, F>, Memory>
     where
         S: VoterStorage<R>,
@@ -74,7 +74,7 @@ impl<S: Drop, F: Drop> World<S, F> {
         })
     }
 
-    /// Requests are handed in together: the store serves them, if one is open.
+    /// Requests are submitted together: the store serves them, if one is open.
     pub fn round<R>(
         mut self,
         rt: &R,
@@ -106,7 +106,7 @@ impl<S: Drop, F: Drop> World<S, F> {
         self.fallen()
     }
 
-    /// The machine stops: what a crash leaves is there, and no store is open.
+    /// The machine stops: only what the crash leaves is there, and no store is open.
     pub fn crash<R>(self, place: usize, left: Left) -> Result<World<S, F>, Memory>
     where
         S: VoterStorage<R>,
@@ -128,7 +128,7 @@ impl<S: Drop, F: Drop> World<S, F> {
         })
     }
 
-    /// A later call that changes files is refused, unless its number is 0.
+    /// Arms a failure: a later call that changes files fails. 0 means none.
     pub fn refuse<R>(mut self, place: usize, calls: u64) -> Result<World<S, F>, Memory>
     where
         S: VoterStorage<R>,
@@ -165,8 +165,8 @@ impl<S: Drop, F: Drop> World<S, F> {
         closed.fallen()
     }
 
-    /// Opens the store by so many workers; one that is open is closed first. What it shows is noted; where its
-    /// voters can't be read it is closed again.
+    /// Opens the store with this many workers; one that is open is closed first. Notes the voters that it shows. If
+    /// they can't be read, closes the store again.
     pub fn open<R: Threads + Sync>(
         self,
         rt: &R,
@@ -201,7 +201,7 @@ impl<S: Drop, F: Drop> World<S, F> {
         opened.fallen()
     }
 
-    /// Copies the files into a directory, where no store is open.
+    /// Copies the files into a directory, if no store is open.
     pub fn fork<R>(mut self, rt: &R, place: usize, target: String) -> Result<World<S, F>, Memory>
     where
         S: VoterStorage<R>,
@@ -212,7 +212,7 @@ impl<S: Drop, F: Drop> World<S, F> {
         self.fallen()
     }
 
-    /// The disk stops at a later call that changes files, unless its number is 0; this is left then.
+    /// Arms a stop: the disk stops at a later call that changes files, and a crash leaves `left`. 0 means none.
     pub fn stop_at<R>(mut self, place: usize, calls: u64, left: Left) -> Result<World<S, F>, Memory>
     where
         S: VoterStorage<R>,

@@ -1,4 +1,4 @@
--- Rounds of which nothing was refused but requests out of range, beside voters of each group's own.
+-- Rounds in which only requests out of range were refused, compared with voters of each group's own.
 use Rattle.std.specs.Prelude.{◌≡◌, ◌==◌, if◌then◌else◌, ℕ, List, [], ◌∷◌, ◌++◌, map}
 use Rattle.std.specs.List.{flat_map}
 use Rattle.raft_voter_messages.specs.declared.reply.Reply.{Reply}
@@ -19,22 +19,22 @@ use Rattle.raft_voter_world.specs.Stores.{Disk, Upkeep}
 
 -- One group.
 
--- what a group asked, in order
+-- the requests of a group, in order
 abbrev pub asked_of : ℕ → List (ℕ × Request) → List Request
 asked_of g [] = []
 asked_of g (q ∷ qs) = if q.0 == g then q.1 ∷ asked_of g qs else asked_of g qs
 
--- what it was told
+-- the replies to a group
 abbrev pub told_to : ℕ → List (ℕ × Request) → List Reply → List Reply
 told_to g [] told = []
 told_to g (q ∷ qs) [] = []
 told_to g (q ∷ qs) (a ∷ told) = if q.0 == g then a ∷ told_to g qs told else told_to g qs told
 
--- what it asked in these rounds
+-- the requests of a group in these rounds
 abbrev pub asked_in : ℕ → List (List (ℕ × Request)) → List Request
 asked_in g rounds = flat_map (asked_of g) rounds
 
--- what it was told in them
+-- the replies to a group in these rounds
 abbrev pub told_in : ℕ → List (List (ℕ × Request)) → List (List Reply) → List Reply
 told_in g [] told = []
 told_in g (requests ∷ rounds) [] = []
@@ -42,18 +42,18 @@ told_in g (requests ∷ rounds) (replies ∷ told) = told_to g requests replies 
 
 -- A voter of its own.
 
--- a voter that took these requests, and no others
+-- a voter after these requests, and no others
 abbrev pub voter_alone : State → List Request → State
 voter_alone v [] = v
 voter_alone v (q ∷ qs) = voter_alone (next v q) qs
 
--- what it replied to them
+-- the replies of this voter to these requests
 abbrev pub replies_alone : State → List Request → List Reply
 replies_alone v [] = []
 replies_alone v (q ∷ qs) = reply v q ∷ replies_alone (next v q) qs
 
--- Each group was told what a voter of its own replies to what the group asked in these rounds, and its voter is what
--- that one became.
+-- Each group got the replies of a voter of its own, which took only this group's requests in these rounds. The group's
+-- voter is now that voter.
 pub record AreIndependent (W : World) (rounds : List (List (ℕ × Request))) (told : List (List Reply)) (X : World)
     : Type 0 where
   pub replies : (g : ℕ) → told_in g rounds told ≡ replies_alone (W g) (asked_in g rounds)
@@ -61,7 +61,7 @@ pub record AreIndependent (W : World) (rounds : List (List (ℕ × Request))) (t
 
 -- Stores.
 
--- Rounds of which a store refused nothing but requests out of range are those of independent voters.
+-- If a store refused only requests out of range, its rounds are those of independent voters.
 abbrev pub RoundsAreIndependent : {S : Type 0} → Service S → Type 0
 RoundsAreIndependent {S} v = (W : World) (rounds : List (List (ℕ × Request))) (told : List (List Reply)) (old new : S)
     → IsOpenAt v old W → AnswersRounds v rounds told old new → refused_in told ≡ map (out_of_range 0) rounds
@@ -69,35 +69,35 @@ RoundsAreIndependent {S} v = (W : World) (rounds : List (List (ℕ × Request)))
 
 -- Transcripts.
 
--- a round was answered, and of it nothing was refused but requests out of range
+-- a round got replies, and only requests out of range were refused in it
 pub record IsWhole (round : Round) : Type 0 where
   pub replies : List Reply
   pub answered : round.outcome ≡ Answered replies
   pub refused : round.refused ≡ out_of_range 0 round.requests
 
--- so was each of these
+-- the same for each of these rounds
 abbrev pub AreWhole : List Round → Type 0
 AreWhole [] = Unit {0}
 AreWhole (round ∷ rounds) = IsWhole round × AreWhole rounds
 
--- the replies that were handed out
+-- the replies that a round returned
 abbrev pub handed_out : Outcome → List Reply
 handed_out (Answered replies) = replies
 handed_out Cut = []
 
--- the requests of each round, and what was told in each
+-- the requests of each round, and the replies of each
 abbrev pub requests_in : List Round → List (List (ℕ × Request))
 requests_in rounds = map (λ round. round.requests) rounds
 
 abbrev pub replies_in : List Round → List (List Reply)
 replies_in rounds = map (λ round. handed_out round.outcome) rounds
 
--- Such rounds, explained by voters, are those of independent ones.
+-- Such rounds, if voters explain them, are those of independent voters.
 abbrev pub WholeRoundsAreIndependent : Type 0
 WholeRoundsAreIndependent = (W X : World) (rounds : List Round) (cuts : List ℕ) → Leads W rounds cuts X
     → AreWhole rounds → AreIndependent W (requests_in rounds) (replies_in rounds) X
 
--- And so are those of a run that lost nothing, whatever happened between them.
+-- So are the rounds of a run that lost nothing, whatever happened between them.
 abbrev pub RunsAreIndependent : {S F : Type 0} → Service S → Upkeep S → Disk S F → Type 0
 RunsAreIndependent {S} {F} v u d = (files : F) (events : List Event) (report : WorldReport F)
     → (run : IsRun v u d files events report) → ServeSome v (moments_of run.turns) → report.lost ≡ []

@@ -1,4 +1,5 @@
--- A run told for whoever checks what is asked of chance: by which knowledge of what is left, the reader picks.
+-- A run for a reader who checks the premise that there is no CRC collision. The reader picks which knowledge of what is
+-- left to check it by.
 use Rattle.std.specs.Prelude.{List, [], ◌∷◌, ◌++◌, IsSome}
 use Rattle.raft_voter.specs.Rounds.{World, fresh_world}
 use Rattle.raft_voter.specs.Service.{CutRound, IsOpenAt, MayFollow, Service, uncut}
@@ -12,10 +13,9 @@ use Rattle.raft_voter_world.specs.History.Moment.{opened, unread, fell, unopened
 use Rattle.raft_voter_world.specs.Run.{EndsWell, IsRun, Knows, moments_of}
 use Rattle.raft_voter_world.specs.Stores.{Disk, Upkeep}
 
--- What is known to be left in a storage is known still behind each moment, and by whichever knowledge of it a reader
--- goes on, this holds in the end, unless something passes by chance of what the reader knows: in the files that an
--- open reads, or in those that a crash leaves. An open then shows voters that may have been left, and its place is
--- found.
+-- After each moment, what a storage is known to leave is still known. The reader continues with any knowledge of it,
+-- and `End` holds at the end. Nothing is claimed after a CRC collision, by what the reader knows, in files that an open
+-- reads or a crash leaves. An open shows voters that are possible there, and finds their place.
 abbrev pub GoesBy :
     {S F : Type 0}
     → (v : Service S) (d : Disk S F) → (Storage S F → CutRound → Type 0)
@@ -56,14 +56,14 @@ GoesBy v d End (Closed files) cut known (idle round now ∷ ms) =
     d.leaves now cut × ((still : d.leaves now cut) → GoesBy v d End (Closed now) cut still ms)
 GoesBy v d End storage cut known ms = ⊥
 
--- Whatever happens from files on in which no voter is stored, it goes so, and ends well.
+-- Whatever happens, starting from files that store no voter: this holds, and the run ends well.
 abbrev pub AllGoBy : {S F : Type 0} → Service S → Upkeep S → Disk S F → Type 0
 AllGoBy {S} {F} v u d =
     (files : F) (ms : List (Moment S F)) → Happen v u d (Closed files) ms → AreLeast (uncut fresh_world) ms
     → (known : d.leaves files (uncut fresh_world))
     → GoesBy v d (λ storage cut. EndsWell ms cut) (Closed files) (uncut fresh_world) known ms
 
--- And so it goes with a run.
+-- The same holds for a run.
 abbrev pub RunsGoBy : {S F : Type 0} → Service S → Upkeep S → Disk S F → Type 0
 RunsGoBy {S} {F} v u d = (files : F) (events : List Event) (report : WorldReport F)
     → (run : IsRun v u d files events report) → (known : d.leaves files (uncut fresh_world))

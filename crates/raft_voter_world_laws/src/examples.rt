@@ -1,4 +1,4 @@
-//! What the definitions say of a short round: each line is computed.
+//! The definitions at work on a short round. Each line is computed.
 
 ghost use Rattle.std.specs.Prelude.{◌≡◌, [], ◌∷◌};
 ghost use Rattle.raft_voter_messages.specs.declared.reply.Reply.TheVariants.{Granted, Refused};
@@ -7,7 +7,7 @@ ghost use Rattle.raft_voter.specs.Service.{out_of_range, refused_from};
 ghost use Rattle.raft_voter_world_laws.specs.Examples.{mixed_replies, mixed_round};
 ghost use Rattle.raft_voter_world_laws.specs.Independent.{asked_of, replies_alone, told_to};
 
-/// Nothing is refused but the request out of range, and each group is told what a voter of its own says.
+/// Only the request out of range is refused, and each group gets the replies of a voter of its own.
 pub fn groups_are_told_apart()
     ensures places { refused_from 0 mixed_replies ≡ out_of_range 0 mixed_round }
     ensures told { told_to 1 mixed_round mixed_replies ≡ Granted 5 ∷ Refused ∷ [] }

@@ -1,10 +1,12 @@
-//! What follows for whoever reads a run of a world, or hands rounds to a store: laws in the words of voters alone.
+//! Laws for readers of a world's run, and for callers that send rounds to a store. They are in terms of voters alone.
 //!
-//! Each public function is a law over the definitions of `specs/`: it does nothing, and its contract is what is
-//! proved.
-//! * [`rounds`]: rounds of which nothing was refused but requests out of range; [`alike`]: two stores that are asked the
-//!   same ones; [`causes`]: why each round of a run is told as it is, and each purge answered or refused, and that its
-//!   stores serve voters; [`readers`]: by which knowledge the premise on chance is checked; [`examples`]: a round.
+//! Each public function is a law over the definitions of `specs/`. It does nothing, and its contract is what is proved.
+//! * [`rounds`]: rounds in which only requests out of range were refused.
+//! * [`alike`]: two stores that serve the same rounds.
+//! * [`causes`]: why each round of a run has its outcome, why each purge succeeded or failed, and that its stores
+//!   serve voters.
+//! * [`readers`]: by which knowledge the premise on CRC collisions is checked.
+//! * [`examples`]: a round.
 #![tactic(auto)]
 
 pub mod alike;

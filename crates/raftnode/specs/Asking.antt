@@ -1,14 +1,14 @@
--- What arguments ask for.
+-- What the arguments request.
 use Rattle.std.specs.Prelude.{◌≡◌, ◌≢◌, ℕ, Bool, false, List, [], ◌∷◌, None, Some, codes, nat_eq, string_bytes}
 use Rattle.std.specs.List.{starts_with}
 use Rattle.raftnode.specs.declared.asking.Asked.{Asked}
 use Rattle.raftnode.specs.declared.asking.Asked.TheVariants.{Help, Node, Others}
 
--- whether a word is an option, and no path: it begins with a dash
+-- whether a word is an option, and not a path: it begins with a dash
 abbrev pub is_option : List ℕ → Bool
 is_option word = starts_with nat_eq word (codes "-")
 
--- the words that ask for the usage
+-- the words that request the usage
 abbrev pub help_words : List (List ℕ)
 help_words = codes "--help" ∷ []
 
@@ -21,7 +21,7 @@ abbrev pub AreBoth : List (List ℕ) → List ℕ → List ℕ → Type 0
 AreBoth words directory settings =
     (words ≡ directory ∷ settings ∷ []) × (is_option directory ≡ false) × (is_option settings ≡ false)
 
--- what words ask for: the usage, or a node over a directory with its settings; others ask for none of it
+-- what words request: the usage, or a node over a directory with its settings; other words are wrong
 abbrev pub Asks : List (List ℕ) → Asked → Type 0
 Asks words Help = words ≡ help_words
 Asks words (Node directory None) = AreDirectory words (string_bytes directory)

@@ -1,4 +1,4 @@
-//! What the arguments ask for.
+//! What the arguments request.
 ghost use Rattle.std.specs.Prelude.{◌≡◌, IfOk, map, string_bytes};
 ghost use Rattle.raftnode.specs.Asking.{Asks, is_option};
 
@@ -7,7 +7,7 @@ use std::env;
 use std::env::Env;
 use std::io::ErrorKind;
 
-/// How the program is called.
+/// The program's usage.
 pub const USAGE: &str = "usage: raftnode DIR [SETTINGS]
 
   DIR        the directory of the log, created if it does not exist; one raftnode at a time can use it
@@ -28,19 +28,19 @@ status: 0 the input ended, and the log is closed
         2 wrong arguments
 ";
 
-/// What the arguments ask for.
+/// What the arguments request.
 #[derive(Debug, Drop, PartialEq, Eq)]
 pub enum Asked {
     /// The usage.
     Help,
     /// A node over the log in this directory, with the settings of this file, or the default ones.
     Node(String, Option<String>),
-    /// Nothing that the program does.
+    /// Arguments that the program rejects.
     Others,
 }
 
 impl Asked {
-    /// What the arguments after the program's name ask for. One that isn't UTF-8 asks for nothing. Fails only for lack of
+    /// What the arguments after the program's name request. One that isn't UTF-8 is wrong. Fails only for lack of
     /// memory.
     pub fn read<R: Env + AllocGlobal>(rt: &R) -> Result<Asked, AllocError> {
         match env::args(rt) {
@@ -55,7 +55,7 @@ impl Asked {
         }
     }
 
-    /// What these words ask for. A path is the word as it is. Fails only for lack of memory.
+    /// What these words request. A path is the word, unchanged. Fails only for lack of memory.
     pub fn of(words: &[String]) -> Result<Asked, AllocError>
         ensures { IfOk result (Asks (map string_bytes words.now)) }
     {
@@ -73,7 +73,7 @@ impl Asked {
     }
 }
 
-/// Whether a word is an option, and no path: it begins with a dash.
+/// Whether a word is an option, and not a path: it begins with a dash.
 fn is_option(word: &String) -> bool
     ensures { result ≡ is_option (string_bytes word.now) }
 {

@@ -1,9 +1,8 @@
-//! A node of Raft voters over a directory: rounds of requests are read from standard input, as lines of the session
-//! language, and each is answered on standard output once no crash takes it back. `raftnode --help` tells how it is
-//! called.
+//! A node of Raft voters over a directory. It reads rounds of requests from standard input, as lines of the session
+//! language. It writes the replies to standard output after no crash can lose them. `raftnode --help` prints the usage.
 //!
-//! The status is 0 if the input ended and the log is closed, 1 if the log failed or something was refused, which standard
-//! error tells, and 2 for wrong arguments.
+//! The status is 0 if the input ended and the log is closed, 1 if the log or something else failed, and 2 for wrong
+//! arguments. Standard error says what failed.
 #![tactic(auto)]
 
 mod asking;
@@ -25,7 +24,7 @@ use std::rt::Files;
 use std::thread::Threads;
 use std::time::Clock;
 
-/// The status if the log failed or something was refused.
+/// The status if the log or something else failed.
 const REFUSED: u8 = 1;
 
 /// The status for wrong arguments.
@@ -69,13 +68,13 @@ fn exit_after(text: io::Result<()>, status: u8) -> ExitCode {
     }
 }
 
-/// The exit after a refusal, which is told.
+/// The exit after a failure, which is printed to standard error.
 fn refused<R: Eprint>(rt: &R, refusal: &Refusal) -> ExitCode {
     exit_after(eprintln!(rt; "raftnode: {refusal}"), REFUSED)
 }
 
-// An open lends its file system to threads, so that one over real directories is handed on here, where the runtime is
-// no parameter.
+// An open lends its file system to threads. One over real directories is therefore passed on here, where the runtime
+// isn't a parameter.
 fn main(rt: HostRuntime) -> ExitCode {
     let (directory, file) = match Asked::read(&rt) {
         Ok(Asked::Node(directory, file)) => (directory, file),

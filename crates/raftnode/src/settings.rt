@@ -6,8 +6,8 @@ use std::fs;
 use std::fs::File;
 use std::rt::Files;
 
-/// The settings of this file, or the default ones if there is none; in this directory. Settings that no log can be opened
-/// with are refused here, by the path of the file.
+/// The settings of this file, or the default ones if there is none, in this directory. Settings with which no log can
+/// be opened are rejected here, with the path of the file.
 pub fn settings<R: Files<File = File> + Log + AllocGlobal>(
     rt: &R,
     directory: String,

@@ -1,10 +1,14 @@
-//! Serves a session of Raft requests and writes what was answered, with a verdict on it.
+//! Serves a session of Raft requests and writes the replies, with a verdict on them.
 //!
-//! The session is read from standard input, and its transcript goes to standard output. With `--save DIR` the files of
-//! its log are then written into a directory; with `--load DIR` no session is read, and the voters are told whose log
-//! lies there. `--help` prints the usage. The status is 0 where the verdict is yes, 1 where it is no, 2 for an unreadable
-//! line or for other arguments, 3 where memory, reading or writing was refused, and 4 where a log that is loaded isn't
-//! opened.
+//! It reads the session from standard input, and writes its transcript to standard output. With `--save DIR` it then
+//! writes the files of its log into a directory. With `--load DIR` it reads no session, and lists the voters whose log
+//! is there. `--help` prints the usage.
+//!
+//! The status is:
+//! - 0 if the verdict is yes, and 1 if it is no;
+//! - 2 for an unreadable line or for other arguments;
+//! - 3 if memory, reading or writing failed;
+//! - 4 if opening a loaded log failed.
 #![tactic(auto)]
 
 use raft_voter_program::start;

@@ -1,9 +1,10 @@
-//! Draws a session: reads it from standard input, runs it as `raftvoters` does, and writes a picture of what came of
-//! it, as SVG, to standard output. `raftvoters_timeline --help` tells how it is called.
+//! Draws a session: reads it from standard input, runs it as `raftvoters` does, and writes a picture of the run, as
+//! SVG, to standard output. `raftvoters_timeline --help` prints the usage.
 //!
-//! The status is 0 where there is a picture. Where there is none standard error says why, and the status is 1 for
-//! settings that are refused, 2 for an unreadable line or for other arguments, and 3 where memory, reading or writing was
-//! refused.
+//! The status is 0 if there is a picture. Else standard error says why, and the status is:
+//! - 1 for settings that are rejected;
+//! - 2 for an unreadable line or for other arguments;
+//! - 3 if memory, reading or writing failed.
 #![tactic(auto)]
 
 use log::Log;
@@ -18,7 +19,7 @@ use std::io::{ErrorKind, Input, Print, Read};
 use std::process::ExitCode;
 use std::thread::Threads;
 
-/// How the program is called.
+/// The program's usage.
 const USAGE: &str = "usage: raftvoters_timeline < SESSION > PICTURE.svg
 
   --help   prints this text and does nothing else
@@ -33,20 +34,20 @@ status: 0 the picture was written
         3 memory, reading or writing was refused
 ";
 
-/// The most bytes that are read: one more than a session may have, so that one which is too long is known by them.
+/// The most bytes that are read: one more than a session may have, so that a longer one is recognized.
 const MOST_READ_BYTES: u64 = 268_435_457;
 
-/// The status where settings are refused.
+/// The status if settings are rejected.
 const SETTINGS_REFUSED: u8 = 1;
 
 /// The status for an unreadable line, and for wrong arguments.
 const UNREADABLE: u8 = 2;
 
-/// The status where memory, reading or writing was refused.
+/// The status if memory, reading or writing failed.
 const FAULT: u8 = 3;
 
-/// The program but for its exit: the answer is the status with which it ends. An `Err` tells that memory, reading or
-/// writing was refused.
+/// The program except for its exit: returns the status with which it ends. Fails with an `Err` if memory, reading or
+/// writing fails.
 fn run(
     rt: &(impl Env + Input + Print + Eprint + Threads + Log + Sync + AllocGlobal),
 ) -> io::Result<u8> {
@@ -63,7 +64,7 @@ fn run(
     }
 }
 
-/// Writes the picture of the session on standard input, and answers the status that goes with it.
+/// Writes the picture of the session on standard input, and returns the status for it.
 fn draw_input<R: Input + Print + Eprint + Threads + Log + Sync + AllocGlobal>(
     rt: &R,
 ) -> io::Result<u8> {
@@ -79,7 +80,7 @@ fn draw_input<R: Input + Print + Eprint + Threads + Log + Sync + AllocGlobal>(
     }
 }
 
-/// Writes the picture of a session on a log in memory, and answers the status that goes with it.
+/// Writes the picture of a session on a log in memory, and returns the status for it.
 fn draw<R: Print + Eprint + Threads + Log + Sync + AllocGlobal>(
     rt: &R,
     session: Session,
@@ -100,13 +101,13 @@ fn draw<R: Print + Eprint + Threads + Log + Sync + AllocGlobal>(
     Ok(0)
 }
 
-/// The files with which a session of these settings begins.
+/// The files at the start of a session with these settings.
 fn files_of<R: Log + AllocGlobal>(rt: &R, settings: &Option<String>) -> Result<LogFiles, NoFiles> {
     StoreSetup::<R, LogVoters, LogFiles>::files(&LogSetup {}, rt, rt.alloc(), settings)
 }
 
-/// The status with which the program ends. Standard error is told why memory, reading or writing was refused, if it can
-/// be told.
+/// The status with which the program ends. If memory, reading or writing failed, it prints why to standard error, if it
+/// can.
 fn exit_status(rt: &impl Eprint, ended: io::Result<u8>) -> u8 {
     match ended {
         Ok(status) => status,

@@ -1,4 +1,4 @@
-//! What checkers tell: the groups that lack indexes.
+//! What checkers find: the groups that lack indexes.
 
 ghost use Rattle.std.specs.Prelude.{OnOk, IfOk};
 ghost use Rattle.raft_log_closed.specs.Findings.{Lists, NotesFinding, TellsOver, found_among, told_by, told_over};
@@ -21,7 +21,7 @@ impl ConsistencyChecker {
         list(alloc, found)
     }
 
-    /// The findings go over those of another queue. Refused, some do.
+    /// Puts the findings over those of another queue. If it fails, some are.
     fn tell_over(self, found: &mut BTreeMap<u64, u64>) -> Result<(), AllocError>
         ensures { OnOk result (TellsOver (told_by self) found.old found.new) }
     {
@@ -32,7 +32,7 @@ impl ConsistencyChecker {
     }
 }
 
-/// The finding of a group, if it has one, goes over that in a map. Refused, nothing changes.
+/// Puts the finding of a group, if it has one, over that in a map. If it fails, nothing changes.
 fn note(found: &mut BTreeMap<u64, u64>, group: u64, end: Option<u64>) -> Result<(), AllocError>
     ensures { OnOk result (NotesFinding group end found.old found.new) }
 {
@@ -42,7 +42,7 @@ fn note(found: &mut BTreeMap<u64, u64>, group: u64, end: Option<u64>) -> Result<
     Ok(())
 }
 
-/// The findings of both queues, by group: of a group that has two the one in Rewrite.
+/// The findings of both queues, by group: for a group with two, the one in Rewrite.
 pub(crate) fn join_findings(
     alloc: Global,
     append: ConsistencyChecker,

@@ -1,4 +1,4 @@
-//! What is asked before a call, how a failure is counted, and how a call of the device ends.
+//! What is checked before a call, how a failure is counted, and how a device call ends.
 ghost use Rattle.std.specs.Prelude.{◌≡◌, true, OnOk, OnErr};
 ghost use Rattle.raft_log_disk_device.specs.Directory.{IsToldOf};
 
@@ -13,8 +13,8 @@ impl<D: Device> DirectoryFileSystem<D> {
     ghost use Rattle.raft_log_disk.specs.Arguments.{IsAfterStop};
     ghost use Rattle.raft_log_disk_device.specs.Directory.{disk_of, FailsOnce, Runs, RunsWithDirectory, RunsWithFile, RunsWithWriter, LacksDirectory, LacksFile, LacksWriter};
 
-    /// Counts a failure and notes the kind that it is told as; the one that would make 2^64 stops the file
-    /// system, none is noted, and it isn't told as want of memory.
+    /// Counts a failure, and notes the kind that it is reported as. If the count is full, the file system stops
+    /// instead: none is noted, and the error isn't out of memory.
     pub(super) fn fail(&mut self, kind: ErrorKind) -> ErrorKind
         ensures { FailsOnce kind result (disk_of D.Device self.old) (disk_of D.Device self.new) }
     {
@@ -31,7 +31,7 @@ impl<D: Device> DirectoryFileSystem<D> {
         }
     }
 
-    /// Whether the file system runs.
+    /// Fails if the file system has stopped.
     pub(super) fn check_runs(&self) -> Result<(), ErrorKind>
         ensures ok { OnOk result (Runs D.Device self.now) }
         ensures err { IfErr result (IsAfterStop (disk_of D.Device self.now)) }
@@ -43,7 +43,7 @@ impl<D: Device> DirectoryFileSystem<D> {
         }
     }
 
-    /// Whether the file system runs, and a path is a directory's.
+    /// Fails if the file system has stopped, or if a path isn't a directory's.
     pub(super) fn check_directory(&self, path: &str) -> Result<(), ErrorKind>
         ensures ok { OnOk result (RunsWithDirectory D.Device path.now self.now) }
         ensures err { IfErr result (LacksDirectory path.now (disk_of D.Device self.now)) }
@@ -56,7 +56,7 @@ impl<D: Device> DirectoryFileSystem<D> {
         }
     }
 
-    /// Whether the file system runs, and a handle's file is there.
+    /// Fails if the file system has stopped, or if a handle's file was deleted.
     pub(super) fn check_handle(&self, handle: Handle) -> Result<(), ErrorKind>
         ensures ok { OnOk result (RunsWithFile D.Device handle self.now) }
         ensures err { IfErr result (LacksFile handle (disk_of D.Device self.now)) }
@@ -69,7 +69,7 @@ impl<D: Device> DirectoryFileSystem<D> {
         }
     }
 
-    /// Whether a handle may write, too.
+    /// Fails as `check_handle` does, or if a handle may only read.
     pub(super) fn check_writer(&self, handle: Handle) -> Result<(), ErrorKind>
         ensures ok { OnOk result (RunsWithWriter D.Device handle self.now) }
         ensures err { IfErr result (LacksWriter handle (disk_of D.Device self.now)) }
@@ -82,7 +82,7 @@ impl<D: Device> DirectoryFileSystem<D> {
     }
 }
 
-/// Ends a call of the device: a refused one is a stop, which isn't told as want of memory.
+/// Ends a device call: if it failed, the file system stops, and the error isn't out of memory.
 pub(super) fn stopping(stopped: &mut bool, made: Result<(), ErrorKind>) -> Result<(), ErrorKind>
     ensures told { IsToldOf made result }
     ensures ok { OnOk made (stopped.new ≡ stopped.old) }

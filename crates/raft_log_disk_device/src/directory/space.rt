@@ -13,8 +13,8 @@ impl<D: Device> DirectoryFileSystem<D> {
     ghost use Rattle.raft_log_disk_device.specs.Directory.{disk_of};
     ghost use Rattle.raft_log_disk_device.specs.Space.{spaces_of, TellsFree};
 
-    /// Says how many bytes the files of the directory with this path may have in all, in place of what was said of
-    /// it: `free_space` tells what is left of that. No call is refused by it. It is refused for want of memory alone.
+    /// Sets how many bytes the files of a directory may have in all, replacing an earlier number. `free_space` returns
+    /// what is left of it; no call fails because of it. Fails only if memory runs out.
     pub fn set_space(&mut self, directory: &str, bytes: u64) -> Result<(), AllocError>
         ensures same { disk_of D.Device self.new ≡ disk_of D.Device self.old }
         ensures ok { OnOk result (spaces_of D.Device self.new
@@ -28,7 +28,7 @@ impl<D: Device> DirectoryFileSystem<D> {
         }
     }
 
-    /// How many bytes a directory's files may still grow by; 2^64 - 1 where no space is set for it.
+    /// By how many bytes a directory's files may still grow; 2^64 - 1 if no space is set for it.
     pub(super) fn free_in(&self, directory: &str) -> u64
         ensures { TellsFree D.Device self.now directory.now result }
     {
@@ -38,7 +38,7 @@ impl<D: Device> DirectoryFileSystem<D> {
         }
     }
 
-    /// How many bytes are left of a space for a directory's files.
+    /// How many bytes a directory's files leave of its space.
     fn space_left(&self, directory: &str, space: u64) -> u64
         ensures { (used : ℕ) × HasUsed directory.now (contents_of self.now.storage) used
             × (result ≡ space - used) }
@@ -52,7 +52,7 @@ impl<D: Device> DirectoryFileSystem<D> {
         left
     }
 
-    /// The size of the file that a path names; none where it names no file.
+    /// The size of the file at a path in bytes; 0 if there is none.
     fn size_at(&self, path: &str) -> u64
         ensures { result ≡ size_at (contents_of self.now.storage) path.now }
     {

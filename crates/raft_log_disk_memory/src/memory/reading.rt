@@ -11,9 +11,8 @@ impl MemoryFileSystem {
     ghost use Rattle.raft_log_disk_memory.specs.Memory.{disk_of, unsynced};
     ghost use Rattle.raft_log_disk_memory.specs.Turns.{armed};
 
-    /// Lets a place of the file that has a name now be unreadable: a read that asks for it is refused. The
-    /// mark stays with the file, whatever is done with it. Where no file has the name, nothing changes. It is
-    /// refused for want of memory alone.
+    /// Makes a place of the file at a path unreadable: a read that asks for it fails. The mark stays with the file,
+    /// even if it is renamed or written. If the path names no file, nothing changes. Fails only if memory runs out.
     pub fn deny_read(&mut self, name: &str, place: usize) -> Result<(), AllocError>
         ensures same { armed self.new ≡ armed self.old }
         ensures order { unsynced self.new ≡ unsynced self.old }
@@ -27,7 +26,7 @@ impl MemoryFileSystem {
     }
 }
 
-// Whether one of so many places from a first one on can't be read.
+// Whether one of the `count` bytes from `start` on can't be read.
 pub(super) fn denies(marks: &[(usize, usize)], file: usize, start: usize, count: usize) -> bool
     ensures denied { result ≡ true → HasDenied marks.now file start count }
     ensures free { result ≡ false → HasNoDenied marks.now file start count }
@@ -40,7 +39,7 @@ pub(super) fn denies(marks: &[(usize, usize)], file: usize, start: usize, count:
     false
 }
 
-// Whether a mark is on one of so many places of a file, from a first one on.
+// Whether the mark is on one of the `count` bytes of this file from `start` on.
 fn is_within(marked: usize, place: usize, file: usize, start: usize, count: usize) -> bool
     ensures { IsTrue result ↔ ((marked ≡ file) × (start ≤ place) × (place < start + count)) }
 {

@@ -12,9 +12,9 @@ impl MemoryFileSystem {
     ghost use Rattle.raft_log_disk_memory.specs.Space.{size_at, HasUsed, IsFree, LiesIn, MayGrowBy};
     ghost use Rattle.raft_log_disk_memory.specs.Turns.{armed, with_space};
 
-    /// Lets the files of the directory with this path have so many bytes in all, in place of what was set for
-    /// it: a write or an allocation that would make them grow past that is refused as `StorageFull`, counted,
-    /// and nothing of it is done. It is refused for want of memory alone.
+    /// Limits the files of a directory to so many bytes in all, replacing an earlier limit. A write or an allocation
+    /// that would make them grow past it fails with `StorageFull`, is counted, and nothing of it is done. Fails only if
+    /// memory runs out.
     pub fn set_space(&mut self, directory: &str, bytes: u64) -> Result<(), AllocError>
         ensures same { disk_of self.new ≡ disk_of self.old }
         ensures order { unsynced self.new ≡ unsynced self.old }
@@ -28,7 +28,7 @@ impl MemoryFileSystem {
         }
     }
 
-    // How many bytes a directory's files may still grow by; 2^64 - 1 where no space is set for it.
+    // By how many bytes a directory's files may still grow; 2^64 - 1 if no space is set for it.
     pub(super) fn free_in(&self, directory: &str) -> u64
         ensures { IsFree (armed self.now).spaces directory.now (disk_of self.now) result }
     {
@@ -38,7 +38,7 @@ impl MemoryFileSystem {
         }
     }
 
-    // How many bytes a file may still grow by.
+    // By how many bytes a file may still grow.
     pub(super) fn free_for(&self, file: usize) -> u64
         ensures { MayGrowBy (armed self.now).spaces file (disk_of self.now) result }
     {
@@ -50,7 +50,7 @@ impl MemoryFileSystem {
         u64::MAX
     }
 
-    // How many bytes are left of a space for a directory's files.
+    // How many bytes a directory's files leave of its space.
     fn space_left(&self, directory: &str, space: u64) -> u64
         ensures { (used : ℕ) × HasUsed directory.now (disk_of self.now) used × (result ≡ space - used) }
     {
@@ -63,7 +63,7 @@ impl MemoryFileSystem {
         left
     }
 
-    // The size of the file that a path names; none where it names no file.
+    // The size of the file at a path in bytes; 0 if there is none.
     fn size_at(&self, path: &str) -> u64
         ensures { result ≡ size_at (disk_of self.now) path.now }
     {
@@ -73,7 +73,7 @@ impl MemoryFileSystem {
         }
     }
 
-    // Whether a file is one of a directory's.
+    // Whether a file is in a directory.
     fn lies_in(&self, file: usize, directory: &str) -> bool
         ensures { IsTrue result ↔ LiesIn file directory.now (disk_of self.now) }
     {
@@ -85,7 +85,7 @@ impl MemoryFileSystem {
         false
     }
 
-    // Whether a path names a file.
+    // Whether a path names this file.
     fn names(&self, path: &str, file: usize) -> bool
         ensures { IsTrue result ↔ ((disk_of self.now).names path.now ≡ Some file) }
     {

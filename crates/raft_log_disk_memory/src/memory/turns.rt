@@ -1,4 +1,4 @@
-//! Which changing calls are refused, and at which one the file system stops.
+//! Which changing calls fail, and at which one the file system stops.
 ghost use Rattle.std.specs.Prelude.{◌≡◌, ◌-◌, ◌↔◌, IsTrue, map};
 ghost use Rattle.std.specs.List.{Contains};
 ghost use Rattle.raft_log_disk_memory.specs.Turns.{nearer, nearer_parts, part_later, front_of};
@@ -16,8 +16,8 @@ impl MemoryFileSystem {
     ghost use Rattle.raft_log_disk_memory.specs.Turns.{armed, armed_with, call_later, IsSpared, PartFalls, StopsAfter, ArmedRefusalFell, IsCallEnded, IsChangeEnded};
     ghost use Rattle.raft_log_disk_memory.specs.Answers.{HasRefused, HasFallen, RunsWithDirectory, LacksDirectory, RunsWithFile, LacksFile, RunsWithWriter, LacksWriter};
 
-    /// Lets the n-th changing call from now be refused; it changes nothing. Refusals that are armed already
-    /// stay. 0 arms none. It is refused for want of memory alone.
+    /// Makes the n-th changing call from now fail; it changes nothing. Failures that are already armed stay. 0 arms
+    /// none. Fails only if memory runs out.
     pub fn refuse_call(&mut self, n: u64) -> Result<(), AllocError>
         ensures same { disk_of self.new ≡ disk_of self.old }
         ensures order { unsynced self.new ≡ unsynced self.old }
@@ -30,10 +30,10 @@ impl MemoryFileSystem {
         Ok(())
     }
 
-    /// Lets the n-th changing call from now be refused in part: a write there writes its first `count` bytes,
-    /// or all where it has fewer, which count as not synced; another call changes nothing. Refusals that are
-    /// armed already stay; where several fall at one call, one of `refuse_call` goes first, and then the one
-    /// that was armed first. 0 arms none. It is refused for want of memory alone.
+    /// Makes the n-th changing call from now fail in part: a write writes its first `count` bytes, or all if it has
+    /// fewer, and they aren't synced; any other call changes nothing. Failures that are already armed stay. If several
+    /// fall at one call, one of `refuse_call` comes first, then the one that was armed first. 0 arms none. Fails only
+    /// if memory runs out.
     pub fn refuse_in_part(&mut self, n: u64, count: usize) -> Result<(), AllocError>
         ensures same { disk_of self.new ≡ disk_of self.old }
         ensures order { unsynced self.new ≡ unsynced self.old }
@@ -47,9 +47,8 @@ impl MemoryFileSystem {
         Ok(())
     }
 
-    /// Lets the file system stop at the n-th changing call from now, in place of a stop that was armed: a
-    /// write, a shortening or an allocation there counts as not synced, any other call hasn't happened. 0
-    /// leaves what was armed.
+    /// Makes the file system stop at the n-th changing call from now, replacing an armed stop. A write, a truncation or
+    /// an allocation there is made, but not synced; any other call hasn't happened. 0 changes nothing.
     pub fn stop_at(&mut self, n: u64)
         ensures same { disk_of self.new ≡ disk_of self.old }
         ensures order { unsynced self.new ≡ unsynced self.old }
@@ -61,8 +60,8 @@ impl MemoryFileSystem {
         }
     }
 
-    /// Lets the file system stop after the n-th changing call from now, in place of a stop that was armed:
-    /// that call has happened and is answered as refused. 0 leaves what was armed.
+    /// Makes the file system stop after the n-th changing call from now, replacing an armed stop. That call is done,
+    /// and fails. 0 changes nothing.
     pub fn stop_after(&mut self, n: u64)
         ensures same { disk_of self.new ≡ disk_of self.old }
         ensures order { unsynced self.new ≡ unsynced self.old }
@@ -74,8 +73,8 @@ impl MemoryFileSystem {
         }
     }
 
-    // Lets a write begin, or refuses it; answers whether the file system stops at this call, and of how many
-    // bytes a front is written, where the write is refused in part.
+    // Counts a write, and fails if an armed failure falls at it. Returns whether the file system stops at this call,
+    // and, if the write fails in part, how many of its first bytes are written.
     pub(super) fn begin_write(&mut self) -> Result<(bool, Option<usize>), ErrorKind>
         ensures storage { self.new.storage ≡ self.old.storage }
         ensures next { armed self.new ≡ call_later (armed self.old) }
@@ -97,7 +96,7 @@ impl MemoryFileSystem {
         Ok((false, front))
     }
 
-    // Ends a write that is refused in part. The error is the front's, where it wasn't written.
+    // Ends a write that fails in part. Returns the error of writing its first bytes, if that failed.
     pub(super) fn fail_in_part(&mut self, done: Result<(), ErrorKind>) -> ErrorKind
         ensures storage { self.new.storage ≡ self.old.storage }
         ensures failed { disk_of self.new ≡ failed_once result (disk_of self.old) }
@@ -111,8 +110,8 @@ impl MemoryFileSystem {
         }
     }
 
-    // Lets a changing call begin that isn't a write, or refuses it; answers whether the file system stops at
-    // this call.
+    // Counts a changing call that isn't a write, and fails if an armed failure falls at it. Returns whether the file
+    // system stops at this call.
     pub(super) fn begin_change(&mut self) -> Result<bool, ErrorKind>
         ensures storage { self.new.storage ≡ self.old.storage }
         ensures next { armed self.new ≡ call_later (armed self.old) }
@@ -128,8 +127,8 @@ impl MemoryFileSystem {
         }
     }
 
-    // Lets a call begin that is done whole or not at all, or refuses it; answers whether the file system
-    // stops after this call.
+    // Counts a call that is done whole or not at all, and fails if an armed failure or a stop before it falls at it.
+    // Returns whether the file system stops after this call.
     pub(super) fn begin(&mut self) -> Result<bool, ErrorKind>
         ensures storage { self.new.storage ≡ self.old.storage }
         ensures next { armed self.new ≡ call_later (armed self.old) }
@@ -146,7 +145,7 @@ impl MemoryFileSystem {
         Ok(stops)
     }
 
-    // Ends a call that is done whole or not at all, and wasn't done for want of memory alone.
+    // Ends a call that is done whole or not at all, and that fails only if memory ran out.
     pub(super) fn end(&mut self, stops: bool, done: Result<(), AllocError>) -> Result<(), ErrorKind>
         ensures storage { self.new.storage ≡ self.old.storage }
         ensures same { armed self.new ≡ armed self.old }
@@ -160,8 +159,8 @@ impl MemoryFileSystem {
         }
     }
 
-    // Ends a change, which was made or wasn't. At a stop the error is that of the change, where it wasn't
-    // made, but `ResourceBusy` for want of memory.
+    // Ends a change, which was made or wasn't. At a stop the error is that of the change if it wasn't made, but
+    // `ResourceBusy` if memory ran out.
     pub(super) fn end_change(
         &mut self,
         stops: bool,
@@ -186,8 +185,8 @@ impl MemoryFileSystem {
         }
     }
 
-    // Counts a failure and notes the kind that it is told as; the one that would make 2^64 - 1 stops the file
-    // system, none is noted, and it isn't told as want of memory.
+    // Counts a failure, and notes the kind that it is reported as. The failure that would make the count 2^64 - 1 stops
+    // the file system instead: none is noted, and the error isn't out of memory.
     pub(super) fn fail(&mut self, kind: ErrorKind) -> ErrorKind
         ensures storage { self.new.storage ≡ self.old.storage }
         ensures failed { disk_of self.new ≡ failed_once kind (disk_of self.old) }
@@ -205,7 +204,7 @@ impl MemoryFileSystem {
         }
     }
 
-    // Whether the file system runs.
+    // Fails if the file system has stopped.
     pub(super) fn check_runs(&self) -> Result<(), ErrorKind>
         ensures ok { OnOk result ((disk_of self.now).stopped ≡ false) }
         ensures err { IfErr result (IsAfterStop (disk_of self.now)) }
@@ -217,7 +216,7 @@ impl MemoryFileSystem {
         }
     }
 
-    // Whether the file system runs, and a path is a directory's.
+    // Fails if the file system has stopped, or if a path isn't a directory's.
     pub(super) fn check_directory(&self, path: &str) -> Result<(), ErrorKind>
         ensures ok { OnOk result (RunsWithDirectory path.now (disk_of self.now)) }
         ensures err { IfErr result (LacksDirectory path.now (disk_of self.now)) }
@@ -230,7 +229,7 @@ impl MemoryFileSystem {
         }
     }
 
-    // Whether the file system runs, and a handle's file is there.
+    // Fails if the file system has stopped, or if a handle's file was deleted.
     pub(super) fn check_handle(&self, handle: Handle) -> Result<(), ErrorKind>
         ensures ok { OnOk result (RunsWithFile handle (disk_of self.now)) }
         ensures err { IfErr result (LacksFile handle (disk_of self.now)) }
@@ -243,7 +242,7 @@ impl MemoryFileSystem {
         }
     }
 
-    // Whether a handle may write, too.
+    // Fails as `check_handle` does, or if a handle may only read.
     pub(super) fn check_writer(&self, handle: Handle) -> Result<(), ErrorKind>
         ensures ok { OnOk result (RunsWithWriter handle (disk_of self.now)) }
         ensures err { IfErr result (LacksWriter handle (disk_of self.now)) }
@@ -256,7 +255,7 @@ impl MemoryFileSystem {
     }
 }
 
-// Counts a call, and says whether the stop falls at it.
+// Counts a call, and returns whether the stop falls at it.
 fn stop_falls(stop: &mut u64) -> bool
     ensures later { stop.new ≡ stop.old - 1 }
     ensures falls { IsTrue result ↔ (stop.old ≡ 1) }
@@ -268,7 +267,7 @@ fn stop_falls(stop: &mut u64) -> bool
     *stop == 0
 }
 
-// Counts a call, and says whether a refusal falls at it.
+// Counts a call, and returns whether a failure falls at it.
 fn refusal_falls(refusals: &mut Vec<u64>) -> bool
     ensures later { refusals.new.items ≡ nearer refusals.old.items }
     ensures falls { IsTrue result ↔ Contains refusals.old.items 1 }
@@ -279,7 +278,7 @@ fn refusal_falls(refusals: &mut Vec<u64>) -> bool
     falls
 }
 
-// Counts a call, and says of how many bytes a front is written, if a refusal in part falls at it.
+// Counts a call. If a partial failure falls at it, returns how many of its first bytes a write writes.
 fn part_falls(parts: &mut Vec<(u64, usize)>) -> Option<usize>
     ensures later { parts.new.items ≡ nearer_parts parts.old.items }
     ensures falls { result ≡ front_of parts.old.items }
@@ -290,7 +289,7 @@ fn part_falls(parts: &mut Vec<(u64, usize)>) -> Option<usize>
     front
 }
 
-// Of how many bytes a front is written at the next call, if a refusal in part falls at it.
+// If a partial failure falls at the next call, how many of its first bytes a write writes.
 fn next_front(parts: &[(u64, usize)]) -> Option<usize>
     ensures { result ≡ front_of parts.now }
 {
@@ -302,7 +301,7 @@ fn next_front(parts: &[(u64, usize)]) -> Option<usize>
     None
 }
 
-// Takes one from each number.
+// Subtracts one from each number.
 fn count_down(refusals: &mut [u64])
     ensures { refusals.new ≡ map (λ n. n - 1) refusals.old }
 {
@@ -311,7 +310,7 @@ fn count_down(refusals: &mut [u64])
     }
 }
 
-// Takes one from the number of calls of each part.
+// Subtracts one from the number of calls of each partial failure.
 fn count_down_parts(parts: &mut [(u64, usize)])
     ensures { parts.new ≡ map part_later parts.old }
 {

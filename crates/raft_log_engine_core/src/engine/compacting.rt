@@ -1,4 +1,4 @@
-//! A group's entries below an index go.
+//! Log compaction: deletes a group's entries below an index.
 
 ghost use Rattle.std.specs.Prelude.{◌≡◌, IfErr, IfOk, OnErr, OnOk};
 ghost use Rattle.raft_log_record_base.specs.declared.errors.Error.TheVariants as errors;
@@ -20,11 +20,12 @@ use raft_log_record_items::Command;
 use std::alloc::Global;
 
 impl<P: PipeLog> LogEngine<P> {
-    /// Writes that a group's entries below an index go, and answers how many do; nothing is written for a
-    /// group without entries. It isn't synced: nothing is done to the files but that its record is written, before
-    /// which Append may go on in its next file. Whoever listens is told as of any `write`.
+    /// Writes a batch that deletes a group's entries below an index, and returns how many it deletes. Nothing is
+    /// written for a group without entries. Doesn't sync: it only writes the record, after rotating Append if needed.
+    /// Listeners hear what they hear of any `write`.
     ///
-    /// `Failed` of an engine that has failed. `Memory` before anything is done. Then what `write` refuses.
+    /// Fails with `Failed` if the engine has failed, with `Memory` before anything is done, or with the errors of
+    /// `write`.
     pub fn compact_to<L: Log>(&mut self, rt: &L, raft_group_id: u64, index: u64) -> Result<u64>
         ensures ok { IfOk result (λ count. CompactsTo raft_group_id index count
             (shows_of P.shown self.old) (shows_of P.shown self.new)) }
@@ -51,7 +52,7 @@ impl<P: PipeLog> LogEngine<P> {
         }
     }
 
-    /// How many of a group's entries stand below an index, if it has entries.
+    /// How many of a group's entries are below an index, if it has entries.
     fn entries_below(&self, raft_group_id: u64, index: u64) -> Option<u64>
         ensures { result ≡ entries_below (shown_of self.now.tables raft_group_id) index }
     {
@@ -63,7 +64,7 @@ impl<P: PipeLog> LogEngine<P> {
     }
 }
 
-/// The batch that says that a group's entries below an index go. Memory may run out.
+/// The batch that deletes a group's entries below an index. Fails only for lack of memory.
 fn compact_batch(alloc: Global, raft_group_id: u64, index: u64) -> Result<LogBatch>
     ensures ok { IfOk result (SaysCompact raft_group_id index) }
     ensures err { IfErr result (λ error. error ≡ errors.Memory) }

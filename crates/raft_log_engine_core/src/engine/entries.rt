@@ -1,4 +1,4 @@
-//! Entries are read through their blocks, of which the last is kept.
+//! Reads entries through their blocks; the last block is cached.
 
 ghost use Rattle.std.specs.Prelude.{◌≡◌, ◌⊎◌, ◌+◌, ◌^◌, ◌<◌, ◌≤◌, length, take, vec_capacity, vec_len, IfErr, IfOk, OnErr, OnOk};
 ghost use Rattle.raft_log_record_base.specs.declared.errors.Error.TheVariants as errors;
@@ -23,10 +23,12 @@ use std::io::ErrorKind;
 impl<P: PipeLog> LogEngine<P> {
     /// The entry of a group at an index, if there is one.
     ///
-    /// `Failed` of an engine that has failed. `Io` where the file system doesn't read its block, `Message` where
-    /// its bytes are no message, or `Memory`. `Corruption` comes only where the block was damaged from outside: no
-    /// entry of a log that holds is told so. Want of memory is told of a file system that runs alone: of one that
-    /// has stopped it is `Io(Other)`, as the stop is.
+    /// # Errors
+    /// - `Failed` if the engine has failed.
+    /// - `Io` if reading its block fails.
+    /// - `Message` if its bytes aren't a message.
+    /// - `Memory`, only while the file system runs: if it has stopped, the error is `Io(Other)`.
+    /// - `Corruption` only if the block was damaged from outside: no entry of a log that holds returns it.
     pub fn get_entry<M: MessageExt>(
         &mut self,
         raft_group_id: u64,
@@ -57,14 +59,16 @@ impl<P: PipeLog> LogEngine<P> {
         }
     }
 
-    /// Adds the entries of a group from `begin` on, below `end`, and answers how many: the first always
-    /// comes, and the list ends before the sum of lengths passes `max_size`. None come where none are asked
-    /// for, or of a group that took nothing since it was cleaned. Entries of one block are read by one read.
-    /// A refusal adds nothing.
+    /// Appends to `vec` the entries of a group from `begin` on, below `end`, and returns how many. The first is always
+    /// included, and the list ends before the sum of lengths exceeds `max_size`. Appends none if none are requested, or
+    /// if the group took nothing since it was cleaned. Entries of one block are read by one read. If it fails, nothing
+    /// is appended.
     ///
-    /// `Failed` of an engine that has failed. `EntryNotFound` where the group has no entries or the last
-    /// isn't there, `EntryCompacted` where `begin` is below the first. Then what `get_entry` refuses of one
-    /// of them.
+    /// # Errors
+    /// - `Failed` if the engine has failed.
+    /// - `EntryNotFound` if the group has no entries or doesn't have the last one.
+    /// - `EntryCompacted` if `begin` is below the first.
+    /// - The errors of `get_entry` for one of them.
     pub fn fetch_entries_to<M: MessageExt>(
         &mut self,
         raft_group_id: u64,
@@ -100,8 +104,8 @@ impl<P: PipeLog> LogEngine<P> {
         }
     }
 
-    /// Adds the entries of a group, of an engine that hasn't failed, as `fetch_entries_to` does. A refusal
-    /// keeps what was there, and may leave some of these behind it.
+    /// Appends the entries of a group as `fetch_entries_to` does, for an engine that hasn't failed. If it fails, it
+    /// keeps what was there, and may have appended some of these.
     fn read_to<M: Message>(
         &mut self,
         raft_group_id: u64,
@@ -144,7 +148,7 @@ impl<P: PipeLog> LogEngine<P> {
         Ok(count)
     }
 
-    /// What a refusal of a read is told as: want of memory, where the file system has stopped, as that.
+    /// The error that a failed read returns: if the file system has stopped, out of memory becomes that error.
     fn unread(&self, error: Error) -> Error
         ensures { IsToldAs (P.shown self.now.pipes).disk.stopped error result }
     {
@@ -154,7 +158,7 @@ impl<P: PipeLog> LogEngine<P> {
         }
     }
 
-    /// Where the entry of a group at an index lies, if there is one.
+    /// The place of the entry of a group at an index, if there is one.
     fn entry_at(&self, raft_group_id: u64, index: u64) -> Option<EntryIndex>
         ensures { result ≡ entry_at (shown_of self.now.tables raft_group_id) index }
     {
@@ -165,10 +169,9 @@ impl<P: PipeLog> LogEngine<P> {
     }
 }
 
-/// Adds so many entries of a table, from an index on, as messages, for which there is room: a block is read
-/// once for those that lie in it one behind another. Where the next ones lie is looked up before this block is
-/// read, so that the next read needn't wait for the table. A refusal keeps what was there, and may leave some of
-/// these behind it.
+/// Appends `count` entries of a table, from an index on, as messages, for which there is room. Reads a block once for
+/// the consecutive entries in it. It looks up the places of the next ones before it reads this block, so that the next
+/// read needn't wait for the table. If it fails, it keeps what was there, and may have appended some of these.
 ///
 /// Not inlined: within a caller its loop has too few registers, which costs a fetch of short entries some 2 %.
 #[inline(never)]
@@ -202,8 +205,8 @@ fn push_entries<M: Message, P: PipeLog>(
     Ok(())
 }
 
-/// The block in which a table's entry at an index lies, and where that and those that lie behind it there start
-/// and end, of so many; or none where none are asked for.
+/// The block of a table's entry at an index, and the bounds in it of that entry and the ones after it, at most `left`.
+/// None if `left` is 0.
 fn next_bounds<'a>(
     table: &'a MemTable,
     index: u64,

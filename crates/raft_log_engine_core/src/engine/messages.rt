@@ -10,8 +10,8 @@ use raft_log_record_base::Result;
 use raft_log_record_items::Message;
 
 impl<P: PipeLog> LogEngine<P> {
-    /// The value of a group's key as a message, if it has one. `Failed` of an engine that has failed,
-    /// `Message` where the value is none, or `Memory`.
+    /// The value of a group's key as a message, if it has one. Fails with `Failed` if the engine has failed, `Message`
+    /// if the value isn't a message, or `Memory`.
     pub fn get_message<S: Message>(&self, raft_group_id: u64, key: &[u8]) -> Result<Option<S>>
         ensures ok { IfOk result (TellsMessage S.reading (shows_of P.shown self.now) raft_group_id key.now) }
         ensures lived { OnOk result (Lives (shows_of P.shown self.now)) }

@@ -1,4 +1,4 @@
-//! An engine is opened.
+//! Opens an engine.
 
 ghost use Rattle.std.specs.Prelude.{◌≡◌, false, None, IfErr, IfOk};
 ghost use Rattle.raft_log_record_base.specs.declared.errors.Error.TheVariants as errors;
@@ -17,26 +17,30 @@ use raft_log_table_segments::ReplayThreads;
 use std::alloc::Global;
 use std::thread::Threads;
 
-/// The pipes of an engine that is opened: both of its log, who is told of their files, and behind that the engine's
-/// own hook.
+/// The pipes of an engine that is opened: both of its log, a listener of their files, and after it the engine's own
+/// hook.
 pub type EnginePipes<F, E = Nobody> = ToldPipes<ToldPipes<DualPipes<F>, E>, PurgeHook>;
 
-/// An engine as it is opened over a file system: a [`LogEngine`] whose pipes tell who listens, and its own hook.
+/// An engine as it is opened over a file system: a [`LogEngine`] whose pipes call a listener and its own hook.
 pub type Engine<F, E = Nobody> = LogEngine<EnginePipes<F, E>>;
 
 impl<F: FileSystem + Sync> LogEngine<ToldPipes<ToldPipes<DualPipes<F>, Nobody>, PurgeHook>> {
-    /// Opens the log of these settings over a file system, which is the engine's from then on: what was
-    /// written and synced, or stood when the log was closed, is there again. A directory that isn't there is
-    /// made, and a log without files begins. Files with an alignment, as another program may write them, are read:
-    /// they are written anew without their padding first. Nobody listens but the engine's own hook.
+    /// Opens the log of these settings over a file system, which the engine owns from then on. It finds all that was
+    /// written and synced, or was there when the log was closed. It creates directories that don't exist, and begins a
+    /// log if there are no files. Files with an alignment, as another program may write them, are first written anew
+    /// without their padding. The only listener is the engine's own hook.
     ///
-    /// Refused, the file system is handed back, and the log may be opened again: `Io(Other)` of a file system that
-    /// has stopped goes first, so that no stop is told as want of memory; `Other` where the settings
-    /// have a fault, or a file has the path of a directory; `Io` where a file can't be read, which is never
-    /// taken for damage, or isn't cut, made or synced; `Corruption` or `Codec` for damage that the mode of
-    /// recovery doesn't tolerate, or for a wrong name; `Hole` or `Corruption` where records can't be;
-    /// `NumberRange` where there is no name for a file; `Memory`. Nothing is cut unless all files could be
-    /// read.
+    /// If it fails, the file system is returned, and the log may be opened again. Nothing is truncated unless all
+    /// files could be read.
+    ///
+    /// # Errors
+    /// - `Io(Other)` if the file system has stopped. This is checked first, so that a stop never shows as `Memory`.
+    /// - `Other` if the settings have a fault, or a file has the path of a directory.
+    /// - `Io` if a file can't be read, which never counts as damage, or isn't truncated, created or synced.
+    /// - `Corruption` or `Codec` for damage that the recovery mode doesn't tolerate, or for a wrong name.
+    /// - `Hole` or `Corruption` for records that can't be.
+    /// - `NumberRange` if there is no name for a file.
+    /// - `Memory`.
     pub fn open_with_file_system<R: Threads + Log + Sync>(
         rt: &R,
         alloc: Global,
@@ -63,11 +67,11 @@ impl<F: FileSystem + Sync, E: EventListener> LogEngine<
 > {
     ghost use Rattle.raft_log_file_pair.specs.Pipes.{main_directory};
 
-    /// Opens the log as `open_with_file_system` does, and tells a listener, and behind it the engine's own
-    /// hook, what happens to its files: first of all of the files of both queues. Several listen as one by
-    /// `Listeners`. A listener may hold back a purge, and changes nothing else.
+    /// Opens the log as `open_with_file_system` does, with a listener. The listener, and after it the engine's own
+    /// hook, hear what happens to the log's files; first of all they hear of the files of both queues. `Listeners`
+    /// makes several listeners one. A listener may hold back a purge, and changes nothing else.
     ///
-    /// Refused as `open_with_file_system` is; the listener is let go.
+    /// Fails as `open_with_file_system` does; the listener is dropped then.
     pub fn open_with<R: Threads + Log + Sync>(
         rt: &R,
         alloc: Global,
@@ -96,10 +100,10 @@ impl<F: FileSystem + Sync, E: EventListener> LogEngine<
         )
     }
 
-    /// Opens the log as `open_with` does, but reads it by scoped threads: one for each chunk of both queues, however
+    /// Opens the log as `open_with` does, but reads it with scoped threads: one for each chunk of both queues, however
     /// many processors there are.
     ///
-    /// Refused as `open_with` is.
+    /// Fails as `open_with` does.
     pub fn open_scoped<R: Threads + Log + Sync>(
         rt: &R,
         alloc: Global,
@@ -128,9 +132,9 @@ impl<F: FileSystem + Sync, E: EventListener> LogEngine<
         )
     }
 
-    /// Opens the log as `open_with` does, and reads it by these threads.
+    /// Opens the log as `open_with` does, and reads it with these threads.
     ///
-    /// Refused as `open_with` is.
+    /// Fails as `open_with` does.
     pub fn open_by<R: Threads + Log + Sync>(
         rt: &R,
         alloc: Global,
@@ -177,10 +181,10 @@ impl<F: FileSystem + Sync, E: EventListener> LogEngine<
 }
 
 impl<F: FileSystem + Sync> LogEngine<DualPipes<F>> {
-    /// Opens the log as `Engine::open_with_file_system` does, over its pipes alone: nobody listens, the hook
-    /// neither, so that no purge is ever held back (`nobody_holds_back` in `raft_log_file_pair`).
+    /// Opens the log as `Engine::open_with_file_system` does, over its pipes alone. There is no listener and no hook,
+    /// so no purge is ever held back (`nobody_holds_back` in `raft_log_file_pair`).
     ///
-    /// Refused as `Engine::open_with_file_system` is.
+    /// Fails as `Engine::open_with_file_system` does.
     pub fn open_alone<R: Threads + Log + Sync>(
         rt: &R,
         alloc: Global,

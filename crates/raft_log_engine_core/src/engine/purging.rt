@@ -1,4 +1,4 @@
-//! Files go that are no longer needed.
+//! Garbage collection: rewrites live data and deletes files that are no longer needed.
 
 ghost use Rattle.std.specs.Prelude.{◌≡◌, IfErr, IfOk, OnErr, OnOk};
 ghost use Rattle.raft_log_record_base.specs.declared.pipe_log.LogQueue.TheVariants.{Append};
@@ -28,18 +28,21 @@ use raft_log_purge::{purge_and_count, rewrite_and_count, rewrite_append_and_coun
 use raft_log_record_base::{Error, FileSeq, Result};
 
 impl<P: PipeLog> LogEngine<P> {
-    /// Purges both queues where they are past the thresholds of the settings: Append is synced; Rewrite is
-    /// rewritten where enough of it is garbage; then Append's marks are carried, the groups that the rules
-    /// have are rewritten, and files go, none that whoever listens holds back. The answer is the groups that
-    /// are asked to be compacted, from the least up; a group that was asked in nine purges in a row is
-    /// rewritten. The map stays, and nothing is pending.
+    /// Purges both queues if they are past the thresholds of the settings:
+    /// - syncs Append;
+    /// - compacts Rewrite if enough of it is garbage;
+    /// - writes Append's owed tombstones, and rewrites the groups that the rules pick;
+    /// - deletes files, except those that a listener pins.
     ///
-    /// Where a queue is past its threshold, what stands in Rewrite is counted before and behind, which takes time
-    /// in all groups: what was written there and stands no more is garbage. Else this is a sync of Append alone.
+    /// Returns the groups that should be compacted, in ascending order. A group that was returned in nine purges in a
+    /// row is rewritten. The map is unchanged, and nothing is pending.
     ///
-    /// `Failed` of an engine that has failed. Then what a sync, a rotation, the marks, what is copied, and
-    /// files that go refuse: the map stays, no round is counted, and the old copies of the groups that were
-    /// written to Rewrite again are counted as garbage.
+    /// If a queue is past its threshold, what is live in Rewrite is counted before and after, which takes time for each
+    /// group: what was written there and is no longer live is garbage. Otherwise this only syncs Append.
+    ///
+    /// Fails with `Failed` if the engine has failed, or with the errors of a sync, a rotation, the tombstones, the
+    /// copies, and the deletions. The map is unchanged then, no round is counted, and the old copies of groups that
+    /// were written to Rewrite again count as garbage.
     pub fn purge_expired_files<L: Log>(&mut self, rt: &L) -> Result<Vec<u64>>
         ensures ok { IfOk result (λ groups. PurgesAndCounts (PipesHoldBack P.shown P.holds_back Append)
             self.old.thresholds self.old.tables self.new.tables self.old.counts self.new.counts groups.items
@@ -66,11 +69,11 @@ impl<P: PipeLog> LogEngine<P> {
         )
     }
 
-    /// Rewrites Rewrite, whatever its size is: Append is synced; what stands in Rewrite is written there again,
-    /// and its old files go. The map stays, and nothing is pending.
+    /// Compacts Rewrite, whatever its size is: syncs Append, writes what is live in Rewrite there again, and deletes
+    /// its old files. The map is unchanged, and nothing is pending.
     ///
-    /// `Failed` of an engine that has failed. Then what a sync, a rotation, what is written, and files that go
-    /// refuse: the map stays, and the old copies of the groups that were written again are counted as garbage.
+    /// Fails with `Failed` if the engine has failed, or with the errors of a sync, a rotation, the writes, and the
+    /// deletions. The map is unchanged then, and the old copies of groups that were written again count as garbage.
     pub fn must_rewrite_rewrite_queue<L: Log>(&mut self, rt: &L) -> Result<()>
         ensures ok { OnOk result (SyncsAndRewrites self.new.tables
             (shows_of P.shown self.old) (shows_of P.shown self.new)) }
@@ -96,14 +99,16 @@ impl<P: PipeLog> LogEngine<P> {
         )
     }
 
-    /// Rewrites Append up to a file, the watermark: none after the last, and the last where there is none.
-    /// Append is synced, goes on in its next file where the last one is to be rewritten, and marks are
-    /// carried; then all groups are rewritten, and Rewrite is synced; then the files up to the watermark leave
-    /// Append's span, and all others below the least in use. It ends behind the first or the second of these
-    /// steps if asked. The map stays, and nothing is pending.
+    /// Rewrites Append up to a file, the watermark: at most the last file, which is also the default.
+    /// - Syncs Append, rotates it if the last file is to be rewritten, and writes the owed tombstones.
+    /// - Rewrites all groups, and syncs Rewrite.
+    /// - Removes the files up to the watermark from Append's live range, and all others below the least in use.
     ///
-    /// `Failed` of an engine that has failed. Then what a sync, a rotation, the marks, what is copied, and
-    /// files that go refuse: the map stays.
+    /// With `exit_after_step` it ends after the first or the second of these steps. The map is unchanged, and nothing
+    /// is pending.
+    ///
+    /// Fails with `Failed` if the engine has failed, or with the errors of a sync, a rotation, the tombstones, the
+    /// copies, and the deletions: the map is unchanged.
     pub fn must_rewrite_append_queue<L: Log>(
         &mut self,
         rt: &L,
@@ -136,12 +141,11 @@ impl<P: PipeLog> LogEngine<P> {
         )
     }
 
-    /// Takes all files out of both queues that nothing is in that is in use: Append is synced, marks are
-    /// carried, and then each queue goes on in its next file and loses those before, Rewrite first. The map
-    /// stays, and nothing is pending.
+    /// Removes all files from both queues that have nothing in use: syncs Append and writes the owed tombstones. Then
+    /// rotates each queue and deletes its earlier files, Rewrite first. The map is unchanged, and nothing is pending.
     ///
-    /// `Failed` of an engine that has failed. Then what a sync, the marks, a rotation, and files that go
-    /// refuse: the map stays.
+    /// Fails with `Failed` if the engine has failed, or with the errors of a sync, the tombstones, a rotation, and
+    /// the deletions: the map is unchanged.
     pub fn must_purge_all_stale<L: Log>(&mut self, rt: &L) -> Result<()>
         ensures ok { OnOk result (PurgesAllStale self.new.tables
             (shows_of P.shown self.old) (shows_of P.shown self.new)) }

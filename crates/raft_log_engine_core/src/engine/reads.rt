@@ -1,4 +1,4 @@
-//! What is read of an engine's tables alone.
+//! Reads that need only an engine's tables.
 
 ghost use Rattle.std.specs.Prelude.{◌≡◌, ◌↔◌, IsTrue, option_map, IfErr, IfOk, OnOk};
 ghost use Rattle.raft_log_record_base.specs.declared.errors.Error.TheVariants as errors;
@@ -16,7 +16,7 @@ use raft_log_record_items::Bytes;
 use raft_log_table_one::MemTable;
 
 impl<P: PipeLog> LogEngine<P> {
-    /// The index of a group's first entry, if it has one. `Failed` of an engine that has failed.
+    /// The index of a group's first entry, if it has one. Fails with `Failed` if the engine has failed.
     pub fn first_index(&self, raft_group_id: u64) -> Result<Option<u64>>
         ensures ok { IfOk result (ReadsFirst (shows_of P.shown self.now) raft_group_id) }
         ensures lived { OnOk result (Lives (shows_of P.shown self.now)) }
@@ -31,7 +31,7 @@ impl<P: PipeLog> LogEngine<P> {
         }
     }
 
-    /// The index of a group's last entry, if it has one. `Failed` of an engine that has failed.
+    /// The index of a group's last entry, if it has one. Fails with `Failed` if the engine has failed.
     pub fn last_index(&self, raft_group_id: u64) -> Result<Option<u64>>
         ensures ok { IfOk result (ReadsLast (shows_of P.shown self.now) raft_group_id) }
         ensures lived { OnOk result (Lives (shows_of P.shown self.now)) }
@@ -46,8 +46,7 @@ impl<P: PipeLog> LogEngine<P> {
         }
     }
 
-    /// A copy of the value of a group's key, if it has one. `Failed` of an engine that has failed, or
-    /// `Memory`.
+    /// A copy of the value of a group's key, if it has one. Fails with `Failed` if the engine has failed, or `Memory`.
     pub fn get(&self, raft_group_id: u64, key: &[u8]) -> Result<Option<Vec<u8>>>
         ensures ok { IfOk result (λ value. ReadsValue (shows_of P.shown self.now) raft_group_id key.now
             (option_map (λ bytes. bytes.items) value)) }
@@ -78,8 +77,8 @@ impl<P: PipeLog> LogEngine<P> {
         }
     }
 
-    /// The numbers of the groups that took something since they were cleaned last, from the least up.
-    /// `Failed` of an engine that has failed, or `Memory`.
+    /// The numbers of the groups that took something since they were last cleaned, in ascending order. Fails with
+    /// `Failed` if the engine has failed, or `Memory`.
     pub fn raft_groups(&self) -> Result<Vec<u64>>
         ensures ok { IfOk result (λ groups. ListsGroups (counts self.now.tables) groups.items) }
         ensures lived { OnOk result (Lives (shows_of P.shown self.now)) }
@@ -94,8 +93,8 @@ impl<P: PipeLog> LogEngine<P> {
         }
     }
 
-    /// Whether there is no group that took something since it was cleaned last. `Failed` of an engine that
-    /// has failed, or `Memory`, as the groups are listed.
+    /// Whether no group took anything since it was last cleaned. Lists the groups, so it fails with `Failed` if the
+    /// engine has failed, or `Memory`.
     pub fn is_empty(&self) -> Result<bool>
         ensures ok { IfOk result (λ empty. IsTrue empty ↔ NoneCounts (counts self.now.tables)) }
         ensures lived { OnOk result (Lives (shows_of P.shown self.now)) }

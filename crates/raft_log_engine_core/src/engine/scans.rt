@@ -1,4 +1,4 @@
-//! The keys of a group, in their order or backwards.
+//! Scans the keys of a group, in their order or backwards.
 
 ghost use Rattle.std.specs.Fn.{CalledAtTwo};
 ghost use Rattle.std.specs.Prelude.{◌≡◌, ◌↔◌, option_copied, IfErr, IfOk, IsTrue, OnOk};
@@ -14,11 +14,12 @@ use raft_log_record_items::{Bytes, Message};
 use std::alloc::Global;
 
 impl<P: PipeLog> LogEngine<P> {
-    /// Calls back with each key of a group that isn't below the start and is below the end, where they are
-    /// given, and with its value: in the order of the keys' bytes or backwards, up to the first call that
-    /// answers false. It takes time in the keys between the bounds, also in those that have no value.
+    /// Calls back with each key of a group within the bounds and with its value, in the order of the keys' bytes or
+    /// backwards. It ends after the first call that returns false. A key is within the bounds if it isn't below the
+    /// start and is below the end, if they are given. It takes time in the keys within the bounds, also in those that
+    /// have no value.
     ///
-    /// `Failed` of an engine that has failed: nothing is called then.
+    /// Fails with `Failed` if the engine has failed; then nothing is called.
     pub fn scan_raw_messages<C: FnMut(&[u8], &[u8]) -> bool>(
         &self,
         raft_group_id: u64,
@@ -45,12 +46,13 @@ impl<P: PipeLog> LogEngine<P> {
         }
     }
 
-    /// Calls back with each key of a group that isn't below the start and is below the end, where they are
-    /// given, and with its value as a message: in the order of the keys' bytes or backwards, up to the first
-    /// call that answers false. A value that is no message is passed over. The keys and values that are asked
-    /// for are copied first.
+    /// Calls back with each key of a group within the bounds and with its value as a message, in the order of the keys'
+    /// bytes or backwards. It ends after the first call that returns false. A key is within the bounds if it isn't
+    /// below the start and is below the end, if they are given. A value that isn't a message is skipped. The keys and
+    /// values within the bounds are copied first.
     ///
-    /// `Failed` of an engine that has failed: nothing is called then. `Memory`: some may have been called.
+    /// Fails with `Failed` if the engine has failed; then nothing is called. If it fails with `Memory`, some may have
+    /// been called.
     pub fn scan_messages<S: Message, C: FnMut(&[u8], S) -> bool>(
         &self,
         raft_group_id: u64,
@@ -77,9 +79,9 @@ impl<P: PipeLog> LogEngine<P> {
         }
     }
 
-    /// Copies of the keys of a group that aren't below the start and are below the end, where they are given,
-    /// and of their values, in the order of the keys' bytes. `Failed` of an engine that has failed, or
-    /// `Memory`.
+    /// Copies of the keys of a group within the bounds, and of their values, in the order of the keys' bytes. A key is
+    /// within the bounds if it isn't below the start and is below the end, if they are given. Fails with `Failed` if
+    /// the engine has failed, or `Memory`.
     pub fn pairs_within(
         &self,
         raft_group_id: u64,
@@ -105,8 +107,8 @@ impl<P: PipeLog> LogEngine<P> {
     }
 }
 
-/// Calls back with each key whose value is a message, and with that, up to the first call that answers false.
-/// Memory may run out.
+/// Calls back with each key whose value is a message, and with that message, up to the first call that returns false.
+/// Fails only for lack of memory.
 fn visit<S: Message, C: FnMut(&[u8], S) -> bool>(
     alloc: Global,
     pairs: &[(Bytes, Bytes)],
@@ -128,7 +130,7 @@ fn visit<S: Message, C: FnMut(&[u8], S) -> bool>(
     Ok(())
 }
 
-/// The message of these bytes, if they are one. Memory may run out.
+/// The message of these bytes, if they are one. Fails only for lack of memory.
 fn message_of<S: Message>(alloc: Global, bytes: &[u8]) -> Result<Option<S>>
     ensures ok { IfOk result (λ message. S.reading bytes.now ≡ message) }
     ensures err { IfErr result (λ error. error ≡ errors.Memory) }
@@ -144,7 +146,7 @@ fn message_of<S: Message>(alloc: Global, bytes: &[u8]) -> Result<Option<S>>
     }
 }
 
-/// Whether bytes were refused as no message.
+/// Whether the error says that bytes aren't a message.
 fn is_no_message(error: &Error) -> bool
     ensures { IsTrue result ↔ IsNoMessage error.now }
 {

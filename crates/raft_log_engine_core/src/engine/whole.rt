@@ -1,4 +1,4 @@
-//! What is told of the log as a whole.
+//! Calls about the log as a whole.
 
 ghost use Rattle.std.specs.Prelude.{◌≡◌, IfErr, IfOk, OnErr, OnOk};
 ghost use Rattle.raft_log_file_pair.specs.Calls.{ArmsNoPipes};
@@ -19,10 +19,10 @@ impl<P: PipeLog> LogEngine<P> {
         self.pipes.file_system()
     }
 
-    /// Arms a fault of the file system: it alters which later calls are refused, and nothing else; a place
-    /// that it makes unreadable is marked on the disk.
+    /// Arms a fault of the file system: it changes which later calls fail, and nothing else. A place that it makes
+    /// unreadable is marked on the disk.
     ///
-    /// `Io` where it isn't armed: the file system had stopped, or memory ran out.
+    /// Fails with `Io` if it isn't armed: the file system had stopped, or is out of memory.
     pub fn arm(&mut self, fault: &Fault) -> Result<()>
         ensures ok { OnOk result
             (ArmsEngine fault.now (shows_of P.shown self.old) (shows_of P.shown self.new)) }
@@ -36,7 +36,7 @@ impl<P: PipeLog> LogEngine<P> {
         self.pipes.arm(fault)
     }
 
-    /// The numbers of the first and the last file of a queue. `Failed` of an engine that has failed.
+    /// The numbers of the first and the last file of a queue. Fails with `Failed` if the engine has failed.
     pub fn file_span(&self, queue: LogQueue) -> Result<(FileSeq, FileSeq)>
         ensures ok { IfOk result (λ span. TellsSpan queue (P.shown self.now.pipes) span.0 span.1) }
         ensures lived { OnOk result (Lives (shows_of P.shown self.now)) }
@@ -48,8 +48,8 @@ impl<P: PipeLog> LogEngine<P> {
         Ok(self.pipes.file_span(queue))
     }
 
-    /// The size of all files of both queues in bytes, where each counts as long as it is to be; at most the
-    /// greatest number that there is. `Failed` of an engine that has failed.
+    /// The size of all files of both queues in bytes, each with the length it is meant to have; at most the greatest
+    /// `usize`. Fails with `Failed` if the engine has failed.
     pub fn get_used_size(&self) -> Result<usize>
         ensures ok { IfOk result (λ size. size ≡ used_size (P.shown self.now.pipes)) }
         ensures lived { OnOk result (Lives (shows_of P.shown self.now)) }

@@ -1,4 +1,4 @@
-//! The log's directories are made where they aren't there, and listed.
+//! The log's directories are made if they are missing, and listed.
 
 ghost use Rattle.std.specs.Prelude.{◌≡◌, IfOk, IfErr, OnOk, map};
 ghost use Rattle.std.specs.List.{AllZip};
@@ -11,10 +11,10 @@ use raft_log_record_base::{Error, Result};
 use std::alloc::Global;
 use std::io::ErrorKind;
 
-/// Makes those of these directories that aren't there.
+/// Makes those of these directories that are missing.
 ///
-/// `Other` where a file has the path of one, `Io` where one isn't made or the file system has stopped;
-/// those before it are there then.
+/// Fails with `Other` if a file has the path of one, with `Io` if one isn't made or the file system stopped, or with
+/// `Memory`. If it fails, the directories before that one are there.
 pub fn make_directories<F: FileSystem>(
     alloc: Global,
     file_system: &mut F,
@@ -31,7 +31,7 @@ pub fn make_directories<F: FileSystem>(
     Ok(())
 }
 
-/// Makes a directory where none has the path.
+/// Makes a directory if none has the path.
 fn make_directory<F: FileSystem>(alloc: Global, file_system: &mut F, path: &str) -> Result<()>
     ensures ok { OnOk result
         (MakesIfAbsent path.now (F.disk file_system.old) (F.disk file_system.new)) }
@@ -89,7 +89,7 @@ fn list_directory<F: FileSystem>(file_system: &F, path: &str) -> Result<Vec<Stri
     }
 }
 
-/// Why the file system refused a call that changes nothing.
+/// Why the file system failed a call that changes nothing.
 pub(crate) fn refusal(stopped: bool, kind: ErrorKind) -> Error
     ensures { TellsRefusal stopped kind result }
 {
@@ -99,7 +99,7 @@ pub(crate) fn refusal(stopped: bool, kind: ErrorKind) -> Error
     Error::Io(kind)
 }
 
-/// The refusal of a path that isn't a directory's.
+/// The error for a path that isn't a directory's.
 fn no_directory(alloc: Global, path: &str) -> Error
     ensures { TellsNoDirectory path.now result }
 {

@@ -1,4 +1,4 @@
-//! The files of a kind are found among the names of the log's directories.
+//! The files of a kind are found among the names in the log's directories.
 
 ghost use Rattle.std.specs.Prelude.{◌≡◌, IfOk, IfErr, map};
 ghost use Rattle.std.specs.String.{string_bytes};
@@ -9,19 +9,19 @@ use raft_log_file_queue::PathId;
 use raft_log_record_base::{FileSeq, Result};
 use std::alloc::Global;
 
-/// A file that was found: it has the name of its number, with a sign in front or without one.
+/// A file that was found: it has the name of its number, with a sign before it or without one.
 #[derive(Clone, Copy, Debug, PartialEq, Eq)]
 pub struct FoundFile {
     /// The file's number.
     pub seq: FileSeq,
-    /// The directory that the file lies in.
+    /// The directory of the file.
     pub path_id: PathId,
     /// Whether its name has a sign.
     pub signed: bool,
 }
 
-/// The files of a kind among those with these names, directory by directory, in the order of the names.
-/// `Corruption` where a name says a number and has more between it and the end.
+/// The files of a kind among those with these names, directory by directory, in the order of the names. Fails with
+/// `Corruption` if a name begins with a number and has more between it and the end.
 pub fn find_files(alloc: Global, kind: FileKind, listings: &[Vec<String>]) -> Result<Vec<FoundFile>>
     ensures ok { IfOk result (λ files.
         AreAmongAll kind 0 (map (λ names. map string_bytes names.items) listings.now) files.items) }

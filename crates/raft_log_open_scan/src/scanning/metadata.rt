@@ -1,4 +1,4 @@
-//! What a file system may keep beside files that are gone is deleted.
+//! Deletes what a file system may keep beside files that are gone.
 
 ghost use Rattle.std.specs.Prelude.{◌≡◌, ◌<◌, ◌≤◌, ◌^◌, ◌*◌, ◌/◌, IfErr};
 ghost use Rattle.raft_log_record_base.specs.declared.errors.Error.TheVariants.{Memory};
@@ -12,13 +12,13 @@ use raft_log_disk::FileSystem;
 use raft_log_record_base::{FileSeq, Result};
 use std::alloc::Global;
 
-/// At how many numbers below the first file it is asked whether something is kept.
+/// How many numbers below the first file are sampled.
 const SAMPLES: u64 = 100;
 
-/// Deletes what the file system keeps beside files of a queue below its first one. It is asked at a hundred
-/// numbers, from the lowest on; from the one before the first where something is kept, all are deleted,
-/// from the highest down. A refusal is logged, and ends that number's directories. `Memory`, and nothing
-/// else: not all were asked for.
+/// Deletes what the file system keeps beside files of a queue below its first one. Samples a hundred numbers, from
+/// the lowest on, for the first that has something. Deletes all of them after the sample before that one, from the
+/// highest down. A failed deletion is logged, and ends that number's directories. Fails only with `Memory`; then not
+/// all were deleted.
 pub fn clear_metadata<F: FileSystem, L: Log>(
     alloc: Global,
     rt: &L,
@@ -37,7 +37,7 @@ pub fn clear_metadata<F: FileSystem, L: Log>(
     }
 }
 
-/// The number behind the sample before the first one beside which something is kept.
+/// The number after the last sample before the first one that has something.
 fn first_kept<F: FileSystem>(
     alloc: Global,
     file_system: &F,
@@ -56,7 +56,7 @@ fn first_kept<F: FileSystem>(
     Ok(None)
 }
 
-/// The number at this place of the samples.
+/// The number of a sample.
 fn sample(at: u64, first: FileSeq) -> FileSeq
     requires place { at < 100 }
     requires range { first < 10 ^ 16 }

@@ -19,8 +19,8 @@ use raft_log_file_settings::RecoveryMode;
 use raft_log_record_base::{Error, Result};
 use std::alloc::Global;
 
-/// Opens the files of a queue to read them, and the last one to write it too; under
-/// `TolerateAnyCorruption` each of them to write it too.
+/// Opens the files of a queue for reading, and the last one for writing too; under `TolerateAnyCorruption` each of
+/// them for writing too.
 pub fn open_queue<F: FileSystem>(
     alloc: Global,
     file_system: &F,
@@ -131,7 +131,7 @@ fn is_reserved(kind: FileKind) -> bool
     }
 }
 
-/// What the files before a queue's last one are opened for.
+/// The permission for the files before a queue's last one.
 fn permission_before(mode: RecoveryMode) -> Permission
     ensures { result ≡ permission_before mode }
 {
@@ -165,7 +165,7 @@ pub(crate) fn path_of(
     Ok(path)
 }
 
-/// The directory in a place.
+/// The directory with this index.
 fn directory_of(paths: &[String], path_id: PathId) -> &str
     requires { path_id < length paths.now }
     ensures { result.now ≡ slice_index_or (map string_bytes paths.now) path_id [] }

@@ -7,9 +7,10 @@ ghost use Rattle.raft_log_open_scan.specs.Runs.{FollowsNumber, BeginsRun, IsRunO
 use super::found::FoundFile;
 use raft_log_record_base::Result;
 
-/// The files in the order of their numbers, from the last place on where a number is missing, or where two
-/// have one number; of two with one number that of the main directory comes first, of two in one directory
-/// that without a sign. The others are dropped from the list, and stay where they are.
+/// Sorts the files by number, and keeps those after the last gap: a missing number, or two files with one number. The
+/// others are dropped from the list, and stay in their directories.
+///
+/// If two have one number, the one in the main directory comes first; in one directory, the one without a sign.
 pub fn keep_run(mut files: Vec<FoundFile>) -> Result<Vec<FoundFile>>
     ensures ok { IfOk result (λ kept. IsRunOf files.items kept.items) }
     ensures err { IfErr result (λ error. error ≡ Memory) }
@@ -20,7 +21,7 @@ pub fn keep_run(mut files: Vec<FoundFile>) -> Result<Vec<FoundFile>>
     Ok(kept)
 }
 
-/// Where the last run begins.
+/// The index at which the last run begins.
 fn first_of_run(files: &[FoundFile]) -> usize
     ensures within { result ≤ length files.now }
     ensures run { BeginsRun files.now (length files.now) result }
@@ -34,7 +35,7 @@ fn first_of_run(files: &[FoundFile]) -> usize
     first
 }
 
-/// Whether a file has the number behind that of another one.
+/// Whether a file has the number after another one's.
 fn follows(before: &FoundFile, file: &FoundFile) -> bool
     ensures { IsTrue result ↔ FollowsNumber before.now file.now }
 {

@@ -1,4 +1,4 @@
-//! Numbers at the end of a buffer that the caller keeps: where memory runs out, the buffer is as it was.
+//! Appends numbers to a buffer of the caller. If memory runs out, the buffer's bytes are unchanged.
 
 ghost use Rattle.std.specs.Prelude.{◌≡◌, ◌++◌, ◌+◌, ◌≤◌, take, vec_len, vec_capacity, OnOk, OnErr};
 ghost use Rattle.raft_log_record_base.specs.Number.{
@@ -36,7 +36,7 @@ pub fn append_u32_le(out: &mut Vec<u8>, number: u32) -> Result<(), AllocError>
     out.extend_from_slice(&number.to_le_bytes())
 }
 
-/// Appends the shortest spelling of the number, for which there is room.
+/// Appends the shortest spelling of the number. The buffer must have room for it.
 fn push_digits(out: &mut Vec<u8>, number: u64)
     requires { vec_len out.old + 10 ≤ vec_capacity out.old }
     ensures { out.new.items ≡ out.old.items ++ var_u64_bytes number }
@@ -65,8 +65,8 @@ pub fn append_var_u64(out: &mut Vec<u8>, number: u64) -> Result<(), AllocError>
     Ok(())
 }
 
-/// The answer of an addition to the buffer. Where it is a refusal, what stands behind the first `len`
-/// bytes is taken away: where the addition left these as they were, the buffer is as it was. Its room stays.
+/// Returns the result of an addition to the buffer. If it is an error, the buffer is truncated to the first `len`
+/// bytes: if the addition left these unchanged, the buffer's bytes are as before. Its capacity stays.
 #[inline]
 pub fn or_cut_back<E>(appended: Result<(), E>, out: &mut Vec<u8>, len: usize) -> Result<(), E>
     ensures value { result ≡ appended }

@@ -1,7 +1,7 @@
-//! Reading fixed numbers from the front of bytes.
+//! Reads fixed numbers from the front of bytes.
 //!
-//! Each function takes just the bytes of its number, and only where it answers one. Its one refusal is
-//! `UnexpectedEof`, where too few bytes are there.
+//! Each function takes just the bytes of its number. If too few bytes are there, it fails with `UnexpectedEof` and
+//! takes none.
 
 ghost use Rattle.std.specs.Prelude.{◌≡◌, ◌<◌, ◌↔◌, [], length, Err};
 ghost use Rattle.std.specs.Int.{w16, w32, w64};

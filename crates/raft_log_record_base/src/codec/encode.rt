@@ -1,4 +1,4 @@
-//! Writing numbers to any writer.
+//! Writes numbers to any writer.
 
 ghost use Rattle.std.specs.Prelude.{IfErr};
 ghost use Rattle.raft_log_record_base.specs.Number.{
@@ -38,10 +38,10 @@ use super::signed::{to_order, to_zigzag};
 use super::variable::spell_var_u64;
 use std::io::Write;
 
-/// Numbers on any writer. After a refusal, which is the writer's, a part of the number may be written.
+/// Writes numbers to any writer. The only errors are the writer's; if a call fails, a part of the number may be
+/// written.
 pub trait NumberEncoder: Write {
-    /// Writes eight bytes with the sign bit flipped, the highest first: the order of bytes is the order of
-    /// numbers.
+    /// Writes eight bytes with the sign bit flipped, the highest first: bytes compare as the numbers do.
     #[tactic(auto, unfolding(crate::specs::Number::u64_bytes))]
     final fn encode_i64(&mut self, v: i64) -> Result<()>
     where
@@ -184,7 +184,7 @@ pub trait NumberEncoder: Write {
         Ok(())
     }
 
-    /// Writes seven bits a byte, the lowest first, the top bit set on all bytes but the last.
+    /// Writes seven bits a byte, the lowest first, with the top bit set on all bytes but the last.
     final fn encode_var_u64(&mut self, v: u64) -> Result<()>
     where
         Self: Sized,
@@ -197,7 +197,7 @@ pub trait NumberEncoder: Write {
         Ok(())
     }
 
-    /// Writes as `encode_var_u64` the number `2v` from 0 on, and `-2v - 1` below.
+    /// Writes `2v` if `v` is at least 0, else `-2v - 1`, as `encode_var_u64` does.
     final fn encode_var_i64(&mut self, v: i64) -> Result<()>
     where
         Self: Sized,

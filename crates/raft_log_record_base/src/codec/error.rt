@@ -1,4 +1,4 @@
-//! Why a number could not be read or written.
+//! Why a number can't be read or written.
 
 ghost use Rattle.std.specs.Prelude.{◌≡◌};
 ghost use Rattle.std.specs.declared.io.ErrorKind.TheVariants.{UnexpectedEof};
@@ -8,21 +8,21 @@ ghost use Rattle.raft_log_record_base.specs.declared.codec.error.Error.TheVarian
 use std::io::ErrorKind;
 use std::{fmt, io};
 
-/// Why a codec refused. Of the kinds of `Io` a decoder answers `UnexpectedEof`, where the bytes end inside
-/// a number, and `InvalidData`, where a number doesn't fit 64 bits.
+/// Why a codec fails. A decoder fails with two kinds of `Io`: `UnexpectedEof` if the bytes end inside a number, and
+/// `InvalidData` if a number doesn't fit 64 bits.
 #[derive(Clone, Copy, Debug, PartialEq, Eq)]
 pub enum Error {
     Io(ErrorKind),
-    /// Never answered by this crate.
+    /// Never returned by this crate.
     KeyLength,
-    /// Never answered by this crate.
+    /// Never returned by this crate.
     KeyPadding,
-    /// Never answered by this crate.
+    /// Never returned by this crate.
     KeyNotFound,
 }
 
 impl Error {
-    /// The refusal of bytes that end too early.
+    /// The error for bytes that end too early.
     pub fn unexpected_eof() -> Error
         ensures { result ≡ Error.Io ErrorKind.UnexpectedEof }
     {
@@ -55,7 +55,7 @@ impl From<io::Error> for Error {
     }
 }
 
-/// What a codec answers.
+/// What a codec returns.
 pub type Result<T, E = Error> = std::result::Result<T, E>;
 
 /// Bytes that are read from the front.

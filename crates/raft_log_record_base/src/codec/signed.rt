@@ -5,7 +5,7 @@ ghost use Rattle.raft_log_record_base.specs.Number.{above_least, steps_above_lea
 
 const SIGN_BIT: u64 = 1 << 63;
 
-/// The signed number with this place in the order, from the least one on.
+/// The signed number at this place in the order of signed numbers, where the least one has place 0.
 #[inline]
 pub fn from_order(place: u64) -> i64
     ensures { result ≡ above_least place }
@@ -13,7 +13,7 @@ pub fn from_order(place: u64) -> i64
     (place ^ SIGN_BIT).cast_signed()
 }
 
-/// The number's place in the order, from the least one on.
+/// The number's place in the order of signed numbers, where the least one has place 0.
 #[inline]
 pub fn to_order(number: i64) -> u64
     ensures { result ≡ steps_above_least number }
@@ -21,7 +21,7 @@ pub fn to_order(number: i64) -> u64
     number.cast_unsigned() ^ SIGN_BIT
 }
 
-/// The signed number that is written as this one: 0, -1, 1, -2, 2 and so on.
+/// The signed number that is written as this number: 0, -1, 1, -2, 2 and so on.
 #[inline]
 pub fn from_zigzag(number: u64) -> i64
     ensures { result ≡ from_zigzag number }
@@ -30,7 +30,7 @@ pub fn from_zigzag(number: u64) -> i64
     if number % 2 == 0 { half } else { !half }
 }
 
-/// How a signed number is written: `2v` from 0 on, `-2v - 1` below.
+/// The number that a signed number is written as: `2v` if `v` is at least 0, else `-2v - 1`.
 #[inline]
 pub fn to_zigzag(number: i64) -> u64
     ensures { result ≡ zigzag number }

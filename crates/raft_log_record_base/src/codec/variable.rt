@@ -1,5 +1,4 @@
-//! Numbers of variable length: seven bits a byte, the lowest first, the top bit set on all bytes but the
-//! last.
+//! Numbers of variable length: seven bits a byte, the lowest first, with the top bit set on all bytes but the last.
 
 ghost use Rattle.std.specs.Prelude.{◌≡◌, ◌≤◌, ◌↔◌, take};
 ghost use Rattle.raft_log_record_base.specs.Grammar.{ReadsAs, Decodes};
@@ -21,20 +20,21 @@ use super::error::{BytesSlice, Error, Result};
 use super::signed::from_zigzag;
 use std::io::ErrorKind;
 
-/// The greatest number of bytes that a number takes.
+/// The greatest number of bytes that a number has.
 pub const MAX_VAR_U64_LEN: usize = 10;
 
-/// How many bytes with the top bit a number may begin with.
+/// How many bytes with the top bit set a number may begin with.
 const GOING_ON: usize = MAX_VAR_U64_LEN - 1;
 
-/// A byte from here on has more bytes after it.
+/// A byte of at least this value has more bytes after it.
 pub const CONTINUES: u8 = 0x80;
 
 /// The greatest tenth byte: nine bytes hold 63 bits.
 const GREATEST_LAST: u8 = 1;
 
-/// Reads what `encode_var_u64` writes, and longer spellings of at most ten bytes. A tenth byte above 1, or
-/// with more after it, is refused as `InvalidData`, and bytes that end first as `UnexpectedEof`.
+/// Reads what `encode_var_u64` writes, and longer spellings of at most ten bytes. Fails with `InvalidData` if nine
+/// bytes have the top bit set and the tenth is above 1. Fails with `UnexpectedEof` if the bytes end before the number
+/// does.
 #[inline(always)]
 pub fn decode_var_u64(source: &mut BytesSlice<'_>) -> Result<u64>
     ensures decodes { Decodes IsVarU64 result source.old.now source.new.now }
@@ -45,8 +45,7 @@ pub fn decode_var_u64(source: &mut BytesSlice<'_>) -> Result<u64>
     split_var_u64(source)
 }
 
-/// Splits the number off the front, and where there is none nothing. Numbers of one and two bytes are read
-/// in place.
+/// Splits the number off the front; if it fails, nothing is taken. Numbers of one and two bytes are read in place.
 #[inline(always)]
 fn split_var_u64(source: &mut BytesSlice<'_>) -> Result<u64>
     ensures { ReadsAs result source.old.now source.new.now (var_u64_at source.old.now) }
@@ -94,7 +93,7 @@ fn var_u64_front(bytes: &[u8]) -> Result<(u64, usize)>
     Ok((number + ((last as u64) << 63), MAX_VAR_U64_LEN))
 }
 
-/// Reads what `encode_var_i64` writes, with the refusals of `decode_var_u64`.
+/// Reads what `encode_var_i64` writes. Fails as `decode_var_u64` does.
 #[tactic(auto, unfolding(crate::specs::Number::var_i64_at))]
 #[inline]
 pub fn decode_var_i64(source: &mut BytesSlice<'_>) -> Result<i64>

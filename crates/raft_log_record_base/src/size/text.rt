@@ -1,11 +1,11 @@
-//! A size read from the front of a text: a number, then a unit.
+//! Reads a size from the front of a text: a number, then a unit.
 
 ghost use Rattle.std.specs.Prelude.{◌≡◌, ◌^◌, ◌≤◌, MatchOption};
 ghost use Rattle.raft_log_record_base.specs.Size.{GivesSize, number_in, unit_size, power_of, size_in};
 
 use super::{B, GIB, KIB, MIB, PIB, ParseSizeError, ReadableSize, TIB};
 
-/// The size that all of the text spells.
+/// The size that the whole text spells.
 #[tactic(auto, unfolding(crate::specs::Size::size_in))]
 pub fn size_in(text: &[u8]) -> Result<ReadableSize, ParseSizeError>
     ensures { GivesSize result (size_in text.now) }
@@ -21,7 +21,7 @@ pub fn size_in(text: &[u8]) -> Result<ReadableSize, ParseSizeError>
     }
 }
 
-/// The number that the digits at the front spell, if it fits, and what stands after them.
+/// The number that the digits at the front spell, if it fits, and the text after them.
 fn number_in(text: &[u8]) -> Option<(u64, &[u8])>
     ensures { MatchOption result (2 ^ 64 ≤ (number_in 0 text.now).0)
         (λ p. number_in 0 text.now ≡ (p.0, p.1.now)) }

@@ -1,4 +1,4 @@
-//! Entries that are added to a batch: their bytes stand one after another behind those that it has.
+//! Adds entries to a batch: their bytes follow those that it has.
 ghost use Rattle.std.specs.Prelude.{◌≡◌, ◌+◌, ◌-◌, ◌≤◌, ◌<◌, ◌^◌, ◌++◌, ◌↔◌};
 ghost use Rattle.std.specs.Prelude.{length, min, vec_capacity, IsTrue, IfOk, OnOk, OnErr, IfErr};
 ghost use Rattle.raft_log_record_items.specs.Writing.{KeepsFront};
@@ -18,13 +18,13 @@ impl LogBatch {
     ghost use Rattle.raft_log_record_batches.specs.Entries.{IsRunWith, indexes_of, slices_bytes, MayHold};
     ghost use Rattle.raft_log_record_batches.specs.Entries.{AddsSlices, IsSlicesRefusal};
 
-    /// Adds entries of a group, each given by its index and its bytes, which are copied into the batch. Of
-    /// the entries in `entry_indexes` only the index is taken: the length is that of the bytes, and the place
-    /// comes when the batch is written. No entries add nothing.
+    /// Adds entries of a group, each given by its index and its bytes, which are copied into the batch. Only the
+    /// indexes in `entry_indexes` are used: the lengths are those of the bytes, and the places are set when the batch
+    /// is written. No entries add nothing.
     ///
-    /// Refused, in this order: as an invalid argument, indexes that are not as many as the entries, that
-    /// don't rise by one, or of which one is 2^64 - 1; as full, more than 2,147,483,647 bytes of entries in
-    /// the batch. A refusal changes no item. Answered or refused, there is no less room.
+    /// Fails with `InvalidArgument` if there are not as many indexes as entries, if the indexes don't rise by one, or
+    /// if one is 2^64 - 1. Else it fails with `Full` if the batch would have more than 2,147,483,647 bytes of entries.
+    /// If it fails, no item changes. In both cases the capacity doesn't shrink.
     pub fn add_raw_entries(
         &mut self,
         alloc: Global,
@@ -60,7 +60,7 @@ impl LogBatch {
     }
 }
 
-/// Whether the indexes rise by one from this one on.
+/// Whether the indexes rise by one, from this one on.
 fn rises_from(entries: &[EntryIndex], first: u64) -> bool
     requires { first + length entries.now < 2 ^ 64 }
     ensures { IsTrue result ↔ RisesFrom first (indexes_of entries.now) }
@@ -87,7 +87,7 @@ fn is_run(entries: &[EntryIndex]) -> bool
     }
 }
 
-/// Refuses indexes that are not so many, that don't rise by one, or of which one is 2^64 - 1.
+/// Fails if there are not `count` indexes, if they don't rise by one, or if one is 2^64 - 1.
 pub(super) fn check_run(alloc: Global, entries: &[EntryIndex], count: usize) -> Result<()>
     ensures ok { OnOk result (length entries.now ≡ count) }
     ensures run { OnOk result (IsIndexRun (indexes_of entries.now)) }
@@ -107,7 +107,7 @@ pub(super) fn check_run(alloc: Global, entries: &[EntryIndex], count: usize) -> 
     Ok(())
 }
 
-/// How many bytes the entries have, or 2^64 - 1 where they have more.
+/// The length of the entries in bytes, or 2^64 - 1 if they are longer.
 fn bytes_len(entries: &[&[u8]]) -> u64
     ensures { result ≡ min (bytes_len (slices_bytes entries.now)) (2 ^ 64 - 1) }
 {
@@ -118,7 +118,7 @@ fn bytes_len(entries: &[&[u8]]) -> u64
     len
 }
 
-/// Appends each entry's bytes. A refusal may leave a part behind what was there.
+/// Appends each entry's bytes. If it fails, a part may follow the old bytes.
 fn append_each(out: &mut Vec<u8>, entries: &[&[u8]]) -> Result<(), AllocError>
     ensures ok { OnOk result (out.new.items ≡ out.old.items ++ joined (slices_bytes entries.now)) }
     ensures grows { vec_capacity out.old ≤ vec_capacity out.new }
@@ -130,7 +130,7 @@ fn append_each(out: &mut Vec<u8>, entries: &[&[u8]]) -> Result<(), AllocError>
     Ok(())
 }
 
-/// Appends each entry's bytes, and a refusal changes no byte.
+/// Appends each entry's bytes. If it fails, no byte changes.
 fn append_entries(out: &mut Vec<u8>, entries: &[&[u8]]) -> Result<(), AllocError>
     ensures ok { OnOk result (out.new.items ≡ out.old.items ++ joined (slices_bytes entries.now)) }
     ensures grows { vec_capacity out.old ≤ vec_capacity out.new }

@@ -1,4 +1,4 @@
-//! Entries that are added to a batch by the index of the first one, and write their own bytes.
+//! Adds entries to a batch that write their own bytes, given the index of the first one.
 ghost use Rattle.std.specs.Prelude.{◌≡◌, ◌+◌, ◌≤◌, ◌<◌, ◌^◌, ◌++◌, length, vec_capacity, IfOk, OnOk, OnErr, IfErr};
 ghost use Rattle.raft_log_record_items.specs.Writing.{KeepsFront};
 ghost use Rattle.raft_log_record_batches.specs.Batch.{max_entries_len};
@@ -20,11 +20,11 @@ impl LogBatch {
     ghost use Rattle.raft_log_record_batches.specs.Entries.{IsIndexRun, MayHold};
     ghost use Rattle.raft_log_record_batches.specs.EntriesFrom.{AddsFrom, FailsToAddFrom, indexes_at};
 
-    /// Adds entries of a group, the first with this index and each other one with the next, which write their
-    /// own bytes. No entries add nothing.
+    /// Adds entries of a group that write their own bytes, the first with this index and each other one with the next.
+    /// No entries add nothing.
     ///
-    /// Refused, in this order: as an invalid argument, indexes of which one is 2^64 - 1 or above; as full, more
-    /// than 2,147,483,647 bytes of entries in the batch. A refusal changes no item.
+    /// Fails with `InvalidArgument` if an index would be 2^64 - 1 or above, else with `Full` if the batch would have
+    /// more than 2,147,483,647 bytes of entries. If it fails, no item changes.
     pub fn add_entries_from<E: EntryWriter>(
         &mut self,
         alloc: Global,
@@ -56,7 +56,7 @@ impl LogBatch {
     }
 }
 
-/// Refuses so many indexes, from this one on, of which one is 2^64 - 1 or above.
+/// Fails if one of `count` indexes, from this one on, is 2^64 - 1 or above.
 fn check_last(alloc: Global, first: u64, count: usize) -> Result<()>
     ensures run { OnOk result (IsIndexRun (indexes_from first count)) }
     ensures errors { IfErr result (λ e. IsRunRefusal e (indexes_from first count) count) }
@@ -69,9 +69,8 @@ fn check_last(alloc: Global, first: u64, count: usize) -> Result<()>
     )?))
 }
 
-/// Appends the bytes of each entry, and adds the entry with its index and their number, for which there is
-/// room. Refused as full is a buffer of more than so many bytes. A refusal may leave a part behind what was
-/// there.
+/// Appends the bytes of each entry, and adds the entry with its index and its length, for which there must be room.
+/// Fails with `Full` if the buffer would have more bytes than the limit. If it fails, a part may follow the old bytes.
 fn append_each<E: EntryWriter>(
     out: &mut Vec<u8>,
     placed: &mut Vec<EntryIndex>,
@@ -105,9 +104,9 @@ fn append_each<E: EntryWriter>(
     Ok(())
 }
 
-/// Appends the bytes of these entries, and answers them with their indexes, from this one on, and lengths, laid
-/// out from this offset on. Refused, in this order, are indexes that are no run, and more bytes than a batch
-/// may have. A refusal changes nothing.
+/// Appends the bytes of these entries. Returns them with their lengths and with their indexes, from this one on, laid
+/// out from this offset on. Fails if the indexes are no run, or else if the batch would have too many bytes. If it
+/// fails, nothing changes.
 fn append_run<E: EntryWriter>(
     alloc: Global,
     out: &mut Vec<u8>,

@@ -1,4 +1,4 @@
-//! Two batches that become one.
+//! Merges two batches.
 ghost use Rattle.std.specs.Prelude.{◌≡◌, ◌≤◌, ◌++◌, vec_capacity, IsOk, OnOk, OnErr};
 ghost use Rattle.raft_log_record_batches.specs.Batch.{FitsInRoom};
 ghost use Rattle.raft_log_record_lists.specs.ItemBatch.{TakesItems};
@@ -19,12 +19,12 @@ impl LogBatch {
     ghost use Rattle.raft_log_record_batches.specs.Places.{AddsBytes, bytes_in};
     ghost use Rattle.raft_log_record_batches.specs.Entries.{IsMergeRefusal};
 
-    /// Takes the items and the entries' bytes of the other batch behind its own, and leaves the other one
-    /// empty, as `clear` does.
+    /// Moves the other batch's items and its entries' bytes to the end of its own, and empties the other one as `clear`
+    /// does.
     ///
-    /// Refused as full are more than 2,147,483,647 bytes of entries in all. A refusal changes neither but the
-    /// memory of the own buffer, which is no less, and where there is room for the other's items and bytes
-    /// there is none.
+    /// Fails with `Full` if the entries would have more than 2,147,483,647 bytes in all. If it fails, neither batch
+    /// changes, except that its own buffer's capacity may grow. It doesn't fail if there is room for the other one's
+    /// items and bytes.
     pub fn merge(&mut self, rhs: &mut LogBatch) -> Result<()>
         requires own { self.old.state ≡ Filling }
         requires other { rhs.old.state ≡ Filling }
@@ -54,8 +54,8 @@ impl LogBatch {
     }
 }
 
-/// Moves the other items behind these, and copies bytes behind those of the buffer. A refusal changes
-/// nothing but the buffer's room, which is no less.
+/// Moves the other items to the end of these, and appends the bytes to the buffer. If it fails, only the buffer's
+/// capacity changes, which doesn't shrink.
 fn move_parts(
     items: &mut LogItemBatch,
     buf: &mut Vec<u8>,

@@ -1,4 +1,4 @@
-//! Messages that are added to a batch as entries.
+//! Adds messages to a batch as entries.
 ghost use Rattle.std.specs.Prelude.{◌≡◌, ◌+◌, ◌≤◌, ◌<◌, ◌^◌, ◌++◌, length, map, IfOk, OnOk, OnErr, IfErr};
 ghost use Rattle.raft_log_record_items.specs.Writing.{KeepsFront};
 ghost use Rattle.raft_log_record_batches.specs.Batch.{max_entries_len};
@@ -29,10 +29,10 @@ impl LogBatch {
     ghost use Rattle.raft_log_record_batches.specs.Places.{AddsBytes};
     ghost use Rattle.raft_log_record_batches.specs.Entries.{IsRunWith, AreReadBack, MayHold, AddsRun, FailsToAddEntries};
 
-    /// AddsRun entries of a group, each with its index. No entries add nothing.
+    /// Adds entries of a group, each with its index. No entries add nothing.
     ///
-    /// Refused, in this order: as an invalid argument, indexes that don't rise by one, or of which one is
-    /// 2^64 - 1; as full, more than 2,147,483,647 bytes of entries in the batch. A refusal changes no item.
+    /// Fails with `InvalidArgument` if the indexes don't rise by one, or if one is 2^64 - 1; else with `Full` if the
+    /// batch would have more than 2,147,483,647 bytes of entries. If it fails, no item changes.
     pub fn add_entries<M: MessageExt>(
         &mut self,
         alloc: Global,
@@ -63,7 +63,7 @@ impl LogBatch {
     }
 }
 
-/// Entries with the indexes of these, and no lengths yet.
+/// Entries with the indexes of these, without lengths.
 fn indexes_of<M: MessageExt>(
     alloc: Global,
     entries: &[M::Entry],
@@ -77,8 +77,8 @@ fn indexes_of<M: MessageExt>(
     Ok(indexes)
 }
 
-/// Appends the bytes of each message, and gives each entry the length of its bytes. Refused as full is a
-/// buffer of more than so many bytes. A refusal may leave a part behind what was there.
+/// Appends the bytes of each message, and sets each entry's length. Fails with `Full` if the buffer would have more
+/// bytes than the limit. If it fails, a part may follow the old bytes.
 fn append_each<M: Message>(
     out: &mut Vec<u8>,
     indexes: &mut [EntryIndex],
@@ -106,9 +106,8 @@ fn append_each<M: Message>(
     Ok(())
 }
 
-/// Appends the bytes of these messages, and answers the entries with their indexes and lengths, laid out from
-/// this offset on. Refused, in this order, are indexes that are no run, and more bytes than a batch may have.
-/// A refusal changes nothing.
+/// Appends the bytes of these messages. Returns the entries with their indexes and lengths, laid out from this offset
+/// on. Fails if the indexes are no run, or else if the batch would have too many bytes. If it fails, nothing changes.
 fn append_run<M: MessageExt>(
     alloc: Global,
     out: &mut Vec<u8>,

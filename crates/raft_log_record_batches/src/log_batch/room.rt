@@ -1,4 +1,4 @@
-//! Room in a batch for what is still to be added.
+//! Makes room in a batch for what is still to be added.
 use super::{LogBatch, MAX_ENTRIES_LEN, make_room};
 use raft_log_record_items::{Error, Result};
 
@@ -8,18 +8,18 @@ impl LogBatch {
     ghost use Rattle.raft_log_record_batches.specs.Batch.{max_entries_len, HasRoomOf, IsRoomier};
     ghost use Rattle.raft_log_record_batches.specs.Entries.{IsRoomRefusal};
 
-    /// How many bytes the entries have.
+    /// The length of the entries in bytes.
     pub fn entries_len(&self) -> usize
         ensures { result ≡ length self.now.entries }
     {
         self.entries_len
     }
 
-    /// Makes room for so many more items, and for so many more bytes of entries: within it a merge and a
-    /// command ask for no memory.
+    /// Makes room for this many more items and this many more bytes of entries. Within that room, merging and adding
+    /// commands ask for no memory.
     ///
-    /// Refused as full are more than 2,147,483,647 bytes of entries in all. Answered or refused, nothing
-    /// changes but the room, which is no less, and where there is room already it isn't refused.
+    /// Fails with `Full` if the entries would have more than 2,147,483,647 bytes in all. Whether it succeeds or fails,
+    /// only the capacity changes, and it doesn't shrink. It doesn't fail if the room is already there.
     pub fn reserve(&mut self, items: usize, entries_len: usize) -> Result<()>
         requires { self.old.state ≡ Filling }
         ensures room { OnOk result (HasRoomOf self.new items entries_len) }

@@ -1,12 +1,12 @@
-//! The CRC of long inputs, by bytes that are folded forward.
+//! The CRC of long inputs, computed by folding bytes forward.
 //!
-//! The polynomial of the CRC divides x³⁰⁰ + x¹⁵⁵ + x¹¹⁷ + x⁸⁹ + 1. So it divides the eighth power of this
-//! too, which over bits is the same sum with x⁸ for x: a byte counts in the register just as it does in
-//! four later places together, 145, 183, 211 and 300 bytes behind its own (what is left of 300 after 155,
-//! 117, 89 and 0). A byte may then be taken out of the input, if it is xored into those four, and no table
-//! is read for it. Each folded byte is the byte of the input, xored with the folded ones that far before
-//! it, so many are made side by side. What they owe to the last bytes of the input is xored into these,
-//! which go through the tables. This is Sam Russell's method (Chorba), by bytes in place of words.
+//! The polynomial of the CRC divides x³⁰⁰ + x¹⁵⁵ + x¹¹⁷ + x⁸⁹ + 1. It also divides the eighth power of this, which over
+//! bits is the same sum with x⁸ for x. A byte therefore counts in the register just as it does in four later places
+//! together: 145, 183, 211 and 300 bytes after its own (300 minus 155, 117, 89 and 0). A byte may be taken out of the
+//! input if it is xored into those four, and then no table is read for it. Each folded byte is the byte of the input,
+//! xored with the folded bytes at these four distances before it, which lets many be made side by side. What they owe
+//! to the last bytes of the input is xored into these, which are then read through the tables. This is Sam Russell's
+//! method (Chorba), by bytes in place of words.
 
 ghost use Rattle.std.specs.Prelude.{◌≡◌, ℕ, ◌*◌, ◌-◌, ◌≤◌, length, take, bit_xor};
 ghost use Rattle.raft_log_record_checksum.specs.Checksum.{crc_bits, crc_after};
@@ -14,7 +14,7 @@ ghost use Rattle.raft_log_record_checksum.specs.Folding.{owed};
 
 use super::after_short;
 
-/// How many bytes behind a byte the last of its four places lies.
+/// How many bytes after a byte the last of its four places is.
 const REACH: usize = 300;
 
 /// The bytes that are folded before the window moves on.
@@ -23,7 +23,7 @@ const PART: usize = 2048;
 /// The bytes of a window: the folded ones that are still owed, and the next ones.
 const WINDOW: usize = 2348;
 
-/// The register after the bytes. Where they are few, `after_short` is faster.
+/// The register after the bytes. For few bytes `after_short` is faster.
 #[inline(never)]
 pub fn after_long(register: u32, bytes: &[u8]) -> u32
     ensures { result ≡ crc_after register bytes.now }
@@ -81,7 +81,7 @@ fn fold_part(window: &mut [u8; WINDOW], part: &[u8])
     window.copy_within(part.len()..part.len() + REACH, 0);
 }
 
-/// The register after the last bytes, which take up what is owed.
+/// The register after the last bytes, into which what is owed is xored.
 fn after_last(window: &[u8; WINDOW], last: &[u8; REACH]) -> u32
     ensures { (register : ℕ)
         → owed (take 300 window.now) ≡ crc_bits 2400 register

@@ -1,4 +1,4 @@
-//! Tables that were read of segments, one behind the other, and of Append over Rewrite.
+//! Merges tables that were read from segments: two that follow one another, and Append over Rewrite.
 ghost use Rattle.std.specs.Prelude.{◌≡◌, ◌==◌, false, true, ℕ, OnOk, OnErr, IfErr};
 ghost use Rattle.raft_log_record_base.specs.declared.errors.Error.TheVariants as errors;
 ghost use Rattle.raft_log_table_lists.specs.Bridge.{unmarked};
@@ -24,10 +24,10 @@ use raft_log_record_base::Result;
 use std::alloc::AllocError;
 
 impl MemTables {
-    /// Tables that were read of the next segment of the same queue come behind these, group by group.
+    /// Joins tables that were read from the next segment of the same queue, group by group.
     ///
-    /// `Hole` where the entries of a group, in Append, start past the end of those that it leaves; `Memory`.
-    /// Refused, some groups have what both segments come to, and the others what they had.
+    /// Fails with `Hole` if the entries of a group, in Append, start past the end of those that it leaves, or with
+    /// `Memory`. If it fails, some groups have both segments joined, and the others are unchanged.
     pub fn merge_newer_neighbor(&mut self, newer: MemTables) -> Result<()>
         ensures ok { OnOk result (JoinsAll self.old newer self.new) }
         ensures err { OnErr result (JoinsSome self.old newer self.new) }
@@ -40,11 +40,11 @@ impl MemTables {
         Ok(())
     }
 
-    /// Tables that were read of all of Append come over these, which were read of all of Rewrite and whose
-    /// marks are owed no more, group by group.
+    /// Puts tables that were read from all of Append over these, group by group. These were read from all of Rewrite,
+    /// and their tombstones aren't owed any more.
     ///
-    /// `Memory`. Refused, some groups have what both queues come to, and the others what they had, without
-    /// the marks.
+    /// Fails with `Memory`. If it fails, some groups have both queues merged, and the others are unchanged, but without
+    /// their tombstones.
     pub fn merge_append_table(&mut self, append: MemTables) -> Result<()>
         ensures ok { OnOk result (MergesAll self.old append self.new) }
         ensures err { OnErr result (MergesSome self.old append self.new) }
@@ -58,9 +58,9 @@ impl MemTables {
         Ok(())
     }
 
-    /// No mark is owed any more, of any group: all of them were written to Rewrite, and synced. Of keys without a
-    /// value nothing is kept, nor room that was made for them; and no table of a group that doesn't count, of which
-    /// nothing shows, and to which nothing is promised.
+    /// Removes all owed tombstones of all groups: they were written to Rewrite and synced. Keys without a value lose
+    /// their room. A group's table is dropped if the group doesn't count, the table shows nothing, and nothing is
+    /// promised to it.
     pub fn clear_marks(&mut self)
         ensures shows { (g : ℕ) → shown_of self.new g ≡ unmarked (shown_of self.old g) }
         ensures counts { (g : ℕ) → counts self.new g ≡ counts self.old g }
@@ -71,8 +71,8 @@ impl MemTables {
         self.groups.retain(|_, table| table.settle());
     }
 
-    /// A table that was read of the next segment comes behind that of its group. Refused, nothing changes but
-    /// that nothing is promised any more to the group.
+    /// Joins a table that was read from the next segment to that of its group. If it fails, nothing changes, except
+    /// that nothing is promised to the group any more.
     fn join_table(&mut self, group: u64, newer: GroupTable) -> Result<()>
         ensures ok { OnOk result (JoinsOne self.old self.new group newer) }
         ensures err { OnErr result ((g : ℕ) → StaysAt self.old self.new g) }
@@ -89,8 +89,8 @@ impl MemTables {
         Ok(())
     }
 
-    /// A table that was read of all of Append comes over that of its group. Refused, nothing changes but that
-    /// nothing is promised any more to the group.
+    /// Puts a table that was read from all of Append over that of its group. If it fails, nothing changes, except that
+    /// nothing is promised to the group any more.
     fn merge_table(&mut self, group: u64, append: GroupTable) -> Result<(), AllocError>
         ensures ok { OnOk result (MergesOne self.old self.new group append) }
         ensures err { OnErr result ((g : ℕ) → SameAt self.old self.new g) }

@@ -1,4 +1,4 @@
-//! The marks that are owed to Rewrite, of all groups.
+//! The tombstones that all groups owe to Rewrite.
 ghost use Rattle.std.specs.Prelude.{IfOk};
 ghost use Rattle.raft_log_table_all.specs.Owing.{AreOwed};
 
@@ -7,9 +7,8 @@ use raft_log_record_items::LogItem;
 use std::alloc::AllocError;
 
 impl MemTables {
-    /// The marks that are owed to Rewrite, as the items of one batch: group by group from the least number
-    /// up, the Clean, the Compact and the deletions of keys in their order. They stay owed until
-    /// `clear_marks`.
+    /// The tombstones that are owed to Rewrite, as the items of one batch. They are sorted by group number; for each
+    /// group come the Clean, the Compact, and the Dels of keys in their order. They stay owed until `clear_marks`.
     pub fn owed_marks(&self) -> Result<Vec<LogItem>, AllocError>
         ensures { IfOk result (λ items. AreOwed self.now items.items) }
     {

@@ -1,4 +1,4 @@
-//! Records that are read again: each item is done in its group's table, as it is read.
+//! Replays records: each item is applied to its group's table as it is read.
 ghost use Rattle.std.specs.Prelude.{◌≡◌, ◌==◌, true, false, ℕ, OnOk, OnErr, IfErr};
 ghost use Rattle.raft_log_table_lists.specs.Shown.{span};
 ghost use Rattle.raft_log_record_marks.specs.Marking.{has_mark_key};
@@ -24,10 +24,10 @@ use raft_log_record_items::LogItem;
 use raft_log_table_lists::GroupFiles;
 
 impl MemTables {
-    /// The items of a record that was read in this file of Append stand there; a mark says nothing.
+    /// Applies the items of a record that was read in this file of Append. A mark says nothing.
     ///
-    /// `Hole` where a run starts past the index after the last of its group; `Memory`. Refused, some first
-    /// items are done, and the others aren't.
+    /// Fails with `Hole` if a run starts past the index after the last of its group, or with `Memory`. If it fails, the
+    /// first few items are applied, and the others aren't.
     pub fn replay_append_writes(&mut self, items: Vec<LogItem>, file: FileSeq) -> Result<()>
         ensures ok { OnOk result (ReadsAll true file self.old self.new (tagged_items place_of items.items)) }
         ensures err { IfErr result
@@ -37,10 +37,10 @@ impl MemTables {
         self.replay_writes(LogQueue::Append, items, file)
     }
 
-    /// The items of a record that was read in this file of Rewrite stand there; a mark says nothing. Where a
-    /// run starts past the index after the last, what stood goes.
+    /// Applies the items of a record that was read in this file of Rewrite. A mark says nothing. If a run starts past
+    /// the index after the last, it replaces all entries.
     ///
-    /// `Memory`. Refused, some first items are done, and the others aren't.
+    /// Fails with `Memory`. If it fails, the first few items are applied, and the others aren't.
     pub fn replay_rewrite_writes(&mut self, items: Vec<LogItem>, file: FileSeq) -> Result<()>
         ensures ok { OnOk result (ReadsAll false file self.old self.new (tagged_items place_of items.items)) }
         ensures err { IfErr result
@@ -50,7 +50,7 @@ impl MemTables {
         self.replay_writes(LogQueue::Rewrite, items, file)
     }
 
-    /// The items of a record that was read in this file of a queue stand there.
+    /// Applies the items of a record that was read in this file of a queue.
     fn replay_writes(&mut self, queue: LogQueue, items: Vec<LogItem>, file: FileSeq) -> Result<()>
         ensures ok { OnOk result
             (ReadsAll (in_append queue) file self.old self.new (tagged_items place_of items.items)) }
@@ -66,8 +66,8 @@ impl MemTables {
         Ok(())
     }
 
-    /// An item that was read in this file of a queue stands there. Refused, nothing changes but that nothing
-    /// is promised any more to its group.
+    /// Applies an item that was read in this file of a queue. If it fails, nothing changes, except that nothing is
+    /// promised to its group any more.
     fn replay_item(&mut self, queue: LogQueue, item: LogItem, file: FileSeq) -> Result<()>
         ensures ok { OnOk result (ReadsOne (in_append queue) file self.old self.new (tagged place_of item)) }
         ensures err { OnErr result ((g : ℕ) → StaysAt self.old self.new g) }
@@ -85,8 +85,8 @@ impl MemTables {
         Ok(())
     }
 
-    /// An atomic group of Rewrite ended, in these files, whose items of a group are done: its files are
-    /// noted there, and while something of the group lies at or below the last file noted before, also those.
+    /// Notes the files of an atomic group of Rewrite that ended, for a group whose items of it are applied. The files
+    /// noted before stay noted while something of the group is in a file up to their last one.
     pub fn note_group(&mut self, group: u64, files: GroupFiles)
         ensures exact { has_table self.old group ≡ true
             → NotesGroup files (shown_of self.old group) (shown_of self.new group) }
@@ -101,8 +101,8 @@ impl MemTables {
         }
     }
 
-    /// An atomic group of Rewrite was read, in these files, whose items of a group are done: its files are noted
-    /// there, beside those that were noted before.
+    /// Notes the files of an atomic group of Rewrite that was read, for a group whose items of it are applied, with
+    /// those that were noted before.
     pub fn note_read_group(&mut self, group: u64, files: GroupFiles)
         ensures noted { replayed_of self.new group ≡ read_noted_in files (raw_of self.old group) }
         ensures others { (g : ℕ) → (group == g) ≡ false → replayed_of self.new g ≡ replayed_of self.old g }

@@ -1,4 +1,4 @@
-//! What is written to Rewrite again: room for its places is made before, and they move there once it is done.
+//! Moves what was copied to Rewrite: room for the places is made before the write, and they move after it.
 ghost use Rattle.std.specs.Prelude.{◌≡◌, ◌≤◌, true, false, ℕ, OnOk, OnErr};
 ghost use Rattle.raft_log_record_marks.specs.Meaning.{meaning, tagged, tagged_items};
 ghost use Rattle.raft_log_table_runs.specs.Entries.{place_of};
@@ -26,11 +26,11 @@ use raft_log_record_items::LogItem;
 use std::alloc::AllocError;
 
 impl MemTables {
-    /// Makes room for the places of a batch that is to be written to Rewrite, beside what is prepared
-    /// already: so the batches of an atomic group are prepared one after another.
+    /// Makes room for the places of a batch that is to be written to Rewrite, in addition to what is prepared already.
+    /// That lets the batches of an atomic group be prepared one after another.
     ///
-    /// Refused or not, nothing shows, and what was promised to other groups stays. Where it is refused,
-    /// nothing is prepared any more for its groups.
+    /// Whether it succeeds or fails, the tables show the same, and what was promised to other groups stays. If it
+    /// fails, nothing is prepared for its groups any more.
     pub fn prepare_rewrite(&mut self, items: &[LogItem]) -> Result<(), AllocError>
         ensures shows { ShowsSame self.old self.new }
         ensures ok { OnOk result (PromisesMoves self.old self.new (tagged_items (λ e. e) items.now)) }
@@ -46,11 +46,11 @@ impl MemTables {
         prepared
     }
 
-    /// A batch that was prepared, and then written to this file of Rewrite: entries and values that are still
-    /// there lie there from now on. Of what stands in Append that is, where there is a gate, what lies in a
-    /// file up to it, and without a gate nothing. Marks change nothing.
+    /// Applies a batch that was prepared, and then written to this file of Rewrite: entries and values that are still
+    /// there are in that file from now on. With a gate, this includes what is in Append in a file up to it; without
+    /// one, nothing in Append. Tombstones and marks of atomic groups change nothing.
     ///
-    /// The batches of an atomic group come here once its last one is written, and not before.
+    /// The batches of an atomic group are applied once its last one is written, and not before.
     pub fn apply_rewrite_writes(&mut self, items: &[LogItem], gate: Option<FileSeq>, file: FileSeq)
         requires { MayMove self.old (tagged_items (λ e. e) items.now) }
         ensures moved { TakesRewritten gate file self.old self.new (tagged_items place_of items.now) }
@@ -63,7 +63,7 @@ impl MemTables {
         }
     }
 
-    /// Makes room for the places of a batch, and stops where that is refused. Nothing shows.
+    /// Makes room for the places of a batch, and stops at the first failure. The tables show the same.
     fn prepare_copies(&mut self, items: &[LogItem]) -> Result<(), AllocError>
         ensures shows { ShowsSame self.old self.new }
         ensures ok { OnOk result (PromisesMoves self.old self.new (tagged_items (λ e. e) items.now)) }
@@ -81,7 +81,7 @@ impl MemTables {
         Ok(())
     }
 
-    /// Makes room for the places of an item, if its group has a table. Nothing shows.
+    /// Makes room for the places of an item, if its group has a table. The tables show the same.
     fn prepare_copy(&mut self, item: &LogItem) -> Result<(), AllocError>
         ensures shows { ShowsSame self.old self.new }
         ensures ok { OnOk result (PromisesMove self.old self.new (tagged (λ e. e) item.now)) }
@@ -94,7 +94,7 @@ impl MemTables {
         }
     }
 
-    /// An item that was prepared, and then written to this file of Rewrite.
+    /// Applies an item that was prepared, and then written to this file of Rewrite.
     fn rewrite_item(&mut self, item: &LogItem, gate: Option<FileSeq>, file: FileSeq)
         requires { has_table self.old item.now.raft_group_id ≡ true
             → count_of (meaning place_of item.now.content)

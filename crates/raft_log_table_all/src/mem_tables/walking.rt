@@ -1,4 +1,4 @@
-//! The groups that have a table, in the order of their numbers, and what is counted of them.
+//! Walks the groups that have a table, in the order of their numbers.
 ghost use Rattle.std.specs.Prelude.{◌≡◌, ◌⊎◌, ◌≤◌, ℕ, Some, option_copied, IfOk};
 ghost use Rattle.std.specs.BTreeMap.{keys};
 ghost use Rattle.std.specs.List.Sorted.{IsStrictlySortedBy};
@@ -15,15 +15,15 @@ use std::alloc::AllocError;
 use std::collections::btree_map::Iter;
 
 impl MemTables {
-    /// The numbers of the groups that count, from the least up.
+    /// The numbers of the groups that count, in ascending order.
     pub fn raft_groups(&self) -> Result<Vec<u64>, AllocError>
         ensures { IfOk result (λ groups. ListsGroups (counts self.now) groups.items) }
     {
         self.list_groups(false)
     }
 
-    /// The numbers of all groups that have a table, from the least up: also of those that were cleaned, whose
-    /// marks may be owed.
+    /// The numbers of all groups that have a table, in ascending order. They include groups that were cleaned, whose
+    /// tombstones may be owed.
     pub fn known_groups(&self) -> Result<Vec<u64>, AllocError>
         ensures { IfOk result (λ groups. ListsGroups (has_table self.now) groups.items) }
     {
@@ -38,7 +38,7 @@ impl MemTables {
         Some(&found.table)
     }
 
-    /// The tables of all groups, by the groups' numbers from the least up, whether the groups count or not.
+    /// The tables of all groups, in ascending order of the groups' numbers, whether the groups count or not.
     pub fn iter(&self) -> Iter<'_, u64, GroupTable>
         ensures rest { result ≡ self.now.groups.entries }
         ensures ordered { IsStrictlySortedBy nat_cmp (keys self.now.groups) }
@@ -46,8 +46,8 @@ impl MemTables {
         self.groups.iter()
     }
 
-    /// How many entries and values of all groups stand in Rewrite, at most 2^64 - 1. It takes time in all
-    /// keys of all groups, and no memory.
+    /// The number of entries and values of all groups in Rewrite, at most 2^64 - 1. It takes time in all keys of all
+    /// groups, and no memory.
     pub fn standing_count(&self) -> u64
         ensures { Stand self.now result }
     {
@@ -58,8 +58,8 @@ impl MemTables {
         count
     }
 
-    /// The least file of a queue in which any group has something, where that is below the limit, else the
-    /// limit. It takes one walk over the groups, and no memory.
+    /// The least file of a queue in which any group has something, or the limit if that is lower. It takes one walk
+    /// over the groups, and no memory.
     pub fn least_file(&self, queue: LogQueue, limit: FileSeq) -> FileSeq
         ensures { IsLeastOf queue limit self.now result }
     {
@@ -70,8 +70,7 @@ impl MemTables {
         least
     }
 
-    /// The least file of a queue, as `least_file` answers it, and how many entries and values stand in Rewrite,
-    /// as `standing_count` does: both by one walk over the groups.
+    /// The result of `least_file` and that of `standing_count`, found in one walk over the groups.
     pub fn least_and_standing(&self, queue: LogQueue, limit: FileSeq) -> (FileSeq, u64)
         ensures least { IsLeastOf queue limit self.now result.0 }
         ensures standing { Stand self.now result.1 }
@@ -99,7 +98,7 @@ impl MemTables {
     }
 }
 
-/// The least file of a queue in which this table has something, where that is below this one, else this one.
+/// The least file of a queue in which this table has something, or `least` if that is lower.
 fn lesser_in(table: &MemTable, queue: LogQueue, least: FileSeq) -> FileSeq
     ensures limited { result ≤ least }
     ensures below { (n : ℕ) → min_file queue table.now ≡ Some n → result ≤ n }

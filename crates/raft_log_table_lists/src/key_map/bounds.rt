@@ -5,8 +5,8 @@ ghost use Rattle.raft_log_table_lists.specs.Bounds.{below_bound, from_bound, lat
 use std::alloc::Global;
 use std::ops::Bound;
 
-/// Bounds of the keys that aren't below the start and are below the end, where they are given. Where there is no
-/// memory for one, none stands there, and others are walked too.
+/// Bounds around the keys that aren't below the start and are below the end, if these are given. If there is no memory
+/// for a bound, it is left out, and more keys are walked.
 pub(super) fn bounds(
     alloc: Global,
     start: Option<&[u8]>,
@@ -19,7 +19,7 @@ pub(super) fn bounds(
     (from_bound(from), below_bound(below))
 }
 
-/// The end, or the start where the end is below it: then nothing lies between them.
+/// The end, or the start if the end is below it: then no key is between them.
 fn later_end<'a>(start: Option<&'a [u8]>, end: Option<&'a [u8]>) -> Option<&'a [u8]>
     ensures { option_copied result ≡ later_end (option_copied start.entry) (option_copied end.entry) }
 {

@@ -1,4 +1,4 @@
-//! What is read of all keys, in the order of their bytes.
+//! Reads of many keys, in the order of their bytes.
 ghost use Rattle.std.specs.Fn.{CalledAtTwo};
 ghost use Rattle.std.specs.Prelude.{◌≡◌, List, None, ℕ, reverse, IfOk, OnOk, OnErr, length, take, option_map, option_copied};
 ghost use Rattle.raft_log_table_lists.specs.Keys.{keys_of, shown_value};
@@ -11,8 +11,8 @@ use raft_log_record_items::Bytes;
 use std::alloc::AllocError;
 
 impl KeyMap {
-    /// Adds the keys and values that stand in Append in a file up to the gate; without a gate, those that
-    /// stand in Rewrite. A refusal adds nothing.
+    /// Adds the keys and values that are in Append in a file up to the gate; without a gate, those that are in Rewrite.
+    /// If it fails, nothing is added.
     pub fn fetch_values(
         &self,
         gate: Option<FileSeq>,
@@ -30,7 +30,7 @@ impl KeyMap {
         copied
     }
 
-    /// Adds those keys and values. A refusal leaves some of them behind what was there.
+    /// Adds those keys and values. If it fails, some of them may follow the old ones.
     fn copy_values(
         &self,
         gate: Option<FileSeq>,
@@ -48,8 +48,8 @@ impl KeyMap {
         Ok(())
     }
 
-    /// Adds the keys that aren't below the start and are below the end, where they are given, and their
-    /// values. A refusal adds nothing.
+    /// Adds the keys that aren't below the start and are below the end, if these are given, and their values. If it
+    /// fails, nothing is added.
     pub fn fetch_within(
         &self,
         start: Option<&[u8]>,
@@ -68,7 +68,7 @@ impl KeyMap {
         copied
     }
 
-    /// Adds those keys and values. A refusal leaves some of them behind what was there.
+    /// Adds those keys and values. If it fails, some of them may follow the old ones.
     fn copy_within(
         &self,
         start: Option<&[u8]>,
@@ -105,7 +105,7 @@ impl KeyMap {
         Ok((key, value))
     }
 
-    /// How many values stand in Rewrite, at most 2^64 - 1.
+    /// The number of values in Rewrite, at most 2^64 - 1.
     pub fn rewritten_count(&self) -> u64
         ensures { CountsAll (λ k. asked_bytes None ((keys_of self.now).values k)) result }
     {
@@ -118,9 +118,9 @@ impl KeyMap {
         count
     }
 
-    /// Calls back with each key that isn't below the start and is below the end, where they are given, and
-    /// with its value: in the order of the keys' bytes or backwards, up to the first call that answers
-    /// false.
+    /// Calls back with each key that isn't below the start and is below the end, if these are given, and with its
+    /// value. It goes through the keys in the order of their bytes, or backwards if `reverse`, up to the first call
+    /// that returns false.
     pub fn scan<F: FnMut(&[u8], &[u8]) -> bool>(
         &self,
         start: Option<&[u8]>,
@@ -186,7 +186,7 @@ impl KeyMap {
         }
     }
 
-    /// The keys that are marked.
+    /// The keys that have tombstones.
     pub fn marked(&self) -> Result<Vec<Bytes>, AllocError>
         ensures { IfOk result (λ keys. ListsMarked (keys_of self.now).deleted keys.items) }
     {
@@ -201,8 +201,7 @@ impl KeyMap {
 }
 
 impl KeySlot {
-    /// The value, if there is one and it stands in Append in a file up to the gate; without a gate, if it
-    /// stands in Rewrite.
+    /// The value, if there is one in Append in a file up to the gate; without a gate, if there is one in Rewrite.
     fn asked(&self, gate: Option<FileSeq>) -> Option<&HeldValue>
         ensures { option_map (λ (h : HeldValue). h.bytes) (option_copied result)
             ≡ asked_bytes gate (shown_value self.now.held) }
@@ -215,8 +214,7 @@ impl KeySlot {
         if asked { Some(value) } else { None }
     }
 
-    /// The value's bytes, if there is one, and the key isn't below the start and is below the end, where
-    /// they are given.
+    /// The value's bytes, if there is one, and the key isn't below the start and is below the end, if these are given.
     fn within(&self, key: &[u8], start: Option<&[u8]>, end: Option<&[u8]>) -> Option<&[u8]>
         ensures { option_copied result
             ≡ bytes_within (option_copied start.entry) (option_copied end.entry) key.now

@@ -1,4 +1,4 @@
-//! The least file of a queue that a table needs, and the files of groups that are noted.
+//! The least file of a queue that a table needs, and the noted files of atomic groups.
 ghost use Rattle.std.specs.Prelude.{◌≡◌};
 ghost use Rattle.raft_log_table_lists.specs.Noted.{start_of};
 ghost use Rattle.raft_log_table_one.specs.Files.{least_rewritten, min_file, noted_after, with_group, IsLeastRewritten, IsMinFile, NotesGroup};
@@ -9,9 +9,9 @@ use raft_log_record_base::{FileSeq, LogQueue};
 use raft_log_table_lists::{GroupFiles, lesser};
 
 impl MemTable {
-    /// The least file of a queue in use, where there is one: of Append the file of the first appended entry
-    /// or of a value, of Rewrite the same, but the first file of the groups that are noted where they may
-    /// reach to it. Along the entries of a queue files don't fall.
+    /// The least file of a queue in use, if there is one. For Append it is the file of the first appended entry or of a
+    /// value. For Rewrite it is the same, or the first file of the noted groups if they may reach to it. Files don't
+    /// fall along the entries of a queue.
     pub fn min_file_seq(&self, queue: LogQueue) -> Option<FileSeq>
         ensures exact { IsMinFile queue (shown self.now) result }
         ensures slots { result ≡ min_file queue self.now }
@@ -28,8 +28,7 @@ impl MemTable {
         }
     }
 
-    /// The file of the first rewritten entry or of a rewritten value, the lesser of them, where there is
-    /// one.
+    /// The file of the first rewritten entry or of a rewritten value, the lesser of them, if there is one.
     fn least_rewritten(&self) -> Option<FileSeq>
         ensures exact { IsLeastRewritten (shown self.now) result }
         ensures slots { result ≡ least_rewritten self.now }
@@ -42,8 +41,8 @@ impl MemTable {
         lesser(place.map(|p| p.file), self.keys.least_file(false))
     }
 
-    /// An atomic group of Rewrite ended, whose copies moved already: its files are noted, and while
-    /// something lies at or below the last file noted before, also those.
+    /// Notes the files of an atomic group of Rewrite that ended, after its copies were moved. The files noted before
+    /// stay noted while something is in a file up to their last one.
     pub fn apply_rewrite_atomic_group(&mut self, files: GroupFiles)
         ensures exact { NotesGroup files (shown self.old) (shown self.new) }
         ensures shows { shown self.new ≡ with_group self.old files }
@@ -54,7 +53,7 @@ impl MemTable {
     }
 }
 
-/// The file from which on all counts that counts with what lies in this file.
+/// The first file that must stay for what is in this file to count.
 fn start_of(file: FileSeq, noted: Option<GroupFiles>) -> FileSeq
     ensures { result ≡ start_of file noted }
 {
@@ -64,8 +63,7 @@ fn start_of(file: FileSeq, noted: Option<GroupFiles>) -> FileSeq
     }
 }
 
-/// The files of groups to note once a new group ended, where this is the least file in which something
-/// stands.
+/// The files of groups to note once a new group has ended, if `least` is the least file that has something.
 fn noted_after(least: Option<FileSeq>, old: Option<GroupFiles>, new: GroupFiles) -> GroupFiles
     ensures { result ≡ noted_after least old new }
 {

@@ -1,4 +1,4 @@
-//! Tables that were read of segments, one behind the other, and of Append over Rewrite.
+//! Merges tables that were read from segments: two that follow one another, and Append over Rewrite.
 ghost use Rattle.std.specs.Prelude.{◌≡◌, ◌||◌, max, OnOk, OnErr, IfErr};
 ghost use Rattle.raft_log_table_lists.specs.Shown.{span};
 ghost use Rattle.raft_log_table_lists.specs.Bridge.{unmarked};
@@ -24,11 +24,11 @@ use raft_log_table_lists::{GroupFiles, lesser};
 use std::alloc::AllocError;
 
 impl MemTable {
-    /// A table that was read of the next segment of the same queue comes behind this one: of the entries
-    /// those stay that it leaves, and its own come over them, as do its keys. Behind a Clean only it counts.
+    /// Joins a table that was read from the next segment of the same queue. The entries that it leaves here stay, with
+    /// its own over them, and its keys over these. If it has a Clean, only it counts.
     ///
-    /// `Hole` where its entries, in Append, start past the end of those that stay; in Rewrite then none of
-    /// these stays. `Memory`. Refused or not, nothing is promised any more.
+    /// Fails with `Hole` if its entries, in Append, start past the end of those that stay, or with `Memory`. In Rewrite
+    /// such entries replace all. Whether it succeeds or fails, nothing is promised any more.
     pub fn merge_newer_neighbor(&mut self, newer: MemTable) -> Result<()>
         ensures ok { OnOk result (replay_of self.new ≡ joined (replay_of self.old) (replay_of newer)) }
         ensures fits { OnOk result (LeavesHole (shown self.old) (replay_of newer) → ⊥) }
@@ -51,8 +51,8 @@ impl MemTable {
         Ok(())
     }
 
-    /// What becomes of this table behind one of which nothing is known: without entries it begins at 0.
-    /// Nothing is promised any more.
+    /// Joins this table to one without anything before it: without entries it then begins at 0. Nothing is promised any
+    /// more.
     pub fn follow_nothing(&mut self)
         ensures read { replay_of self.new ≡ joined nothing_replayed (replay_of self.old) }
         ensures ends { (promise self.new).ends ≡ span (shown self.new) }
@@ -62,7 +62,7 @@ impl MemTable {
         self.take_back();
     }
 
-    /// Where the entries begin behind nothing.
+    /// The first index of the entries, if nothing is before them.
     fn begin_alone(&self) -> u64
         ensures { result ≡ begin_alone (shown self.now) }
     {
@@ -73,9 +73,9 @@ impl MemTable {
         }
     }
 
-    /// A table that was read of all of Append comes over this one, which was read of all of Rewrite and
-    /// whose marks are owed no more. Where its entries start past the end of those that stay, none of these
-    /// stays. Refused or not, nothing is promised any more.
+    /// Puts a table that was read from all of Append over this one, which was read from all of Rewrite and whose
+    /// tombstones aren't owed any more. If its entries start past the end of those that stay, none of these stays.
+    /// Whether it succeeds or fails, nothing is promised any more.
     pub fn merge_append_table(&mut self, append: MemTable) -> Result<(), AllocError>
         ensures ok { OnOk result (shown self.new ≡ merged (shown self.old) (replay_of append)) }
         ensures err { OnErr result (replay_of self.new ≡ replay_of self.old) }
@@ -94,7 +94,7 @@ impl MemTable {
         Ok(())
     }
 
-    /// No mark is owed any more. The room stays.
+    /// Removes all owed tombstones. The room stays.
     fn unmark(&mut self)
         ensures shows { shown self.new ≡ unmarked (shown self.old) }
         ensures room { promise self.new ≡ promise self.old }
@@ -105,7 +105,8 @@ impl MemTable {
         self.keys.unmark();
     }
 
-    /// Makes room for what another table has. Refused or not, nothing shows; refused, nothing is promised.
+    /// Makes room for what another table has. Whether it succeeds or fails, `shown` stays. If it fails, nothing is
+    /// promised.
     fn make_room_for(&mut self, newer: &MemTable) -> Result<(), AllocError>
         requires { IsForgotten (promise self.old) }
         ensures shows { shown self.new ≡ shown self.old }
@@ -122,7 +123,7 @@ impl MemTable {
         made
     }
 
-    /// A later table without a Clean, for which there is room, comes over this one.
+    /// Puts a later table without a Clean over this one. There must be room for it.
     fn join(&mut self, newer: MemTable)
         requires { HasTableRoom self.old newer }
         ensures shows { shown self.new ≡ with_newer (shown self.old) (replay_of newer) }
@@ -143,7 +144,7 @@ impl MemTable {
         self.take_back();
     }
 
-    /// An atomic group in these files of Rewrite was read: they are noted beside those that were noted before.
+    /// Notes the files of an atomic group of Rewrite that was read, with those that were noted before.
     pub fn note_read_group(&mut self, files: GroupFiles)
         ensures read { replay_of self.new ≡ with_read_group (replay_of self.old) files }
         ensures room { promise self.new ≡ promise self.old }
@@ -151,7 +152,7 @@ impl MemTable {
         self.noted = both_noted(self.noted, Some(files));
     }
 
-    /// The Compact, the files of groups and the bounds of a later table count too.
+    /// Joins the Compact, the files of groups and the bounds of a later table.
     fn join_bounds(&mut self, newer: &MemTable)
         ensures { self.new ≡ record self.old {
           compacted = newer.now.compacted || self.old.compacted;
@@ -166,8 +167,7 @@ impl MemTable {
         self.high = lesser(newer.high, self.high);
     }
 
-    /// Whether the entries of a later table, which stand in Append, start past the end of those that it
-    /// leaves.
+    /// Whether the entries of a later table, which are in Append, start past the end of those that it leaves.
     fn leaves_hole(&self, newer: &MemTable) -> bool
         ensures { result ≡ leaves_hole (shown self.now) (replay_of newer.now) }
     {
@@ -193,7 +193,7 @@ impl MemTable {
         Ends { first, end }
     }
 
-    /// Only the entries from an index on, below another, stay.
+    /// Keeps only the entries from an index on, below another.
     fn narrow(&mut self, low: u64, high: Option<u64>)
         ensures shows { shown self.new ≡ left (shown self.old) low high }
         ensures room { promise self.new ≡ promise self.old }

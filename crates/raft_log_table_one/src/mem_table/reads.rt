@@ -1,4 +1,4 @@
-//! What is read of a table to be written again, and of its keys in their order.
+//! Reads a table for a rewrite, and its keys in their order.
 ghost use Rattle.std.specs.Fn.{CalledAtTwo};
 ghost use Rattle.std.specs.Prelude.{◌≡◌, ◌++◌, List, ℕ, option_copied, IfOk, OnOk, OnErr};
 ghost use Rattle.raft_log_table_lists.specs.Listing.{appended_values, in_direction, rewritten_values, values_within, AddsAll, ListsAll, ListsMarked, Visits};
@@ -11,8 +11,8 @@ use raft_log_record_items::{Bytes, EntryIndex};
 use std::alloc::AllocError;
 
 impl MemTable {
-    /// Adds the entries in Append from the first on, up to the first that lies in a file past the gate. A
-    /// refusal adds nothing.
+    /// Adds the entries in Append from the first on, up to the first in a file past the gate. If it fails, nothing is
+    /// added.
     pub fn fetch_entry_indexes_before(
         &self,
         gate: FileSeq,
@@ -29,7 +29,7 @@ impl MemTable {
         Ok(())
     }
 
-    /// Adds all entries in Rewrite. A refusal adds nothing.
+    /// Adds all entries in Rewrite. If it fails, nothing is added.
     pub fn fetch_rewritten_entry_indexes(
         &self,
         entries: &mut Vec<EntryIndex>,
@@ -43,8 +43,8 @@ impl MemTable {
         Ok(())
     }
 
-    /// Adds the keys and values that stand in Append, in a file up to the gate, in the order of the keys. A
-    /// refusal adds nothing.
+    /// Adds the keys and values that are in Append in a file up to the gate, in the order of the keys. If it fails,
+    /// nothing is added.
     pub fn fetch_kvs_before(
         &self,
         gate: FileSeq,
@@ -57,7 +57,7 @@ impl MemTable {
         self.keys.fetch_values(Some(gate), pairs)
     }
 
-    /// Adds the keys and values that stand in Rewrite, in the order of the keys. A refusal adds nothing.
+    /// Adds the keys and values that are in Rewrite, in the order of the keys. If it fails, nothing is added.
     pub fn fetch_rewritten_kvs(&self, pairs: &mut Vec<(Bytes, Bytes)>) -> Result<(), AllocError>
         ensures ok { OnOk result
             (AddsAll (rewritten_values (shown self.now)) pairs.old.items pairs.new.items) }
@@ -66,15 +66,15 @@ impl MemTable {
         self.keys.fetch_values(None, pairs)
     }
 
-    /// How many entries and values stand in Rewrite, at most 2^64 - 1.
+    /// The number of entries and values in Rewrite, at most 2^64 - 1.
     pub fn standing_count(&self) -> u64
         ensures { StandIn (shown self.now) result }
     {
         (self.rewritten as u64).saturating_add(self.keys.rewritten_count())
     }
 
-    /// Whether there are so many entries, and the last of these many lies in a file up to the gate: each
-    /// file of Append is past all of Rewrite.
+    /// Whether there are `count` entries, and the last of these is in a file up to the gate. Each file of Append is
+    /// past all of Rewrite.
     pub fn has_at_least_some_entries_before(&self, gate: FileId, count: usize) -> bool
         ensures { result ≡ has_before (shown self.now) gate count }
     {
@@ -92,9 +92,9 @@ impl MemTable {
         }
     }
 
-    /// Calls back with each key that isn't below the start and is below the end, where they are given, and
-    /// with its value: in the order of the keys' bytes or backwards, up to the first call that answers
-    /// false. It takes time in the keys between the bounds, also in those that have no value.
+    /// Calls back with each key that isn't below the start and is below the end, if these are given, and with its
+    /// value. It goes through the keys in the order of their bytes, or backwards if `reverse`, up to the first call
+    /// that returns false. It takes time in the keys between the bounds, those without a value included.
     pub fn scan<F: FnMut(&[u8], &[u8]) -> bool>(
         &self,
         start: Option<&[u8]>,
@@ -111,9 +111,9 @@ impl MemTable {
         self.keys.scan(start, end, reverse, callback);
     }
 
-    /// Adds the keys that aren't below the start and are below the end, where they are given, and their
-    /// values, in the order of the keys. A refusal adds nothing. It takes time in the keys between the bounds,
-    /// also in those that have no value.
+    /// Adds the keys that aren't below the start and are below the end, if these are given, and their values, in the
+    /// order of the keys. If it fails, nothing is added. It takes time in the keys between the bounds, those without a
+    /// value included.
     pub fn fetch_kvs_within(
         &self,
         start: Option<&[u8]>,
@@ -128,7 +128,7 @@ impl MemTable {
         self.keys.fetch_within(start, end, pairs)
     }
 
-    /// The keys whose deletion is owed to Rewrite, in the order of their bytes.
+    /// The keys whose Del is owed to Rewrite, in the order of their bytes.
     pub fn owed_deletes(&self) -> Result<Vec<Bytes>, AllocError>
         ensures { IfOk result (λ keys. ListsMarked (shown self.now).deleted keys.items) }
     {

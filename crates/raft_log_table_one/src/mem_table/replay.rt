@@ -1,4 +1,4 @@
-//! Items of records that are read again: as each is read, room for it is made, and it is done.
+//! Replays items of records: as each is read, room for it is made, and it is applied.
 ghost use Rattle.std.specs.Prelude.{◌≡◌, ◌+◌, ◌≤◌, ℕ, Bool, true, false, length, map, OnOk, OnErr, IfErr};
 ghost use Rattle.raft_log_record_items.specs.Run.{IsRun};
 ghost use Rattle.raft_log_model_laws.specs.Item.Item.{Clean, Compact, Del, Put};
@@ -17,8 +17,8 @@ use raft_log_table_lists::HeldValue;
 use std::alloc::AllocError;
 
 impl MemTable {
-    /// Entries that were read of Append stand there. `Hole` where they start past the index after the last;
-    /// `Memory`. Refused or not, nothing is promised any more.
+    /// Applies entries that were read from Append. Fails with `Hole` if they start past the index after the last, or
+    /// with `Memory`. Whether it succeeds or fails, nothing is promised any more.
     pub fn replay_append(&mut self, entries: &[EntryIndex]) -> Result<()>
         requires { IsRun entries.now }
         ensures ok { (n : ℕ)
@@ -37,8 +37,8 @@ impl MemTable {
         Ok(())
     }
 
-    /// Entries that were read of Rewrite stand there; where they start past the index after the last, what
-    /// stood goes. Refused or not, nothing is promised any more.
+    /// Applies entries that were read from Rewrite. If they start past the index after the last, they replace all.
+    /// Whether it succeeds or fails, nothing is promised any more.
     pub fn replay_rewrite(&mut self, entries: &[EntryIndex]) -> Result<(), AllocError>
         requires { IsRun entries.now }
         ensures ok { (n : ℕ)
@@ -56,7 +56,7 @@ impl MemTable {
         Ok(())
     }
 
-    /// Entries, for which there is room, stand in Rewrite, and those from the first one's index on give way.
+    /// Puts entries, for which there is room, into Rewrite. They replace those from the first one's index on.
     fn come_over(&mut self, entries: &[EntryIndex])
         requires run { IsRun entries.now }
         requires room { length entries.now ≤ self.old.places.wanted }
@@ -72,7 +72,8 @@ impl MemTable {
         self.rewritten += entries.len();
     }
 
-    /// A value that was read of a file of a queue. Refused or not, nothing is promised any more.
+    /// Applies a value that was read from a file of a queue. Whether it succeeds or fails, nothing is promised any
+    /// more.
     pub fn replay_put(
         &mut self,
         queue: LogQueue,
@@ -97,7 +98,7 @@ impl MemTable {
         Ok(())
     }
 
-    /// A Del that was read. Refused or not, nothing is promised any more.
+    /// Applies a Del that was read. Whether it succeeds or fails, nothing is promised any more.
     pub fn replay_delete(&mut self, key: &[u8]) -> Result<(), AllocError>
         ensures ok { (q : Bool) (n : ℕ)
             → OnOk result (replay_of self.new ≡ replayed q n (replay_of self.old) (Del key.now)) }
@@ -111,7 +112,7 @@ impl MemTable {
         Ok(())
     }
 
-    /// A Compact that was read. Nothing is promised any more.
+    /// Applies a Compact that was read. Nothing is promised any more.
     pub fn replay_compact(&mut self, index: u64)
         ensures read { (q : Bool) (n : ℕ)
             → replay_of self.new ≡ replayed q n (replay_of self.old) (Compact index) }
@@ -123,7 +124,7 @@ impl MemTable {
         self.take_back();
     }
 
-    /// A Clean that was read. Nothing is promised any more, and of a key without a mark nothing is kept.
+    /// Applies a Clean that was read. Nothing is promised any more, and keys without a tombstone lose their room.
     pub fn replay_clean(&mut self)
         ensures read { (q : Bool) (n : ℕ) → replay_of self.new ≡ replayed q n (replay_of self.old) Clean }
         ensures keys { (promise self.new).has ≡ (shown self.old).deleted }
@@ -135,7 +136,7 @@ impl MemTable {
         self.take_back();
     }
 
-    /// A run was read: it counts with the least start of one.
+    /// Counts a run that was read in the least start of a run.
     fn note_run(&mut self, entries: &[EntryIndex])
         ensures { self.new ≡ record self.old { high = high_with (run_of entries.now) self.old.high } }
     {
@@ -147,7 +148,7 @@ impl MemTable {
         }
     }
 
-    /// The entries from this index on give way to a run that begins there; all do where it leaves a hole.
+    /// Drops the entries from this index on, for a run that begins there; drops all if that leaves a hole.
     pub(super) fn give_way(&mut self, index: u64)
         ensures shows { shown self.new ≡ under (shown self.old) index }
         ensures room { promise self.new ≡ promise self.old }

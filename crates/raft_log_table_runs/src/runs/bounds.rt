@@ -1,4 +1,4 @@
-//! Where entries start and end that lie one behind another.
+//! Where consecutive entries of a run start and end.
 ghost use Rattle.std.specs.Prelude.{◌≡◌, ℕ, ◌+◌, ◌*◌, ◌-◌, ◌≤◌, ◌<◌, ◌^◌, [], false, true, length, take, drop};
 ghost use Rattle.raft_log_table_runs.specs.Blocks.{between};
 ghost use Rattle.raft_log_table_runs.specs.Bounds.{bounds_of, AreShort};
@@ -11,9 +11,9 @@ use std::collections::VecDeque;
 impl Runs {
     ghost use Rattle.raft_log_table_runs.specs.RunLists.{places};
 
-    /// Of the entries from this position on, at most so many, those that lie one behind another in one run: the
-    /// block that they lie in, and where each of them starts and ends there. Nothing is copied. The run is looked
-    /// for at the hint first, and then the hint is the next run.
+    /// Finds at most `limit` entries, from this position on, that follow one another in one run. Returns their block,
+    /// and where each of them starts and ends there. Nothing is copied. The run is looked for at the hint first; then
+    /// the hint is the next run.
     pub fn bounds(&self, position: usize, limit: usize, hint: &mut usize) -> (Place, Bounds<'_>)
         requires within { position + limit ≤ length (places self.now) }
         requires some { 0 < limit }
@@ -38,7 +38,7 @@ impl Runs {
     }
 }
 
-/// Where so many entries of a run start and end, behind so many others, all of which have one length.
+/// Where `count` entries of a run start and end, after the first `within` ones, if all have one length.
 fn even_bounds<'a>(run: &'a Run, within: usize, count: usize) -> Bounds<'a>
     requires within { within + count ≤ run.now.count }
     requires fits { (j : ℕ) → j < run.now.count → run.now.start + j * run.now.size < 2 ^ 32 }
@@ -53,8 +53,8 @@ fn even_bounds<'a>(run: &'a Run, within: usize, count: usize) -> Bounds<'a>
     Bounds::Even { start, size, count }
 }
 
-/// Where entries of a run start and end, behind so many others, which have different lengths: some of so many. The
-/// run's first start is at this position.
+/// Where entries of a run with different lengths start and end, after the first `within` ones: at least one and at most
+/// `count`. The run's first start is at this position.
 fn uneven_bounds<'a>(
     run: &Run,
     starts: &'a VecDeque<u32>,
@@ -80,8 +80,8 @@ fn uneven_bounds<'a>(
     Bounds::Uneven { starts: part, end }
 }
 
-/// Of so many starts from this position on, the first ones, which lie side by side: up to where the list comes back
-/// to the front of its room.
+/// The first of `count` starts from this position on that are adjacent in memory: up to where the deque wraps to the
+/// front of its buffer.
 fn starts_from<'a>(starts: &'a VecDeque<u32>, from: usize, count: usize) -> &'a [u32]
     requires there { from + count ≤ length starts.now.items }
     requires some { 0 < count }

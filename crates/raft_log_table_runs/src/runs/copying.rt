@@ -1,4 +1,4 @@
-//! Entries that are read from runs, a run at a time.
+//! Copies entries from runs, a run at a time.
 ghost use Rattle.std.specs.Prelude.{◌≡◌, ℕ, ◌+◌, ◌*◌, ◌≤◌, ◌<◌, ◌^◌, ◌++◌, [], false, true, length, take, drop, vec_len, vec_capacity};
 ghost use Rattle.std.specs.VecDeque.{deque_len};
 ghost use Rattle.raft_log_table_runs.specs.Entries.{entries_of};
@@ -13,8 +13,8 @@ use std::collections::VecDeque;
 impl Runs {
     ghost use Rattle.raft_log_table_runs.specs.RunLists.{places};
 
-    /// Adds the entries of so many places from this position on, for which there is room. They lie in files of
-    /// this queue, and the first has this index. It takes a search, and time in these entries.
+    /// Adds the entries of `count` places from this position on. The vector must have room for them. They are in files
+    /// of this queue, and the first has this index. It takes one search, and time in these entries.
     pub fn copy_entries(
         &self,
         queue: LogQueue,
@@ -46,7 +46,7 @@ impl Runs {
         }
     }
 
-    /// Adds the entries of this run behind so many others of it, at most so many, and answers how many.
+    /// Adds the entries of this run after the first `within` ones, at most `limit`, and returns how many.
     fn copy_run(
         &self,
         at: usize,
@@ -91,7 +91,7 @@ impl Runs {
     }
 }
 
-/// Adds so many entries of a run behind so many others, all of which have one length.
+/// Adds `count` entries of a run after the first `within` ones, if all have one length.
 fn push_even(
     run: &Run,
     within: usize,
@@ -116,8 +116,8 @@ fn push_even(
     }
 }
 
-/// Adds so many entries of a run behind so many others, which have different lengths: one at least. Its first
-/// start is at this position, and each start is read once.
+/// Adds `count` entries, at least one, of a run with different lengths, after the first `within` ones. Its first start
+/// is at this position, and each start is read once.
 fn push_uneven(
     run: &Run,
     starts: &VecDeque<u32>,

@@ -1,4 +1,4 @@
-//! Runs that are cut in two, replaced and joined.
+//! Cuts runs in two, replaces and joins them.
 ghost use Rattle.std.specs.Prelude.{◌≡◌, ℕ, ◌+◌, ◌-◌, ◌≤◌, ◌<◌, ◌^◌, ◌++◌, ◌∷◌, length, map, take, drop};
 ghost use Rattle.std.specs.VecDeque.{deque_capacity, deque_len};
 ghost use Rattle.raft_log_table_runs.specs.Entries.{place_of};
@@ -14,7 +14,7 @@ use std::collections::VecDeque;
 impl Runs {
     ghost use Rattle.raft_log_table_runs.specs.RunLists.{places, HasRoom};
 
-    /// From this position on, the places of these entries come in the stead of as many.
+    /// Replaces as many places, from this position on, with those of these entries.
     pub fn replace(&mut self, position: usize, entries: &[EntryIndex])
         requires within { position + length entries.now ≤ length (places self.old) }
         requires room { HasRoom self.old (length entries.now + length entries.now) }
@@ -33,11 +33,11 @@ impl Runs {
         self.replace_runs(position, before, end, entries);
     }
 
-    /// From this position on, the places of these entries come in the stead of those of as many, which are in
-    /// the runs from one up to another.
+    /// Replaces as many places, from this position on, with those of these entries. The old places are the runs from
+    /// `before` up to `end`.
     ///
-    /// It takes time in the runs that go and come, and moves the runs and starts on one side of them. Where
-    /// there are more starts than before, or fewer, the starts of the runs before them are numbered anew.
+    /// It takes time in the old and the new runs, and moves the runs and starts on one side of them. If the number of
+    /// starts changes, it numbers the starts of the runs before them anew.
     fn replace_runs(&mut self, position: usize, before: usize, end: usize, entries: &[EntryIndex])
         requires within { (before < end) × (end ≤ deque_len self.old.runs) }
         requires start { counts (take before self.old.runs.items) ≡ position }
@@ -72,7 +72,7 @@ impl Runs {
         self.base = number_anew(&mut self.runs, last, self.front, self.base, stop, to);
     }
 
-    /// More places come to the end, where there is room for them.
+    /// Appends more places, for which there must be room.
     pub fn append(&mut self, more: Runs)
         requires { HasRoom self.old (length (places more)) }
         ensures items { places self.new ≡ places self.old ++ places more }
@@ -92,8 +92,8 @@ impl Runs {
         self.len += len;
     }
 
-    /// Cuts the run in two in which the entry at this position isn't the first one, and answers how many
-    /// runs end there or before.
+    /// Cuts the run in two if the entry at this position isn't its first one. Returns how many runs end at or before
+    /// the position.
     fn cut(&mut self, position: usize) -> usize
         requires within { position ≤ length (places self.old) }
         requires room { deque_len self.old.runs < deque_capacity self.old.runs }
@@ -102,7 +102,7 @@ impl Runs {
         ensures within { result ≤ deque_len self.new.runs }
         ensures end { counts (take result self.new.runs.items) ≡ position }
 
-        // where a run ends at or before there, one did before
+        // the first runs that ended at or before the position still end at the same places
         ensures ends { (k : ℕ) → counts (take k self.old.runs.items) ≤ position
             → counts (take k self.new.runs.items) ≡ counts (take k self.old.runs.items) }
         ensures capacity { deque_capacity self.new.runs ≡ deque_capacity self.old.runs }
@@ -124,7 +124,7 @@ impl Runs {
         spot.at + 1
     }
 
-    /// How many starts so many first runs have.
+    /// How many starts the first `count` runs have.
     fn starts_before(&self, count: usize) -> usize
         requires { count ≤ deque_len self.now.runs }
         ensures { result ≡ widths (take count self.now.runs.items) }
@@ -136,7 +136,7 @@ impl Runs {
     }
 }
 
-/// These two come in the stead of the run at this position.
+/// Replaces the run at this position with these two.
 fn split_run(runs: &mut VecDeque<Run>, at: usize, head: Run, tail: Run)
     requires at { at < deque_len runs.old }
     requires room { deque_len runs.old < deque_capacity runs.old }
@@ -152,7 +152,7 @@ fn split_run(runs: &mut VecDeque<Run>, at: usize, head: Run, tail: Run)
     runs.rotate_right(at + 1);
 }
 
-/// What is from one position up to another goes, and what is behind it comes first.
+/// Drops what is from one position up to another, and moves what follows to the front.
 fn turn_out<T: Drop>(queue: &mut VecDeque<T>, from: usize, to: usize)
     requires { (from ≤ to) × (to ≤ deque_len queue.old) }
     ensures items { queue.new.items ≡ drop to queue.old.items ++ take from queue.old.items }
@@ -164,10 +164,10 @@ fn turn_out<T: Drop>(queue: &mut VecDeque<T>, from: usize, to: usize)
     queue.truncate(left);
 }
 
-/// Numbers runs so that their starts are one behind another again: so many first runs have as many starts as
-/// this, and those behind are numbered as if it were the other number. Answers the number of the first start.
+/// Numbers runs so that their starts follow one another again. The first `count` runs have `stop` starts, but the runs
+/// after them are numbered as if these were `to`. Returns the number of the first start.
 ///
-/// The runs behind keep their numbers, where the others' can be counted back from there.
+/// The later runs keep their numbers if the starts of the first ones can be counted back from there.
 fn number_anew(
     runs: &mut VecDeque<Run>,
     count: usize,
@@ -200,7 +200,7 @@ fn number_anew(
     base
 }
 
-/// Numbers the entries and starts of so many first runs anew, from these numbers on.
+/// Numbers the entries and starts of the first `count` runs anew, from these numbers on.
 fn renumber(runs: &mut VecDeque<Run>, count: usize, first: usize, at: usize)
     requires count { count ≤ deque_len runs.old }
     requires numbers { (first + counts (take count runs.old.items) < 2 ^ 64)
@@ -220,7 +220,7 @@ fn renumber(runs: &mut VecDeque<Run>, count: usize, first: usize, at: usize)
     }
 }
 
-/// These runs come to the end of others that have room for them, numbered from these numbers on.
+/// Appends these runs to others that have room for them, numbered from these numbers on.
 fn move_runs(runs: &mut VecDeque<Run>, more: &VecDeque<Run>, first: usize, at: usize)
     requires room { deque_len runs.old + deque_len more.now ≤ deque_capacity runs.old }
     requires numbers { (first + counts more.now.items < 2 ^ 64) × (at + widths more.now.items < 2 ^ 64) }
@@ -238,7 +238,7 @@ fn move_runs(runs: &mut VecDeque<Run>, more: &VecDeque<Run>, first: usize, at: u
     }
 }
 
-/// These starts come to the end of others that have room for them.
+/// Appends these starts to others that have room for them.
 fn move_starts(starts: &mut VecDeque<u32>, more: &VecDeque<u32>)
     requires { deque_len starts.old + deque_len more.now ≤ deque_capacity starts.old }
     ensures items { starts.new.items ≡ starts.old.items ++ more.now.items }

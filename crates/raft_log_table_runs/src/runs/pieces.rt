@@ -1,4 +1,4 @@
-//! Pieces of entries that lie one behind another, and a run for each.
+//! Pieces of entries that follow one another in a block, and a run for each.
 ghost use Rattle.std.specs.Prelude.{◌≡◌, ℕ, ◌+◌, ◌*◌, ◌-◌, ◌≤◌, ◌<◌, ◌^◌, ◌++◌, List, true, length, map, take, drop, slice_index_or};
 ghost use Rattle.std.specs.VecDeque.{deque_capacity, deque_len};
 ghost use Rattle.raft_log_record_items.specs.declared.entry.EntryIndex.{EntryIndex};
@@ -10,8 +10,8 @@ use crate::{Run, place_of};
 use raft_log_record_items::EntryIndex;
 use std::collections::VecDeque;
 
-/// The runs of these entries and their starts come to the end of others that have room for them, numbered from
-/// these numbers on: each piece of entries that lie one behind another is a run.
+/// Appends the runs of these entries, and their starts, to others that have room for them, numbered from these numbers
+/// on. Each piece of entries that follow one another in a block is a run.
 pub(super) fn push_pieces(
     runs: &mut VecDeque<Run>,
     starts: &mut VecDeque<u32>,
@@ -42,7 +42,7 @@ pub(super) fn push_pieces(
     }
 }
 
-/// How many entries the first piece has: those that lie one behind another.
+/// The number of entries in the first piece: they follow one another in a block.
 fn piece_len(entries: &[EntryIndex]) -> usize
     requires { 0 < length entries.now }
     ensures within { (0 < result) × (result ≤ length entries.now) }
@@ -57,7 +57,7 @@ fn piece_len(entries: &[EntryIndex]) -> usize
     entries.len()
 }
 
-/// Whether an entry lies right behind another, in the same block.
+/// Whether an entry directly follows another in the same block.
 fn lies_behind(before: &EntryIndex, entry: &EntryIndex) -> bool
     ensures { result ≡ follows (place_of before.now) (place_of entry.now) }
 {
@@ -69,7 +69,7 @@ fn lies_behind(before: &EntryIndex, entry: &EntryIndex) -> bool
         && before.entry_offset as u64 + before.entry_len as u64 == place.entry_offset as u64
 }
 
-/// The run of a piece, under these numbers.
+/// The run of a piece, with these numbers.
 fn run_of_piece(piece: &[EntryIndex], first: usize, at: usize) -> Run
     requires some { 0 < length piece.now }
     requires one { AreOnePiece (map place_of piece.now) }
@@ -107,7 +107,7 @@ fn have_length(entries: &[EntryIndex], size: u32) -> bool
     true
 }
 
-/// Whether an entry that so many of this length lie before starts at an offset of 32 bits.
+/// Whether an entry after `count` others of this length starts at an offset of 32 bits.
 fn fit(start: u32, count: usize, size: u32) -> bool
     ensures { result ≡ true → start + count * size < 2 ^ 32 }
 {
@@ -117,7 +117,7 @@ fn fit(start: u32, count: usize, size: u32) -> bool
     }
 }
 
-/// The starts that are kept for these entries come to the end of a queue that has room for them.
+/// Appends the starts that are kept for these entries to a queue that has room for them.
 fn keep_starts(starts: &mut VecDeque<u32>, entries: &[EntryIndex], even: bool)
     requires { deque_len starts.old + length entries.now ≤ deque_capacity starts.old }
     ensures items { starts.new.items ≡ starts.old.items ++ starts_for even entries.now }
@@ -130,7 +130,7 @@ fn keep_starts(starts: &mut VecDeque<u32>, entries: &[EntryIndex], even: bool)
     push_starts(starts, entries);
 }
 
-/// The starts of these entries come to the end of a queue that has room for them.
+/// Appends the starts of these entries to a queue that has room for them.
 fn push_starts(starts: &mut VecDeque<u32>, entries: &[EntryIndex])
     requires { deque_len starts.old + length entries.now ≤ deque_capacity starts.old }
     ensures items { starts.new.items ≡ starts.old.items ++ map start_of_entry entries.now }

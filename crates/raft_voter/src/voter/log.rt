@@ -1,4 +1,4 @@
-//! Lists of entries, each its term and its bytes.
+//! Lists of entries, each with its term and its bytes.
 ghost use Rattle.std.specs.Prelude.{◌≡◌, ◌+◌, ◌-◌, ◌^◌, ◌<◌, ◌≤◌, ◌++◌, drop, take, length, vec_len, IfOk, OnOk, OnErr};
 ghost use Rattle.raft_voter.specs.Entries.{BringsEntries, laid};
 ghost use Rattle.raft_voter_outline.specs.Outlines.{CanWrite, log_written, sent_of};
@@ -8,8 +8,8 @@ use crate::{Entry, Items, Memory, Request};
 use raft_voter_outline::Write;
 use std::alloc::Global;
 
-/// Does to a log, whose first entry stands right above this base, what is to be done for a request. Where
-/// memory is refused the log is as it was, and entries were to go in.
+/// Makes a request's write to a log, whose first entry is right above this base. Memory can run out only for a write of
+/// entries. If it runs out, the log is unchanged.
 pub fn write(
     log: &mut Vec<(u64, Items<u8>)>,
     base_index: u64,
@@ -39,7 +39,7 @@ pub fn write(
     }
 }
 
-/// A copy of the entries.
+/// Copies the entries.
 fn copied(alloc: Global, entries: &[(u64, Items<u8>)]) -> Result<Vec<(u64, Items<u8>)>, Memory>
     ensures { IfOk result (λ copy. copy.items ≡ entries.now) }
 {
@@ -50,7 +50,7 @@ fn copied(alloc: Global, entries: &[(u64, Items<u8>)]) -> Result<Vec<(u64, Items
     Ok(copy)
 }
 
-/// A copy of the entries with their indexes, the first at `from`.
+/// Copies the entries and numbers them, starting at `from`.
 pub fn numbered(
     alloc: Global,
     from: u64,
@@ -70,8 +70,7 @@ pub fn numbered(
     Ok(Items::from_vec(given))
 }
 
-/// Puts these entries where the log's entries stood from place `at` on. Where memory is refused the log
-/// stays as it was.
+/// Replaces the log's entries from place `at` on with these. If memory runs out, the log is unchanged.
 fn replace_tail(
     log: &mut Vec<(u64, Items<u8>)>,
     at: usize,
@@ -88,7 +87,7 @@ fn replace_tail(
     }
 }
 
-/// Drops the first entries.
+/// Removes the first entries.
 fn drop_front(log: &mut Vec<(u64, Items<u8>)>, count: usize)
     requires { count ≤ vec_len log.old }
     ensures { log.new.items ≡ drop count log.old.items }

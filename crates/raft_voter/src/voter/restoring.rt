@@ -1,4 +1,4 @@
-//! A voter from what was stored of it.
+//! Restores a voter from what was stored of it.
 ghost use Rattle.std.specs.Prelude.{◌≡◌, ◌+◌, true, Ok, map, IfOk, IfErr};
 ghost use Rattle.std.specs.List.{list_all};
 ghost use Rattle.raft_voter_outline.specs.Restoring.{are_in_order, restored, RestoreFault};
@@ -11,9 +11,9 @@ use raft_voter_outline::Outline;
 use std::alloc::Global;
 
 impl Voter {
-    /// The voter with this state and these entries. What the state says of its last entry isn't looked at.
-    /// A number out of range, or an entry that is too long, is refused first, then entries that don't
-    /// stand one behind the other from the base on.
+    /// Restores the voter with this state and these entries. Ignores the last entry that the state names. Fails first
+    /// for a number out of range or an entry that is too long, then for entries that are not consecutive from the base
+    /// on.
     pub fn restore(
         alloc: Global,
         state: VoterState,
@@ -44,7 +44,7 @@ fn all_fit(entries: &[Entry]) -> bool
     entries.iter().all(|entry| stored_entry_fits(entry))
 }
 
-/// Whether the entries stand one behind the other, the first at `first`.
+/// Whether the entries are consecutive, and the first is at `first`.
 fn are_in_order(first: u64, entries: &[Entry]) -> bool
     requires { list_all stored_entry_fits entries.now ≡ true }
     ensures { result ≡ are_in_order first entries.now }
@@ -59,7 +59,7 @@ fn are_in_order(first: u64, entries: &[Entry]) -> bool
     true
 }
 
-/// The entries without their indexes.
+/// Returns the entries without their indexes.
 fn log_of(alloc: Global, entries: Vec<Entry>) -> Result<Vec<(u64, Items<u8>)>, Memory>
     ensures { IfOk result (λ log. log.items ≡ map (λ e. (e.term, e.bytes)) entries.items) }
 {

@@ -10,13 +10,13 @@ use std::alloc::Global;
 /// The form byte of entry form 1.
 const FORM_1: u8 = 1;
 
-/// How many bytes stand between the form byte and the entry's own bytes.
+/// How many bytes are between the form byte and the entry's own bytes.
 const FORM_1_NUMBERS: usize = 2 * NUMBER_BYTES;
 
-/// How many bytes stand before an entry's own, as it is written.
+/// How many bytes are written before an entry's own bytes.
 pub const ENTRY_HEAD_BYTES: usize = 1 + FORM_1_NUMBERS;
 
-/// The bytes of an entry, in form 1.
+/// Encodes an entry in form 1. Fails only for lack of memory.
 pub fn entry_bytes(alloc: Global, entry: &Entry) -> Result<Items<u8>, Memory>
     ensures { IfOk result (λ bytes. bytes ≡ entry_text entry.now) }
 {
@@ -25,8 +25,8 @@ pub fn entry_bytes(alloc: Global, entry: &Entry) -> Result<Items<u8>, Memory>
     Ok(Items::from_vec(bytes))
 }
 
-/// Adds the bytes of the entry of this index, this term and these bytes of its own, in form 1. Where memory
-/// is refused, which can be only where there was no room for them, the bytes are as they were.
+/// Appends an entry with this index, this term and these bytes, in form 1. Fails only if the capacity is too small and
+/// memory runs out. If it fails, the bytes are unchanged.
 pub fn append_entry(bytes: &mut Vec<u8>, index: u64, term: u64, own: &[u8]) -> Result<(), Memory>
     ensures ok { OnOk result (bytes.new.items
         ≡ bytes.old.items ++ entry_text (record { index = index; term = term; bytes = own.now })) }
@@ -43,8 +43,8 @@ pub fn append_entry(bytes: &mut Vec<u8>, index: u64, term: u64, own: &[u8]) -> R
     Ok(())
 }
 
-/// The entry at this index that these bytes are; else the first fault: no bytes, another form, another
-/// length, a number out of range, another index.
+/// Decodes the entry at this index. Fails with the first fault: no bytes, another form, another length, a number out of
+/// range, another index. Memory may run out too.
 pub fn read_entry(alloc: Global, bytes: &[u8], index: u64) -> Result<Entry, StoredFault>
     ensures ok { IfOk result (λ entry. IsEntry bytes.now index entry) }
     ensures err { IfErr result (λ fault. EntryFault fault bytes.now index) }
@@ -65,7 +65,7 @@ pub fn stored_entry_fits(entry: &Entry) -> bool
     fits(entry.index) && fits(entry.term) && entry.bytes.len() <= MAX_ENTRY_BYTES
 }
 
-/// The entry at this index that the bytes behind form byte 1 are, or their first fault.
+/// Decodes the entry at this index from the bytes after form byte 1. Fails with their first fault.
 fn read_form_1(alloc: Global, body: &[u8], index: u64) -> Result<Entry, StoredFault>
     ensures ok { IfOk result (λ entry. IsEntryForm1 body.now entry × (entry.index ≡ index)) }
     ensures err { IfErr result (λ fault. EntryForm1Fault fault body.now index) }

@@ -1,4 +1,4 @@
-//! The numbers that every form of a stored state begins with.
+//! The numbers that begin every form of a stored state.
 ghost use Rattle.std.specs.Prelude.{◌≡◌, ◌+◌, ◌^◌, ◌<◌, ◌≤◌, ◌++◌, length, IfSome, IfNone};
 ghost use Rattle.raft_voter_messages.specs.StoredForms.{IsBareState, vote_text};
 
@@ -6,7 +6,7 @@ use super::split_number;
 use super::state::state_fits;
 use crate::VoterState;
 
-/// The numbers that every form of a state begins with, as they stand.
+/// The numbers that begin every form of a state, unchecked.
 #[derive(Drop)]
 pub struct StateHead {
     term: u64,
@@ -20,7 +20,7 @@ pub struct StateHead {
 impl StateHead {
     ghost use Rattle.raft_voter_messages.specs.StateHeads.{HasHead, head_bytes, IsNoState, IsNoVote, vote_bytes};
 
-    /// The numbers that begin these bytes, and the bytes behind them.
+    /// Splits the numbers off the front of these bytes. Returns them and the remaining bytes.
     pub fn split(bytes: &[u8]) -> (StateHead, &[u8])
         requires { 33 ≤ length bytes.now }
         ensures text { bytes.now ≡ head_bytes result.0 ++ result.1.now }
@@ -41,14 +41,14 @@ impl StateHead {
         (head, rest)
     }
 
-    /// The base's index.
+    /// Returns the base's index.
     pub fn base_index(&self) -> u64
         ensures { result ≡ self.now.base_index }
     {
         self.base_index
     }
 
-    /// The state in range with these numbers and this commit, if there is one.
+    /// Returns the state in range with these numbers and this commit, if there is one.
     pub fn state(self, commit: u64) -> Option<VoterState>
         ensures some { IfSome result (λ state. HasHead state self × (state.commit ≡ commit) × IsBareState state) }
         ensures none { IfNone result (IsNoState self commit) }
@@ -69,7 +69,7 @@ impl StateHead {
         Some(state)
     }
 
-    /// The vote, if its byte and the candidate say one.
+    /// Returns the vote, if its byte and the candidate are valid.
     fn vote(&self) -> Option<Option<u64>>
         ensures small { IfSome result (λ vote. IfSome vote (λ c. c < 2 ^ 64)) }
         ensures some { IfSome result (λ vote. vote_text vote ≡ vote_bytes self.now) }

@@ -1,5 +1,5 @@
-//! The bytes of a voter's state: the form, the term, whether there is a vote, the candidate, the base's index
-//! and term, and in form 2 the commit. What is known of the last entry isn't written.
+//! The bytes of a voter's state: the form, the term, the vote byte, the candidate, the base's index and term, and in
+//! form 2 the commit. The index and term of the last entry aren't written.
 ghost use Rattle.std.specs.Prelude.{◌≡◌, ◌+◌, ◌<◌, ◌++◌, vec_capacity, vec_len, IfOk, IfErr, OnOk, OnErr};
 ghost use Rattle.raft_voter_messages.specs.StoredForms.{IsBareState, IsState, IsStateForm1, state_fits, state_form_2, state_text, StateFault, StateForm1Fault, StateForm2Fault};
 
@@ -21,10 +21,10 @@ const FORM_1_BYTES: usize = 4 * NUMBER_BYTES + 1;
 /// How many bytes follow the form byte in form 2.
 const FORM_2_BYTES: usize = FORM_1_BYTES + NUMBER_BYTES;
 
-/// How many bytes a state has, as it is written.
+/// How many bytes are written for a state.
 pub const STATE_BYTES: usize = 1 + FORM_2_BYTES;
 
-/// The bytes of a state, in form 2.
+/// Encodes a state in form 2. Fails only for lack of memory.
 pub fn state_bytes(alloc: Global, state: &VoterState) -> Result<Items<u8>, Memory>
     ensures { IfOk result (λ bytes. bytes ≡ state_text state.now) }
 {
@@ -33,8 +33,8 @@ pub fn state_bytes(alloc: Global, state: &VoterState) -> Result<Items<u8>, Memor
     Ok(Items::from_vec(bytes))
 }
 
-/// Adds the bytes of a state, in form 2. Where memory is refused, which can be only where there was no room
-/// for them, the bytes are as they were.
+/// Appends the bytes of a state, in form 2. Fails only if the capacity is too small and memory runs out. If it fails,
+/// the bytes are unchanged.
 pub fn append_state(bytes: &mut Vec<u8>, state: &VoterState) -> Result<(), Memory>
     ensures ok { OnOk result (bytes.new.items ≡ bytes.old.items ++ state_text state.now) }
     ensures err { OnErr result (bytes.new.items ≡ bytes.old.items) }
@@ -51,8 +51,8 @@ pub fn append_state(bytes: &mut Vec<u8>, state: &VoterState) -> Result<(), Memor
     Ok(())
 }
 
-/// The state that these bytes are, with the base in place of the last entry, and in form 1 of the commit;
-/// else the first fault: no bytes, another form, another length, a value out of range.
+/// Decodes a state, with the base in place of the last entry. In form 1 the commit is the base's index. Fails with the
+/// first fault: no bytes, another form, another length, a value out of range.
 pub fn read_state(bytes: &[u8]) -> Result<VoterState, StoredFault>
     ensures ok { IfOk result (λ state. IsState bytes.now state) }
     ensures err { IfErr result (λ fault. StateFault fault bytes.now) }
@@ -67,7 +67,7 @@ pub fn read_state(bytes: &[u8]) -> Result<VoterState, StoredFault>
     }
 }
 
-/// Whether a state's numbers are in range, and its base doesn't stand above its commit.
+/// Whether a state's numbers are in range, and its base is at most its commit.
 pub fn state_fits(state: &VoterState) -> bool
     ensures { result ≡ state_fits state.now }
 {
@@ -79,7 +79,7 @@ pub fn state_fits(state: &VoterState) -> bool
         && state.base_index <= state.commit
 }
 
-/// The state that the bytes behind form byte 1 are, or their first fault.
+/// Decodes the state from the bytes after form byte 1. Fails with their first fault.
 fn read_form_1(body: &[u8]) -> Result<VoterState, StoredFault>
     ensures ok { IfOk result (λ state. IsStateForm1 body.now state × IsBareState state) }
     ensures err { IfErr result (λ fault. StateForm1Fault fault body.now) }
@@ -95,7 +95,7 @@ fn read_form_1(body: &[u8]) -> Result<VoterState, StoredFault>
     Ok(state)
 }
 
-/// The state that the bytes behind form byte 2 are, or their first fault.
+/// Decodes the state from the bytes after form byte 2. Fails with their first fault.
 fn read_form_2(body: &[u8]) -> Result<VoterState, StoredFault>
     ensures ok { IfOk result (λ state. (body.now ≡ state_form_2 state) × IsBareState state) }
     ensures err { IfErr result (λ fault. StateForm2Fault fault body.now) }

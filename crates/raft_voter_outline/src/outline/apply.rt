@@ -1,4 +1,4 @@
-//! ChangesEach that are made, once they are written.
+//! Changes of an outline, made after they are written.
 ghost use Rattle.std.specs.Prelude.{◌≡◌, ◌≤◌, length, OnErr, OnOk};
 ghost use Rattle.raft_voter_outline.specs.Decisions.{OutlineBecomes, CanChange, ChangesTerms, HasRunRoom, UsesRoom};
 ghost use Rattle.raft_voter_outline.specs.Outlines.{ChangesEach};
@@ -8,8 +8,8 @@ use super::{Change, Outline, Write};
 use crate::{Memory, Request};
 
 impl Outline {
-    /// Makes room for what a change writes, so that the change can be applied. Where memory is refused the
-    /// voter is as it was; no change needs room but one that brings entries.
+    /// Makes room for a change, so that it can be applied. Only a change that brings entries needs room. If memory runs
+    /// out, the voter is unchanged.
     pub fn reserve(&mut self, change: &Change, request: &Request) -> Result<(), Memory>
         ensures voter { self.new.voter ≡ self.old.voter }
         ensures ok { OnOk result (HasRunRoom change.now.write request.now self.new.room) }
@@ -18,8 +18,8 @@ impl Outline {
         self.terms.reserve(runs_in(change.write.brought(request)))
     }
 
-    /// Makes the change that was decided for a request, for which there is room. It asks for no memory, and
-    /// uses up no more room than was needed.
+    /// Makes the change that was decided for a request, with the room that was reserved. Allocates nothing, and uses no
+    /// more room than the change needs.
     pub fn apply(&mut self, change: &Change, request: &Request)
         requires decided { ChangesEach self.old.voter request.now change.now }
         requires room { HasRunRoom change.now.write request.now self.old.room }
@@ -35,7 +35,7 @@ impl Outline {
 }
 
 impl TermRuns {
-    /// Does to the terms of a log what a change does to the log.
+    /// Changes the terms of a log as the change does the log.
     fn change(&mut self, change: &Change, request: &Request)
         requires can { CanChange self.old request.now change.now }
         requires room { HasRunRoom change.now.write request.now self.old.room }

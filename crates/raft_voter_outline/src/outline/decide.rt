@@ -1,4 +1,4 @@
-//! Decisions: what requests come to, in range or not.
+//! Decisions on any request, in range or not.
 ghost use Rattle.std.specs.Prelude.{◌≡◌, ◌↔◌, IsTrue, None};
 ghost use Rattle.raft_voter_outline.specs.Decisions.{read_answer, SettlesPlan, Stays};
 ghost use Rattle.raft_voter_outline.specs.Outlines.{Decides};
@@ -7,7 +7,7 @@ use super::plans::Plan;
 use super::{Answer, Change, Decision, Outline, Write};
 use crate::{Items, Reply, Request};
 
-/// A request that is refused, or only asks.
+/// The decision on a request that is out of range, or that only reads.
 fn told(answer: Answer) -> Decision
     ensures { result ≡ record { answer = answer; change = None } }
 {
@@ -16,8 +16,8 @@ fn told(answer: Answer) -> Decision
 }
 
 impl Outline {
-    /// What a voter with this outline answers to a request, and what it becomes; nothing is changed yet. A
-    /// change is none exactly where the voter stays as it was.
+    /// Decides the reply to a request and the change that it makes, for every voter with this outline. Changes nothing
+    /// yet. The change is `None` exactly if the voter doesn't change.
     pub fn decide(&self, request: &Request) -> Decision
         ensures { Decides self.now.voter request.now result }
     {
@@ -56,7 +56,7 @@ impl Outline {
         }
     }
 
-    /// The decision of a plan. Inlined, so that no plan is put together in memory and read back.
+    /// Returns the decision of a plan. Inlined, so that no plan is put together in memory and read back.
     #[inline(always)]
     fn settle(&self, plan: Plan) -> Decision
         ensures { SettlesPlan self.now.voter plan result }
@@ -75,7 +75,7 @@ impl Outline {
         Decision { answer, change }
     }
 
-    /// Whether a plan leaves all as it is.
+    /// Whether a plan changes nothing.
     #[inline(always)]
     fn stays(&self, plan: &Plan) -> bool
         ensures { IsTrue result ↔ Stays self.now.voter plan.now plan.now.write }
@@ -89,7 +89,7 @@ impl Outline {
         }
     }
 
-    /// Which entries a request to read gets, or why it gets none.
+    /// Which entries a Read returns, or why it returns none.
     fn read(&self, from: u64, to: u64) -> Answer
         ensures { result ≡ read_answer self.now.voter from to }
     {

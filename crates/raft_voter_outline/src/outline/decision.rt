@@ -1,24 +1,24 @@
-//! What a request comes to, before anything is written.
+//! The decision on a request, made before anything is written.
 ghost use Rattle.std.specs.Prelude.{◌≡◌};
 ghost use Rattle.raft_voter_outline.specs.Decisions.{entries_in};
 
 use crate::{Items, Reply, Request, VoterState};
 
-/// What a request comes to: what is answered, and what changes.
+/// The decision on a request: its reply, and its change.
 #[derive(Debug, Drop)]
 pub struct Decision {
-    /// What is answered.
+    /// The reply.
     pub answer: Answer,
-    /// What changes, if anything does.
+    /// The change, if there is one.
     pub change: Option<Change>,
 }
 
-/// What is answered.
+/// The reply, or the entries that the reply still needs.
 #[derive(Debug, Drop)]
 pub enum Answer {
-    /// This reply. It is `Refused` where the request is out of range, and only there.
+    /// This reply. It is `Refused` exactly if the request is out of range.
     Told(Reply),
-    /// The entries of these indexes, of which there is one at least and which are all there.
+    /// The entries of these indexes. There is at least one, and all are in the log.
     Entries {
         /// The first index.
         from: u64,
@@ -30,36 +30,36 @@ pub enum Answer {
 /// What a request changes.
 #[derive(Clone, Copy, Debug, PartialEq, Eq)]
 pub struct Change {
-    /// The voter's state from now on, as it is stored: with the base in place of the last entry.
+    /// The voter's next state, as it is stored: with the base in place of the last entry.
     pub state: VoterState,
-    /// What is to be done to its log.
+    /// What to do to its log.
     pub write: Write,
 }
 
-/// What is to be done to a log.
+/// What to do to a log.
 #[derive(Clone, Copy, Debug, PartialEq, Eq)]
 pub enum Write {
-    /// Nothing: the state alone is another.
+    /// Nothing: only the state changes.
     StateAlone,
-    /// The entries that the request brought go in, but for the first of them, which are there. What stood
-    /// from that index on goes.
+    /// Appends the request's entries, except the first ones, which are in the log. The log is truncated first, at the
+    /// first appended index.
     Entries {
-        /// How many of those brought are there.
+        /// How many of the request's entries are in the log.
         skipped: usize,
-        /// The index of the first one that goes in.
+        /// The index of the first entry that is appended.
         index: u64,
     },
-    /// The entries up to an index go.
+    /// Removes the entries up to an index.
     CompactTo {
-        /// The last index that goes.
+        /// The last index to remove.
         index: u64,
     },
-    /// The group goes, its state too.
+    /// Removes the group, its state too.
     Clean,
 }
 
 impl Write {
-    /// The entries of its request that go in.
+    /// Returns the entries of its request that are appended.
     pub fn brought<'a>(&self, request: &'a Request) -> &'a [(u64, Items<u8>)]
         ensures { result.now ≡ entries_in self.now request.now }
     {

@@ -1,4 +1,4 @@
-//! What requests in range come to, one by one, before anything changes.
+//! Plans of requests in range, before anything changes.
 ghost use Rattle.std.specs.Prelude.{◌≡◌, ◌+◌, ◌-◌, ◌^◌, ◌<◌, ◌≤◌, ◌==◌, true, drop, length};
 ghost use Rattle.std.specs.Option.{option_map_or};
 ghost use Rattle.raft_voter_messages.specs.declared.request.Request.TheVariants.{Append, Compact, Install, Retire, Vote};
@@ -10,18 +10,18 @@ ghost use Rattle.raft_voter_outline.specs.declared.outline.decision.Write.TheVar
 use super::{Outline, Write};
 use crate::{Items, Reply, VoterState};
 
-/// What a request in range comes to, whether it changes anything or not.
+/// The reply, state and write of a request in range, whether it changes anything or not.
 #[derive(Drop)]
 pub struct Plan {
-    /// What is answered.
+    /// The reply.
     pub reply: Reply,
-    /// The state from then on, as it is stored.
+    /// The next state, as it is stored.
     pub state: VoterState,
-    /// What is done to the log.
+    /// What to do to the log.
     pub write: Write,
 }
 
-/// Nothing is done to the log.
+/// Returns a plan that doesn't write to the log.
 fn state_alone(reply: Reply, state: VoterState) -> Plan
     ensures { result ≡ record { reply = reply; state = state; write = StateAlone } }
 {
@@ -33,7 +33,7 @@ fn state_alone(reply: Reply, state: VoterState) -> Plan
     }
 }
 
-/// A higher term is taken over, and nobody has the vote in it.
+/// Adopts a higher term, in which no candidate has the vote.
 fn with_term(state: VoterState, term: u64) -> VoterState
     ensures { result ≡ with_term state term }
 {
@@ -107,7 +107,7 @@ impl Outline {
         }
     }
 
-    /// What goes in of the entries that follow an index.
+    /// Which of the entries that follow an index are written.
     fn brought(&self, prev_index: u64, entries: &[(u64, Items<u8>)]) -> Write
         requires above { self.now.voter.base_index ≤ prev_index }
         requires small { prev_index + length entries.now < 2 ^ 63 }
@@ -123,8 +123,8 @@ impl Outline {
         Write::Entries { skipped, index }
     }
 
-    /// How many of the entries that follow an index are there: those before the first whose term differs
-    /// or that is new.
+    /// How many of the entries that follow an index are in the log: those before the first one that is new or whose
+    /// term differs.
     fn matching(&self, prev_index: u64, entries: &[(u64, Items<u8>)]) -> usize
         requires above { self.now.voter.base_index ≤ prev_index }
         requires small { prev_index + length entries.now < 2 ^ 63 }
@@ -163,7 +163,7 @@ impl Outline {
         }
     }
 
-    /// A leader's snapshot was taken in (Raft paper, InstallSnapshot).
+    /// The node installed a leader's snapshot (Raft paper, InstallSnapshot).
     pub(super) fn install(&self, term: u64, index: u64, entry_term: u64) -> Plan
         ensures { Plans self.now.voter (Install term index entry_term) result }
     {
@@ -212,7 +212,7 @@ impl Outline {
         }
     }
 
-    /// All entries go, if there are some.
+    /// Removes all entries, if there are any.
     fn all_gone(&self) -> Write
         ensures { result ≡ all_gone self.now.voter }
     {
@@ -224,7 +224,7 @@ impl Outline {
     }
 }
 
-/// Whether nobody has the vote in this term, or this candidate has it already.
+/// Whether the voter has not voted in this term, or has voted for this candidate.
 fn may_vote(state: &VoterState, candidate: u64) -> bool
     ensures { result ≡ option_map_or (λ c. c == candidate) state.now.vote true }
 {
@@ -234,7 +234,7 @@ fn may_vote(state: &VoterState, candidate: u64) -> bool
     }
 }
 
-/// Another base.
+/// Returns the state with another base.
 fn with_base(state: VoterState, index: u64, term: u64) -> VoterState
     ensures { result
         ≡ record state { base_index = index; base_term = term; last_index = index; last_term = term } }

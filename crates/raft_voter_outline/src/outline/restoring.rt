@@ -1,4 +1,4 @@
-//! Outlines of voters that were stored.
+//! Outlines of stored voters.
 ghost use Rattle.std.specs.Prelude.{◌≡◌, ◌+◌, ◌^◌, ◌<◌, ◌∷◌, ◌++◌, [], true, None, length, IfOk, OnErr, OnOk};
 ghost use Rattle.raft_voter_messages.specs.StoredForms.{state_fits};
 ghost use Rattle.raft_voter_outline.specs.Outlines.{without_bytes};
@@ -12,8 +12,8 @@ use crate::{Items, Memory, VoterState};
 use std::alloc::Global;
 
 impl Outline {
-    /// The outline of a voter with this state and no entry above its base. What the state says of its last
-    /// entry isn't looked at. It takes no memory.
+    /// Returns the outline of a voter with this state and no entry above its base. Ignores the last entry that the
+    /// state names. Allocates nothing.
     pub fn at_base(alloc: Global, state: &VoterState) -> Outline
         requires { state_fits state.now ≡ true }
         ensures { result.voter ≡ with_log state.now [] }
@@ -28,8 +28,7 @@ impl Outline {
         }
     }
 
-    /// The outline of a voter with this state and this log. Memory can be refused only where the log has
-    /// entries.
+    /// Returns the outline of a voter with this state and this log. Memory can run out only if the log has entries.
     pub fn restore(
         alloc: Global,
         state: &VoterState,
@@ -46,8 +45,8 @@ impl Outline {
         Ok(outline)
     }
 
-    /// One more entry of the log, as it is read back: of this term, right behind the last one. Where
-    /// memory is refused, for which no room may be left, the outline is as it was.
+    /// Appends one more entry of this term, as it is read back. Fails only if no room is left and memory runs out. If
+    /// it fails, the outline is unchanged.
     pub fn push(&mut self, term: u64) -> Result<(), Memory>
         requires { last_index self.old.voter + 1 < 2 ^ 63 }
         ensures ok { OnOk result (self.new.voter

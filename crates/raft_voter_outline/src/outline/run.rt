@@ -1,7 +1,6 @@
 //! A run of entries of one term.
 
-/// Entries of one term that stand one behind the other. The first of them stands right behind the run
-/// before, or behind the base.
+/// Consecutive entries of one term. The first follows the last entry of the run before, or the base.
 #[derive(Clone, Copy, Debug)]
 pub struct Run {
     /// The index of the last of the entries.

@@ -8,8 +8,8 @@ use crate::{Items, Memory};
 use std::alloc::Global;
 use std::marker::Model;
 
-/// The base of a log, and the terms of the entries above it, as runs of equal terms: it grows with the
-/// number of times that the term changes, and finds a term by a binary search.
+/// The base of a log, and the terms of the entries above it, as runs of equal terms. Its size grows with the number of
+/// term changes. It finds a term by a binary search.
 #[derive(Debug, Drop)]
 pub struct TermRuns {
     base: u64,
@@ -32,7 +32,7 @@ impl Model for TermRuns {
 }
 
 impl TermRuns {
-    /// No entry above this base.
+    /// Returns the terms of an empty log above this base.
     pub fn new(alloc: Global, base: u64) -> TermRuns
         requires { base < 2 ^ 63 }
         ensures at { result.base ≡ base }
@@ -44,14 +44,14 @@ impl TermRuns {
         }
     }
 
-    /// The index of the base.
+    /// Returns the index of the base.
     pub fn base(&self) -> u64
         ensures { result ≡ self.now.base }
     {
         self.base
     }
 
-    /// The index of the last entry, or of the base.
+    /// Returns the index of the last entry, or of the base.
     pub fn last_index(&self) -> u64
         ensures value { result ≡ self.now.base + length self.now.log }
         ensures small { result < 2 ^ 63 }
@@ -63,7 +63,7 @@ impl TermRuns {
         }
     }
 
-    /// The term of the last entry, if there is one.
+    /// Returns the term of the last entry, if there is one.
     pub fn last_term(&self) -> Option<u64>
         ensures { result ≡ top_term self.now.log }
     {
@@ -71,7 +71,7 @@ impl TermRuns {
         Some(run.term)
     }
 
-    /// The term of the entry at an index above the base, if there is one.
+    /// Returns the term of the entry at an index above the base, if there is one.
     pub fn term_at(&self, index: u64) -> Option<u64>
         requires { self.now.base < index }
         ensures { result ≡ option_map (λ e. e.0) (slice_get self.now.log (index - self.now.base - 1)) }
@@ -83,7 +83,7 @@ impl TermRuns {
         Some(self.runs[place].term)
     }
 
-    /// Drops the entries above an index.
+    /// Removes the entries above an index.
     pub fn keep_to(&mut self, index: u64)
         requires { self.old.base ≤ index }
         ensures base { self.new.base ≡ self.old.base }
@@ -103,7 +103,7 @@ impl TermRuns {
         self.runs.push_reserved(Run { last: index, term });
     }
 
-    /// Drops the entries up to an index, which is the base from now on.
+    /// Removes the entries up to an index, which becomes the base.
     pub fn compact_to(&mut self, index: u64)
         requires above { self.old.base ≤ index }
         requires within { index ≤ self.old.base + length self.old.log }
@@ -116,7 +116,7 @@ impl TermRuns {
         self.base = index;
     }
 
-    /// Drops all entries; the base is this one from now on.
+    /// Removes all entries and sets the base.
     pub fn clear(&mut self, base: u64)
         requires { base < 2 ^ 63 }
         ensures base { self.new.base ≡ base }
@@ -127,7 +127,7 @@ impl TermRuns {
         self.base = base;
     }
 
-    /// The base is this one from now on. Where it is another one, no entry stands above it.
+    /// Sets the base. If it changes, there must be no entries.
     pub fn rest_on(&mut self, base: u64)
         requires rests { (base ≡ self.old.base) ⊎ (self.old.log ≡ []) }
         requires small { base < 2 ^ 63 }
@@ -141,8 +141,8 @@ impl TermRuns {
         self.clear(base);
     }
 
-    /// Makes room for so many more runs: where there is none yet, for just these, as most logs keep to one term.
-    /// Where memory is refused, all is as it was.
+    /// Makes room for this many more runs. If there are no runs yet, makes room for just these, as most logs keep to
+    /// one term. If memory runs out, nothing changes.
     pub fn reserve(&mut self, count: usize) -> Result<(), Memory>
         ensures base { self.new.base ≡ self.old.base }
         ensures log { self.new.log ≡ self.old.log }
@@ -158,8 +158,8 @@ impl TermRuns {
         Ok(())
     }
 
-    /// Makes room for one more entry, of this term: none where it joins the last run. Where memory is refused, all is
-    /// as it was.
+    /// Makes room for one more entry, of this term. It needs none if it joins the last run. If memory runs out, nothing
+    /// changes.
     pub fn reserve_one(&mut self, term: u64) -> Result<(), Memory>
         ensures base { self.new.base ≡ self.old.base }
         ensures log { self.new.log ≡ self.old.log }
@@ -174,7 +174,7 @@ impl TermRuns {
         Ok(())
     }
 
-    /// One more entry, of this term.
+    /// Appends an entry of this term.
     pub fn push(&mut self, term: u64)
         requires small { self.old.base + length self.old.log + 1 < 2 ^ 63 }
         requires room { runs_behind (top_term self.old.log) ((term, []) ∷ []) ≤ self.old.room }
@@ -191,7 +191,7 @@ impl TermRuns {
         self.runs.push_reserved(Run { last, term });
     }
 
-    /// More entries; of each its term is kept.
+    /// Appends entries, of which only the terms are kept.
     pub fn extend(&mut self, entries: &[(u64, Items<u8>)])
         requires small { self.old.base + length self.old.log + length entries.now < 2 ^ 63 }
         requires room { runs_behind (top_term self.old.log) entries.now ≤ self.old.room }
@@ -205,7 +205,7 @@ impl TermRuns {
     }
 }
 
-/// Drops the first runs.
+/// Removes the first runs.
 fn drop_front(list: &mut Vec<Run>, count: usize)
     requires { count ≤ vec_len list.old }
     ensures items { list.new.items ≡ drop count list.old.items }

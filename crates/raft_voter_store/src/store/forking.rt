@@ -1,4 +1,4 @@
-//! A store's log is copied.
+//! Copies a store's log.
 ghost use Rattle.std.specs.Prelude.{◌≡◌, [], map, IfErr, IfOk};
 ghost use Rattle.std.specs.String.{string_bytes};
 ghost use Rattle.raft_log_engine.specs.raft_log_file_settings.specs.Settings.{settings_of};
@@ -10,14 +10,22 @@ use raft_log_engine::{Config, CopyDetails, EnginePipes, FileSystem, Nobody, Resu
 use std::alloc::Global;
 
 impl<F: FileSystem + Sync> LogVoterStore<EnginePipes<F, Nobody>> {
-    /// Copies the log of a store that nobody has open, by the settings that name it, into a directory, which is made
-    /// where it isn't there; the answer is the paths of the copies, each of which is synced. A store that is opened
-    /// over the copy has the voters of its source, as `raft_voter_opening_laws` says it.
+    /// Copies the log of a store that nobody has open, as named by these settings, into a directory, which is created
+    /// if it doesn't exist. Returns the paths of the copies, each of which is synced. A store that is opened over the
+    /// copy has the voters of its source (`raft_voter_opening_laws`).
     ///
-    /// Refused, whyever, the source is as it was. `InvalidArgument`: the settings let files be used again or be cut
-    /// before the last, or the target is one of the source's directories, lies in one, or holds log files. `Other`:
-    /// the settings have a fault. `Io`: a directory of the source isn't there. `Corruption`: a file in it is misnamed.
-    /// Then nothing was changed; behind a later `Io` or `Memory` what was copied stays.
+    /// If it fails, for any reason, the source is unchanged.
+    ///
+    /// # Errors
+    ///
+    /// With these nothing was changed:
+    /// - `InvalidArgument`: the settings let files be used again or be truncated before the last; or the target is one
+    ///   of the source's directories, is inside one, or has log files.
+    /// - `Other`: the settings have a fault.
+    /// - `Io`: a directory of the source doesn't exist.
+    /// - `Corruption`: a file in it is misnamed.
+    ///
+    /// After a later `Io` or `Memory`, what was copied stays.
     pub fn fork<L: Log>(
         rt: &L,
         alloc: Global,

@@ -1,4 +1,4 @@
-//! A store is opened over its log, and lists its voters.
+//! Opens a store over its log, and lists its voters.
 ghost use Rattle.std.specs.Prelude.{◌≡◌, IfErr, IfOk};
 ghost use Rattle.raft_log_engine.specs.raft_log_engine_core.specs.Reads.{shows_of};
 ghost use Rattle.raft_log_engine.specs.raft_log_engine_laws.specs.Fetching.{StaysButBlock};
@@ -16,28 +16,30 @@ use raft_voter_reading::{Unread, read_outlines, read_voters};
 use std::alloc::Global;
 use std::thread::Threads;
 
-/// A store as it is opened over a file system: a [`LogVoterStore`] whose pipes tell who listens, and the engine's own
+/// A store as it is opened over a file system: a [`LogVoterStore`] whose pipes call a listener, and the engine's own
 /// hook.
 pub type VoterStore<F, E = Nobody> = LogVoterStore<EnginePipes<F, E>>;
 
-/// A store that wasn't opened.
+/// Opening a store failed.
 #[derive(Drop)]
 pub struct StoreRefused<F> {
-    /// Why: the engine's error, a group that holds what is no voter's, or want of memory.
+    /// The cause: the engine's error, a group whose contents aren't a voter, or out of memory.
     pub cause: Unread,
-    /// The file system, which is handed back.
+    /// The file system, which is returned.
     pub file_system: F,
 }
 
 impl<F: FileSystem + Sync, E: EventListener> LogVoterStore<EnginePipes<F, E>> {
-    /// Opens the store whose log these settings name, over a file system, which is the store's from then on: each
-    /// group's voter is the one that the log tells. The log is opened as an engine opens it, with the listener told
-    /// of its files; then the outlines of its voters are read of it, a group at a time, so that of each entry no
-    /// more is kept than its term.
+    /// Opens the store whose log these settings name, over a file system, which the store owns from then on. Each
+    /// group's voter is the one in the log. It opens the log as an engine does, with the listener. Then it reads the
+    /// outlines of its voters from the log, one group at a time. It keeps no more of each entry than its term.
     ///
-    /// Refused, the file system is handed back, and the store may be opened again: `Engine` as an engine's open is
-    /// refused, but for want of memory, or where an entry isn't read; `Foreign` with a group that holds what is no
-    /// voter's; `Memory`.
+    /// If it fails, the file system is returned, and the store may be opened again.
+    ///
+    /// # Errors
+    /// - `Engine` as opening an engine fails, except for `Memory`, or if an entry isn't read.
+    /// - `Foreign` with a group whose contents aren't a voter.
+    /// - `Memory`.
     pub fn open<R: Threads + Log + Sync>(
         rt: &R,
         alloc: Global,
@@ -60,10 +62,10 @@ impl<F: FileSystem + Sync, E: EventListener> LogVoterStore<EnginePipes<F, E>> {
         )
     }
 
-    /// Opens the store as `open` does, but its log is read by scoped threads: one for each chunk of both queues,
+    /// Opens the store as `open` does, but reads its log with scoped threads: one for each chunk of both queues,
     /// however many processors there are.
     ///
-    /// Refused as `open` is.
+    /// Fails as `open` does.
     pub fn open_scoped<R: Threads + Log + Sync>(
         rt: &R,
         alloc: Global,
@@ -86,9 +88,9 @@ impl<F: FileSystem + Sync, E: EventListener> LogVoterStore<EnginePipes<F, E>> {
         )
     }
 
-    /// Opens the store as `open` does, its log read by these threads.
+    /// Opens the store as `open` does, and reads its log with these threads.
     ///
-    /// Refused as `open` is.
+    /// Fails as `open` does.
     pub fn open_by<R: Threads + Log + Sync>(
         rt: &R,
         alloc: Global,
@@ -134,8 +136,8 @@ impl<F: FileSystem + Sync, E: EventListener> LogVoterStore<EnginePipes<F, E>> {
 }
 
 impl<P: PipeLog> LogVoterStore<P> {
-    /// The voters that are stored, each with its group, sorted by group. Their entries are read of the log. It is
-    /// refused as an open is behind the engine's; nothing changes but the block that the engine keeps.
+    /// The stored voters, each with its group, sorted by group. Reads their entries from the log. Fails as the part of
+    /// an open after the engine's does. Nothing changes except the block that the engine caches.
     pub fn voters(&mut self) -> Result<Vec<(u64, Voter)>, Unread>
         ensures ok { IfOk result (λ voters. ListsVoters (shows_of P.shown self.old.engine) voters.items) }
         ensures err { IfErr result (λ cause. IsUnreadFor cause (shows_of P.shown self.old.engine)) }

@@ -1,4 +1,4 @@
-//! Rounds of requests.
+//! Serves rounds of requests.
 ghost use Rattle.std.specs.Prelude.{◌≡◌, ◌+◌, ◌<◌, ◌≤◌, ◌++◌, ◌∷◌, [], false, length, All, vec_capacity, vec_len, IfErr, IfOk, OnOk};
 ghost use Rattle.raft_log_engine.specs.raft_log_engine_core.specs.Reads.{shows_of};
 ghost use Rattle.raft_voter.specs.Service.{refused_from};
@@ -18,12 +18,13 @@ impl<P: PipeLog> LogVoterStore<P> {
     ghost use Rattle.raft_voter_store.specs.Rounds.{AreExcused, CutsRoundOff, GoesOn, Passes, RoundIsAnswered, StopsAt};
     ghost use Rattle.raft_voter_store.specs.Silence.{AsksForNone, IfVoterStays, IfVotersStay, ReadsAlone};
 
-    /// The groups' voters take the requests in order, but for those at the places whose reply is `Refused`:
-    /// they are out of range, or were turned down. The replies are handed out once all that was written is
-    /// synced; where nothing was written no sync is asked for.
+    /// Serves the requests in order, and returns one reply for each. The reply is `Refused` for a request that is out
+    /// of range or was turned down. It returns the replies after all that was written is synced; if nothing was written
+    /// it doesn't sync.
     ///
-    /// `TooLong`, `Failed` and `Memory` are looked for in this order, before anything is taken. `FileSystem`:
-    /// the engine failed at a request, or the sync was refused; some of the first requests may be taken.
+    /// Checks for `TooLong`, `Failed` and `Memory`, in this order, before it serves anything. It fails with
+    /// `FileSystem` if the engine failed at a request, or the sync failed; some of the first requests may be taken
+    /// then.
     pub fn serve<R: Log>(
         &mut self,
         rt: &R,
@@ -47,9 +48,9 @@ impl<P: PipeLog> LogVoterStore<P> {
         ensures errors { IfErr result (λ fault. FailsAs fault.cause (length requests.now)
             (has_failed (shows_of P.shown self.old.engine)) (has_failed (shows_of P.shown self.new.engine))) }
 
-        // A round that changes no voter does nothing but reading: no file is written and none is synced, so the files
-        // stand as they were, with what is pending in them and the failures that were counted. One that asks for no
-        // entries either leaves the whole store as it was, its file system with it.
+        // A round that changes no voter only reads: it writes and syncs no file, so the files, what is pending in them
+        // and the failures that were counted are unchanged. If it also requests no entries, it leaves the whole store
+        // unchanged, with its file system.
         ensures quiet { IfVotersStay (outlines_in self.old.outlines) requests.now
             (ReadsAlone (shows_of P.shown self.old.engine) (shows_of P.shown self.new.engine)
             self.old.outlines self.new.outlines) }
@@ -79,9 +80,8 @@ impl<P: PipeLog> LogVoterStore<P> {
         Ok(Items::from_vec(replies))
     }
 
-    /// The voters take the requests in order, and their replies are put where there is room for them; a
-    /// request that is turned down is answered `Refused`. The answer is whether a record was written; none
-    /// where the engine failed at a request.
+    /// Serves the requests in order, and appends their replies, for which there is room; a request that is turned down
+    /// gets `Refused`. Returns whether a record was written, or none if the engine failed at a request.
     fn take_all<R: Log>(
         &mut self,
         rt: &R,
@@ -117,8 +117,8 @@ impl<P: PipeLog> LogVoterStore<P> {
         Some(wrote)
     }
 
-    /// One request of a round: its reply is put where there is room for it, `Refused` where it is turned down.
-    /// The answer is whether a record was written by then; none where the engine failed at the request.
+    /// Serves one request of a round. Appends its reply, for which there is room, or `Refused` if it is turned down.
+    /// Returns whether a record was written by then, or none if the engine failed at the request.
     fn serve_one<R: Log>(
         &mut self,
         rt: &R,
@@ -165,7 +165,7 @@ impl<P: PipeLog> LogVoterStore<P> {
     }
 }
 
-/// The fault of a round that told these replies before the file system failed; there is room for its places.
+/// The fault of a round that had these replies when the file system failed; there is room for its places.
 fn cut_off(replies: &[Reply], places: Vec<usize>) -> RoundFault
     requires empty { places.items ≡ [] }
     requires room { vec_len places + length replies.now ≤ vec_capacity places }
@@ -181,7 +181,7 @@ fn cut_off(replies: &[Reply], places: Vec<usize>) -> RoundFault
     }
 }
 
-/// Puts a place where its reply is `Refused`, and there is room for it.
+/// Appends a place if its reply is `Refused`; there is room for it.
 fn note_refused(refused: &mut Vec<usize>, place: usize, reply: &Reply)
     requires { vec_len refused.old < vec_capacity refused.old }
     ensures places { refused.new.items ≡ refused.old.items ++ refused_from place (reply.now ∷ []) }

@@ -1,4 +1,4 @@
-//! What keeps a store's files few, and what is told of them.
+//! Purges a store's files, and returns facts about them.
 ghost use Rattle.std.specs.Prelude.{◌≡◌, ◌↔◌, false, true, Err, IsTrue, IfErr, IfOk, OnErr, OnOk};
 ghost use Rattle.raft_log_record_base.specs.declared.errors.Error.TheVariants as errors;
 ghost use Rattle.raft_log_record_base.specs.declared.pipe_log.LogQueue.TheVariants.{Append};
@@ -22,14 +22,14 @@ impl<P: PipeLog> LogVoterStore<P> {
     ghost use Rattle.raft_voter_standing_laws.specs.raft_log_engine_laws.specs.Syncing.{NotSynced, SyncsAppend};
     ghost use Rattle.raft_voter_store.specs.Upkeep.{KeepsOrLeavesVoters, KeepsVoters};
 
-    /// Whether the engine has failed: then no round is taken until the log is opened again.
+    /// Whether the engine has failed: then no round is served until the log is opened again.
     pub fn is_failed(&self) -> bool
         ensures { result ≡ has_failed (shows_of P.shown self.now.engine) }
     {
         self.engine.is_failed()
     }
 
-    /// Makes all that was written durable. Refused, it is `Failed`, and nothing is taken any more.
+    /// Makes all that was written durable. If it fails, the error is `Failed`, and nothing is written any more.
     pub fn sync<R: Log>(&mut self, rt: &R) -> Result<()>
         ensures ok { OnOk result (SyncsAppend
             (shows_of P.shown self.old.engine) (shows_of P.shown self.new.engine)) }
@@ -47,7 +47,7 @@ impl<P: PipeLog> LogVoterStore<P> {
         self.engine.file_system()
     }
 
-    /// The numbers of the first and the last file of a queue. `Failed` of an engine that has failed.
+    /// The numbers of the first and the last file of a queue. Fails with `Failed` if the engine has failed.
     pub fn file_span(&self, queue: LogQueue) -> Result<(FileSeq, FileSeq)>
         ensures ok { IfOk result (λ span. TellsSpan queue (P.shown self.now.engine.pipes) span.0 span.1) }
         ensures lived { OnOk result (Lives (shows_of P.shown self.now.engine)) }
@@ -56,9 +56,9 @@ impl<P: PipeLog> LogVoterStore<P> {
         self.engine.file_span(queue)
     }
 
-    /// Arms a fault of the file system: it alters which later calls are refused, and nothing else; a place
-    /// that it makes unreadable is marked on the disk. `Io` where it isn't armed: the file system had stopped,
-    /// or memory ran out.
+    /// Arms a fault of the file system: it changes which later calls fail, and nothing else. A place that it makes
+    /// unreadable is marked on the disk. Fails with `Io` if it isn't armed: the file system had stopped, or is out of
+    /// memory.
     pub fn arm(&mut self, fault: &Fault) -> Result<()>
         ensures ok { OnOk result (ArmsEngine fault.now
             (shows_of P.shown self.old.engine) (shows_of P.shown self.new.engine)) }
@@ -72,9 +72,9 @@ impl<P: PipeLog> LogVoterStore<P> {
         self.engine.arm(fault)
     }
 
-    /// Purges the files of both queues that are past the thresholds of the settings. The answer is the groups
-    /// that are to be compacted, sorted. No voter changes, answered or refused; where the engine has failed the
-    /// voters are left alone. Which files go, and why it is refused, is as the engine says.
+    /// Purges the files of both queues if they are past the thresholds of the settings. Returns the groups that should
+    /// be compacted, sorted. No voter changes, whether it succeeds or fails; if the engine has failed, its log means
+    /// just these voters. The engine's page says which files are deleted, and why it fails.
     pub fn maintain<R: Log>(&mut self, rt: &R) -> Result<Vec<u64>>
         ensures ok { OnOk result (KeepsVoters
             (shows_of P.shown self.old.engine) (shows_of P.shown self.new.engine)) }
@@ -92,8 +92,8 @@ impl<P: PipeLog> LogVoterStore<P> {
         self.engine.purge_expired_files(rt)
     }
 
-    /// Rewrites Append up to a file, the watermark, or up to its last one, and ends behind the first or the
-    /// second of its steps if asked. No voter changes.
+    /// Rewrites Append up to a file, the watermark, or up to its last one. With `exit_after_step` it ends after the
+    /// first or the second of its steps. No voter changes.
     pub fn must_rewrite_append_queue<R: Log>(
         &mut self,
         rt: &R,
@@ -115,7 +115,7 @@ impl<P: PipeLog> LogVoterStore<P> {
             .must_rewrite_append_queue(rt, watermark, exit_after_step)
     }
 
-    /// Rewrites Rewrite, whatever its size is. No voter changes.
+    /// Compacts Rewrite, whatever its size is. No voter changes.
     pub fn must_rewrite_rewrite_queue<R: Log>(&mut self, rt: &R) -> Result<()>
         ensures ok { OnOk result (KeepsVoters
             (shows_of P.shown self.old.engine) (shows_of P.shown self.new.engine)) }
@@ -131,11 +131,10 @@ impl<P: PipeLog> LogVoterStore<P> {
         self.engine.must_rewrite_rewrite_queue(rt)
     }
 
-    /// Closes the log, and gives the file system back, whatever happened.
+    /// Closes the log, and returns the file system in any case.
     ///
-    /// If the result is `Ok`, everything that the store wrote is durable. It fails with `Io` if the file system
-    /// refused to truncate or to sync an active file, and with `Failed` if the engine had failed before; then
-    /// it touches nothing.
+    /// If the result is `Ok`, everything that the store wrote is durable. It fails with `Io` if truncating or syncing
+    /// an active file failed. It fails with `Failed` if the engine had failed before; then it touches nothing.
     pub fn close<R: Log>(self, rt: &R) -> Closed<P::Files>
         ensures held { has_failed (shows_of P.shown self.engine) ≡ false
             → ClosesLog (P.shown self.engine.pipes) (P.disk_of result.files) }

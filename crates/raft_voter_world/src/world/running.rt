@@ -1,4 +1,4 @@
-//! Events that happen to a world one after another, and what is told of them in the end.
+//! Plays events in a world one after another, and reports on them at the end.
 ghost use Rattle.std.specs.Prelude.{IfOk};
 ghost use Rattle.raft_voter_world.specs.Run.{IsRun};
 ghost use Rattle.raft_voter_world.specs.Played.{Ended, HasPlayed, Stands};
@@ -15,10 +15,10 @@ use std::alloc::Global;
 use std::collections::VecDeque;
 use std::thread::Threads;
 
-/// Plays events one after another from these files on; a store that is still open behind the last one is closed.
-/// It is told what the rounds came to, how far those were taken that were cut off, and the files.
+/// Plays events one after another, starting from these files. Closes a store that is still open after the last event.
+/// Returns the report: the rounds with their outcomes, how far those that were cut off were taken, and the files.
 ///
-/// `Memory`: there was no room for what is told, or for what a crash leaves; nothing is told then.
+/// Fails with `Memory` if there is no room for the report, or for what a crash leaves. There is no report then.
 pub fn run_world<R: Threads + Sync, S: VoterStorage<R> + Drop, F: VoterDisk<R, S> + Drop>(
     rt: &R,
     alloc: Global,
@@ -32,7 +32,7 @@ pub fn run_world<R: Threads + Sync, S: VoterStorage<R> + Drop, F: VoterDisk<R, S
     played.finish(rt)
 }
 
-/// These files or, where the disk has stopped, what a crash leaves of them.
+/// Returns these files or, if the disk has stopped, what a crash leaves of them.
 fn standing<R, S: VoterStorage<R>, F: VoterDisk<R, S> + Drop>(
     files: F,
     left: &Left,
@@ -46,8 +46,8 @@ fn standing<R, S: VoterStorage<R>, F: VoterDisk<R, S> + Drop>(
 }
 
 impl<S: Drop, F: Drop> World<S, F> {
-    /// One event happens; this is its place among all, counted from 0. Where the disk stops in it, the crash
-    /// follows at once.
+    /// Plays one event; `place` is its number among all, counted from 0. If the disk stops in it, the crash follows at
+    /// once.
     pub fn step<R: Threads + Sync>(
         self,
         rt: &R,
@@ -74,7 +74,7 @@ impl<S: Drop, F: Drop> World<S, F> {
         }
     }
 
-    /// Events happen one after another.
+    /// Plays events one after another.
     fn play<R: Threads + Sync>(
         self,
         rt: &R,
@@ -95,7 +95,7 @@ impl<S: Drop, F: Drop> World<S, F> {
         Ok(world)
     }
 
-    /// A store that is open is closed, nothing waits any more, and it is told what came of the run.
+    /// Closes a store that is open, settles the run, and returns its report.
     fn finish<R>(self, rt: &R) -> Result<WorldReport<F>, Memory>
     where
         S: VoterStorage<R>,

@@ -22,7 +22,7 @@ room="$(mktemp -d)"
 folder="$(mktemp -d "${FOLDER:-$PWD}/bench.XXXXXX")"
 trap 'rm -rf "$room" "$folder"' EXIT
 . "$here/../common/build.sh"
-rattle="${PROGRAM:-$(build_program "$here" "$room" raft_log_disk_directory raft_log_engine anyhow log)}"
+rattle="${PROGRAM:-$(build_program "$here" "$room" raft_log_fs_os raft_log_engine anyhow log)}"
 rust="$room/rust"
 rustc --edition 2021 -O -C codegen-units=1 -o "$rust" "$here/rust.rs"
 cd "$folder"

@@ -4,4 +4,4 @@
 # Usage: bench/engine/run.sh [ROUNDS]; RT names the toolchain's command. Takes some 8 GB of memory.
 set -euo pipefail
 here="$(dirname "$0")"
-exec "$here/../common/run.sh" "$here" "${1:-1}" raft_log_record_base raft_log_disk raft_log_file_pair raft_log_engine_core raft_log_file_reader raft_log_record_items raft_log_disk_memory raft_log_record_batches raft_log_file_settings anyhow log
+exec "$here/../common/run.sh" "$here" "${1:-1}" raft_log_record_base raft_log_fs raft_log_dual_pipes raft_log_engine_core raft_log_file_reader raft_log_record_items raft_log_fs_memory raft_log_record_batches raft_log_file_settings anyhow log

@@ -4,5 +4,5 @@
 # Usage: bench/reading/run.sh [ROUNDS]; RT names the toolchain's command.
 set -euo pipefail
 here="$(dirname "$0")"
-exec "$here/../common/run.sh" "$here" "${1:-3}" raft_log_record_base raft_log_disk raft_log_file_format \
-    raft_log_file_reader raft_log_record_items raft_log_disk_memory raft_log_file_uses raft_log_record_batches anyhow
+exec "$here/../common/run.sh" "$here" "${1:-3}" raft_log_record_base raft_log_fs raft_log_file_format \
+    raft_log_file_reader raft_log_record_items raft_log_fs_memory raft_log_file_uses raft_log_record_batches anyhow

@@ -4,4 +4,4 @@
 # Usage: bench/replay/run.sh [ROUNDS]; RT names the toolchain's command. Takes some 3 GB of memory.
 set -euo pipefail
 here="$(dirname "$0")"
-exec "$here/../common/run.sh" "$here" "${1:-3}" raft_log_record_base raft_log_table_contexts raft_log_record_items raft_log_record_batches raft_log_table_segments anyhow
+exec "$here/../common/run.sh" "$here" "${1:-3}" raft_log_record_base raft_log_replay_context raft_log_record_items raft_log_record_batches raft_log_replay anyhow

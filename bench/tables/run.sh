@@ -4,4 +4,4 @@
 # Usage: bench/tables/run.sh [ROUNDS]; RT names the toolchain's command. With CLOCK=heap: the bytes of the heap that an entry takes.
 set -euo pipefail
 here="$(dirname "$0")"
-UNIT="k/s" exec "$here/../common/run.sh" "$here" "${1:-3}" raft_log_table_one raft_log_record_items raft_log_record_base anyhow
+UNIT="k/s" exec "$here/../common/run.sh" "$here" "${1:-3}" raft_log_memtable raft_log_record_items raft_log_record_base anyhow

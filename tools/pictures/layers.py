@@ -39,9 +39,9 @@ BOXES = [
     (398, 658, 216, 108, "#e5f5e0", "Records", "bytes", "raft_log_record_",
      ["checksum", "base", "items", "frames", "marks", "lists", "batches"], "records_are_read_back"),
     (622, 658, 442, 108, "#eaeef2", "File systems", "what is asked of one, what a crash may leave, and one in memory",
-     "", ["raft_log_disk", "raft_log_disk_storage", "raft_log_disk_memory"], "FileSystem, IsImage"),
+     "", ["raft_log_fs", "raft_log_fs_state", "raft_log_fs_memory"], "FileSystem, IsImage"),
     (870, 354, 194, 296, "#fdebd8", "Real directories", "a FileSystem over real files", "",
-     ["raft_log_disk_directory", "raft_log_disk_device"], "held_by"),
+     ["raft_log_fs_os", "raft_log_fs_os"], "held_by"),
 ]
 # crates that hand on others, and those beside the columns
 FACES = ["raft_log_records", "raft_log_tables", "raft_log_files"]

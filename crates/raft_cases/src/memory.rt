@@ -2,8 +2,8 @@
 use crate::bytes::{dump, show_bytes};
 use crate::command::Command;
 use crate::fault::CaseFault;
-use raft_log_disk::{Fault, FileSystem, Permission};
-use raft_log_disk_memory::{MemoryFileSystem, Piece, Remainder};
+use raft_log_fs::{Fault, FileSystem, Permission};
+use raft_log_fs_memory::{MemoryFileSystem, Piece, Remainder};
 use std::alloc::{AllocError, Global};
 use std::io::ErrorKind;
 

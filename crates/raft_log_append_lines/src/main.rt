@@ -9,7 +9,7 @@ mod appending;
 use anyhow::bail;
 use appending::{GROUP, append};
 use log::Log;
-use raft_log_disk_directory::{DirectoryFileSystem, FileDevice, make_directory, open_directories};
+use raft_log_fs_os::{DirectoryFileSystem, FileDevice, make_directory, open_directories};
 use raft_log_engine::{Config, Engine, FileSystem};
 use raft_log_record_items::RawEntries;
 use std::env;

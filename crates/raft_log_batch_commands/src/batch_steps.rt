@@ -6,7 +6,7 @@ use raft_log_record_batches::{AtomicGroupBuilder, AtomicGroupStatus, BatchState,
 use raft_log_record_items::{
     Bytes, EntryIndex, LogItem, LogItemContent, MessageExt, OpType, RawMessage,
 };
-use raft_log_record_marks::Marking;
+use raft_log_record_frames::Marking;
 use std::alloc::Global;
 
 /// How long the longest log file may be whose blocks a case names.

@@ -5,7 +5,7 @@ use raft_log_record_commands::answers::{done, failed, push_line, show_entry, sho
 use raft_log_record_commands::spelled::items;
 use raft_log_record_commands::words::{block, file, version};
 use raft_log_record_items::{CompressionType, LogItem, LogItemContent, OpType};
-use raft_log_record_lists::LogItemBatch;
+use raft_log_record_frames::LogItemBatch;
 use std::alloc::Global;
 
 /// The list of a case.

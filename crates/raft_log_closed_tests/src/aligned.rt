@@ -1,8 +1,8 @@
 //! Logs with an alignment, as another program may write them: what is read of them.
 use log::Log;
-use raft_log_closed::{check_log, dump_with_file_system, fork};
-use raft_log_disk::{FileSystem, Permission};
-use raft_log_disk_memory::MemoryFileSystem;
+use raft_log_offline::{check_log, dump_with_file_system, fork};
+use raft_log_fs::{FileSystem, Permission};
+use raft_log_fs_memory::MemoryFileSystem;
 use raft_log_file_settings::{Config, RecoveryMode};
 use raft_log_record_base::Result;
 use raft_log_record_items::LogItem;

@@ -1,9 +1,9 @@
 //! Logs with holes, and without.
 use crate::logs::{Row, log_of};
 use log::Log;
-use raft_log_closed::{check_log, consistency_check_with_file_system};
-use raft_log_disk::{FileSystem, Permission};
-use raft_log_disk_memory::MemoryFileSystem;
+use raft_log_offline::{check_log, consistency_check_with_file_system};
+use raft_log_fs::{FileSystem, Permission};
+use raft_log_fs_memory::MemoryFileSystem;
 use raft_log_file_settings::Config;
 use raft_log_record_base::{Error, LogQueue, Result};
 use std::alloc::Global;

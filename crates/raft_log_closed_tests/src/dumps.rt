@@ -1,7 +1,7 @@
 //! Items of a directory and of a file; paths that have nothing to dump; and want of memory.
-use raft_log_closed::dump_with_file_system;
-use raft_log_disk::FileSystem;
-use raft_log_disk_memory::MemoryFileSystem;
+use raft_log_offline::dump_with_file_system;
+use raft_log_fs::FileSystem;
+use raft_log_fs_memory::MemoryFileSystem;
 use raft_log_record_base::{Error, Result};
 use raft_log_record_items::LogItem;
 use std::alloc::Global;
@@ -92,7 +92,7 @@ fn gives(alloc: Global, path: &str, want: u64) -> Result<bool> {
 /// Whether nothing is dumped once the file system has stopped.
 fn is_stopped(alloc: Global) -> Result<bool> {
     let mut system = prepared(alloc)?;
-    let handle = system.open("d/notes.txt", raft_log_disk::Permission::ReadWrite)?;
+    let handle = system.open("d/notes.txt", raft_log_fs::Permission::ReadWrite)?;
     system.stop_at(1);
     let refused = system.sync(handle).is_err();
     Ok(refused & matches!(dumped(alloc, &system, "d"), Err(Error::Io(_))))

@@ -1,7 +1,7 @@
 //! Logs that are copied, and copies that are refused.
-use raft_log_closed::fork;
-use raft_log_disk::{FileSystem, Permission};
-use raft_log_disk_memory::MemoryFileSystem;
+use raft_log_offline::fork;
+use raft_log_fs::{FileSystem, Permission};
+use raft_log_fs_memory::MemoryFileSystem;
 use raft_log_file_settings::Config;
 use raft_log_record_base::{Error, Result};
 use std::alloc::Global;

@@ -1,10 +1,10 @@
 //! Directories with gaps, doubles and foreign names.
 use super::forks::holding;
-use raft_log_disk::{FileSystem, Permission};
-use raft_log_disk_memory::MemoryFileSystem;
-use raft_log_file_queue::File;
+use raft_log_fs::{FileSystem, Permission};
+use raft_log_fs_memory::MemoryFileSystem;
+use raft_log_active_file::File;
 use raft_log_file_settings::RecoveryMode;
-use raft_log_open_scan::scanning::{ScannedFiles, scan};
+use raft_log_recovery_scan::scanning::{ScannedFiles, scan};
 use raft_log_record_base::{Error, Result};
 use std::alloc::Global;
 use std::test::Fail;

@@ -1,6 +1,6 @@
 //! How workers are shared, and files among them.
-use raft_log_open_scan::{Workers, share_workers};
-use raft_log_table_segments::chunk_size;
+use raft_log_recovery_scan::{Workers, share_workers};
+use raft_log_replay::chunk_size;
 use std::test::Fail;
 
 // Threads, files of Append and of Rewrite, and the workers of both.

@@ -3,24 +3,24 @@ use Rattle.std.proofs.Common.{◌≡◌, ◌<◌, ℕ, false, List, [], length, 
 use Rattle.std.proofs.Math.Seq.{take-nil}
 use Rattle.raft_log_machine_laws.specs.Fresh.{nothing_stands}
 use Rattle.raft_log_engine.specs.raft_log_model_laws.specs.Groups.{taken}
-use Rattle.raft_log_engine.specs.raft_log_disk.specs.Disk.{Disk}
-use Rattle.raft_log_engine.specs.raft_log_disk.specs.Image.{IsImage, IsSound}
+use Rattle.raft_log_engine.specs.raft_log_fs.specs.Disk.{Disk}
+use Rattle.raft_log_engine.specs.raft_log_fs.specs.Image.{IsImage, IsSound}
 use Rattle.raft_log_engine.specs.raft_log_file_settings.specs.declared.config.Config.{Config}
-use Rattle.raft_log_engine.specs.raft_log_table_all.specs.declared.mem_tables.MemTables.{MemTables}
-use Rattle.raft_log_engine.specs.raft_log_file_pair.specs.OnDisk.{LogRestsOn}
-use Rattle.raft_log_engine.specs.raft_log_file_pair.specs.Pipes.{LogPipes, Said}
+use Rattle.raft_log_engine.specs.raft_log_memtables.specs.declared.mem_tables.MemTables.{MemTables}
+use Rattle.raft_log_engine.specs.raft_log_dual_pipes.specs.OnDisk.{LogRestsOn}
+use Rattle.raft_log_engine.specs.raft_log_dual_pipes.specs.Pipes.{LogPipes, Said}
 use Rattle.raft_log_engine.specs.raft_log_engine_laws.specs.Shows.{Home, LogMap, Shows, has_failed, log_in}
 use Rattle.raft_log_engine.specs.raft_log_engine_laws.specs.Holding.{Holds, IsLeftAt}
-use Rattle.raft_log_engine.specs.raft_log_open_directory.specs.Opening.{OpensDirectory}
-use Rattle.raft_log_open_laws.specs.Bare.{IsBare}
-use Rattle.raft_log_open_laws.specs.ByCalls.{home_of}
-use Rattle.raft_log_open_laws.specs.InPlace.{StandsWithoutChance}
-use Rattle.raft_log_open_laws.specs.Opened.{HoldsFresh}
-use Rattle.raft_log_open_laws.specs.Running.{LeavesNoChance}
-use Rattle.raft_log_open_laws.proofs.Bare.{bare_directories_open}
-use Rattle.raft_log_open_laws.proofs.Directory.{resting_directories_open}
-use Rattle.raft_log_open_laws.proofs.InPlaceOutcomes.{standing_directories_open}
-use Rattle.raft_log_open_laws.proofs.Running.{crashed_engines_open}
+use Rattle.raft_log_engine.specs.raft_log_open.specs.Opening.{OpensDirectory}
+use Rattle.raft_log_recovery_laws.specs.Bare.{IsBare}
+use Rattle.raft_log_recovery_laws.specs.ByCalls.{home_of}
+use Rattle.raft_log_recovery_laws.specs.InPlace.{StandsWithoutChance}
+use Rattle.raft_log_recovery_laws.specs.Opened.{HoldsFresh}
+use Rattle.raft_log_recovery_laws.specs.Running.{LeavesNoChance}
+use Rattle.raft_log_recovery_laws.proofs.Bare.{bare_directories_open}
+use Rattle.raft_log_recovery_laws.proofs.Directory.{resting_directories_open}
+use Rattle.raft_log_recovery_laws.proofs.InPlaceOutcomes.{standing_directories_open}
+use Rattle.raft_log_recovery_laws.proofs.Running.{crashed_engines_open}
 use Rattle.raft_log_crash_uses.specs.declared.ending.Ending.{Ending}
 use Rattle.raft_log_crash_uses.specs.declared.ending.Ending.TheVariants.{Close, Crash}
 use Rattle.raft_log_crash_uses.specs.Ending.{Ends, EndsWithoutChance}

@@ -10,24 +10,24 @@ use Rattle.raft_log_engine.specs.raft_log_record_base.specs.declared.errors.Erro
 use Rattle.raft_log_engine.specs.raft_log_record_base.specs.declared.errors.Error.TheVariants as errors
 use Rattle.raft_log_engine.specs.raft_log_record_items.specs.declared.entry.EntryIndex.{EntryIndex}
 use Rattle.raft_log_engine.specs.raft_log_record_items.specs.declared.item.LogItem.{LogItem}
-use Rattle.raft_log_engine.specs.raft_log_record_marks.specs.Meaning.{IsUsers, marked, record_of, tagged, tagged_items, unless_mark}
-use Rattle.raft_log_engine.specs.raft_log_record_marks.specs.declared.marking.Marking.{Marking}
-use Rattle.raft_log_engine.specs.raft_log_record_marks.proofs.Meanings.{keeps_mark, no_mark_key}
+use Rattle.raft_log_engine.specs.raft_log_record_frames.specs.Meaning.{IsUsers, marked, record_of, tagged, tagged_items, unless_mark}
+use Rattle.raft_log_engine.specs.raft_log_record_frames.specs.declared.marking.Marking.{Marking}
+use Rattle.raft_log_engine.specs.raft_log_record_frames.proofs.Meanings.{keeps_mark, no_mark_key}
 use Rattle.raft_log_engine.specs.raft_log_record_batches.specs.Batch.{Batch, empty_batch}
 use Rattle.raft_log_engine.specs.raft_log_record_batches.specs.Places.{entry_bytes}
-use Rattle.raft_log_engine.specs.raft_log_disk.specs.Disk.{Disk}
-use Rattle.raft_log_engine.specs.raft_log_disk.specs.Image.{IsImage, IsSound}
+use Rattle.raft_log_engine.specs.raft_log_fs.specs.Disk.{Disk}
+use Rattle.raft_log_engine.specs.raft_log_fs.specs.Image.{IsImage, IsSound}
 use Rattle.raft_log_engine.specs.raft_log_file_settings.specs.declared.config.Config.{Config}
-use Rattle.raft_log_engine.specs.raft_log_table_all.specs.declared.mem_tables.MemTables.{MemTables}
-use Rattle.raft_log_engine.specs.raft_log_file_blocks.specs.declared.block_cache.BlockCache.{BlockCache}
-use Rattle.raft_log_engine.specs.raft_log_file_pair.specs.Pipes.{LogPipes, Said}
+use Rattle.raft_log_engine.specs.raft_log_memtables.specs.declared.mem_tables.MemTables.{MemTables}
+use Rattle.raft_log_engine.specs.raft_log_block_cache.specs.declared.block_cache.BlockCache.{BlockCache}
+use Rattle.raft_log_engine.specs.raft_log_dual_pipes.specs.Pipes.{LogPipes, Said}
 use Rattle.raft_log_engine.specs.raft_log_engine_laws.specs.Shows.{Home, LogMap, Shows, has_failed, said_of, shows}
-use Rattle.raft_log_engine.specs.raft_log_open_directory.specs.Opening.{OpensDirectory}
+use Rattle.raft_log_engine.specs.raft_log_open.specs.Opening.{OpensDirectory}
 use Rattle.raft_log_engine.specs.raft_log_engine_laws.specs.Holding.{EndsAt, Holds, IsLeftAt}
 use Rattle.raft_log_engine.specs.raft_log_engine_laws.specs.Reading.{StandsUnder}
 use Rattle.raft_log_engine.specs.raft_log_engine_laws.specs.Writing.{Leaves, NotWritten, WritesBytes}
-use Rattle.raft_log_open_laws.specs.Bare.{IsBare}
-use Rattle.raft_log_open_laws.specs.ByCalls.{home_of}
+use Rattle.raft_log_recovery_laws.specs.Bare.{IsBare}
+use Rattle.raft_log_recovery_laws.specs.ByCalls.{home_of}
 use Rattle.raft_log_crash_uses.specs.declared.changing.KeyChange.{KeyChange}
 use Rattle.raft_log_crash_uses.specs.Batches.{AreBoth, IsNeither, LoadsBoth, MayHave, TriesToWrite, WritesBothOrNeither, said_by_both}
 use Rattle.raft_log_crash_uses.specs.Changing.{AddsChange, item_of, word_of}

@@ -2,28 +2,28 @@
 use Rattle.std.proofs.Common.{◌≡◌, ℕ, false, Option, Some, None, List, [], ◌++◌, length, take, drop, refl, sym, ap, subst, ◌∙◌, inl, inr, append-nil}
 use Rattle.std.specs.Option.{option_map}
 use Rattle.std.proofs.lemmas.List.{drop_at, take_at}
-use Rattle.raft_log_file_laws.specs.Chains.{Written, spelled}
-use Rattle.raft_log_file_laws.specs.KeepsSynced.WasWritten.{handed_in, own_record}
-use Rattle.raft_log_file_laws.specs.LogFormat.{Format, NoChanceInFile}
-use Rattle.raft_log_file_laws.specs.LogQueue.{LogFiles, NoChanceInLast, recent}
-use Rattle.raft_log_file_queue.specs.Queue.{whole}
+use Rattle.raft_log_file_writer.specs.LawsChains.{Written, spelled}
+use Rattle.raft_log_file_writer.specs.KeepsSynced.WasWritten.{handed_in, own_record}
+use Rattle.raft_log_file_writer.specs.LogFormat.{Format, NoChanceInFile}
+use Rattle.raft_log_file_writer.specs.LogQueue.{LogFiles, NoChanceInLast, recent}
+use Rattle.raft_log_active_file.specs.Queue.{whole}
 use Rattle.raft_log_file_pipe.specs.declared.pipe_files.PipeFiles.{PipeFiles}
-use Rattle.raft_log_engine.specs.raft_log_disk.specs.Disk.{Disk, File}
-use Rattle.raft_log_engine.specs.raft_log_disk.specs.Calls.{flushed}
-use Rattle.raft_log_engine.specs.raft_log_disk.specs.Image.{IsSound, as_it_stands}
-use Rattle.raft_log_engine.specs.raft_log_disk.proofs.ImageLaws.{stands_is_image}
-use Rattle.raft_log_engine.specs.raft_log_table_all.specs.Views.{view_of}
-use Rattle.raft_log_engine.specs.raft_log_file_pair.specs.Closing.{IsOrIsSettled, LiesClosed, closed_log}
-use Rattle.raft_log_engine.specs.raft_log_file_pair.specs.ClosingCalls.{ClosesLog}
-use Rattle.raft_log_engine.specs.raft_log_file_pair.specs.Lying.{none_open}
-use Rattle.raft_log_engine.specs.raft_log_file_pair.specs.Pipes.{queues}
-use Rattle.raft_log_engine.specs.raft_log_file_pair.specs.Queues.{QueueLayout}
-use Rattle.raft_log_engine.specs.raft_log_file_pair.specs.State.{RunsQueue, Spanned}
-use Rattle.raft_log_engine.specs.raft_log_engine_laws.specs.raft_log_file_layout.specs.declared.record.LogRecord.{LogRecord}
+use Rattle.raft_log_engine.specs.raft_log_fs.specs.Disk.{Disk, File}
+use Rattle.raft_log_engine.specs.raft_log_fs.specs.Calls.{flushed}
+use Rattle.raft_log_engine.specs.raft_log_fs.specs.Image.{IsSound, as_it_stands}
+use Rattle.raft_log_engine.specs.raft_log_fs.proofs.ImageLaws.{stands_is_image}
+use Rattle.raft_log_engine.specs.raft_log_memtables.specs.Views.{view_of}
+use Rattle.raft_log_engine.specs.raft_log_dual_pipes.specs.Closing.{IsOrIsSettled, LiesClosed, closed_log}
+use Rattle.raft_log_engine.specs.raft_log_dual_pipes.specs.ClosingCalls.{ClosesLog}
+use Rattle.raft_log_engine.specs.raft_log_dual_pipes.specs.Lying.{none_open}
+use Rattle.raft_log_engine.specs.raft_log_dual_pipes.specs.Pipes.{queues}
+use Rattle.raft_log_engine.specs.raft_log_dual_pipes.specs.Queues.{QueueLayout}
+use Rattle.raft_log_engine.specs.raft_log_dual_pipes.specs.State.{RunsQueue, Spanned}
+use Rattle.raft_log_engine.specs.raft_log_engine_laws.specs.raft_log_active_file.specs.declared.record.LogRecord.{LogRecord}
 use Rattle.raft_log_engine.specs.raft_log_engine_laws.specs.Shows.{Home, LogMap, Shows, log_in, sense}
 use Rattle.raft_log_engine.specs.raft_log_engine_laws.specs.Holding.{Holds, IsLeftAt}
-use Rattle.raft_log_open_laws.specs.InPlace.{StandsWithoutChance}
-use Rattle.raft_log_open_laws.specs.Running.{active_header, own_bytes}
+use Rattle.raft_log_recovery_laws.specs.InPlace.{StandsWithoutChance}
+use Rattle.raft_log_recovery_laws.specs.Running.{active_header, own_bytes}
 use Rattle.raft_log_crash_uses.specs.Ending.{ClosesWithoutChance, LeavesWritten, MeetsWritten}
 
 module _ (F : Format LogRecord) (files : PipeFiles) (stale : List ℕ) (before file : File) (meets : MeetsWritten F files before file) where

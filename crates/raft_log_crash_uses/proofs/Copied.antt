@@ -3,18 +3,18 @@ use Rattle.std.proofs.Common.{ℕ, List, [], ◌∷◌, map, Option, refl, subst
 use Rattle.std.proofs.Math.Seq.{take-nil}
 use Rattle.raft_log_machine_laws.specs.Fresh.{nothing_stands}
 use Rattle.raft_log_engine.specs.raft_log_model_laws.specs.Groups.{taken}
-use Rattle.raft_log_engine.specs.raft_log_disk.specs.Disk.{Disk}
-use Rattle.raft_log_engine.specs.raft_log_disk.specs.Image.{IsSound}
+use Rattle.raft_log_engine.specs.raft_log_fs.specs.Disk.{Disk}
+use Rattle.raft_log_engine.specs.raft_log_fs.specs.Image.{IsSound}
 use Rattle.raft_log_engine.specs.raft_log_file_settings.specs.Settings.{settings_of}
 use Rattle.raft_log_engine.specs.raft_log_file_settings.specs.declared.config.Config.{Config}
-use Rattle.raft_log_engine.specs.raft_log_file_pair.specs.OnDisk.{LogRestsOn}
-use Rattle.raft_log_engine.specs.raft_log_file_pair.specs.Pipes.{Said}
-use Rattle.raft_log_engine.specs.raft_log_closed.specs.Forks.{Forks}
+use Rattle.raft_log_engine.specs.raft_log_dual_pipes.specs.OnDisk.{LogRestsOn}
+use Rattle.raft_log_engine.specs.raft_log_dual_pipes.specs.Pipes.{Said}
+use Rattle.raft_log_engine.specs.raft_log_offline.specs.Forks.{Forks}
 use Rattle.raft_log_engine.specs.raft_log_engine_laws.specs.Shows.{LogMap, log_in}
-use Rattle.raft_log_open_laws.specs.ByCalls.{home_of}
-use Rattle.raft_log_open_laws.specs.ForkResting.{IsClear, NamesOnly}
-use Rattle.raft_log_open_laws.proofs.ForkLeft.{left_logs_show_alike}
-use Rattle.raft_log_open_laws.proofs.Resting.{forked_logs_rest, targets_are_clear}
+use Rattle.raft_log_recovery_laws.specs.ByCalls.{home_of}
+use Rattle.raft_log_recovery_laws.specs.ForkResting.{IsClear, NamesOnly}
+use Rattle.raft_log_recovery_laws.proofs.ForkLeft.{left_logs_show_alike}
+use Rattle.raft_log_recovery_laws.proofs.Resting.{forked_logs_rest, targets_are_clear}
 use Rattle.raft_log_crash_uses.specs.Changing.{said_by}
 use Rattle.raft_log_crash_uses.specs.Copies.{CopiesReadAlike, LoadsCopy}
 use Rattle.raft_log_crash_uses.specs.Lives.{changes_of}

@@ -2,17 +2,17 @@
 use Rattle.std.proofs.Common.{◌≡◌, ℕ, List, [], ◌∷◌, take, Option, refl, sym, ap, subst}
 use Rattle.std.proofs.Math.Seq.{take-nil}
 use Rattle.raft_log_engine.specs.raft_log_model_laws.specs.Groups.{taken}
-use Rattle.raft_log_engine.specs.raft_log_disk.specs.Disk.{Disk, empty_disk}
-use Rattle.raft_log_engine.specs.raft_log_disk.specs.Image.{IsImage, IsSound}
-use Rattle.raft_log_engine.specs.raft_log_disk_memory.specs.declared.memory.MemoryFileSystem.{MemoryFileSystem}
-use Rattle.raft_log_engine.specs.raft_log_disk_memory.specs.Memory.{disk_of}
+use Rattle.raft_log_engine.specs.raft_log_fs.specs.Disk.{Disk, empty_disk}
+use Rattle.raft_log_engine.specs.raft_log_fs.specs.Image.{IsImage, IsSound}
+use Rattle.raft_log_engine.specs.raft_log_fs_memory.specs.declared.memory.MemoryFileSystem.{MemoryFileSystem}
+use Rattle.raft_log_engine.specs.raft_log_fs_memory.specs.Memory.{disk_of}
 use Rattle.raft_log_engine.specs.raft_log_file_settings.specs.declared.config.Config.{Config}
-use Rattle.raft_log_engine.specs.raft_log_file_pair.specs.Pipes.{Said}
+use Rattle.raft_log_engine.specs.raft_log_dual_pipes.specs.Pipes.{Said}
 use Rattle.raft_log_engine.specs.raft_log_engine_laws.specs.Shows.{LogMap, Shows}
-use Rattle.raft_log_open_laws.specs.Bare.{IsBare}
-use Rattle.raft_log_open_laws.specs.ByCalls.{home_of}
-use Rattle.raft_log_open_laws.proofs.Bare.{bare_directories_open}
-use Rattle.raft_log_open_laws.proofs.Running.{crashed_engines_open}
+use Rattle.raft_log_recovery_laws.specs.Bare.{IsBare}
+use Rattle.raft_log_recovery_laws.specs.ByCalls.{home_of}
+use Rattle.raft_log_recovery_laws.proofs.Bare.{bare_directories_open}
+use Rattle.raft_log_recovery_laws.proofs.Running.{crashed_engines_open}
 use Rattle.raft_log_engine.specs.raft_log_engine_laws.specs.Reading.{StandsUnder}
 use Rattle.raft_log_crash_uses.specs.Saving.{Loads, Saves, put_of}
 use Rattle.raft_log_crash_uses.specs.Crashing.{SavedValuesAreLoaded, SavesAcrossACrash}

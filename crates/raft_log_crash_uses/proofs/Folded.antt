@@ -4,15 +4,15 @@ use Rattle.std.proofs.lemmas.List.{map-append}
 use Rattle.raft_log_machine_laws.specs.Fresh.{nothing_stands}
 use Rattle.raft_log_directory_laws.proofs.Follows.{taken_twice}
 use Rattle.raft_log_engine.specs.raft_log_model_laws.specs.Groups.{taken}
-use Rattle.raft_log_engine.specs.raft_log_disk.specs.Disk.{Disk}
-use Rattle.raft_log_engine.specs.raft_log_disk.specs.Image.{IsSound}
+use Rattle.raft_log_engine.specs.raft_log_fs.specs.Disk.{Disk}
+use Rattle.raft_log_engine.specs.raft_log_fs.specs.Image.{IsSound}
 use Rattle.raft_log_engine.specs.raft_log_file_settings.specs.declared.config.Config.{Config}
-use Rattle.raft_log_engine.specs.raft_log_table_all.specs.declared.mem_tables.MemTables.{MemTables}
-use Rattle.raft_log_engine.specs.raft_log_file_blocks.specs.declared.block_cache.BlockCache.{BlockCache}
-use Rattle.raft_log_engine.specs.raft_log_file_pair.specs.Pipes.{LogPipes}
+use Rattle.raft_log_engine.specs.raft_log_memtables.specs.declared.mem_tables.MemTables.{MemTables}
+use Rattle.raft_log_engine.specs.raft_log_block_cache.specs.declared.block_cache.BlockCache.{BlockCache}
+use Rattle.raft_log_engine.specs.raft_log_dual_pipes.specs.Pipes.{LogPipes}
 use Rattle.raft_log_engine.specs.raft_log_engine_laws.specs.Shows.{Home, LogMap, Shows, shows}
-use Rattle.raft_log_engine.specs.raft_log_open_directory.specs.Opening.{OpensDirectory}
-use Rattle.raft_log_open_laws.specs.ByCalls.{home_of}
+use Rattle.raft_log_engine.specs.raft_log_open.specs.Opening.{OpensDirectory}
+use Rattle.raft_log_recovery_laws.specs.ByCalls.{home_of}
 use Rattle.raft_log_crash_uses.specs.declared.changing.KeyChange.{KeyChange}
 use Rattle.raft_log_crash_uses.specs.declared.lives.Life.{Life}
 use Rattle.raft_log_crash_uses.specs.Changing.{ChangesKeys, said_by}

@@ -3,19 +3,19 @@ use Rattle.std.proofs.Common.{◌≡◌, ◌⊎◌, ℕ, zero, suc, List, [], �
 use Rattle.std.proofs.Math.Seq.{take-nil}
 use Rattle.raft_log_machine_laws.specs.Fresh.{nothing_stands}
 use Rattle.raft_log_engine.specs.raft_log_model_laws.specs.Groups.{taken}
-use Rattle.raft_log_engine.specs.raft_log_disk.specs.Disk.{Disk}
-use Rattle.raft_log_engine.specs.raft_log_disk.specs.Image.{IsImage, IsSound}
+use Rattle.raft_log_engine.specs.raft_log_fs.specs.Disk.{Disk}
+use Rattle.raft_log_engine.specs.raft_log_fs.specs.Image.{IsImage, IsSound}
 use Rattle.raft_log_engine.specs.raft_log_file_settings.specs.declared.config.Config.{Config}
-use Rattle.raft_log_engine.specs.raft_log_table_all.specs.declared.mem_tables.MemTables.{MemTables}
-use Rattle.raft_log_engine.specs.raft_log_file_blocks.specs.declared.block_cache.BlockCache.{BlockCache}
-use Rattle.raft_log_engine.specs.raft_log_file_pair.specs.Pipes.{LogPipes, Said}
+use Rattle.raft_log_engine.specs.raft_log_memtables.specs.declared.mem_tables.MemTables.{MemTables}
+use Rattle.raft_log_engine.specs.raft_log_block_cache.specs.declared.block_cache.BlockCache.{BlockCache}
+use Rattle.raft_log_engine.specs.raft_log_dual_pipes.specs.Pipes.{LogPipes, Said}
 use Rattle.raft_log_engine.specs.raft_log_engine_laws.specs.Shows.{LogMap, Shows, shows}
 use Rattle.raft_log_engine.specs.raft_log_engine_laws.specs.Reading.{ReadsValue, StandsUnder}
-use Rattle.raft_log_engine.specs.raft_log_open_directory.specs.Opening.{OpensDirectory}
-use Rattle.raft_log_open_laws.specs.Bare.{IsBare}
-use Rattle.raft_log_open_laws.specs.ByCalls.{home_of}
-use Rattle.raft_log_open_laws.specs.Running.{LeavesNoChance}
-use Rattle.raft_log_open_laws.proofs.Running.{crashed_engines_open}
+use Rattle.raft_log_engine.specs.raft_log_open.specs.Opening.{OpensDirectory}
+use Rattle.raft_log_recovery_laws.specs.Bare.{IsBare}
+use Rattle.raft_log_recovery_laws.specs.ByCalls.{home_of}
+use Rattle.raft_log_recovery_laws.specs.Running.{LeavesNoChance}
+use Rattle.raft_log_recovery_laws.proofs.Running.{crashed_engines_open}
 use Rattle.raft_log_crash_uses.specs.declared.ending.Ending.{Ending}
 use Rattle.raft_log_crash_uses.specs.declared.lives.Life.{Life}
 use Rattle.raft_log_crash_uses.specs.Changing.{said_by}

@@ -2,14 +2,14 @@
 use Rattle.std.proofs.Common.{◌≡◌, ◌<◌, ℕ, List, length, ap, subst, sym, arith}
 use Rattle.std.specs.Prelude.{Contains}
 use Rattle.raft_log_file_format.specs.Name.{suffix_of}
-use Rattle.raft_log_engine.specs.raft_log_disk.specs.Disk.{Disk}
+use Rattle.raft_log_engine.specs.raft_log_fs.specs.Disk.{Disk}
 use Rattle.raft_log_engine.specs.raft_log_record_base.specs.declared.pipe_log.LogQueue.TheVariants.{Append}
 use Rattle.raft_log_engine.specs.raft_log_file_settings.specs.declared.config.Config.{Config}
-use Rattle.raft_log_engine.specs.raft_log_engine_laws.specs.raft_log_file_layout.specs.Paths.{IsPathWith, reserved_suffix_of}
+use Rattle.raft_log_engine.specs.raft_log_engine_laws.specs.raft_log_active_file.specs.Paths.{IsPathWith, reserved_suffix_of}
 use Rattle.raft_log_engine.specs.raft_log_engine_laws.specs.Shows.{Home}
-use Rattle.raft_log_open_builder.specs.Directories.{paths_of}
-use Rattle.raft_log_open_laws.specs.Bare.{IsBare}
-use Rattle.raft_log_open_laws.specs.ByCalls.{home_of}
+use Rattle.raft_log_recovery.specs.Directories.{paths_of}
+use Rattle.raft_log_recovery_laws.specs.Bare.{IsBare}
+use Rattle.raft_log_recovery_laws.specs.ByCalls.{home_of}
 
 -- directories that are bare are so whichever settings name them
 pub bare_for : (c e : Config) (d : Disk) → home_of c ≡ home_of e → IsBare c d → IsBare e d

@@ -6,18 +6,18 @@ use Rattle.raft_log_machine_laws.specs.Fresh.{nothing_stands}
 use Rattle.raft_log_engine.specs.raft_log_model_laws.specs.Groups.{taken}
 use Rattle.raft_log_engine.specs.raft_log_record_base.specs.declared.errors.Error.{Error}
 use Rattle.raft_log_engine.specs.raft_log_record_base.specs.declared.errors.Error.TheVariants as errors
-use Rattle.raft_log_engine.specs.raft_log_disk.specs.Disk.{Disk}
-use Rattle.raft_log_engine.specs.raft_log_disk.specs.Image.{IsImage, IsSound}
+use Rattle.raft_log_engine.specs.raft_log_fs.specs.Disk.{Disk}
+use Rattle.raft_log_engine.specs.raft_log_fs.specs.Image.{IsImage, IsSound}
 use Rattle.raft_log_engine.specs.raft_log_file_settings.specs.declared.config.Config.{Config}
-use Rattle.raft_log_engine.specs.raft_log_file_pair.specs.Pipes.{Said}
+use Rattle.raft_log_engine.specs.raft_log_dual_pipes.specs.Pipes.{Said}
 use Rattle.raft_log_engine.specs.raft_log_engine_laws.specs.Shows.{Home, LogMap, Shows, has_failed}
 use Rattle.raft_log_engine.specs.raft_log_engine_laws.specs.Holding.{Holds, IsLeftAt}
 use Rattle.raft_log_engine.specs.raft_log_engine_laws.specs.Settled.{HoldsSettled}
 use Rattle.raft_log_engine.specs.raft_log_engine_laws.proofs.Settling.{settled_held}
 use Rattle.raft_log_engine.specs.raft_log_engine_core.specs.Purging.{StopsPurging, StopsPurgingExpired}
-use Rattle.raft_log_purge.specs.raft_log_purge_parts.specs.Parts.{Remains}
-use Rattle.raft_log_open_laws.specs.Bare.{IsBare}
-use Rattle.raft_log_open_laws.specs.ByCalls.{home_of}
+use Rattle.raft_log_purge.specs.raft_log_purge_copy.specs.Parts.{Remains}
+use Rattle.raft_log_recovery_laws.specs.Bare.{IsBare}
+use Rattle.raft_log_recovery_laws.specs.ByCalls.{home_of}
 use Rattle.raft_log_crash_uses.specs.declared.changing.KeyChange.{KeyChange}
 use Rattle.raft_log_crash_uses.specs.Keys.{value_behind}
 use Rattle.raft_log_crash_uses.specs.Lives.{OpensAndChanges}

@@ -7,14 +7,14 @@ use Rattle.raft_log_engine.specs.raft_log_model_laws.specs.Groups.{taken}
 use Rattle.raft_log_engine.specs.raft_log_model_laws.specs.Item.Record.{Plain}
 use Rattle.raft_log_engine.specs.raft_log_record_items.specs.declared.entry.EntryIndex.{EntryIndex}
 use Rattle.raft_log_engine.specs.raft_log_record_items.specs.declared.item.LogItem.{LogItem}
-use Rattle.raft_log_engine.specs.raft_log_record_marks.specs.Key.{is_internal}
-use Rattle.raft_log_engine.specs.raft_log_record_marks.specs.Meaning.{IsUsers, marked, record_of, tagged, tagged_items, unless_mark}
-use Rattle.raft_log_engine.specs.raft_log_record_marks.specs.declared.marking.Marking.{Marking}
-use Rattle.raft_log_engine.specs.raft_log_record_marks.proofs.Meanings.{keeps_mark, no_mark_key}
+use Rattle.raft_log_engine.specs.raft_log_record_frames.specs.Key.{is_internal}
+use Rattle.raft_log_engine.specs.raft_log_record_frames.specs.Meaning.{IsUsers, marked, record_of, tagged, tagged_items, unless_mark}
+use Rattle.raft_log_engine.specs.raft_log_record_frames.specs.declared.marking.Marking.{Marking}
+use Rattle.raft_log_engine.specs.raft_log_record_frames.proofs.Meanings.{keeps_mark, no_mark_key}
 use Rattle.raft_log_engine.specs.raft_log_record_batches.specs.Batch.{AddsItem, Batch, empty_batch}
 use Rattle.raft_log_engine.specs.raft_log_record_batches.specs.Places.{entry_bytes}
 use Rattle.raft_log_directory_laws.proofs.Follows.{taken_twice}
-use Rattle.raft_log_engine.specs.raft_log_file_pair.specs.Pipes.{Said}
+use Rattle.raft_log_engine.specs.raft_log_dual_pipes.specs.Pipes.{Said}
 use Rattle.raft_log_engine.specs.raft_log_engine_laws.specs.Shows.{Home, LogMap, Shows, said_of}
 use Rattle.raft_log_engine.specs.raft_log_engine_laws.specs.Holding.{Holds}
 use Rattle.raft_log_engine.specs.raft_log_engine_laws.specs.Writing.{WritesBytes}

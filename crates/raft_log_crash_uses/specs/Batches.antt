@@ -3,16 +3,16 @@ use Rattle.std.specs.Prelude.{◌≡◌, ◌⊎◌, ℕ, List, [], ◌∷◌, �
 use Rattle.raft_log_machine_laws.specs.Fresh.{nothing_stands}
 use Rattle.raft_log_engine.specs.raft_log_model_laws.specs.Groups.{taken}
 use Rattle.raft_log_engine.specs.raft_log_model_laws.specs.Item.Record.{Plain}
-use Rattle.raft_log_engine.specs.raft_log_disk.specs.Disk.{Disk}
-use Rattle.raft_log_engine.specs.raft_log_disk.specs.Image.{IsImage}
+use Rattle.raft_log_engine.specs.raft_log_fs.specs.Disk.{Disk}
+use Rattle.raft_log_engine.specs.raft_log_fs.specs.Image.{IsImage}
 use Rattle.raft_log_engine.specs.raft_log_file_settings.specs.declared.config.Config.{Config}
-use Rattle.raft_log_engine.specs.raft_log_table_all.specs.declared.mem_tables.MemTables.{MemTables}
-use Rattle.raft_log_engine.specs.raft_log_file_pair.specs.Pipes.{LogPipes, Said}
+use Rattle.raft_log_engine.specs.raft_log_memtables.specs.declared.mem_tables.MemTables.{MemTables}
+use Rattle.raft_log_engine.specs.raft_log_dual_pipes.specs.Pipes.{LogPipes, Said}
 use Rattle.raft_log_engine.specs.raft_log_engine_laws.specs.Shows.{Home, LogMap, Shows}
-use Rattle.raft_log_engine.specs.raft_log_open_directory.specs.Opening.{OpensDirectory}
-use Rattle.raft_log_open_laws.specs.Bare.{IsBare}
-use Rattle.raft_log_open_laws.specs.ByCalls.{home_of}
-use Rattle.raft_log_open_laws.specs.Opened.{HoldsFresh}
+use Rattle.raft_log_engine.specs.raft_log_open.specs.Opening.{OpensDirectory}
+use Rattle.raft_log_recovery_laws.specs.Bare.{IsBare}
+use Rattle.raft_log_recovery_laws.specs.ByCalls.{home_of}
+use Rattle.raft_log_recovery_laws.specs.Opened.{HoldsFresh}
 use Rattle.raft_log_crash_uses.specs.declared.changing.KeyChange.{KeyChange}
 use Rattle.raft_log_crash_uses.specs.Changing.{word_of}
 use Rattle.raft_log_crash_uses.specs.Keys.{value_behind}

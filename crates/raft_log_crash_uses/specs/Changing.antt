@@ -7,9 +7,9 @@ use Rattle.raft_log_engine.specs.raft_log_model_laws.specs.Item.Item.{Del, Put}
 use Rattle.raft_log_engine.specs.raft_log_model_laws.specs.Item.Record.{Plain}
 use Rattle.raft_log_engine.specs.raft_log_record_items.specs.Items.{del_item, put_item}
 use Rattle.raft_log_engine.specs.raft_log_record_items.specs.declared.item.LogItem.{LogItem}
-use Rattle.raft_log_engine.specs.raft_log_record_marks.specs.Key.{is_internal}
+use Rattle.raft_log_engine.specs.raft_log_record_frames.specs.Key.{is_internal}
 use Rattle.raft_log_engine.specs.raft_log_record_batches.specs.Batch.{Batch}
-use Rattle.raft_log_engine.specs.raft_log_file_pair.specs.Pipes.{Said}
+use Rattle.raft_log_engine.specs.raft_log_dual_pipes.specs.Pipes.{Said}
 use Rattle.raft_log_engine.specs.raft_log_engine_laws.specs.Shows.{Home, LogMap, Shows}
 use Rattle.raft_log_engine.specs.raft_log_engine_laws.specs.Holding.{Holds}
 use Rattle.raft_log_crash_uses.specs.declared.changing.KeyChange.{KeyChange}

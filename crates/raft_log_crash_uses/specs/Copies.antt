@@ -1,12 +1,12 @@
 -- A log and its copy read alike.
 use Rattle.std.specs.Prelude.{◌≡◌, ℕ, List, [], Option}
-use Rattle.raft_log_engine.specs.raft_log_disk.specs.Disk.{Disk}
+use Rattle.raft_log_engine.specs.raft_log_fs.specs.Disk.{Disk}
 use Rattle.raft_log_engine.specs.raft_log_file_settings.specs.Settings.{settings_of}
 use Rattle.raft_log_engine.specs.raft_log_file_settings.specs.declared.config.Config.{Config}
-use Rattle.raft_log_engine.specs.raft_log_closed.specs.Forks.{Forks}
-use Rattle.raft_log_open_laws.specs.Bare.{IsBare}
-use Rattle.raft_log_open_laws.specs.ByCalls.{home_of}
-use Rattle.raft_log_open_laws.specs.ForkResting.{HoldsNoDirectory, NamesOnly}
+use Rattle.raft_log_engine.specs.raft_log_offline.specs.Forks.{Forks}
+use Rattle.raft_log_recovery_laws.specs.Bare.{IsBare}
+use Rattle.raft_log_recovery_laws.specs.ByCalls.{home_of}
+use Rattle.raft_log_recovery_laws.specs.ForkResting.{HoldsNoDirectory, NamesOnly}
 use Rattle.raft_log_crash_uses.specs.declared.lives.Life.{Life}
 use Rattle.raft_log_crash_uses.specs.Lives.{AllLiveIn, LivesOn, LivesWithoutChance}
 use Rattle.raft_log_crash_uses.specs.Saving.{Loads}

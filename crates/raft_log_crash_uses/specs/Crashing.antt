@@ -1,12 +1,12 @@
 -- Beginning a log, saving a key's value in it, and losing power.
 use Rattle.std.specs.Prelude.{◌≡◌, ℕ, List, Option, Some}
-use Rattle.raft_log_engine.specs.raft_log_disk.specs.Disk.{Disk, empty_disk}
-use Rattle.raft_log_engine.specs.raft_log_disk.specs.Image.{IsImage}
+use Rattle.raft_log_engine.specs.raft_log_fs.specs.Disk.{Disk, empty_disk}
+use Rattle.raft_log_engine.specs.raft_log_fs.specs.Image.{IsImage}
 use Rattle.raft_log_engine.specs.raft_log_file_settings.specs.declared.config.Config.{Config}
 use Rattle.raft_log_engine.specs.raft_log_engine_laws.specs.Shows.{Shows}
-use Rattle.raft_log_open_laws.specs.Bare.{IsBare}
-use Rattle.raft_log_open_laws.specs.ByCalls.{home_of}
-use Rattle.raft_log_open_laws.specs.Running.{LeavesNoChance}
+use Rattle.raft_log_recovery_laws.specs.Bare.{IsBare}
+use Rattle.raft_log_recovery_laws.specs.ByCalls.{home_of}
+use Rattle.raft_log_recovery_laws.specs.Running.{LeavesNoChance}
 use Rattle.raft_log_crash_uses.specs.Saving.{Loads, Saves}
 
 -- A value was saved in a log over a file system without files. A crash left an image of it, and the key was read from

@@ -1,16 +1,16 @@
 -- How an engine ends, and the premise on CRC collisions then.
 use Rattle.std.specs.Prelude.{◌≡◌, ◌⊎◌, ℕ, Some, List, length, false}
-use Rattle.raft_log_file_laws.specs.Chains.{LiesIn, Meets, Written}
-use Rattle.raft_log_file_laws.specs.KeepsSynced.{IsHandedIn}
-use Rattle.raft_log_file_laws.specs.LogFormat.{Format, HasHeader}
+use Rattle.raft_log_file_writer.specs.LawsChains.{LiesIn, Meets, Written}
+use Rattle.raft_log_file_writer.specs.KeepsSynced.{IsHandedIn}
+use Rattle.raft_log_file_writer.specs.LogFormat.{Format, HasHeader}
 use Rattle.raft_log_file_pipe.specs.declared.pipe_files.PipeFiles.{PipeFiles}
-use Rattle.raft_log_engine.specs.raft_log_disk.specs.Disk.{Disk, File}
-use Rattle.raft_log_engine.specs.raft_log_disk.specs.Image.{IsImage}
-use Rattle.raft_log_engine.specs.raft_log_file_pair.specs.ClosingCalls.{ClosesLog}
-use Rattle.raft_log_engine.specs.raft_log_file_pair.specs.Pipes.{LogPipes}
-use Rattle.raft_log_engine.specs.raft_log_engine_laws.specs.raft_log_file_layout.specs.declared.record.LogRecord.{LogRecord}
+use Rattle.raft_log_engine.specs.raft_log_fs.specs.Disk.{Disk, File}
+use Rattle.raft_log_engine.specs.raft_log_fs.specs.Image.{IsImage}
+use Rattle.raft_log_engine.specs.raft_log_dual_pipes.specs.ClosingCalls.{ClosesLog}
+use Rattle.raft_log_engine.specs.raft_log_dual_pipes.specs.Pipes.{LogPipes}
+use Rattle.raft_log_engine.specs.raft_log_engine_laws.specs.raft_log_active_file.specs.declared.record.LogRecord.{LogRecord}
 use Rattle.raft_log_engine.specs.raft_log_engine_laws.specs.Shows.{Home, Shows, has_failed, log_in}
-use Rattle.raft_log_open_laws.specs.Running.{LeavesNoChance, active_header, own_bytes}
+use Rattle.raft_log_recovery_laws.specs.Running.{LeavesNoChance, active_header, own_bytes}
 use Rattle.raft_log_crash_uses.specs.declared.ending.Ending.{Ending}
 use Rattle.raft_log_crash_uses.specs.declared.ending.Ending.TheVariants.{Close, Crash}
 

@@ -1,12 +1,12 @@
 -- The state of a log at a crash, and the premise on CRC collisions then.
 use Rattle.std.proofs.Common.{inl, inr}
 use Rattle.std.specs.Prelude.{◌≡◌, ◌⊎◌, List, true}
-use Rattle.raft_log_engine.specs.raft_log_disk.specs.Disk.{Disk}
-use Rattle.raft_log_engine.specs.raft_log_file_pair.specs.Pipes.{Said}
+use Rattle.raft_log_engine.specs.raft_log_fs.specs.Disk.{Disk}
+use Rattle.raft_log_engine.specs.raft_log_dual_pipes.specs.Pipes.{Said}
 use Rattle.raft_log_engine.specs.raft_log_engine_laws.specs.Shows.{Home, LogMap, Shows, has_failed}
 use Rattle.raft_log_engine.specs.raft_log_engine_laws.specs.Holding.{Holds, IsLeftAt}
-use Rattle.raft_log_open_laws.specs.Left.{IsCrashOf}
-use Rattle.raft_log_open_laws.specs.Running.{LeavesNoChance}
+use Rattle.raft_log_recovery_laws.specs.Left.{IsCrashOf}
+use Rattle.raft_log_recovery_laws.specs.Running.{LeavesNoChance}
 
 -- the engine runs, and its log is this map with these batches pending; or it has failed, and left the log so
 abbrev pub RunsOrIsLeft : Home → Shows → LogMap → List Said → Type 0

@@ -12,7 +12,7 @@ use raft_log_engine::{
 /// What a crash leaves of a file system: any image of its disk. The caller chooses which one.
 pub trait Crash<F: FileSystem> {
     ghost use Rattle.std.specs.Prelude.{IfOk};
-    ghost use Rattle.raft_log_engine.specs.raft_log_disk.specs.Image.{IsImage};
+    ghost use Rattle.raft_log_engine.specs.raft_log_fs.specs.Image.{IsImage};
 
     /// The file system that a restart finds after a crash at this moment. Fails only for lack of memory.
     fn leave(&self, files: &F) -> Result<F>

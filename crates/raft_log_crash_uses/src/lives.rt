@@ -2,7 +2,7 @@
 
 ghost use Rattle.std.specs.Prelude.{◌≡◌, IfOk, option_map};
 ghost use Rattle.raft_log_engine.specs.raft_log_engine_core.specs.Reads.{shows_of};
-ghost use Rattle.raft_log_open_laws.specs.ByCalls.{home_of};
+ghost use Rattle.raft_log_recovery_laws.specs.ByCalls.{home_of};
 ghost use Rattle.raft_log_crash_uses.specs.Lives.{LivesOn, LivesOnce, OpensAndChanges, ReadsTheFold};
 
 use crate::changing::{KeyChange, write_changes};

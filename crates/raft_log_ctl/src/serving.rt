@@ -1,7 +1,7 @@
 //! Runs a task on a log in real directories.
 use crate::asking::{DONE, FAULTY, REFUSED};
 use log::Log;
-use raft_log_disk_directory::{
+use raft_log_fs_os::{
     DirectoryFault, DirectoryFileSystem, FileDevice, open_directories, open_directories_for_reading,
 };
 use raft_log_operator::{CommandFault, Outcome, Place, Task, run};

@@ -2,7 +2,7 @@
 use Rattle.std.specs.Prelude.{Contains, ◌⊎◌}
 use Rattle.std.proofs.Common.{◌≡◌, ℕ, zero, suc, Option, Some, None, List, [], ◌∷◌, refl, sym, ◌∙◌, ap, subst, inl, inr, arith}
 use Rattle.std.proofs.lemmas.List.Elements.{All-contains}
-use Rattle.raft_log_disk.specs.Disk.{Disk, File, IsPlain}
+use Rattle.raft_log_fs.specs.Disk.{Disk, File, IsPlain}
 use Rattle.raft_log_directory_copies.specs.declared.stored_file.StoredFile.{StoredFile}
 use Rattle.raft_log_directory_copies.specs.Copies.{AreGathered, HasContent, HoldsExactly, IsAtRest, name_of, names_of, path_in}
 use Rattle.raft_log_directory_copies.specs.Laws.{CopiesHoldTheSame, content_at, content_of, read_of}

@@ -5,13 +5,13 @@ use Rattle.std.proofs.lemmas.Bool.{cases_Bool, false≢true}
 use Rattle.std.proofs.lemmas.List.{append_cancel_left, map-append, take_more}
 use Rattle.std.proofs.lemmas.List.Elements.{All-nil, All-push, All-weaker, Contains-append_left, Contains-push}
 use Rattle.std.proofs.lemmas.Slice.Eq.{bytes_eq-Decides}
-use Rattle.raft_log_disk.specs.Disk.{Disk, File, Wrote, at_rest, overwritten}
-use Rattle.raft_log_disk.specs.Image.{IsSound}
-use Rattle.raft_log_disk.specs.Calls.{Changes, Creates, MakesDirectory, after_change, created, flushed}
-use Rattle.raft_log_disk.specs.Reading.{IsListing}
-use Rattle.raft_log_disk.proofs.Updates.{name_here, file_here}
-use Rattle.raft_log_disk.proofs.ChangeLaws.{overwritten_at_end}
-use Rattle.raft_log_disk.proofs.TouchingLaws.{has_done, names_create, names_file, names_then, other_names_stay, touches_change, touches_sync}
+use Rattle.raft_log_fs.specs.Disk.{Disk, File, Wrote, at_rest, overwritten}
+use Rattle.raft_log_fs.specs.Image.{IsSound}
+use Rattle.raft_log_fs.specs.Calls.{Changes, Creates, MakesDirectory, after_change, created, flushed}
+use Rattle.raft_log_fs.specs.Reading.{IsListing}
+use Rattle.raft_log_fs.proofs.Updates.{name_here, file_here}
+use Rattle.raft_log_fs.proofs.ChangeLaws.{overwritten_at_end}
+use Rattle.raft_log_fs.proofs.TouchingLaws.{has_done, names_create, names_file, names_then, other_names_stay, touches_change, touches_sync}
 use Rattle.raft_log_directory_copies.specs.declared.stored_file.StoredFile.{StoredFile}
 use Rattle.raft_log_directory_copies.specs.Copies.{HoldsExactly, IsAtRest, IsUnnamed, MakesFile, name_of, names_of, path_in}
 

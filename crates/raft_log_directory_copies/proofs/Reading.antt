@@ -4,7 +4,7 @@ use Rattle.std.specs.String.{string_bytes}
 use Rattle.std.proofs.Common.{◌≡◌, ℕ, ◌+◌, ◌<◌, List, [], ◌∷◌, ◌++◌, String, Global, length, map, take, get_or, sym, ◌∙◌, ap, subst}
 use Rattle.std.proofs.lemmas.List.{take_more, map-append}
 use Rattle.std.proofs.lemmas.List.Elements.{All-push}
-use Rattle.raft_log_disk.specs.Disk.{Disk}
+use Rattle.raft_log_fs.specs.Disk.{Disk}
 use Rattle.raft_log_directory_copies.specs.declared.stored_file.StoredFile.{StoredFile}
 use Rattle.raft_log_directory_copies.specs.Copies.{HasContent, name_of, names_of, path_in}
 

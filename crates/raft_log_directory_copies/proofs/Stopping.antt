@@ -1,8 +1,8 @@
 -- Want of memory is told while a file system runs.
 use Rattle.std.specs.Prelude.{◌≡◌, ℕ, false}
 use Rattle.std.proofs.Common.{◌∙◌, ap}
-use Rattle.raft_log_disk.specs.Calls.{Changes}
-use Rattle.raft_log_disk.specs.Disk.{Disk, File}
+use Rattle.raft_log_fs.specs.Calls.{Changes}
+use Rattle.raft_log_fs.specs.Disk.{Disk, File}
 
 -- behind an answered change of a file
 pub changed_runs : {id : ℕ} {next : File → File} {old new : Disk} → Changes id next old new → new.stopped ≡ false

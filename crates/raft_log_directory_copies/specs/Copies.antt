@@ -2,9 +2,9 @@
 use Rattle.std.specs.Prelude.{◌≡◌, ℕ, true, List, ◌∷◌, ◌++◌, map, None}
 use Rattle.std.specs.List.{All, Contains}
 use Rattle.std.specs.String.{string_bytes}
-use Rattle.raft_log_disk.specs.Disk.{Disk, IsPlain, at_rest}
-use Rattle.raft_log_disk.specs.Reading.{IsListing}
-use Rattle.raft_log_disk.specs.Touching.{HasNamed, TouchesOnlyNames}
+use Rattle.raft_log_fs.specs.Disk.{Disk, IsPlain, at_rest}
+use Rattle.raft_log_fs.specs.Reading.{IsListing}
+use Rattle.raft_log_fs.specs.Touching.{HasNamed, TouchesOnlyNames}
 use Rattle.raft_log_directory_copies.specs.declared.stored_file.StoredFile.{StoredFile}
 
 -- the path of a file in a directory

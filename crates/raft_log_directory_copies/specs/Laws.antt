@@ -1,6 +1,6 @@
 -- A directory that is copied through a list of files is the same.
 use Rattle.std.specs.Prelude.{◌≡◌, ℕ, List, Option, None, Some}
-use Rattle.raft_log_disk.specs.Disk.{Disk, File, IsPlain}
+use Rattle.raft_log_fs.specs.Disk.{Disk, File, IsPlain}
 use Rattle.raft_log_directory_copies.specs.Copies.{AreGathered, HoldsExactly, path_in}
 use Rattle.raft_log_directory_copies.specs.declared.stored_file.StoredFile.{StoredFile}
 

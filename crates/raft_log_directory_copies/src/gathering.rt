@@ -7,7 +7,7 @@ ghost use Rattle.raft_log_directory_copies.specs.Copies.{AreGathered, HasContent
 use crate::fault::CopyFault;
 use crate::laying::path_in;
 use crate::stored_file::StoredFile;
-use raft_log_disk::{FileSystem, Permission};
+use raft_log_fs::{FileSystem, Permission};
 use std::alloc::Global;
 use std::io::ErrorKind;
 

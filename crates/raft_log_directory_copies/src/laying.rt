@@ -6,7 +6,7 @@ ghost use Rattle.raft_log_directory_copies.specs.Copies.{HoldsExactly, IsUnnamed
 
 use crate::fault::CopyFault;
 use crate::stored_file::StoredFile;
-use raft_log_disk::FileSystem;
+use raft_log_fs::FileSystem;
 use std::alloc::Global;
 use std::io::ErrorKind;
 

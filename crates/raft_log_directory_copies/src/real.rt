@@ -6,7 +6,7 @@ use crate::fault::CopyFault;
 use crate::gathering::gather;
 use crate::laying::lay_out;
 use crate::stored_file::StoredFile;
-use raft_log_disk::FileSystem;
+use raft_log_fs::FileSystem;
 use std::fs::{DirEntry, File};
 use std::io::{ErrorKind, Write};
 use std::rt::Files;

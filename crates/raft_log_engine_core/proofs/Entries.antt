@@ -10,21 +10,21 @@ use Rattle.raft_log_model_laws.specs.Renamed.{renamed_content}
 use Rattle.raft_log_record_base.specs.declared.errors.Error.{Error}
 use Rattle.raft_log_record_base.specs.declared.errors.Error.TheVariants as errors
 use Rattle.raft_log_record_items.specs.declared.entry.EntryIndex.{EntryIndex}
-use Rattle.raft_log_table_runs.specs.declared.place.Place.{Place}
-use Rattle.raft_log_table_runs.specs.Counts.{sized}
-use Rattle.raft_log_table_runs.specs.Entries.{entry_of, queue_of}
-use Rattle.raft_log_table_lists.specs.Shown.{Shown, nothing_shown}
-use Rattle.raft_log_table_lists.specs.Bridge.{Located, located}
-use Rattle.raft_log_table_lists.proofs.Queues.{located_length}
-use Rattle.raft_log_table_one.specs.Table.{Raw, shown}
-use Rattle.raft_log_table_one.specs.Reads.{FetchRefused, entries_from, entry_at, fetched, places_between}
-use Rattle.raft_log_table_all.specs.declared.group_table.GroupTable.{GroupTable}
-use Rattle.raft_log_table_all.specs.declared.mem_tables.MemTables.{MemTables}
-use Rattle.raft_log_table_all.specs.Tables.{counting, counts, counts_in, shown_in, shown_of, table_of}
-use Rattle.raft_log_file_blocks.specs.Stored.{entries_at}
-use Rattle.raft_log_file_pair.specs.Pipes.{Said}
-use Rattle.raft_log_file_blocks.specs.declared.block_cache.BlockCache.{BlockCache}
-use Rattle.raft_log_file_blocks.specs.Blocks.{AreUnread, IsEntryUnread, IsOfLog, ReadsEntries, ReadsEntry}
+use Rattle.raft_log_extents.specs.declared.place.Place.{Place}
+use Rattle.raft_log_extents.specs.Counts.{sized}
+use Rattle.raft_log_extents.specs.Entries.{entry_of, queue_of}
+use Rattle.raft_log_memtable_index.specs.Shown.{Shown, nothing_shown}
+use Rattle.raft_log_memtable_index.specs.Bridge.{Located, located}
+use Rattle.raft_log_memtable_index.proofs.Queues.{located_length}
+use Rattle.raft_log_memtable.specs.Table.{Raw, shown}
+use Rattle.raft_log_memtable.specs.Reads.{FetchRefused, entries_from, entry_at, fetched, places_between}
+use Rattle.raft_log_memtables.specs.declared.group_table.GroupTable.{GroupTable}
+use Rattle.raft_log_memtables.specs.declared.mem_tables.MemTables.{MemTables}
+use Rattle.raft_log_memtables.specs.Tables.{counting, counts, counts_in, shown_in, shown_of, table_of}
+use Rattle.raft_log_block_cache.specs.Stored.{entries_at}
+use Rattle.raft_log_dual_pipes.specs.Pipes.{Said}
+use Rattle.raft_log_block_cache.specs.declared.block_cache.BlockCache.{BlockCache}
+use Rattle.raft_log_block_cache.specs.Blocks.{AreUnread, IsEntryUnread, IsOfLog, ReadsEntries, ReadsEntry}
 use Rattle.raft_log_purge.specs.raft_log_engine_laws.specs.Shows.{Home, LogMap, Shows, has_failed}
 use Rattle.raft_log_purge.specs.raft_log_engine_laws.specs.Holding.{Holds}
 use Rattle.raft_log_purge.specs.raft_log_engine_laws.specs.Fetching.{AreEntriesOf, AreToRead, FailsToFetch, FailsToTell, FetchesTo, IsOneUntold, StaysButBlock, TellsEntry}

@@ -11,11 +11,11 @@ use Rattle.raft_log_record_base.specs.declared.pipe_log.LogQueue.TheVariants.{Ap
 use Rattle.raft_log_directory_laws.specs.Calls.{Which}
 use Rattle.raft_log_directory_laws.specs.Calls.Which.{InAppend}
 use Rattle.raft_log_record_batches.specs.Batch.{Batch}
-use Rattle.raft_log_file_pair.specs.Calls.{FailsToSyncQueue, SyncsQueue}
-use Rattle.raft_log_file_pair.specs.LastFile.{IsNextIfFull, last_of}
-use Rattle.raft_log_file_pair.specs.Pipes.{LogPipes, is_failed}
-use Rattle.raft_log_file_pair.specs.Telling.{BothHear, Hears, Told, begun, files_begun}
-use Rattle.raft_log_file_pair.proofs.Telling.{hears_further, hears_none, hears_through}
+use Rattle.raft_log_dual_pipes.specs.Calls.{FailsToSyncQueue, SyncsQueue}
+use Rattle.raft_log_dual_pipes.specs.LastFile.{IsNextIfFull, last_of}
+use Rattle.raft_log_dual_pipes.specs.Pipes.{LogPipes, is_failed}
+use Rattle.raft_log_dual_pipes.specs.Telling.{BothHear, Hears, Told, begun, files_begun}
+use Rattle.raft_log_dual_pipes.proofs.Telling.{hears_further, hears_none, hears_through}
 use Rattle.raft_log_file_listeners.specs.Active.{ActiveFiles, first_held}
 use Rattle.raft_log_file_listeners.specs.Hearing.{HookHears}
 use Rattle.raft_log_file_listeners.proofs.Hook.{writes_hold_nothing_back}

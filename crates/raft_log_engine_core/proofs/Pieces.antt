@@ -1,11 +1,11 @@
 -- Entries of a table that are read a piece after another.
 use Rattle.std.proofs.Common.{◌≡◌, ◌∙◌, ◌+◌, ◌-◌, ◌<◌, ◌≤◌, ◌++◌, ℕ, zero, suc, true, List, [], ◌∷◌, Option, Some, ap, ap₂, arith, drop, drop-drop, inr, length, length-drop, length-take-le, refl, sym, subst, take, take-take}
 use Rattle.raft_log_record_base.specs.declared.pipe_log.FileBlockHandle.{FileBlockHandle}
-use Rattle.raft_log_table_runs.specs.declared.bounds.Bounds.{Bounds}
-use Rattle.raft_log_table_runs.specs.declared.place.Place.{Place}
-use Rattle.raft_log_table_runs.specs.Counts.{sized}
-use Rattle.raft_log_table_lists.specs.Shown.{Shown}
-use Rattle.raft_log_table_one.specs.Reads.{AreIn, entries_from, fetched, places_between}
+use Rattle.raft_log_extents.specs.declared.bounds.Bounds.{Bounds}
+use Rattle.raft_log_extents.specs.declared.place.Place.{Place}
+use Rattle.raft_log_extents.specs.Counts.{sized}
+use Rattle.raft_log_memtable_index.specs.Shown.{Shown}
+use Rattle.raft_log_memtable.specs.Reads.{AreIn, entries_from, fetched, places_between}
 use Rattle.raft_log_purge.specs.raft_log_engine_laws.specs.Fetching.{AreToRead}
 use Rattle.raft_log_purge.specs.raft_log_engine_laws.specs.Shows.{Shows}
 use Rattle.raft_log_engine_core.specs.Reads.{AreNext, HasFirst, LieNext, entries_on}

@@ -4,30 +4,30 @@ use Rattle.std.specs.Prelude.{Bool, IsTrue, IsOk, IfErr, IfOk, OnErr, OnOk, Resu
 use Rattle.std.proofs.lemmas.Bool.{cases_Bool, false≢true}
 use std.Path.{fun_ext}
 use Rattle.raft_log_model_laws.specs.Groups.{of_group}
-use Rattle.raft_log_disk.specs.Causes.{IsLater}
+use Rattle.raft_log_fs.specs.Causes.{IsLater}
 use Rattle.raft_log_record_base.specs.declared.errors.Error.{Error}
 use Rattle.raft_log_record_base.specs.declared.errors.Error.TheVariants as errors
 use Rattle.raft_log_record_base.specs.declared.pipe_log.FileBlockHandle.{FileBlockHandle}
 use Rattle.raft_log_record_items.specs.declared.item.LogItem.{LogItem}
-use Rattle.raft_log_record_marks.specs.Meaning.{tagged_items}
+use Rattle.raft_log_record_frames.specs.Meaning.{tagged_items}
 use Rattle.raft_log_record_batches.specs.Batch.{Batch, IsButBuffer, IsReadyForEach, emptied}
 use Rattle.raft_log_record_batches.specs.declared.log_batch.BatchState.TheVariants.{Populated}
-use Rattle.raft_log_file_blocks.specs.Signing.{SaysItself, signed_for}
+use Rattle.raft_log_block_cache.specs.Signing.{SaysItself, signed_for}
 use Rattle.raft_log_directory_laws.specs.Calls.Which.{InAppend}
-use Rattle.raft_log_table_lists.specs.Shown.{Shown}
-use Rattle.raft_log_table_all.specs.declared.mem_tables.MemTables.{MemTables}
-use Rattle.raft_log_table_all.specs.Batch.{BatchRefused, IsReadyFor, all_shown, counts_at_end}
-use Rattle.raft_log_table_all.specs.Tables.{ShowsSame, counts, shown_of}
-use Rattle.raft_log_file_blocks.specs.Written.{placed_items}
-use Rattle.raft_log_file_pair.specs.Pipes.{LogPipes, is_failed}
-use Rattle.raft_log_file_pair.specs.Calls.{AppendsTo, FailsToAppendTo, FailsToSyncQueue, SyncsQueue, TellsFailure}
-use Rattle.raft_log_file_pair.specs.Numbers.{EndsNumbersAt}
-use Rattle.raft_log_file_pair.specs.PipeCalls.{PipeAppends, PipeFailsToAppend}
+use Rattle.raft_log_memtable_index.specs.Shown.{Shown}
+use Rattle.raft_log_memtables.specs.declared.mem_tables.MemTables.{MemTables}
+use Rattle.raft_log_memtables.specs.Batch.{BatchRefused, IsReadyFor, all_shown, counts_at_end}
+use Rattle.raft_log_memtables.specs.Tables.{ShowsSame, counts, shown_of}
+use Rattle.raft_log_block_cache.specs.Written.{placed_items}
+use Rattle.raft_log_dual_pipes.specs.Pipes.{LogPipes, is_failed}
+use Rattle.raft_log_dual_pipes.specs.Calls.{AppendsTo, FailsToAppendTo, FailsToSyncQueue, SyncsQueue, TellsFailure}
+use Rattle.raft_log_dual_pipes.specs.Numbers.{EndsNumbersAt}
+use Rattle.raft_log_dual_pipes.specs.PipeCalls.{PipeAppends, PipeFailsToAppend}
 use Rattle.raft_log_record_base.specs.declared.pipe_log.LogFileContext.{LogFileContext}
-use Rattle.raft_log_file_blocks.specs.declared.block_cache.BlockCache.{BlockCache}
+use Rattle.raft_log_block_cache.specs.declared.block_cache.BlockCache.{BlockCache}
 use Rattle.raft_log_purge.specs.raft_log_engine_laws.specs.Shows.{IsLaidOut, IsWellMarked, Shows, shows}
 use Rattle.raft_log_purge.specs.raft_log_engine_laws.specs.Trying.{RefusesAt, WritesAt}
-use Rattle.raft_log_file_blocks.specs.raft_log_file_pipe.specs.Appending.{SaysTryAgain}
+use Rattle.raft_log_block_cache.specs.raft_log_file_pipe.specs.Appending.{SaysTryAgain}
 use Rattle.raft_log_purge.specs.raft_log_engine_laws.specs.Writing.{IsBatchKept, IsUnfit, NotWritten, PipesRefused, Writes, WritesBytes, items_at}
 use Rattle.raft_log_purge.specs.raft_log_engine_laws.specs.Syncing.{NotSynced, SyncsAppend}
 use Rattle.raft_log_purge.specs.raft_log_engine_laws.specs.Laws.{MayBeWritten}

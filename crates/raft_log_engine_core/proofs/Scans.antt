@@ -3,10 +3,10 @@ use Rattle.std.proofs.Common.{◌≡◌, ◌↔◌, ◌==◌, ◌||◌, ◌&&◌
 use Rattle.std.specs.List.{list_any}
 use Rattle.std.specs.List.Sorted.{IsStrictlySortedBy}
 use Rattle.std.proofs.lemmas.Bool.{false≢true}
-use Rattle.raft_log_table_lists.specs.Listing.{AddsAll, ListsAll, Visits, in_direction, is_below, is_from, values_within}
-use Rattle.raft_log_table_lists.specs.Bridge.{bytes_held}
-use Rattle.raft_log_table_lists.specs.Shown.{Shown, nothing_shown}
-use Rattle.raft_log_table_all.specs.Walking.{ListsGroups}
+use Rattle.raft_log_memtable_index.specs.Listing.{AddsAll, ListsAll, Visits, in_direction, is_below, is_from, values_within}
+use Rattle.raft_log_memtable_index.specs.Bridge.{bytes_held}
+use Rattle.raft_log_memtable_index.specs.Shown.{Shown, nothing_shown}
+use Rattle.raft_log_memtables.specs.Walking.{ListsGroups}
 use Rattle.raft_log_purge.specs.raft_log_engine_laws.specs.Shows.{Shows}
 use Rattle.raft_log_purge.specs.raft_log_engine_laws.specs.Reading.{ReadsKeys}
 use Rattle.raft_log_purge.specs.raft_log_engine_laws.proofs.Reading.{tables_tell}

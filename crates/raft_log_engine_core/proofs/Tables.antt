@@ -3,13 +3,13 @@ use Rattle.std.proofs.Common.{◌≡◌, ℕ, List, Option, Some, None, option_m
 use Rattle.std.specs.Prelude.{IfOk, Result, Ok, Err}
 use Rattle.std.specs.BTreeMap.{get}
 use Rattle.std.specs.Ordering.{nat_cmp}
-use Rattle.raft_log_table_lists.specs.Shown.{Shown, nothing_shown}
-use Rattle.raft_log_table_lists.specs.Bridge.{bytes_held}
-use Rattle.raft_log_table_one.specs.Table.{Raw, shown}
-use Rattle.raft_log_table_one.specs.Reads.{first_of, last_of}
-use Rattle.raft_log_table_all.specs.declared.group_table.GroupTable.{GroupTable}
-use Rattle.raft_log_table_all.specs.declared.mem_tables.MemTables.{MemTables}
-use Rattle.raft_log_table_all.specs.Tables.{raw_of, shown_in, shown_of}
+use Rattle.raft_log_memtable_index.specs.Shown.{Shown, nothing_shown}
+use Rattle.raft_log_memtable_index.specs.Bridge.{bytes_held}
+use Rattle.raft_log_memtable.specs.Table.{Raw, shown}
+use Rattle.raft_log_memtable.specs.Reads.{first_of, last_of}
+use Rattle.raft_log_memtables.specs.declared.group_table.GroupTable.{GroupTable}
+use Rattle.raft_log_memtables.specs.declared.mem_tables.MemTables.{MemTables}
+use Rattle.raft_log_memtables.specs.Tables.{raw_of, shown_in, shown_of}
 use Rattle.raft_log_purge.specs.raft_log_engine_laws.specs.Shows.{Shows}
 use Rattle.raft_log_purge.specs.raft_log_engine_laws.specs.Reading.{ReadsFirst, ReadsLast, ReadsValue}
 use Rattle.raft_log_purge.specs.raft_log_engine_laws.proofs.Reading.{tables_tell}

@@ -3,10 +3,10 @@ use Rattle.std.specs.Prelude.{◌≡◌, ◌⊎◌, ◌-◌, ℕ, false, min, []
 use Rattle.raft_log_record_base.specs.declared.errors.Error.{Error}
 use Rattle.raft_log_record_base.specs.declared.errors.Error.TheVariants as errors
 use Rattle.raft_log_record_items.specs.declared.command.Command.TheVariants as commands
-use Rattle.raft_log_table_lists.specs.Shown.{Shown}
+use Rattle.raft_log_memtable_index.specs.Shown.{Shown}
 use Rattle.raft_log_record_batches.specs.Batch.{Batch}
 use Rattle.raft_log_record_batches.specs.declared.log_batch.BatchState.TheVariants.{Filling}
-use Rattle.raft_log_record_lists.specs.ItemBatch.{command_item}
+use Rattle.raft_log_record_frames.specs.ItemBatch.{command_item}
 use Rattle.raft_log_purge.specs.raft_log_engine_laws.specs.Fetching.{HadFailed}
 use Rattle.raft_log_purge.specs.raft_log_engine_laws.specs.Shows.{Shows, has_failed}
 use Rattle.raft_log_purge.specs.raft_log_engine_laws.specs.Writing.{NotWritten, Writes}

@@ -7,12 +7,12 @@ use Rattle.raft_log_record_base.specs.declared.pipe_log.LogQueue.{LogQueue}
 use Rattle.raft_log_record_base.specs.declared.pipe_log.LogQueue.TheVariants.{Append}
 use Rattle.raft_log_directory_laws.specs.Calls.Which.{InAppend}
 use Rattle.raft_log_record_batches.specs.Batch.{Batch}
-use Rattle.raft_log_file_pair.specs.Calls.{FailsToSyncQueue}
-use Rattle.raft_log_file_pair.specs.LastFile.{last_of}
-use Rattle.raft_log_file_pair.specs.Pipes.{LogPipes, is_failed}
-use Rattle.raft_log_file_pair.specs.Telling.{Hears, Told, files_begun}
+use Rattle.raft_log_dual_pipes.specs.Calls.{FailsToSyncQueue}
+use Rattle.raft_log_dual_pipes.specs.LastFile.{last_of}
+use Rattle.raft_log_dual_pipes.specs.Pipes.{LogPipes, is_failed}
+use Rattle.raft_log_dual_pipes.specs.Telling.{Hears, Told, files_begun}
 use Rattle.raft_log_file_listeners.specs.Active.{ActiveFiles, first_held}
-use Rattle.raft_log_file_blocks.specs.Signing.{signed_for}
+use Rattle.raft_log_block_cache.specs.Signing.{signed_for}
 use Rattle.raft_log_purge.specs.raft_log_engine_laws.specs.Trying.{WritesAt}
 use Rattle.raft_log_purge.specs.raft_log_engine_laws.specs.Shows.{Shows}
 use Rattle.raft_log_engine_core.specs.Compacting.{SaysCompact, entries_below}

@@ -8,4 +8,4 @@ pub mod Touching
 pub mod Whole
 -- libraries below, re-exported to crates above
 pub use Rattle.raft_log_purge.specs.raft_log_engine_laws
-pub use Rattle.raft_log_open_directory
+pub use Rattle.raft_log_open

@@ -2,18 +2,18 @@
 use Rattle.std.specs.Prelude.{◌≡◌, ◌⊎◌, ℕ}
 use Rattle.raft_log_record_base.specs.declared.errors.Error.{Error}
 use Rattle.raft_log_record_base.specs.declared.pipe_log.LogQueue.TheVariants.{Rewrite}
-use Rattle.raft_log_disk.specs.Disk.{Disk}
-use Rattle.raft_log_open_directory.specs.Reading.{BringsInRewrite}
-use Rattle.raft_log_table_all.specs.declared.mem_tables.MemTables.{MemTables}
+use Rattle.raft_log_fs.specs.Disk.{Disk}
+use Rattle.raft_log_open.specs.Reading.{BringsInRewrite}
+use Rattle.raft_log_memtables.specs.declared.mem_tables.MemTables.{MemTables}
 use Rattle.raft_log_file_settings.specs.Sanitized.{sanitized}
 use Rattle.raft_log_file_settings.specs.Settings.{settings_of}
 use Rattle.raft_log_file_settings.specs.declared.config.Config.{Config}
-use Rattle.raft_log_purge_rules.specs.Thresholds.{thresholds_of}
-use Rattle.raft_log_purge_rules.specs.declared.thresholds.Thresholds.{Thresholds}
-use Rattle.raft_log_table_one.specs.Stats.{added, no_entries}
-use Rattle.raft_log_purge_rules.specs.Picking.{count_of}
-use Rattle.raft_log_purge_rules.specs.declared.rounds.Rounds.{Rounds}
-use Rattle.raft_log_purge.specs.raft_log_purge_parts.specs.Stale.{FailsToPurgeAll}
+use Rattle.raft_log_purge_policy.specs.Thresholds.{thresholds_of}
+use Rattle.raft_log_purge_policy.specs.declared.thresholds.Thresholds.{Thresholds}
+use Rattle.raft_log_memtable.specs.Stats.{added, no_entries}
+use Rattle.raft_log_purge_policy.specs.Picking.{count_of}
+use Rattle.raft_log_purge_policy.specs.declared.rounds.Rounds.{Rounds}
+use Rattle.raft_log_purge.specs.raft_log_purge_copy.specs.Stale.{FailsToPurgeAll}
 use Rattle.raft_log_purge.specs.Append.{FailsToRewriteAppend}
 use Rattle.raft_log_purge.specs.Counted.{CountsAndKeeps, CountsIfPast}
 use Rattle.raft_log_purge.specs.Counting.{CountsStanding}

@@ -5,13 +5,13 @@ use Rattle.raft_log_record_base.specs.declared.errors.Error.{Error}
 use Rattle.raft_log_record_base.specs.declared.errors.Error.TheVariants as errors
 use Rattle.raft_log_record_base.specs.declared.pipe_log.FileBlockHandle.{FileBlockHandle}
 use Rattle.raft_log_record_items.specs.declared.entry.EntryIndex.{EntryIndex}
-use Rattle.raft_log_table_runs.specs.Bounds.{AreShort, bounds_of}
-use Rattle.raft_log_table_runs.specs.Entries.{entries_between}
-use Rattle.raft_log_table_runs.specs.declared.bounds.Bounds.{Bounds}
-use Rattle.raft_log_table_lists.specs.Listing.{Visits, in_direction}
-use Rattle.raft_log_table_lists.specs.Shown.{Shown}
-use Rattle.raft_log_table_one.specs.Reads.{entries_from}
-use Rattle.raft_log_file_pair.specs.Pipes.{LogPipes}
+use Rattle.raft_log_extents.specs.Bounds.{AreShort, bounds_of}
+use Rattle.raft_log_extents.specs.Entries.{entries_between}
+use Rattle.raft_log_extents.specs.declared.bounds.Bounds.{Bounds}
+use Rattle.raft_log_memtable_index.specs.Listing.{Visits, in_direction}
+use Rattle.raft_log_memtable_index.specs.Shown.{Shown}
+use Rattle.raft_log_memtable.specs.Reads.{entries_from}
+use Rattle.raft_log_dual_pipes.specs.Pipes.{LogPipes}
 use Rattle.raft_log_purge.specs.raft_log_engine_laws.specs.Reading.{ReadsKeys}
 use Rattle.raft_log_purge.specs.raft_log_engine_laws.specs.Shows.{Shows, has_failed, shows}
 use Rattle.raft_log_engine_core.specs.declared.engine.LogEngine.{LogEngine}

@@ -4,10 +4,10 @@ use Rattle.raft_log_record_base.specs.declared.errors.Error.{Error}
 use Rattle.raft_log_record_base.specs.declared.pipe_log.LogQueue.{LogQueue}
 use Rattle.raft_log_record_items.specs.Message.{Parses}
 use Rattle.raft_log_directory_laws.specs.Calls.Which.{InAppend, InRewrite}
-use Rattle.raft_log_file_pair.specs.State.{pipe_at}
-use Rattle.raft_log_disk.specs.declared.handle.Fault.{Fault}
-use Rattle.raft_log_file_pair.specs.Pipes.{ArmsPipes, LogPipes, files_of, which_of}
-use Rattle.raft_log_file_pair.specs.Calls.{IsSpanOf, size_at}
+use Rattle.raft_log_dual_pipes.specs.State.{pipe_at}
+use Rattle.raft_log_fs.specs.declared.handle.Fault.{Fault}
+use Rattle.raft_log_dual_pipes.specs.Pipes.{ArmsPipes, LogPipes, files_of, which_of}
+use Rattle.raft_log_dual_pipes.specs.Calls.{IsSpanOf, size_at}
 use Rattle.raft_log_purge.specs.raft_log_engine_laws.specs.Shows.{Shows}
 use Rattle.raft_log_purge.specs.raft_log_engine_laws.specs.Reading.{ReadsValue}
 use Rattle.raft_log_engine_core.specs.Reads.{IsUncopied, Lives}

@@ -2,8 +2,8 @@
 
 ghost use Rattle.std.specs.Prelude.{◌≡◌, ◌↔◌, ◌≤◌, ℕ, [], None, Err, IsTrue, OnOk, OnErr, IfOk, IfErr};
 ghost use Rattle.raft_log_record_base.specs.declared.errors.Error.TheVariants as errors;
-ghost use Rattle.raft_log_purge_rules.specs.Picking.{count_of};
-ghost use Rattle.raft_log_table_all.specs.Tables.{IsAtRest};
+ghost use Rattle.raft_log_purge_policy.specs.Picking.{count_of};
+ghost use Rattle.raft_log_memtables.specs.Tables.{IsAtRest};
 
 mod compacting;
 mod entries;
@@ -16,13 +16,13 @@ mod whole;
 
 use crate::writing;
 use log::Log;
-use raft_log_file_blocks::BlockCache;
-use raft_log_file_pair::{Closed, PipeLog};
+use raft_log_block_cache::BlockCache;
+use raft_log_dual_pipes::{Closed, PipeLog};
 use raft_log_purge::PurgeCounts;
-use raft_log_purge_rules::Thresholds;
+use raft_log_purge_policy::Thresholds;
 use raft_log_record_base::{Error, LogQueue, Result};
 use raft_log_record_batches::LogBatch;
-use raft_log_table_all::MemTables;
+use raft_log_memtables::MemTables;
 use std::alloc::Global;
 
 /// The engine of a log. It has the log's pipes, the tables of all groups, the entry block that was read last, the
@@ -43,18 +43,18 @@ impl<P: PipeLog> LogEngine<P> {
     ghost use Rattle.raft_log_purge.specs.raft_log_engine_laws.specs.Writing.{IsEmptied, IsBatchKept, IsKeptUnlessFailed, NotWritten, Writes, WritesBytes};
     ghost use Rattle.raft_log_record_batches.specs.Batch.{emptied, max_kept_len, IsButBuffer, IsReadyForEach};
     ghost use Rattle.raft_log_record_base.specs.declared.pipe_log.LogQueue.TheVariants.{Append, Rewrite};
-    ghost use Rattle.raft_log_table_one.specs.Stats.{added, no_entries};
+    ghost use Rattle.raft_log_memtable.specs.Stats.{added, no_entries};
     ghost use Rattle.raft_log_engine_core.specs.Hearing.{HearsBatch, HearsRecord, HearsRefused};
     ghost use Rattle.raft_log_engine_core.specs.Reads.{shows_of};
     ghost use Rattle.raft_log_engine_core.specs.Room.{IsMadeIfTried, IsMadeUnlessFailed, KeepsLittle, PutFails, StaysWritable};
     ghost use Rattle.raft_log_engine_core.specs.Touching.{LeavesFiles, LeavesRecord, StaysPurged, WritesFiles, WritesRecord};
     ghost use Rattle.raft_log_directory_laws.specs.Calls.Which.{InAppend};
-    ghost use Rattle.raft_log_file_pair.specs.Calls.{FailsToSyncQueue, SyncsQueue};
+    ghost use Rattle.raft_log_dual_pipes.specs.Calls.{FailsToSyncQueue, SyncsQueue};
     ghost use Rattle.std.specs.Prelude.{false, true};
-    ghost use Rattle.raft_log_disk.specs.Causes.{IsLater};
-    ghost use Rattle.raft_log_file_pair.specs.ClosingCalls.{ClosesAs, ClosesInOrder, ClosesLog, ClosesSettled};
-    ghost use Rattle.raft_log_file_pair.specs.Pipes.{is_failed};
-    ghost use Rattle.raft_log_file_pair.specs.Telling.{Hears, files_begun};
+    ghost use Rattle.raft_log_fs.specs.Causes.{IsLater};
+    ghost use Rattle.raft_log_dual_pipes.specs.ClosingCalls.{ClosesAs, ClosesInOrder, ClosesLog, ClosesSettled};
+    ghost use Rattle.raft_log_dual_pipes.specs.Pipes.{is_failed};
+    ghost use Rattle.raft_log_dual_pipes.specs.Telling.{Hears, files_begun};
 
     /// An engine over these pipes, tables and thresholds. `written` is how many entries and values were written to
     /// Rewrite before. The engine has no block cached, and has asked no group to compact yet.

@@ -4,7 +4,7 @@
 //! Each clause is about any map and any pending batches that were true of the engine before the call (`Holds`), and
 //! requires nothing of the caller.
 //!
-//! [`PipeLog`]: raft_log_file_pair::PipeLog
+//! [`PipeLog`]: raft_log_dual_pipes::PipeLog
 #![tactic(auto)]
 
 pub mod engine;
@@ -13,4 +13,4 @@ mod writing;
 
 pub use engine::LogEngine;
 pub use engine::opening::{Engine, EnginePipes};
-pub use raft_log_table_segments::ReplayThreads;
+pub use raft_log_replay::ReplayThreads;

@@ -1,25 +1,25 @@
 //! Writes a batch. All memory that the call needs is reserved first, so nothing after the write can fail.
 
 ghost use Rattle.std.specs.Prelude.{◌≡◌, ◌+◌, ◌++◌, ◌≤◌, ◌<◌, ◌^◌, ◌↔◌, ℕ, [], ◌∷◌, length, vec_capacity, vec_len, false, IfErr, IfOk, OnErr, OnOk, IsTrue};
-ghost use Rattle.raft_log_record_marks.specs.declared.marking.Marking.TheVariants.{Broken};
-ghost use Rattle.raft_log_record_marks.specs.Marking.{marking_of_items};
-ghost use Rattle.raft_log_record_marks.specs.Meaning.{tagged_items};
+ghost use Rattle.raft_log_record_frames.specs.declared.marking.Marking.TheVariants.{Broken};
+ghost use Rattle.raft_log_record_frames.specs.Marking.{marking_of_items};
+ghost use Rattle.raft_log_record_frames.specs.Meaning.{tagged_items};
 ghost use Rattle.raft_log_record_frames.specs.Made.{IsMemoryOrFull};
 ghost use Rattle.raft_log_record_frames.specs.Record.{record_len};
 ghost use Rattle.raft_log_model_laws.specs.Groups.{of_group};
 ghost use Rattle.raft_log_record_batches.specs.declared.log_batch.BatchState.TheVariants.{Filling, Populated};
 ghost use Rattle.raft_log_record_batches.specs.Batch.{emptied, max_kept_len, IsReadyForEach, IsSigned};
-ghost use Rattle.raft_log_table_all.specs.Batch.{all_shown, counts_at_end, IsReadyFor};
-ghost use Rattle.raft_log_table_all.specs.Tables.{counts, shown_of, IsAtRest, ShowsSame};
-ghost use Rattle.raft_log_file_pair.specs.Calls.{TellsFailure};
-ghost use Rattle.raft_log_file_pair.specs.Pipes.{is_failed};
-ghost use Rattle.raft_log_file_pair.specs.Telling.{Hears, files_begun};
-ghost use Rattle.raft_log_file_pair.specs.Telling.Told.{RecordWritten};
+ghost use Rattle.raft_log_memtables.specs.Batch.{all_shown, counts_at_end, IsReadyFor};
+ghost use Rattle.raft_log_memtables.specs.Tables.{counts, shown_of, IsAtRest, ShowsSame};
+ghost use Rattle.raft_log_dual_pipes.specs.Calls.{TellsFailure};
+ghost use Rattle.raft_log_dual_pipes.specs.Pipes.{is_failed};
+ghost use Rattle.raft_log_dual_pipes.specs.Telling.{Hears, files_begun};
+ghost use Rattle.raft_log_dual_pipes.specs.Telling.Told.{RecordWritten};
 ghost use Rattle.raft_log_record_base.specs.declared.pipe_log.LogQueue.TheVariants.{Append};
-ghost use Rattle.raft_log_disk.specs.Causes.{IsLater};
-ghost use Rattle.raft_log_file_blocks.specs.Signing.{signed_for};
+ghost use Rattle.raft_log_fs.specs.Causes.{IsLater};
+ghost use Rattle.raft_log_block_cache.specs.Signing.{signed_for};
 ghost use Rattle.raft_log_purge.specs.raft_log_engine_laws.specs.Trying.{RefusesAt, WritesAt};
-ghost use Rattle.raft_log_file_blocks.specs.raft_log_file_pipe.specs.Appending.{SaysTryAgain};
+ghost use Rattle.raft_log_block_cache.specs.raft_log_file_pipe.specs.Appending.{SaysTryAgain};
 ghost use Rattle.raft_log_purge.specs.raft_log_engine_laws.specs.Shows.{shows, IsWellMarked, IsWritable};
 ghost use Rattle.raft_log_purge.specs.raft_log_engine_laws.specs.Writing.{items_at, IsBatchKept, IsUnfit, PipesRefused, Writes};
 ghost use Rattle.raft_log_engine_core.specs.Hearing.{HearsRecord};
@@ -27,13 +27,13 @@ ghost use Rattle.raft_log_engine_core.specs.Room.{HasListFor, IsUnfitItself, Sta
 ghost use Rattle.raft_log_engine_core.specs.Touching.{PipeRefuses, PipeTakes, RefusesBatch, WritesRecord};
 
 use log::Log;
-use raft_log_file_blocks::{BlockCache, SignedBatch};
-use raft_log_file_pair::PipeLog;
+use raft_log_block_cache::{BlockCache, SignedBatch};
+use raft_log_dual_pipes::PipeLog;
 use raft_log_record_base::{Error, FileBlockHandle, LogQueue, Result};
 use raft_log_record_batches::{BatchState, LogBatch};
 use raft_log_record_items::LogItem;
-use raft_log_record_marks::Marking;
-use raft_log_table_all::MemTables;
+use raft_log_record_frames::Marking;
+use raft_log_memtables::MemTables;
 use std::alloc::Global;
 use std::mem;
 

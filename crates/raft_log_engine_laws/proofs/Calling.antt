@@ -5,41 +5,41 @@ use Rattle.raft_log_model_laws.specs.Item.{Item, Tagged, items_of}
 use Rattle.raft_log_model_laws.specs.Item.Item.{Run, Clean, Compact, Put, Del}
 use Rattle.raft_log_model_laws.specs.Groups.{of_group, taken}
 use Rattle.raft_log_machine_laws.proofs.TruthRaises.{no_word}
-use Rattle.raft_log_disk.specs.Disk.{Disk}
-use Rattle.raft_log_file_laws.specs.LogQueue.{LogFiles}
+use Rattle.raft_log_fs.specs.Disk.{Disk}
+use Rattle.raft_log_file_writer.specs.LogQueue.{LogFiles}
 use Rattle.raft_log_record_base.specs.declared.pipe_log.LogQueue.TheVariants.{Append}
 use Rattle.raft_log_record_base.specs.declared.pipe_log.FileBlockHandle.{FileBlockHandle}
-use Rattle.raft_log_file_layout.specs.declared.record.LogRecord.{LogRecord}
-use Rattle.raft_log_record_marks.specs.Meaning.{tagged_items}
+use Rattle.raft_log_active_file.specs.declared.record.LogRecord.{LogRecord}
+use Rattle.raft_log_record_frames.specs.Meaning.{tagged_items}
 use Rattle.raft_log_record_batches.specs.Batch.{Batch}
-use Rattle.raft_log_file_blocks.specs.Signing.{SaysItself, record_said, signed_for}
+use Rattle.raft_log_block_cache.specs.Signing.{SaysItself, record_said, signed_for}
 use Rattle.raft_log_directory_laws.specs.Calls.Which.{InAppend}
 use Rattle.raft_log_directory_laws.specs.Log.{IsAt, View}
 use Rattle.raft_log_directory_laws.specs.Log.{ViewEndsAt as ViewEnds}
 use Rattle.raft_log_directory_laws.proofs.CallLaws.{append_answered, append_synced}
-use Rattle.raft_log_table_runs.specs.declared.place.Place.{Place}
-use Rattle.raft_log_table_lists.specs.declared.group_files.GroupFiles.{GroupFiles}
-use Rattle.raft_log_table_lists.specs.Shown.{IsOrderly, Shown, all_stepped, stepped}
-use Rattle.raft_log_table_lists.specs.Noted.{FilesRise}
-use Rattle.raft_log_table_lists.proofs.Rising.{rises_on}
-use Rattle.raft_log_file_blocks.specs.raft_log_table_all.specs.Batch.{MayFollowAll, all_shown}
-use Rattle.raft_log_file_blocks.specs.raft_log_file_pair.specs.Crash.{AllowsIn}
-use Rattle.raft_log_file_blocks.specs.raft_log_file_pair.specs.Queues.{SaysRecord}
-use Rattle.raft_log_file_blocks.specs.raft_log_file_pair.specs.Own.{log_layout}
-use Rattle.raft_log_file_blocks.specs.raft_log_file_pair.specs.State.{Ties}
-use Rattle.raft_log_file_blocks.specs.raft_log_file_pair.specs.Steps.{next_log}
-use Rattle.raft_log_file_blocks.specs.Stored.{AreStored, KeepsBytes, entries_at}
-use Rattle.raft_log_file_blocks.proofs.Keeping.{calls_keep_bytes}
-use Rattle.raft_log_file_blocks.proofs.Staying.{stored_entries_stay}
-use Rattle.raft_log_file_blocks.proofs.Taking.{taken_entries_are_stored}
-use Rattle.raft_log_file_blocks.proofs.Lasting.{written_entries_are_stored}
-use Rattle.raft_log_file_blocks.proofs.WholeBlocks.{batch_whole}
-use Rattle.raft_log_file_blocks.specs.raft_log_table_all.specs.Views.{AreMeant, LieIn, view_of}
-use Rattle.raft_log_file_blocks.specs.raft_log_table_all.proofs.Growing.{view_grows}
-use Rattle.raft_log_file_blocks.specs.raft_log_table_all.proofs.Lying.{written_in}
-use Rattle.raft_log_file_queue.specs.Queue.{synced}
-use Rattle.raft_log_file_blocks.specs.raft_log_file_pair.specs.Pipes.{LogPipes, RunsOn, Said, State, queue_of}
-use Rattle.raft_log_file_blocks.specs.raft_log_file_pair.specs.Calls.{AppendsTo, SyncsQueue}
+use Rattle.raft_log_extents.specs.declared.place.Place.{Place}
+use Rattle.raft_log_memtable_index.specs.declared.group_files.GroupFiles.{GroupFiles}
+use Rattle.raft_log_memtable_index.specs.Shown.{IsOrderly, Shown, all_stepped, stepped}
+use Rattle.raft_log_memtable_index.specs.Noted.{FilesRise}
+use Rattle.raft_log_memtable_index.proofs.Rising.{rises_on}
+use Rattle.raft_log_block_cache.specs.raft_log_memtables.specs.Batch.{MayFollowAll, all_shown}
+use Rattle.raft_log_block_cache.specs.raft_log_dual_pipes.specs.Crash.{AllowsIn}
+use Rattle.raft_log_block_cache.specs.raft_log_dual_pipes.specs.Queues.{SaysRecord}
+use Rattle.raft_log_block_cache.specs.raft_log_dual_pipes.specs.Own.{log_layout}
+use Rattle.raft_log_block_cache.specs.raft_log_dual_pipes.specs.State.{Ties}
+use Rattle.raft_log_block_cache.specs.raft_log_dual_pipes.specs.Steps.{next_log}
+use Rattle.raft_log_block_cache.specs.Stored.{AreStored, KeepsBytes, entries_at}
+use Rattle.raft_log_block_cache.proofs.Keeping.{calls_keep_bytes}
+use Rattle.raft_log_block_cache.proofs.Staying.{stored_entries_stay}
+use Rattle.raft_log_block_cache.proofs.Taking.{taken_entries_are_stored}
+use Rattle.raft_log_block_cache.proofs.Lasting.{written_entries_are_stored}
+use Rattle.raft_log_block_cache.proofs.WholeBlocks.{batch_whole}
+use Rattle.raft_log_block_cache.specs.raft_log_memtables.specs.Views.{AreMeant, LieIn, view_of}
+use Rattle.raft_log_block_cache.specs.raft_log_memtables.proofs.Growing.{view_grows}
+use Rattle.raft_log_block_cache.specs.raft_log_memtables.proofs.Lying.{written_in}
+use Rattle.raft_log_active_file.specs.Queue.{synced}
+use Rattle.raft_log_block_cache.specs.raft_log_dual_pipes.specs.Pipes.{LogPipes, RunsOn, Said, State, queue_of}
+use Rattle.raft_log_block_cache.specs.raft_log_dual_pipes.specs.Calls.{AppendsTo, SyncsQueue}
 use Rattle.raft_log_engine_laws.specs.Shows.{Home, KeepsOrForgets, LogMap, Shows, log_in, said_by, said_of, sense}
 use Rattle.raft_log_engine_laws.specs.Holding.{EndsAt, FilesRiseIn, Holds, NotesEndIn, RunsAs, RunsEnding}
 use Rattle.raft_log_engine_laws.specs.Writing.{items_at}

@@ -13,33 +13,33 @@ use Rattle.raft_log_record_base.specs.declared.pipe_log.LogQueue.TheVariants.{Re
 use Rattle.raft_log_record_base.specs.declared.pipe_log.FileBlockHandle.{FileBlockHandle}
 use Rattle.raft_log_record_items.specs.declared.entry.EntryIndex.{EntryIndex}
 use Rattle.raft_log_record_items.specs.Placed.{written_entry}
-use Rattle.raft_log_file_layout.specs.declared.record.LogRecord.{LogRecord}
+use Rattle.raft_log_active_file.specs.declared.record.LogRecord.{LogRecord}
 use Rattle.raft_log_record_batches.specs.Batch.{Batch, block_place}
 use Rattle.raft_log_record_batches.specs.Places.{entry_bytes}
-use Rattle.raft_log_table_runs.specs.Entries.{place_of}
-use Rattle.raft_log_file_blocks.specs.Signing.{SaysItself, signed_for}
+use Rattle.raft_log_extents.specs.Entries.{place_of}
+use Rattle.raft_log_block_cache.specs.Signing.{SaysItself, signed_for}
 use Rattle.raft_log_directory_laws.specs.Calls.Which.{InRewrite}
 use Rattle.raft_log_directory_laws.specs.Tables.{CarriesTo}
-use Rattle.raft_log_table_runs.specs.declared.place.Place.{Place}
-use Rattle.raft_log_table_lists.specs.Shown.{Shown, IsOrderly}
-use Rattle.raft_log_table_lists.specs.Bridge.{CanAllMove, CanMove, Located, Move, all_moved, in_queue, items_of as copies_of, located, moved}
-use Rattle.raft_log_table_lists.specs.Bridge.Move.{MoveKey, MoveRun}
-use Rattle.raft_log_table_lists.proofs.Moving.{move_orderly}
-use Rattle.raft_log_table_lists.specs.Noted.{AllIn, AllUpTo, AreInFile, AreUpTo, FilesRise, MovesIn}
-use Rattle.raft_log_table_lists.proofs.Rising.{copies_rise}
-use Rattle.raft_log_file_blocks.specs.raft_log_table_all.specs.Rewriting.{AreCopies, copied_items, moves_of}
-use Rattle.raft_log_file_blocks.specs.raft_log_table_all.proofs.Copies.{copies_move}
-use Rattle.raft_log_file_blocks.specs.raft_log_file_pair.specs.Turning.{HasLast}
-use Rattle.raft_log_file_blocks.specs.Stored.{AreStored, Each, IsStored, entries_at, file_bytes}
-use Rattle.raft_log_file_blocks.specs.Written.{IsLaidOver, RunIsStored}
-use Rattle.raft_log_file_blocks.proofs.Staying.{means_alike}
-use Rattle.raft_log_file_blocks.proofs.Lasting.{written_entries_are_stored}
-use Rattle.raft_log_file_blocks.proofs.WholeBlocks.{batch_whole}
-use Rattle.raft_log_file_blocks.specs.raft_log_table_all.specs.Views.{AreMeant, ViewCarries, view_of}
-use Rattle.raft_log_file_blocks.specs.raft_log_table_all.proofs.Carrying.{copies_on}
-use Rattle.raft_log_file_blocks.specs.raft_log_table_all.proofs.Lying.{written_in}
-use Rattle.raft_log_file_blocks.specs.raft_log_file_pair.specs.Pipes.{State}
-use Rattle.raft_log_file_blocks.specs.raft_log_file_pair.specs.Calls.{AppendsTo, FailsToAppendTo}
+use Rattle.raft_log_extents.specs.declared.place.Place.{Place}
+use Rattle.raft_log_memtable_index.specs.Shown.{Shown, IsOrderly}
+use Rattle.raft_log_memtable_index.specs.Bridge.{CanAllMove, CanMove, Located, Move, all_moved, in_queue, items_of as copies_of, located, moved}
+use Rattle.raft_log_memtable_index.specs.Bridge.Move.{MoveKey, MoveRun}
+use Rattle.raft_log_memtable_index.proofs.Moving.{move_orderly}
+use Rattle.raft_log_memtable_index.specs.Noted.{AllIn, AllUpTo, AreInFile, AreUpTo, FilesRise, MovesIn}
+use Rattle.raft_log_memtable_index.proofs.Rising.{copies_rise}
+use Rattle.raft_log_block_cache.specs.raft_log_memtables.specs.Rewriting.{AreCopies, copied_items, moves_of}
+use Rattle.raft_log_block_cache.specs.raft_log_memtables.proofs.Copies.{copies_move}
+use Rattle.raft_log_block_cache.specs.raft_log_dual_pipes.specs.Turning.{HasLast}
+use Rattle.raft_log_block_cache.specs.Stored.{AreStored, Each, IsStored, entries_at, file_bytes}
+use Rattle.raft_log_block_cache.specs.Written.{IsLaidOver, RunIsStored}
+use Rattle.raft_log_block_cache.proofs.Staying.{means_alike}
+use Rattle.raft_log_block_cache.proofs.Lasting.{written_entries_are_stored}
+use Rattle.raft_log_block_cache.proofs.WholeBlocks.{batch_whole}
+use Rattle.raft_log_block_cache.specs.raft_log_memtables.specs.Views.{AreMeant, ViewCarries, view_of}
+use Rattle.raft_log_block_cache.specs.raft_log_memtables.proofs.Carrying.{copies_on}
+use Rattle.raft_log_block_cache.specs.raft_log_memtables.proofs.Lying.{written_in}
+use Rattle.raft_log_block_cache.specs.raft_log_dual_pipes.specs.Pipes.{State}
+use Rattle.raft_log_block_cache.specs.raft_log_dual_pipes.specs.Calls.{AppendsTo, FailsToAppendTo}
 use Rattle.raft_log_engine_laws.specs.Shows.{Home, IsLaidOut, KeepsOrForgets, LogMap, Shows}
 use Rattle.raft_log_engine_laws.specs.Settled.{SameTables}
 use Rattle.raft_log_engine_laws.specs.Holding.{FilesRiseIn, Holds, NotesEndIn}

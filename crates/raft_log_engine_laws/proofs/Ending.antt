@@ -14,30 +14,30 @@ use Rattle.raft_log_machine_laws.specs.Unbroken.{joined}
 use Rattle.raft_log_machine_laws.proofs.Words.{of_group_append}
 use Rattle.raft_log_record_base.specs.declared.errors.Error.{Error}
 use Rattle.raft_log_record_base.specs.declared.pipe_log.FileBlockHandle.{FileBlockHandle}
-use Rattle.raft_log_record_marks.specs.declared.status.AtomicGroupStatus.TheVariants as statuses
+use Rattle.raft_log_record_frames.specs.declared.status.AtomicGroupStatus.TheVariants as statuses
 use Rattle.raft_log_record_batches.specs.Batch.{Batch}
-use Rattle.raft_log_file_blocks.specs.Signing.{signed_for}
+use Rattle.raft_log_block_cache.specs.Signing.{signed_for}
 use Rattle.raft_log_directory_laws.specs.Calls.Which.{InRewrite}
 use Rattle.raft_log_directory_laws.proofs.GroupCalls.{end_answered, end_may_be_there}
-use Rattle.raft_log_file_blocks.specs.raft_log_file_pair.specs.Crash.{AllowsIn}
-use Rattle.raft_log_file_blocks.specs.raft_log_file_pair.specs.State.{Ties}
-use Rattle.raft_log_file_blocks.specs.raft_log_file_pair.specs.Steps.{next_log}
-use Rattle.raft_log_table_runs.specs.declared.place.Place.{Place}
-use Rattle.raft_log_table_lists.specs.declared.group_files.GroupFiles.{GroupFiles}
-use Rattle.raft_log_table_lists.specs.Shown.{IsOrderly, Shown}
-use Rattle.raft_log_table_lists.specs.Bridge.{CanAllMove, Located, all_moved, in_queue, items_of as copies_of, located, moved_key, moved_run}
-use Rattle.raft_log_table_lists.specs.Bridge.Move.{MoveKey, MoveRun}
-use Rattle.raft_log_table_lists.specs.Noted.{FilesRise, IsLeastInRewrite, noting, with_note}
-use Rattle.raft_log_table_lists.proofs.Moving.{move_orderly}
-use Rattle.raft_log_table_one.proofs.Leasts.{front_is_least, noted_by_least}
-use Rattle.raft_log_table_one.specs.Table.{shown}
-use Rattle.raft_log_file_blocks.specs.raft_log_table_all.specs.Rewriting.{copied_items}
-use Rattle.raft_log_file_blocks.specs.Stored.{AreStored, Each, EntryLiesIn, IsStored, entries_at}
-use Rattle.raft_log_file_blocks.proofs.Staying.{stored_entries_stay}
-use Rattle.raft_log_file_blocks.specs.raft_log_table_all.specs.Views.{AreMeant, ended, view_of}
-use Rattle.raft_log_file_blocks.specs.raft_log_table_all.proofs.Ending.{group_ends}
-use Rattle.raft_log_file_blocks.specs.raft_log_file_pair.specs.Calls.{AppendsTo, FailsToAppendTo}
-use Rattle.raft_log_file_blocks.specs.raft_log_file_pair.specs.Pipes.{State}
+use Rattle.raft_log_block_cache.specs.raft_log_dual_pipes.specs.Crash.{AllowsIn}
+use Rattle.raft_log_block_cache.specs.raft_log_dual_pipes.specs.State.{Ties}
+use Rattle.raft_log_block_cache.specs.raft_log_dual_pipes.specs.Steps.{next_log}
+use Rattle.raft_log_extents.specs.declared.place.Place.{Place}
+use Rattle.raft_log_memtable_index.specs.declared.group_files.GroupFiles.{GroupFiles}
+use Rattle.raft_log_memtable_index.specs.Shown.{IsOrderly, Shown}
+use Rattle.raft_log_memtable_index.specs.Bridge.{CanAllMove, Located, all_moved, in_queue, items_of as copies_of, located, moved_key, moved_run}
+use Rattle.raft_log_memtable_index.specs.Bridge.Move.{MoveKey, MoveRun}
+use Rattle.raft_log_memtable_index.specs.Noted.{FilesRise, IsLeastInRewrite, noting, with_note}
+use Rattle.raft_log_memtable_index.proofs.Moving.{move_orderly}
+use Rattle.raft_log_memtable.proofs.Leasts.{front_is_least, noted_by_least}
+use Rattle.raft_log_memtable.specs.Table.{shown}
+use Rattle.raft_log_block_cache.specs.raft_log_memtables.specs.Rewriting.{copied_items}
+use Rattle.raft_log_block_cache.specs.Stored.{AreStored, Each, EntryLiesIn, IsStored, entries_at}
+use Rattle.raft_log_block_cache.proofs.Staying.{stored_entries_stay}
+use Rattle.raft_log_block_cache.specs.raft_log_memtables.specs.Views.{AreMeant, ended, view_of}
+use Rattle.raft_log_block_cache.specs.raft_log_memtables.proofs.Ending.{group_ends}
+use Rattle.raft_log_block_cache.specs.raft_log_dual_pipes.specs.Calls.{AppendsTo, FailsToAppendTo}
+use Rattle.raft_log_block_cache.specs.raft_log_dual_pipes.specs.Pipes.{State}
 use Rattle.raft_log_engine_laws.specs.Shows.{Home, KeepsOrForgets, LogMap, Shows, log_in}
 use Rattle.raft_log_engine_laws.specs.Holding.{FilesRiseIn, Holds, NotesEndIn}
 use Rattle.raft_log_engine_laws.specs.Writing.{items_at}

@@ -4,27 +4,27 @@ use Rattle.std.specs.Prelude.{IsTrue, ◌↔◌, Result, Ok, Err, IfErr, OnErr, 
 use Rattle.std.proofs.lemmas.List.{append-nil}
 use Rattle.std.proofs.lemmas.Bool.{cases_Bool, false≢true}
 use Rattle.raft_log_model_laws.specs.Groups.{of_group, taken}
-use Rattle.raft_log_disk.specs.Causes.{IsLater}
-use Rattle.raft_log_disk.specs.Disk.{Disk}
-use Rattle.raft_log_disk.proofs.CauseLaws.{fails_after}
+use Rattle.raft_log_fs.specs.Causes.{IsLater}
+use Rattle.raft_log_fs.specs.Disk.{Disk}
+use Rattle.raft_log_fs.proofs.CauseLaws.{fails_after}
 use Rattle.raft_log_record_base.specs.declared.errors.Error.{Error}
 use Rattle.raft_log_record_base.specs.declared.errors.Error.TheVariants as errors
 use Rattle.raft_log_record_base.specs.declared.pipe_log.FileBlockHandle.{FileBlockHandle}
 use Rattle.raft_log_record_batches.specs.Batch.{Batch}
-use Rattle.raft_log_file_blocks.specs.Signing.{signed_for}
+use Rattle.raft_log_block_cache.specs.Signing.{signed_for}
 use Rattle.raft_log_directory_laws.specs.Calls.Which.{InAppend}
 use Rattle.raft_log_directory_laws.proofs.Follows.{taken_twice}
-use Rattle.raft_log_file_blocks.specs.raft_log_table_all.specs.declared.mem_tables.MemTables.{MemTables}
-use Rattle.raft_log_file_blocks.specs.raft_log_table_all.specs.Batch.{all_shown, counts_at_end}
-use Rattle.raft_log_file_blocks.specs.raft_log_file_pair.specs.Pipes.{LogPipes, Said, is_failed}
-use Rattle.raft_log_file_blocks.specs.raft_log_file_pair.specs.Calls.{FailsToSyncQueue, StaysFailed, SyncsQueue, TellsFailure}
+use Rattle.raft_log_block_cache.specs.raft_log_memtables.specs.declared.mem_tables.MemTables.{MemTables}
+use Rattle.raft_log_block_cache.specs.raft_log_memtables.specs.Batch.{all_shown, counts_at_end}
+use Rattle.raft_log_block_cache.specs.raft_log_dual_pipes.specs.Pipes.{LogPipes, Said, is_failed}
+use Rattle.raft_log_block_cache.specs.raft_log_dual_pipes.specs.Calls.{FailsToSyncQueue, StaysFailed, SyncsQueue, TellsFailure}
 use Rattle.raft_log_record_base.specs.declared.pipe_log.LogFileContext.{LogFileContext}
-use Rattle.raft_log_file_blocks.specs.declared.block_cache.BlockCache.{BlockCache}
+use Rattle.raft_log_block_cache.specs.declared.block_cache.BlockCache.{BlockCache}
 use Rattle.raft_log_engine_laws.specs.Shows.{Home, KeepsOrForgets, LogMap, Shows, has_failed, said_of, shows}
 use Rattle.raft_log_engine_laws.specs.Holding.{EndsAt, Holds, RunsAs, RunsEnding}
 use Rattle.raft_log_engine_laws.specs.Syncing.{FailsToSyncAppend, NotSynced, RunsOnSame, SyncsAppend}
 use Rattle.raft_log_engine_laws.specs.Trying.{RefusesAt, TriesTwiceInVain, WritesAt}
-use Rattle.raft_log_file_blocks.specs.raft_log_file_pipe.specs.Appending.{SaysTryAgain}
+use Rattle.raft_log_block_cache.specs.raft_log_file_pipe.specs.Appending.{SaysTryAgain}
 use Rattle.raft_log_engine_laws.specs.Writing.{PipesRefused, Writes, items_at}
 use Rattle.raft_log_engine_laws.specs.Laws.{MayBeWritten}
 use Rattle.raft_log_engine_laws.proofs.Keeping.{holds_runs}

@@ -17,19 +17,19 @@ use Rattle.raft_log_record_base.specs.declared.pipe_log.FileBlockHandle.{FileBlo
 use Rattle.raft_log_record_frames.specs.Record.{block_of}
 use Rattle.raft_log_record_items.specs.declared.entry.EntryIndex.{EntryIndex}
 use Rattle.raft_log_record_items.specs.Message.{Parses}
-use Rattle.raft_log_table_runs.specs.declared.place.Place.{Place}
-use Rattle.raft_log_table_runs.specs.Counts.{sized}
-use Rattle.raft_log_table_runs.specs.Entries.{entry_of, queue_of}
-use Rattle.raft_log_table_lists.specs.Shown.{Shown}
-use Rattle.raft_log_table_lists.specs.Bridge.{Located, in_queue, located, table_of}
-use Rattle.raft_log_table_one.specs.Reads.{AreIn, entries_from, entry_at, fetched, places_between}
-use Rattle.raft_log_file_blocks.specs.Stored.{Each, EntryLiesIn, IsStored, block_at, entries_at, file_bytes, part, queue_in}
-use Rattle.raft_log_file_layout.specs.declared.record.LogRecord.{LogRecord}
-use Rattle.raft_log_file_blocks.specs.raft_log_file_pair.specs.State.{Spanned}
-use Rattle.raft_log_file_blocks.specs.raft_log_file_pair.specs.Pipes.{Said, State}
-use Rattle.raft_log_file_blocks.specs.declared.block_cache.BlockCache.{BlockCache}
-use Rattle.raft_log_file_blocks.specs.Blocks.{AreUnread, BlockIsStored, IsEntryUnread, IsFileUnread, IsNoEntry, IsOfLog, IsUnplaced, KeepsBlock, ReadsEntries, ReadsEntry, written_block}
-use Rattle.raft_log_file_blocks.proofs.KeptBlocks.{file_unread, kept_is_written, none_kept, stopped_block}
+use Rattle.raft_log_extents.specs.declared.place.Place.{Place}
+use Rattle.raft_log_extents.specs.Counts.{sized}
+use Rattle.raft_log_extents.specs.Entries.{entry_of, queue_of}
+use Rattle.raft_log_memtable_index.specs.Shown.{Shown}
+use Rattle.raft_log_memtable_index.specs.Bridge.{Located, in_queue, located, table_of}
+use Rattle.raft_log_memtable.specs.Reads.{AreIn, entries_from, entry_at, fetched, places_between}
+use Rattle.raft_log_block_cache.specs.Stored.{Each, EntryLiesIn, IsStored, block_at, entries_at, file_bytes, part, queue_in}
+use Rattle.raft_log_active_file.specs.declared.record.LogRecord.{LogRecord}
+use Rattle.raft_log_block_cache.specs.raft_log_dual_pipes.specs.State.{Spanned}
+use Rattle.raft_log_block_cache.specs.raft_log_dual_pipes.specs.Pipes.{Said, State}
+use Rattle.raft_log_block_cache.specs.declared.block_cache.BlockCache.{BlockCache}
+use Rattle.raft_log_block_cache.specs.Blocks.{AreUnread, BlockIsStored, IsEntryUnread, IsFileUnread, IsNoEntry, IsOfLog, IsUnplaced, KeepsBlock, ReadsEntries, ReadsEntry, written_block}
+use Rattle.raft_log_block_cache.proofs.KeptBlocks.{file_unread, kept_is_written, none_kept, stopped_block}
 use Rattle.raft_log_engine_laws.specs.Shows.{Home, LogMap, Shows, sense}
 use Rattle.raft_log_engine_laws.specs.Holding.{Holds}
 use Rattle.raft_log_engine_laws.specs.Fetching.{AreEntriesOf, AreToRead, IsEntryOf, IsOneUntold, IsUntold, StaysButBlock}

@@ -7,17 +7,17 @@ use Rattle.raft_log_model_laws.specs.Groups.{of_group}
 use Rattle.raft_log_model_laws.specs.Renamed.{renamed}
 use Rattle.raft_log_record_base.specs.declared.pipe_log.FileBlockHandle.{FileBlockHandle}
 use Rattle.raft_log_record_frames.specs.Record.{block_of}
-use Rattle.raft_log_file_layout.specs.declared.record.LogRecord.{LogRecord}
+use Rattle.raft_log_active_file.specs.declared.record.LogRecord.{LogRecord}
 use Rattle.raft_log_record_batches.specs.Batch.{Batch}
-use Rattle.raft_log_file_blocks.specs.Signing.{SaysItself, signed_for}
-use Rattle.raft_log_file_blocks.specs.raft_log_file_pair.specs.Turning.{HasLast}
-use Rattle.raft_log_table_runs.specs.declared.place.Place.{Place}
-use Rattle.raft_log_table_lists.specs.Bridge.{Located, in_queue}
-use Rattle.raft_log_file_blocks.specs.raft_log_table_all.specs.Rewriting.{copied_items}
-use Rattle.raft_log_file_blocks.specs.Stored.{Each, EntryLiesIn, KeepsLog, entries_at, part}
-use Rattle.raft_log_file_blocks.specs.Written.{RunIsStored}
-use Rattle.raft_log_file_blocks.proofs.Staying.{block_stays}
-use Rattle.raft_log_file_blocks.specs.raft_log_file_pair.specs.Pipes.{State}
+use Rattle.raft_log_block_cache.specs.Signing.{SaysItself, signed_for}
+use Rattle.raft_log_block_cache.specs.raft_log_dual_pipes.specs.Turning.{HasLast}
+use Rattle.raft_log_extents.specs.declared.place.Place.{Place}
+use Rattle.raft_log_memtable_index.specs.Bridge.{Located, in_queue}
+use Rattle.raft_log_block_cache.specs.raft_log_memtables.specs.Rewriting.{copied_items}
+use Rattle.raft_log_block_cache.specs.Stored.{Each, EntryLiesIn, KeepsLog, entries_at, part}
+use Rattle.raft_log_block_cache.specs.Written.{RunIsStored}
+use Rattle.raft_log_block_cache.proofs.Staying.{block_stays}
+use Rattle.raft_log_block_cache.specs.raft_log_dual_pipes.specs.Pipes.{State}
 use Rattle.raft_log_engine_laws.specs.Shows.{IsLaidOut}
 use Rattle.raft_log_engine_laws.specs.Writing.{items_at}
 use Rattle.raft_log_engine_laws.proofs.Copying.{block_behind, bytes_behind, copies_said, not_behind, runs_there, says_behind, says_there, turned_round}

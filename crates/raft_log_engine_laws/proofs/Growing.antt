@@ -12,28 +12,28 @@ use Rattle.raft_log_record_items.specs.declared.entry.EntryIndex.{EntryIndex}
 use Rattle.raft_log_record_items.specs.Writing.{plain_item}
 use Rattle.raft_log_record_items.specs.Placed.{placed}
 use Rattle.raft_log_record_frames.specs.Record.{block_bytes}
-use Rattle.raft_log_record_marks.specs.declared.marking.Marking.{Marking}
-use Rattle.raft_log_record_marks.specs.declared.marking.Marking.TheVariants as markings
-use Rattle.raft_log_record_marks.specs.Marking.{marking_of_items}
-use Rattle.raft_log_record_marks.specs.Meaning.{marked, part_of, record_of, tagged_items}
+use Rattle.raft_log_record_frames.specs.declared.marking.Marking.{Marking}
+use Rattle.raft_log_record_frames.specs.declared.marking.Marking.TheVariants as markings
+use Rattle.raft_log_record_frames.specs.Marking.{marking_of_items}
+use Rattle.raft_log_record_frames.specs.Meaning.{marked, part_of, record_of, tagged_items}
 use Rattle.raft_log_record_batches.specs.Batch.{Batch, block_place}
 use Rattle.raft_log_record_batches.specs.Places.{entry_bytes}
 use Rattle.raft_log_record_batches.proofs.PlacedMeanings.{read_means_what_was_added}
-use Rattle.raft_log_file_blocks.specs.Signing.{record_said}
+use Rattle.raft_log_block_cache.specs.Signing.{record_said}
 use Rattle.raft_log_directory_laws.specs.Log.{View}
 use Rattle.raft_log_directory_laws.specs.Tables.{GrowsTo}
-use Rattle.raft_log_table_runs.specs.declared.place.Place.{Place}
-use Rattle.raft_log_table_lists.specs.Shown.{Shown, IsOrderly}
-use Rattle.raft_log_table_lists.specs.Bridge.{Located, table_of}
-use Rattle.raft_log_file_blocks.specs.raft_log_table_all.specs.Batch.{MayFollowAll, all_shown, all_written}
-use Rattle.raft_log_file_blocks.specs.raft_log_table_all.specs.Views.{LieIn, view_of}
-use Rattle.raft_log_file_blocks.specs.raft_log_table_all.proofs.Growing.{view_grows}
-use Rattle.raft_log_file_blocks.specs.raft_log_table_all.proofs.Lying.{written_in}
+use Rattle.raft_log_extents.specs.declared.place.Place.{Place}
+use Rattle.raft_log_memtable_index.specs.Shown.{Shown, IsOrderly}
+use Rattle.raft_log_memtable_index.specs.Bridge.{Located, table_of}
+use Rattle.raft_log_block_cache.specs.raft_log_memtables.specs.Batch.{MayFollowAll, all_shown, all_written}
+use Rattle.raft_log_block_cache.specs.raft_log_memtables.specs.Views.{LieIn, view_of}
+use Rattle.raft_log_block_cache.specs.raft_log_memtables.proofs.Growing.{view_grows}
+use Rattle.raft_log_block_cache.specs.raft_log_memtables.proofs.Lying.{written_in}
 use Rattle.raft_log_engine_laws.specs.Shows.{IsLaidOut, IsWellMarked, LogMap, said_by, said_of}
 use Rattle.raft_log_record_base.specs.Files.{no_block}
 use Rattle.raft_log_engine_laws.specs.Writing.{items_at}
 use Rattle.raft_log_engine_laws.proofs.Renaming.{places_follow, places_say}
-use Rattle.raft_log_file_blocks.specs.raft_log_file_pair.specs.Pipes.{Said}
+use Rattle.raft_log_block_cache.specs.raft_log_dual_pipes.specs.Pipes.{Said}
 
 -- what the tables show goes on with the view's map, whatever that is: only where things stand matters
 pub grows_by : {E : Type 0} (at : Located → E) (n : ℕ) (v : ℕ → Shown) (m : Map E (List ℕ)) (xs : List (Tagged Place (List ℕ))) (y : Record E (List ℕ)) → ((g : ℕ) → IsOrderly (v g))

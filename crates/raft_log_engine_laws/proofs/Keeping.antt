@@ -1,23 +1,23 @@
 -- A call on Append keeps the places that an engine's tables show, and what is read there.
 use Rattle.std.proofs.Common.{◌≡◌, ◌⊎◌, ℕ, ◌≤◌, None, List, [], ◌∷◌, ◌++◌, inl, inr, refl, sym, ap, subst, ◌∙◌, arith}
-use Rattle.raft_log_disk.specs.Disk.{Disk}
-use Rattle.raft_log_file_laws.specs.LogQueue.{LogFiles}
-use Rattle.raft_log_file_layout.specs.declared.record.LogRecord.{LogRecord}
+use Rattle.raft_log_fs.specs.Disk.{Disk}
+use Rattle.raft_log_file_writer.specs.LogQueue.{LogFiles}
+use Rattle.raft_log_active_file.specs.declared.record.LogRecord.{LogRecord}
 use Rattle.raft_log_directory_laws.specs.Calls.Which.{InAppend}
 use Rattle.raft_log_directory_laws.specs.Log.{IsAt, ViewEndsAt}
 use Rattle.raft_log_model_laws.specs.Groups.{taken}
-use Rattle.raft_log_file_blocks.specs.raft_log_file_pair.specs.State.{Ties}
-use Rattle.raft_log_file_blocks.specs.raft_log_file_pair.specs.Steps.{next_log}
-use Rattle.raft_log_file_blocks.specs.Stored.{AreStored, KeepsBytes, KeepsLog, entries_at}
-use Rattle.raft_log_file_blocks.proofs.Keeping.{calls_keep_bytes}
-use Rattle.raft_log_file_blocks.proofs.Staying.{stored_entries_stay}
-use Rattle.raft_log_table_lists.specs.Shown.{Shown}
-use Rattle.raft_log_table_lists.specs.Noted.{FilesRise}
-use Rattle.raft_log_file_blocks.specs.raft_log_table_all.specs.Views.{AreMeant, view_of}
-use Rattle.raft_log_file_blocks.specs.raft_log_file_pair.specs.Pipes.{LogPipes, RunsOn, Said, State}
-use Rattle.raft_log_file_blocks.specs.declared.block_cache.BlockCache.{BlockCache}
-use Rattle.raft_log_file_blocks.specs.Blocks.{IsOfLog}
-use Rattle.raft_log_file_blocks.proofs.KeptBlocks.{kept_blocks_stay, none_kept}
+use Rattle.raft_log_block_cache.specs.raft_log_dual_pipes.specs.State.{Ties}
+use Rattle.raft_log_block_cache.specs.raft_log_dual_pipes.specs.Steps.{next_log}
+use Rattle.raft_log_block_cache.specs.Stored.{AreStored, KeepsBytes, KeepsLog, entries_at}
+use Rattle.raft_log_block_cache.proofs.Keeping.{calls_keep_bytes}
+use Rattle.raft_log_block_cache.proofs.Staying.{stored_entries_stay}
+use Rattle.raft_log_memtable_index.specs.Shown.{Shown}
+use Rattle.raft_log_memtable_index.specs.Noted.{FilesRise}
+use Rattle.raft_log_block_cache.specs.raft_log_memtables.specs.Views.{AreMeant, view_of}
+use Rattle.raft_log_block_cache.specs.raft_log_dual_pipes.specs.Pipes.{LogPipes, RunsOn, Said, State}
+use Rattle.raft_log_block_cache.specs.declared.block_cache.BlockCache.{BlockCache}
+use Rattle.raft_log_block_cache.specs.Blocks.{IsOfLog}
+use Rattle.raft_log_block_cache.proofs.KeptBlocks.{kept_blocks_stay, none_kept}
 use Rattle.raft_log_engine_laws.specs.Shows.{Home, KeepsOrForgets, LogMap, Shows, log_in, sense}
 use Rattle.raft_log_engine_laws.specs.Holding.{EndsAt, FilesRiseIn, Holds, NotesEndIn, RunsAs}
 

@@ -2,18 +2,18 @@
 use Rattle.std.proofs.Common.{◌≡◌, false, List, [], ◌++◌, refl, sym, ◌∙◌, ap, subst, append-nil}
 use Rattle.raft_log_model_laws.specs.Groups.{taken}
 use Rattle.raft_log_record_base.specs.declared.pipe_log.LogQueue.TheVariants.{Append, Rewrite}
-use Rattle.raft_log_file_laws.specs.LogQueue.{LogFiles}
+use Rattle.raft_log_file_writer.specs.LogQueue.{LogFiles}
 use Rattle.raft_log_directory_laws.specs.Log.{IsLog}
-use Rattle.raft_log_file_layout.specs.declared.record.LogRecord.{LogRecord}
-use Rattle.raft_log_file_layout.specs.LayoutLaws.{files_are_told, is_layout, queues_are_apart}
-use Rattle.raft_log_file_blocks.specs.raft_log_file_pair.specs.Queues.{AreTwoQueues}
-use Rattle.raft_log_file_blocks.specs.raft_log_file_pair.proofs.OnDiskLaws.{logs_go_on_disks}
-use Rattle.raft_log_file_blocks.specs.raft_log_file_pair.specs.Closing.{closed_log}
-use Rattle.raft_log_file_blocks.specs.raft_log_file_pair.specs.Lying.{none_open}
-use Rattle.raft_log_file_blocks.specs.raft_log_file_pair.specs.Pipes.{LogPipes, RunsOn, Said, State, files_of}
-use Rattle.raft_log_file_blocks.specs.raft_log_file_pair.specs.State.{Ties}
-use Rattle.raft_log_file_blocks.specs.raft_log_file_pair.proofs.Numbers.{none_pending}
-use Rattle.raft_log_file_blocks.specs.raft_log_table_all.specs.Views.{view_of}
+use Rattle.raft_log_active_file.specs.declared.record.LogRecord.{LogRecord}
+use Rattle.raft_log_active_file.specs.LayoutLayoutLaws.{files_are_told, is_layout, queues_are_apart}
+use Rattle.raft_log_block_cache.specs.raft_log_dual_pipes.specs.Queues.{AreTwoQueues}
+use Rattle.raft_log_block_cache.specs.raft_log_dual_pipes.proofs.OnDiskLaws.{logs_go_on_disks}
+use Rattle.raft_log_block_cache.specs.raft_log_dual_pipes.specs.Closing.{closed_log}
+use Rattle.raft_log_block_cache.specs.raft_log_dual_pipes.specs.Lying.{none_open}
+use Rattle.raft_log_block_cache.specs.raft_log_dual_pipes.specs.Pipes.{LogPipes, RunsOn, Said, State, files_of}
+use Rattle.raft_log_block_cache.specs.raft_log_dual_pipes.specs.State.{Ties}
+use Rattle.raft_log_block_cache.specs.raft_log_dual_pipes.proofs.Numbers.{none_pending}
+use Rattle.raft_log_block_cache.specs.raft_log_memtables.specs.Views.{view_of}
 use Rattle.raft_log_engine_laws.specs.Shows.{Home, log_in, sense}
 use Rattle.raft_log_engine_laws.specs.Laws.{ClosedEnginesAreDurable, ClosedEnginesAreLeft, EnginesLieOnDisks}
 

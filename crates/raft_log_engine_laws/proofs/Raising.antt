@@ -6,36 +6,36 @@ use Rattle.raft_log_model_laws.specs.Meaning.{Slot}
 use Rattle.raft_log_model_laws.specs.Meaning.Slot.{Index, Key}
 use Rattle.raft_log_model_laws.specs.Renamed.{renamed_content}
 use Rattle.raft_log_model_laws.specs.Table.{content}
-use Rattle.raft_log_disk.specs.Disk.{Disk}
-use Rattle.raft_log_file_laws.specs.LogQueue.{LogFiles}
+use Rattle.raft_log_fs.specs.Disk.{Disk}
+use Rattle.raft_log_file_writer.specs.LogQueue.{LogFiles}
 use Rattle.raft_log_record_base.specs.declared.errors.Error.{Error}
 use Rattle.raft_log_record_base.specs.declared.errors.Error.TheVariants as errors
-use Rattle.raft_log_file_layout.specs.declared.record.LogRecord.{LogRecord}
+use Rattle.raft_log_active_file.specs.declared.record.LogRecord.{LogRecord}
 use Rattle.raft_log_machine_laws.specs.Whereabouts.{OwesNothing}
 use Rattle.raft_log_directory_laws.specs.Calls.{Raises, Which}
 use Rattle.raft_log_directory_laws.specs.Calls.Which.{InAppend, InRewrite}
 use Rattle.raft_log_directory_laws.specs.Log.{IsLog, IsSettled, View}
 use Rattle.raft_log_directory_laws.specs.Notes.{AppendStandsFrom, IsAppended, IsInRewrite, RewriteStandsFrom}
 use Rattle.raft_log_directory_laws.proofs.GroupCalls.{append_raise_failed, append_raise_settled, rewrite_raise_failed, rewrite_raise_settled}
-use Rattle.raft_log_table_runs.specs.declared.place.Place.{Place}
-use Rattle.raft_log_table_lists.specs.declared.group_files.GroupFiles.{GroupFiles}
-use Rattle.raft_log_table_lists.specs.Shown.{KeyValue, Shown, is_in_append, whereabouts}
-use Rattle.raft_log_table_lists.specs.Bridge.{Located, in_queue, located, table_of}
-use Rattle.raft_log_table_lists.specs.Noted.{IsLeastInRewrite, file_at, held_file, noted_at, place_file, start_of}
-use Rattle.raft_log_table_lists.proofs.Noting.{least_is_noted}
-use Rattle.raft_log_table_one.specs.Files.{IsLeastInAppend}
-use Rattle.raft_log_file_blocks.specs.raft_log_file_pair.specs.State.{LogOnDisk, Ties}
-use Rattle.raft_log_file_blocks.specs.raft_log_file_pair.specs.Syncing.{raised_log}
-use Rattle.raft_log_file_blocks.specs.raft_log_file_pair.specs.Lying.{RunOrLie, both_open, with_open}
-use Rattle.raft_log_file_blocks.specs.Stored.{AreStored, Each, EntryLiesIn, IsStored, entries_at, entry_at, queue_in}
-use Rattle.raft_log_file_blocks.proofs.Staying.{means_alike}
-use Rattle.raft_log_file_blocks.specs.raft_log_table_all.specs.Views.{AreMeant, view_of}
-use Rattle.raft_log_file_blocks.specs.raft_log_file_pair.specs.Pipes.{RunsOn, Said, State, files_of}
-use Rattle.raft_log_file_blocks.specs.raft_log_file_pair.specs.Calls.{FailsToPurgeQueue, PurgesQueue}
+use Rattle.raft_log_extents.specs.declared.place.Place.{Place}
+use Rattle.raft_log_memtable_index.specs.declared.group_files.GroupFiles.{GroupFiles}
+use Rattle.raft_log_memtable_index.specs.Shown.{KeyValue, Shown, is_in_append, whereabouts}
+use Rattle.raft_log_memtable_index.specs.Bridge.{Located, in_queue, located, table_of}
+use Rattle.raft_log_memtable_index.specs.Noted.{IsLeastInRewrite, file_at, held_file, noted_at, place_file, start_of}
+use Rattle.raft_log_memtable_index.proofs.Noting.{least_is_noted}
+use Rattle.raft_log_memtable.specs.Files.{IsLeastInAppend}
+use Rattle.raft_log_block_cache.specs.raft_log_dual_pipes.specs.State.{LogOnDisk, Ties}
+use Rattle.raft_log_block_cache.specs.raft_log_dual_pipes.specs.Syncing.{raised_log}
+use Rattle.raft_log_block_cache.specs.raft_log_dual_pipes.specs.Lying.{RunOrLie, both_open, with_open}
+use Rattle.raft_log_block_cache.specs.Stored.{AreStored, Each, EntryLiesIn, IsStored, entries_at, entry_at, queue_in}
+use Rattle.raft_log_block_cache.proofs.Staying.{means_alike}
+use Rattle.raft_log_block_cache.specs.raft_log_memtables.specs.Views.{AreMeant, view_of}
+use Rattle.raft_log_block_cache.specs.raft_log_dual_pipes.specs.Pipes.{RunsOn, Said, State, files_of}
+use Rattle.raft_log_block_cache.specs.raft_log_dual_pipes.specs.Calls.{FailsToPurgeQueue, PurgesQueue}
 use Rattle.raft_log_engine_laws.specs.Shows.{Home, LogMap, Shows, log_in, sense}
 use Rattle.raft_log_engine_laws.specs.Holding.{FilesRiseIn, IsLeftAt, NotesEndIn}
 use Rattle.raft_log_engine_laws.specs.Raising.{AppendMayBegin, MayBegin, PurgeLeavesHeld, RewriteMayBegin}
-use Rattle.raft_log_file_blocks.proofs.KeptBlocks.{none_kept}
+use Rattle.raft_log_block_cache.proofs.KeptBlocks.{none_kept}
 use Rattle.raft_log_engine_laws.specs.Settled.{HoldsSettled}
 use Rattle.raft_log_engine_laws.proofs.Settling.{left_whole}
 

@@ -8,14 +8,14 @@ use Rattle.raft_log_model_laws.specs.Meaning.Slot.{Index, Key}
 use Rattle.raft_log_model_laws.specs.Meaning.Content.{Entry, Value}
 use Rattle.raft_log_model_laws.specs.Renamed.{renamed_content}
 use Rattle.raft_log_model_laws.specs.Table.{content}
-use Rattle.raft_log_table_runs.specs.declared.place.Place.{Place}
-use Rattle.raft_log_table_lists.specs.Shown.{KeyValue, Shown}
-use Rattle.raft_log_table_lists.specs.Bridge.{IsMeant, Located, bytes_held, located, table_of}
-use Rattle.raft_log_table_lists.proofs.Queues.{located_length}
-use Rattle.raft_log_table_lists.specs.Listing.{ListsAll, values_within}
-use Rattle.raft_log_table_one.specs.Reads.{first_of, last_of}
-use Rattle.raft_log_file_blocks.specs.Stored.{entries_at}
-use Rattle.raft_log_file_blocks.specs.raft_log_file_pair.specs.Pipes.{Said}
+use Rattle.raft_log_extents.specs.declared.place.Place.{Place}
+use Rattle.raft_log_memtable_index.specs.Shown.{KeyValue, Shown}
+use Rattle.raft_log_memtable_index.specs.Bridge.{IsMeant, Located, bytes_held, located, table_of}
+use Rattle.raft_log_memtable_index.proofs.Queues.{located_length}
+use Rattle.raft_log_memtable_index.specs.Listing.{ListsAll, values_within}
+use Rattle.raft_log_memtable.specs.Reads.{first_of, last_of}
+use Rattle.raft_log_block_cache.specs.Stored.{entries_at}
+use Rattle.raft_log_block_cache.specs.raft_log_dual_pipes.specs.Pipes.{Said}
 use Rattle.raft_log_engine_laws.specs.Shows.{Home, LogMap, Shows}
 use Rattle.raft_log_engine_laws.specs.Holding.{Holds}
 use Rattle.raft_log_engine_laws.specs.Reading.{AreKeysOf, IsFirstIn, IsLastIn, StandsUnder, TablesTell, is_within}

@@ -1,30 +1,30 @@
 -- A batch that was refused, and a sync, told of an engine's log.
 use Rattle.std.proofs.Common.{◌≡◌, ◌⊎◌, ℕ, ◌≤◌, None, List, [], ◌∷◌, ◌++◌, inl, inr, refl, sym, ap, subst, ◌∙◌, arith, append_assoc}
 use Rattle.raft_log_model_laws.specs.Groups.{taken}
-use Rattle.raft_log_disk.specs.Causes.{Fails}
-use Rattle.raft_log_disk.specs.Disk.{Disk}
-use Rattle.raft_log_file_laws.specs.LogQueue.{LogFiles}
+use Rattle.raft_log_fs.specs.Causes.{Fails}
+use Rattle.raft_log_fs.specs.Disk.{Disk}
+use Rattle.raft_log_file_writer.specs.LogQueue.{LogFiles}
 use Rattle.raft_log_record_base.specs.declared.errors.Error.{Error}
 use Rattle.raft_log_record_base.specs.declared.errors.Error.TheVariants as errors
-use Rattle.raft_log_file_layout.specs.declared.record.LogRecord.{LogRecord}
+use Rattle.raft_log_active_file.specs.declared.record.LogRecord.{LogRecord}
 use Rattle.raft_log_record_batches.specs.Batch.{Batch}
-use Rattle.raft_log_file_blocks.specs.Signing.{signed_for}
+use Rattle.raft_log_block_cache.specs.Signing.{signed_for}
 use Rattle.raft_log_directory_laws.specs.Calls.Which.{InAppend}
 use Rattle.raft_log_directory_laws.specs.Log.{View, LogEnds}
 use Rattle.raft_log_directory_laws.proofs.CallLaws.{append_cut_back, append_left_out, append_may_be_there, failed_whole}
 use Rattle.raft_log_directory_laws.proofs.Follows.{taken_twice}
-use Rattle.raft_log_file_blocks.specs.raft_log_table_all.specs.Batch.{all_shown}
-use Rattle.raft_log_file_blocks.specs.raft_log_file_pair.specs.Crash.{AllowsIn}
-use Rattle.raft_log_file_blocks.specs.raft_log_file_pair.specs.Failing.{failed_pipe}
-use Rattle.raft_log_file_blocks.specs.raft_log_file_pair.specs.Lying.{OpenPipes, RunOrLie, both_open, with_open}
-use Rattle.raft_log_file_blocks.specs.raft_log_file_pair.specs.OnDisk.{LogLiesOn}
-use Rattle.raft_log_file_blocks.specs.raft_log_file_pair.specs.State.{Ties}
-use Rattle.raft_log_file_blocks.specs.raft_log_file_pair.specs.Steps.{next_log}
-use Rattle.raft_log_file_blocks.specs.Stored.{KeepsBytes}
-use Rattle.raft_log_file_blocks.proofs.Keeping.{calls_keep_bytes}
-use Rattle.raft_log_file_blocks.specs.raft_log_table_all.specs.Views.{view_of}
-use Rattle.raft_log_file_blocks.specs.raft_log_file_pair.specs.Pipes.{LogPipes, RunsOn, Said, State, files_of}
-use Rattle.raft_log_file_blocks.specs.raft_log_file_pair.specs.Calls.{CutsBackOn, FailsToAppendTo, FailsToSyncQueue, LeavesOutOn}
+use Rattle.raft_log_block_cache.specs.raft_log_memtables.specs.Batch.{all_shown}
+use Rattle.raft_log_block_cache.specs.raft_log_dual_pipes.specs.Crash.{AllowsIn}
+use Rattle.raft_log_block_cache.specs.raft_log_dual_pipes.specs.Failing.{failed_pipe}
+use Rattle.raft_log_block_cache.specs.raft_log_dual_pipes.specs.Lying.{OpenPipes, RunOrLie, both_open, with_open}
+use Rattle.raft_log_block_cache.specs.raft_log_dual_pipes.specs.OnDisk.{LogLiesOn}
+use Rattle.raft_log_block_cache.specs.raft_log_dual_pipes.specs.State.{Ties}
+use Rattle.raft_log_block_cache.specs.raft_log_dual_pipes.specs.Steps.{next_log}
+use Rattle.raft_log_block_cache.specs.Stored.{KeepsBytes}
+use Rattle.raft_log_block_cache.proofs.Keeping.{calls_keep_bytes}
+use Rattle.raft_log_block_cache.specs.raft_log_memtables.specs.Views.{view_of}
+use Rattle.raft_log_block_cache.specs.raft_log_dual_pipes.specs.Pipes.{LogPipes, RunsOn, Said, State, files_of}
+use Rattle.raft_log_block_cache.specs.raft_log_dual_pipes.specs.Calls.{CutsBackOn, FailsToAppendTo, FailsToSyncQueue, LeavesOutOn}
 use Rattle.raft_log_engine_laws.specs.Shows.{Home, KeepsOrForgets, LogMap, Shows, log_in, said_of, sense}
 use Rattle.raft_log_engine_laws.specs.Holding.{EndsAt, Holds, IsLeftAt, RunsAs, RunsEnding}
 use Rattle.raft_log_engine_laws.specs.Writing.{Leaves, items_at}

@@ -14,13 +14,13 @@ use Rattle.raft_log_record_base.specs.declared.pipe_log.FileBlockHandle.{FileBlo
 use Rattle.raft_log_record_items.specs.declared.item.LogItem.{LogItem}
 use Rattle.raft_log_record_items.specs.declared.entry.EntryIndex.{EntryIndex}
 use Rattle.raft_log_record_items.specs.Placed.{written, written_entry}
-use Rattle.raft_log_record_marks.specs.Meaning.{tagged_items}
-use Rattle.raft_log_table_runs.specs.Entries.{place_of}
-use Rattle.raft_log_table_runs.specs.declared.place.Place.{Place}
-use Rattle.raft_log_table_lists.specs.Shown.{Shown, next_span, span, MayAllFollow, MayFollow}
-use Rattle.raft_log_table_lists.specs.Bridge.{Located, in_queue}
-use Rattle.raft_log_file_blocks.specs.raft_log_table_all.specs.Batch.{MayFollowAll, all_written}
-use Rattle.raft_log_file_blocks.specs.raft_log_table_all.proofs.Applied.{items_renamed, written_items}
+use Rattle.raft_log_record_frames.specs.Meaning.{tagged_items}
+use Rattle.raft_log_extents.specs.Entries.{place_of}
+use Rattle.raft_log_extents.specs.declared.place.Place.{Place}
+use Rattle.raft_log_memtable_index.specs.Shown.{Shown, next_span, span, MayAllFollow, MayFollow}
+use Rattle.raft_log_memtable_index.specs.Bridge.{Located, in_queue}
+use Rattle.raft_log_block_cache.specs.raft_log_memtables.specs.Batch.{MayFollowAll, all_written}
+use Rattle.raft_log_block_cache.specs.raft_log_memtables.proofs.Applied.{items_renamed, written_items}
 
 module _ {E F V : Type 0} (f : E → F) where
   span_renamed : (w : Window) (x : Item E V) → next_span w (renamed f x) ≡ next_span w x

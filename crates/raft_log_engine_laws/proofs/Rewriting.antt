@@ -7,46 +7,46 @@ use Rattle.raft_log_model_laws.specs.Item.Record.{Plain}
 use Rattle.raft_log_model_laws.specs.Groups.{of_group, taken}
 use Rattle.raft_log_model_laws.specs.Renamed.{renamed}
 use Rattle.raft_log_model_laws.proofs.RenamedLaws.{of_group_renamed}
-use Rattle.raft_log_file_laws.specs.LogQueue.{LogFiles}
+use Rattle.raft_log_file_writer.specs.LogQueue.{LogFiles}
 use Rattle.raft_log_record_base.specs.declared.errors.Error.{Error}
 use Rattle.raft_log_record_base.specs.declared.errors.Error.TheVariants as errors
 use Rattle.raft_log_record_base.specs.declared.pipe_log.LogQueue.TheVariants.{Rewrite}
 use Rattle.raft_log_record_base.specs.declared.pipe_log.FileBlockHandle.{FileBlockHandle}
 use Rattle.raft_log_record_base.specs.declared.pipe_log.LogFileContext.{LogFileContext}
 use Rattle.raft_log_record_items.specs.declared.entry.EntryIndex.{EntryIndex}
-use Rattle.raft_log_file_layout.specs.declared.record.LogRecord.{LogRecord}
+use Rattle.raft_log_active_file.specs.declared.record.LogRecord.{LogRecord}
 use Rattle.raft_log_machine_laws.specs.Whereabouts.{top}
-use Rattle.raft_log_record_marks.specs.declared.marking.Marking.{Marking}
-use Rattle.raft_log_record_marks.specs.declared.marking.Marking.TheVariants.{Unmarked}
-use Rattle.raft_log_record_marks.specs.Marking.{marking_of_items}
-use Rattle.raft_log_record_marks.specs.Meaning.{marked, tagged_items}
+use Rattle.raft_log_record_frames.specs.declared.marking.Marking.{Marking}
+use Rattle.raft_log_record_frames.specs.declared.marking.Marking.TheVariants.{Unmarked}
+use Rattle.raft_log_record_frames.specs.Marking.{marking_of_items}
+use Rattle.raft_log_record_frames.specs.Meaning.{marked, tagged_items}
 use Rattle.raft_log_record_batches.specs.Batch.{Batch}
 use Rattle.raft_log_record_batches.specs.Places.{entry_bytes}
-use Rattle.raft_log_file_blocks.specs.Signing.{SaysItself, signed_for}
+use Rattle.raft_log_block_cache.specs.Signing.{SaysItself, signed_for}
 use Rattle.raft_log_directory_laws.specs.Calls.{Appends, MayAppend}
 use Rattle.raft_log_directory_laws.specs.Calls.Which.{InRewrite}
 use Rattle.raft_log_directory_laws.specs.Log.{IsAt, IsLog, View}
 use Rattle.raft_log_directory_laws.specs.Tables.{CarriesTo}
 use Rattle.raft_log_directory_laws.proofs.CallLaws.{copies_answered, copies_may_be_there, rewrite_left_out}
 use Rattle.raft_log_directory_laws.proofs.SettledLaws.{cut_back_settles, rewrite_settles}
-use Rattle.raft_log_table_lists.specs.Shown.{Shown}
-use Rattle.raft_log_table_lists.specs.Bridge.{dels, marks, unmarked, without}
-use Rattle.raft_log_file_blocks.specs.raft_log_table_all.specs.Owing.{AreOwedAt}
-use Rattle.raft_log_file_blocks.specs.raft_log_table_all.proofs.Applied.{items_renamed}
-use Rattle.raft_log_file_blocks.specs.raft_log_file_pair.specs.Crash.{AllowsIn}
-use Rattle.raft_log_file_blocks.specs.raft_log_file_pair.specs.Queues.{SaysRecord}
-use Rattle.raft_log_file_blocks.specs.raft_log_file_pair.specs.Own.{log_layout}
-use Rattle.raft_log_file_blocks.specs.raft_log_file_pair.specs.Lying.{both_open, with_open}
-use Rattle.raft_log_file_blocks.specs.raft_log_file_pair.specs.State.{Ties}
-use Rattle.raft_log_file_blocks.specs.raft_log_file_pair.specs.Steps.{next_log}
-use Rattle.raft_log_file_blocks.specs.raft_log_file_pair.specs.Turning.{HasLast, IsCutBack}
-use Rattle.raft_log_file_blocks.specs.Stored.{AreStored, KeepsBytes, KeepsLog, entries_at}
-use Rattle.raft_log_file_blocks.proofs.Keeping.{calls_keep_bytes, calls_keep_log}
-use Rattle.raft_log_file_blocks.proofs.Staying.{stored_entries_stay}
-use Rattle.raft_log_file_blocks.specs.raft_log_table_all.specs.Views.{AreMeant, ViewCarries, view_of}
-use Rattle.raft_log_file_blocks.specs.raft_log_table_all.proofs.Carrying.{marks_on}
-use Rattle.raft_log_file_blocks.specs.raft_log_file_pair.specs.Pipes.{LogPipes, RunsOn, Said, State, files_of, header_at, spares_at}
-use Rattle.raft_log_file_blocks.specs.raft_log_file_pair.specs.Calls.{AppendsTo, CutsBackOn, FailsToAppendTo, LeavesOutOn}
+use Rattle.raft_log_memtable_index.specs.Shown.{Shown}
+use Rattle.raft_log_memtable_index.specs.Bridge.{dels, marks, unmarked, without}
+use Rattle.raft_log_block_cache.specs.raft_log_memtables.specs.Owing.{AreOwedAt}
+use Rattle.raft_log_block_cache.specs.raft_log_memtables.proofs.Applied.{items_renamed}
+use Rattle.raft_log_block_cache.specs.raft_log_dual_pipes.specs.Crash.{AllowsIn}
+use Rattle.raft_log_block_cache.specs.raft_log_dual_pipes.specs.Queues.{SaysRecord}
+use Rattle.raft_log_block_cache.specs.raft_log_dual_pipes.specs.Own.{log_layout}
+use Rattle.raft_log_block_cache.specs.raft_log_dual_pipes.specs.Lying.{both_open, with_open}
+use Rattle.raft_log_block_cache.specs.raft_log_dual_pipes.specs.State.{Ties}
+use Rattle.raft_log_block_cache.specs.raft_log_dual_pipes.specs.Steps.{next_log}
+use Rattle.raft_log_block_cache.specs.raft_log_dual_pipes.specs.Turning.{HasLast, IsCutBack}
+use Rattle.raft_log_block_cache.specs.Stored.{AreStored, KeepsBytes, KeepsLog, entries_at}
+use Rattle.raft_log_block_cache.proofs.Keeping.{calls_keep_bytes, calls_keep_log}
+use Rattle.raft_log_block_cache.proofs.Staying.{stored_entries_stay}
+use Rattle.raft_log_block_cache.specs.raft_log_memtables.specs.Views.{AreMeant, ViewCarries, view_of}
+use Rattle.raft_log_block_cache.specs.raft_log_memtables.proofs.Carrying.{marks_on}
+use Rattle.raft_log_block_cache.specs.raft_log_dual_pipes.specs.Pipes.{LogPipes, RunsOn, Said, State, files_of, header_at, spares_at}
+use Rattle.raft_log_block_cache.specs.raft_log_dual_pipes.specs.Calls.{AppendsTo, CutsBackOn, FailsToAppendTo, LeavesOutOn}
 use Rattle.raft_log_engine_laws.specs.Shows.{Home, IsLaidOut, IsWellMarked, KeepsOrForgets, LogMap, Shows, log_in, said_by, said_of, sense}
 use Rattle.raft_log_engine_laws.specs.Holding.{FilesRiseIn, Holds, NotesEndIn}
 use Rattle.raft_log_engine_laws.proofs.Keeping.{notes_on, rise_on, stays_cached}

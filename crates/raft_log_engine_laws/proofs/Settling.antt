@@ -1,13 +1,13 @@
 -- Syncs and rotations go on with an engine's log.
 use Rattle.std.proofs.Common.{◌≡◌, ℕ, ◌≤◌, None, List, [], ◌∷◌, ◌++◌, inl, inr, refl, sym, ap, subst, ◌∙◌, arith}
 use Rattle.raft_log_model_laws.specs.Groups.{taken}
-use Rattle.raft_log_disk.specs.Causes.{Fails}
-use Rattle.raft_log_disk.specs.Disk.{Disk}
-use Rattle.raft_log_file_laws.specs.LogQueue.{LogFiles}
+use Rattle.raft_log_fs.specs.Causes.{Fails}
+use Rattle.raft_log_fs.specs.Disk.{Disk}
+use Rattle.raft_log_file_writer.specs.LogQueue.{LogFiles}
 use Rattle.raft_log_record_base.specs.declared.errors.Error.{Error}
 use Rattle.raft_log_record_base.specs.declared.errors.Error.TheVariants as errors
-use Rattle.raft_log_file_layout.specs.declared.record.LogRecord.{LogRecord}
-use Rattle.raft_log_file_queue.specs.Queue.{synced}
+use Rattle.raft_log_active_file.specs.declared.record.LogRecord.{LogRecord}
+use Rattle.raft_log_active_file.specs.Queue.{synced}
 use Rattle.raft_log_directory_laws.specs.Calls.{Which}
 use Rattle.raft_log_directory_laws.specs.Calls.Which.{InAppend, InRewrite}
 use Rattle.raft_log_directory_laws.specs.Log.{Follows, IsAt, IsLog, IsSettled, LogEnds, View}
@@ -15,22 +15,22 @@ use Rattle.raft_log_directory_laws.specs.Model.{with_append, with_rewrite}
 use Rattle.raft_log_directory_laws.proofs.CallLaws.{failed_whole, rewrite_synced, stands_log}
 use Rattle.raft_log_directory_laws.proofs.Follows.{append_follows, rewrite_follows}
 use Rattle.raft_log_directory_laws.proofs.SettledLaws.{append_settles, rewrite_settles, settled_stays, sync_settles}
-use Rattle.raft_log_file_blocks.specs.raft_log_file_pair.specs.Crash.{AllowsIn}
-use Rattle.raft_log_file_blocks.specs.raft_log_file_pair.specs.Failing.{failed_pipe}
-use Rattle.raft_log_file_blocks.specs.raft_log_file_pair.specs.Lying.{OpenPipes, RunOrLie, both_open, with_open}
-use Rattle.raft_log_file_blocks.specs.raft_log_file_pair.specs.Syncing.{FailsMoved}
-use Rattle.raft_log_file_blocks.specs.raft_log_file_pair.specs.State.{Ties, spanned_at}
-use Rattle.raft_log_file_blocks.specs.raft_log_file_pair.specs.Steps.{next_log}
-use Rattle.raft_log_file_blocks.specs.Stored.{AreStored, KeepsBytes, KeepsLog, entries_at}
-use Rattle.raft_log_file_blocks.proofs.Keeping.{calls_keep_bytes, calls_keep_log}
-use Rattle.raft_log_file_blocks.proofs.Staying.{stored_entries_stay}
-use Rattle.raft_log_file_blocks.specs.raft_log_table_all.specs.Views.{AreMeant, view_of}
-use Rattle.raft_log_file_blocks.specs.raft_log_file_pair.specs.Pipes.{LogPipes, RunsOn, Said, State, files_of}
-use Rattle.raft_log_file_blocks.specs.raft_log_file_pair.specs.Calls.{FailsToRotateQueue, FailsToSyncQueue, RotatesQueue, SyncsQueue}
+use Rattle.raft_log_block_cache.specs.raft_log_dual_pipes.specs.Crash.{AllowsIn}
+use Rattle.raft_log_block_cache.specs.raft_log_dual_pipes.specs.Failing.{failed_pipe}
+use Rattle.raft_log_block_cache.specs.raft_log_dual_pipes.specs.Lying.{OpenPipes, RunOrLie, both_open, with_open}
+use Rattle.raft_log_block_cache.specs.raft_log_dual_pipes.specs.Syncing.{FailsMoved}
+use Rattle.raft_log_block_cache.specs.raft_log_dual_pipes.specs.State.{Ties, spanned_at}
+use Rattle.raft_log_block_cache.specs.raft_log_dual_pipes.specs.Steps.{next_log}
+use Rattle.raft_log_block_cache.specs.Stored.{AreStored, KeepsBytes, KeepsLog, entries_at}
+use Rattle.raft_log_block_cache.proofs.Keeping.{calls_keep_bytes, calls_keep_log}
+use Rattle.raft_log_block_cache.proofs.Staying.{stored_entries_stay}
+use Rattle.raft_log_block_cache.specs.raft_log_memtables.specs.Views.{AreMeant, view_of}
+use Rattle.raft_log_block_cache.specs.raft_log_dual_pipes.specs.Pipes.{LogPipes, RunsOn, Said, State, files_of}
+use Rattle.raft_log_block_cache.specs.raft_log_dual_pipes.specs.Calls.{FailsToRotateQueue, FailsToSyncQueue, RotatesQueue, SyncsQueue}
 use Rattle.raft_log_engine_laws.specs.Shows.{Home, LogMap, Shows, log_in, sense}
 use Rattle.raft_log_engine_laws.specs.Holding.{FilesRiseIn, Holds, IsLeftAt, NotesEndIn, RunsAs}
 use Rattle.raft_log_engine_laws.proofs.Keeping.{notes_on, rise_on, stays_cached}
-use Rattle.raft_log_file_blocks.specs.Blocks.{IsOfLog}
+use Rattle.raft_log_block_cache.specs.Blocks.{IsOfLog}
 use Rattle.raft_log_engine_laws.specs.Quiet.{TurnLeavesHeld}
 use Rattle.raft_log_engine_laws.specs.Settled.{HoldsSettled, SameTables}
 

@@ -7,19 +7,19 @@ use Rattle.raft_log_model_laws.specs.Groups.{of_group}
 use Rattle.raft_log_model_laws.proofs.Cases.{from_eq_true}
 use Rattle.raft_log_record_base.specs.declared.pipe_log.FileBlockHandle.{FileBlockHandle}
 use Rattle.raft_log_record_batches.specs.Batch.{Batch}
-use Rattle.raft_log_table_lists.specs.declared.group_files.GroupFiles.{GroupFiles}
-use Rattle.raft_log_table_lists.specs.Shown.{IsOrderly, Shown}
-use Rattle.raft_log_table_lists.specs.Noted.{FilesRise, IsLeastInRewrite, with_note}
-use Rattle.raft_log_table_lists.specs.Replayed.{Replayed}
-use Rattle.raft_log_table_lists.proofs.Moving.{moves_orderly}
-use Rattle.raft_log_file_blocks.specs.raft_log_table_all.specs.declared.group_table.GroupTable.{GroupTable}
-use Rattle.raft_log_file_blocks.specs.raft_log_table_all.specs.Joining.{noted_in}
-use Rattle.raft_log_file_blocks.specs.raft_log_table_all.specs.Rewriting.{all_rewritten}
-use Rattle.raft_log_file_blocks.specs.raft_log_table_all.specs.Tables.{replayed_in, replayed_of, shown_in, shown_of}
+use Rattle.raft_log_memtable_index.specs.declared.group_files.GroupFiles.{GroupFiles}
+use Rattle.raft_log_memtable_index.specs.Shown.{IsOrderly, Shown}
+use Rattle.raft_log_memtable_index.specs.Noted.{FilesRise, IsLeastInRewrite, with_note}
+use Rattle.raft_log_memtable_index.specs.Replayed.{Replayed}
+use Rattle.raft_log_memtable_index.proofs.Moving.{moves_orderly}
+use Rattle.raft_log_block_cache.specs.raft_log_memtables.specs.declared.group_table.GroupTable.{GroupTable}
+use Rattle.raft_log_block_cache.specs.raft_log_memtables.specs.Joining.{noted_in}
+use Rattle.raft_log_block_cache.specs.raft_log_memtables.specs.Rewriting.{all_rewritten}
+use Rattle.raft_log_block_cache.specs.raft_log_memtables.specs.Tables.{replayed_in, replayed_of, shown_in, shown_of}
 use Rattle.raft_log_directory_laws.specs.Calls.Which.{InRewrite}
-use Rattle.raft_log_file_blocks.specs.raft_log_file_pair.specs.Steps.{next_log}
-use Rattle.raft_log_table_lists.specs.Bridge.{Located}
-use Rattle.raft_log_file_blocks.specs.Stored.{entries_at}
+use Rattle.raft_log_block_cache.specs.raft_log_dual_pipes.specs.Steps.{next_log}
+use Rattle.raft_log_memtable_index.specs.Bridge.{Located}
+use Rattle.raft_log_block_cache.specs.Stored.{entries_at}
 use Rattle.raft_log_engine_laws.specs.Shows.{Shows, shows}
 use Rattle.raft_log_engine_laws.specs.Writing.{items_at}
 use Rattle.raft_log_engine_laws.specs.Parts.{WrittenPart, parts_of}

@@ -2,24 +2,24 @@
 use Rattle.std.proofs.Common.{◌≡◌, ◌⊎◌, ℕ, false, List, [], ◌∷◌, ◌++◌, inl, inr, refl, sym, ap, subst, ◌∙◌, append_assoc}
 use Rattle.std.proofs.lemmas.List.{append-nil}
 use Rattle.raft_log_model_laws.specs.Groups.{taken}
-use Rattle.raft_log_disk.specs.Causes.{IsLater}
-use Rattle.raft_log_disk.proofs.CauseLaws.{fails_after}
+use Rattle.raft_log_fs.specs.Causes.{IsLater}
+use Rattle.raft_log_fs.proofs.CauseLaws.{fails_after}
 use Rattle.raft_log_record_base.specs.declared.errors.Error.{Error}
 use Rattle.raft_log_record_base.specs.declared.errors.Error.TheVariants as errors
 use Rattle.raft_log_record_base.specs.declared.pipe_log.FileBlockHandle.{FileBlockHandle}
 use Rattle.raft_log_record_batches.specs.Batch.{Batch}
-use Rattle.raft_log_file_blocks.specs.Signing.{signed_for}
+use Rattle.raft_log_block_cache.specs.Signing.{signed_for}
 use Rattle.raft_log_directory_laws.specs.Calls.Which.{InAppend}
 use Rattle.raft_log_directory_laws.proofs.Follows.{taken_twice}
-use Rattle.raft_log_file_blocks.specs.raft_log_table_all.specs.Batch.{all_shown}
-use Rattle.raft_log_file_blocks.specs.raft_log_file_pair.specs.Pipes.{LogPipes, Said}
-use Rattle.raft_log_file_blocks.specs.raft_log_file_pair.specs.Calls.{FailsToAppendTo}
-use Rattle.raft_log_file_blocks.specs.raft_log_file_pair.specs.Numbers.{HasLastNumber}
-use Rattle.raft_log_file_blocks.specs.declared.block_cache.BlockCache.{BlockCache}
+use Rattle.raft_log_block_cache.specs.raft_log_memtables.specs.Batch.{all_shown}
+use Rattle.raft_log_block_cache.specs.raft_log_dual_pipes.specs.Pipes.{LogPipes, Said}
+use Rattle.raft_log_block_cache.specs.raft_log_dual_pipes.specs.Calls.{FailsToAppendTo}
+use Rattle.raft_log_block_cache.specs.raft_log_dual_pipes.specs.Numbers.{HasLastNumber}
+use Rattle.raft_log_block_cache.specs.declared.block_cache.BlockCache.{BlockCache}
 use Rattle.raft_log_engine_laws.specs.Shows.{Home, KeepsOrForgets, LogMap, Shows, said_of, sense}
 use Rattle.raft_log_engine_laws.specs.Holding.{EndsAt, Holds, RunsAs, RunsEnding}
 use Rattle.raft_log_engine_laws.specs.Trying.{RefusesAt, TriesInVain, WritesAt}
-use Rattle.raft_log_file_blocks.specs.raft_log_file_pipe.specs.Appending.{SaysTryAgain}
+use Rattle.raft_log_block_cache.specs.raft_log_file_pipe.specs.Appending.{SaysTryAgain}
 use Rattle.raft_log_engine_laws.specs.Writing.{Leaves, items_at}
 use Rattle.raft_log_engine_laws.specs.Laws.{MayBeWritten}
 use Rattle.raft_log_engine_laws.proofs.Calling.{log_written, says_batch, written}

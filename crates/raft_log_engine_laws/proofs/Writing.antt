@@ -4,36 +4,36 @@ use Rattle.std.proofs.lemmas.List.{map-append}
 use Rattle.raft_log_model_laws.specs.Item.{Tagged}
 use Rattle.raft_log_model_laws.specs.Item.Mark.{Begin, Middle}
 use Rattle.raft_log_model_laws.specs.Item.Record.{Part}
-use Rattle.raft_log_file_laws.specs.LogQueue.{LogFiles}
+use Rattle.raft_log_file_writer.specs.LogQueue.{LogFiles}
 use Rattle.raft_log_record_base.specs.declared.errors.Error.{Error}
 use Rattle.raft_log_record_base.specs.declared.errors.Error.TheVariants as errors
 use Rattle.raft_log_record_base.specs.declared.pipe_log.FileBlockHandle.{FileBlockHandle}
 use Rattle.raft_log_record_base.specs.declared.pipe_log.LogQueue.TheVariants.{Rewrite}
-use Rattle.raft_log_file_layout.specs.declared.record.LogRecord.{LogRecord}
-use Rattle.raft_log_file_queue.specs.Queue.{synced}
-use Rattle.raft_log_record_marks.specs.declared.marking.Marking.TheVariants as markings
-use Rattle.raft_log_record_marks.specs.declared.status.AtomicGroupStatus.{AtomicGroupStatus}
-use Rattle.raft_log_record_marks.specs.declared.status.AtomicGroupStatus.TheVariants as statuses
-use Rattle.raft_log_record_marks.specs.Meaning.{part_of}
+use Rattle.raft_log_active_file.specs.declared.record.LogRecord.{LogRecord}
+use Rattle.raft_log_active_file.specs.Queue.{synced}
+use Rattle.raft_log_record_frames.specs.declared.marking.Marking.TheVariants as markings
+use Rattle.raft_log_record_frames.specs.declared.status.AtomicGroupStatus.{AtomicGroupStatus}
+use Rattle.raft_log_record_frames.specs.declared.status.AtomicGroupStatus.TheVariants as statuses
+use Rattle.raft_log_record_frames.specs.Meaning.{part_of}
 use Rattle.raft_log_record_batches.specs.Batch.{Batch}
-use Rattle.raft_log_file_blocks.specs.Signing.{signed_for}
+use Rattle.raft_log_block_cache.specs.Signing.{signed_for}
 use Rattle.raft_log_directory_laws.specs.Calls.{IsInGroup, LeavesOut, Syncs}
 use Rattle.raft_log_directory_laws.specs.Calls.Which.{InRewrite}
 use Rattle.raft_log_directory_laws.proofs.CallLaws.{begin_may_be_there, group_begun}
 use Rattle.raft_log_directory_laws.proofs.GroupCalls.{group_left_out, middle_answered, middle_may_be_there}
 use Rattle.raft_log_directory_laws.proofs.SettledLaws.{sync_settles}
-use Rattle.raft_log_file_blocks.specs.raft_log_file_pair.specs.Crash.{AllowsIn}
-use Rattle.raft_log_file_blocks.specs.raft_log_file_pair.specs.Own.{log_layout}
-use Rattle.raft_log_file_blocks.specs.raft_log_file_pair.specs.Queues.{SaysRecord}
-use Rattle.raft_log_file_blocks.specs.raft_log_file_pair.specs.State.{Ties}
-use Rattle.raft_log_file_blocks.specs.raft_log_file_pair.specs.Steps.{next_log}
-use Rattle.raft_log_table_lists.specs.Noted.{FilesRise}
-use Rattle.raft_log_file_blocks.specs.Stored.{Each, KeepsLog}
-use Rattle.raft_log_file_blocks.proofs.Keeping.{calls_keep_bytes, calls_keep_log}
-use Rattle.raft_log_file_blocks.proofs.Staying.{stored_entries_stay}
-use Rattle.raft_log_file_blocks.specs.raft_log_table_all.specs.Views.{view_of}
-use Rattle.raft_log_file_blocks.specs.raft_log_file_pair.specs.Calls.{AppendsTo, FailsToAppendTo, LeavesOutOn, SyncsQueue}
-use Rattle.raft_log_file_blocks.specs.raft_log_file_pair.specs.Pipes.{RunsOn, State}
+use Rattle.raft_log_block_cache.specs.raft_log_dual_pipes.specs.Crash.{AllowsIn}
+use Rattle.raft_log_block_cache.specs.raft_log_dual_pipes.specs.Own.{log_layout}
+use Rattle.raft_log_block_cache.specs.raft_log_dual_pipes.specs.Queues.{SaysRecord}
+use Rattle.raft_log_block_cache.specs.raft_log_dual_pipes.specs.State.{Ties}
+use Rattle.raft_log_block_cache.specs.raft_log_dual_pipes.specs.Steps.{next_log}
+use Rattle.raft_log_memtable_index.specs.Noted.{FilesRise}
+use Rattle.raft_log_block_cache.specs.Stored.{Each, KeepsLog}
+use Rattle.raft_log_block_cache.proofs.Keeping.{calls_keep_bytes, calls_keep_log}
+use Rattle.raft_log_block_cache.proofs.Staying.{stored_entries_stay}
+use Rattle.raft_log_block_cache.specs.raft_log_memtables.specs.Views.{view_of}
+use Rattle.raft_log_block_cache.specs.raft_log_dual_pipes.specs.Calls.{AppendsTo, FailsToAppendTo, LeavesOutOn, SyncsQueue}
+use Rattle.raft_log_block_cache.specs.raft_log_dual_pipes.specs.Pipes.{RunsOn, State}
 use Rattle.raft_log_engine_laws.specs.Shows.{Home, LogMap, Shows, log_in, said_by, sense}
 use Rattle.raft_log_engine_laws.specs.Holding.{Holds}
 use Rattle.raft_log_engine_laws.proofs.Keeping.{notes_on, rise_on, stays_cached}

@@ -4,18 +4,18 @@ use Rattle.raft_log_model_laws.specs.Item.{Tagged}
 use Rattle.raft_log_model_laws.specs.Groups.{of_group}
 use Rattle.raft_log_record_base.specs.declared.errors.Error.{Error}
 use Rattle.raft_log_record_base.specs.declared.pipe_log.FileBlockHandle.{FileBlockHandle}
-use Rattle.raft_log_record_marks.specs.declared.status.AtomicGroupStatus.TheVariants.{End}
+use Rattle.raft_log_record_frames.specs.declared.status.AtomicGroupStatus.TheVariants.{End}
 use Rattle.raft_log_record_batches.specs.Batch.{Batch}
-use Rattle.raft_log_file_blocks.specs.Signing.{signed_for}
+use Rattle.raft_log_block_cache.specs.Signing.{signed_for}
 use Rattle.raft_log_directory_laws.specs.Calls.Which.{InRewrite}
-use Rattle.raft_log_table_lists.specs.declared.group_files.GroupFiles.{GroupFiles}
-use Rattle.raft_log_table_lists.specs.Shown.{IsOrderly, Shown}
-use Rattle.raft_log_table_lists.specs.Bridge.{Located}
-use Rattle.raft_log_table_lists.specs.Noted.{FilesRise, IsLeastInRewrite, with_note}
-use Rattle.raft_log_table_one.specs.Table.{Raw, shown}
-use Rattle.raft_log_table_one.specs.Files.{with_group}
-use Rattle.raft_log_file_blocks.specs.raft_log_table_all.specs.Views.{GroupEnd, MayEnd}
-use Rattle.raft_log_file_blocks.specs.raft_log_file_pair.specs.Calls.{AppendsTo, FailsToAppendTo}
+use Rattle.raft_log_memtable_index.specs.declared.group_files.GroupFiles.{GroupFiles}
+use Rattle.raft_log_memtable_index.specs.Shown.{IsOrderly, Shown}
+use Rattle.raft_log_memtable_index.specs.Bridge.{Located}
+use Rattle.raft_log_memtable_index.specs.Noted.{FilesRise, IsLeastInRewrite, with_note}
+use Rattle.raft_log_memtable.specs.Table.{Raw, shown}
+use Rattle.raft_log_memtable.specs.Files.{with_group}
+use Rattle.raft_log_block_cache.specs.raft_log_memtables.specs.Views.{GroupEnd, MayEnd}
+use Rattle.raft_log_block_cache.specs.raft_log_dual_pipes.specs.Calls.{AppendsTo, FailsToAppendTo}
 use Rattle.raft_log_engine_laws.specs.Shows.{Home, KeepsOrForgets, LogMap, Shows}
 use Rattle.raft_log_engine_laws.specs.Holding.{Holds}
 use Rattle.raft_log_engine_laws.specs.Rewriting.{RewriteLeaves}

@@ -8,11 +8,11 @@ use Rattle.raft_log_record_base.specs.declared.errors.Error.TheVariants as error
 use Rattle.raft_log_record_base.specs.declared.pipe_log.FileBlockHandle.{FileBlockHandle}
 use Rattle.raft_log_record_items.specs.declared.entry.EntryIndex.{EntryIndex}
 use Rattle.raft_log_record_items.specs.Message.{Parses}
-use Rattle.raft_log_table_runs.specs.Counts.{sized}
-use Rattle.raft_log_table_lists.specs.Shown.{Shown}
-use Rattle.raft_log_table_one.specs.Reads.{AreIn, FetchRefused, entry_at, fetched, places_between}
-use Rattle.raft_log_file_blocks.specs.raft_log_file_pair.specs.Pipes.{Said}
-use Rattle.raft_log_file_blocks.specs.Blocks.{IsFileUnread}
+use Rattle.raft_log_extents.specs.Counts.{sized}
+use Rattle.raft_log_memtable_index.specs.Shown.{Shown}
+use Rattle.raft_log_memtable.specs.Reads.{AreIn, FetchRefused, entry_at, fetched, places_between}
+use Rattle.raft_log_block_cache.specs.raft_log_dual_pipes.specs.Pipes.{Said}
+use Rattle.raft_log_block_cache.specs.Blocks.{IsFileUnread}
 use Rattle.raft_log_engine_laws.specs.Shows.{Home, LogMap, Shows, has_failed}
 use Rattle.raft_log_engine_laws.specs.Holding.{Holds}
 

@@ -4,11 +4,11 @@ use Rattle.std.specs.Prelude.{ℕ, []}
 use Rattle.raft_log_record_base.specs.declared.errors.Error.{Error}
 use Rattle.raft_log_record_base.specs.declared.errors.Error.TheVariants as errors
 use Rattle.raft_log_record_base.specs.declared.pipe_log.FileBlockHandle.{FileBlockHandle}
-use Rattle.raft_log_record_marks.specs.declared.status.AtomicGroupStatus.TheVariants.{Begin, Middle}
+use Rattle.raft_log_record_frames.specs.declared.status.AtomicGroupStatus.TheVariants.{Begin, Middle}
 use Rattle.raft_log_record_batches.specs.Batch.{Batch}
-use Rattle.raft_log_file_blocks.specs.Signing.{signed_for}
+use Rattle.raft_log_block_cache.specs.Signing.{signed_for}
 use Rattle.raft_log_directory_laws.specs.Calls.Which.{InRewrite}
-use Rattle.raft_log_file_blocks.specs.raft_log_file_pair.specs.Calls.{AppendsTo, FailsToAppendTo, SyncsQueue}
+use Rattle.raft_log_block_cache.specs.raft_log_dual_pipes.specs.Calls.{AppendsTo, FailsToAppendTo, SyncsQueue}
 use Rattle.raft_log_engine_laws.specs.Shows.{Home, LogMap, Shows}
 use Rattle.raft_log_engine_laws.specs.Holding.{Holds}
 use Rattle.raft_log_engine_laws.specs.Rewriting.{RewriteLeaves}

@@ -2,18 +2,18 @@
 -- each clause on a call holds for every map and batches that were true of the engine before.
 use Rattle.std.specs.Prelude.{◌≡◌, ◌≤◌, ℕ, List, ◌++◌, Some}
 use Rattle.raft_log_model_laws.specs.Groups.{taken}
-use Rattle.raft_log_disk.specs.Disk.{Disk}
+use Rattle.raft_log_fs.specs.Disk.{Disk}
 use Rattle.raft_log_directory_laws.specs.Log.{IsAt, View}
-use Rattle.raft_log_file_blocks.specs.raft_log_file_pair.specs.State.{Ties}
-use Rattle.raft_log_file_blocks.specs.raft_log_file_pair.specs.Lying.{OpenPipes}
-use Rattle.raft_log_file_blocks.specs.raft_log_file_pair.specs.Failing.{LogEndsLying}
-use Rattle.raft_log_table_lists.specs.declared.group_files.GroupFiles.{GroupFiles}
-use Rattle.raft_log_table_lists.specs.Shown.{Shown}
-use Rattle.raft_log_table_lists.specs.Noted.{FilesRise}
-use Rattle.raft_log_file_blocks.specs.raft_log_table_all.specs.Views.{AreMeant, view_of}
-use Rattle.raft_log_file_blocks.specs.Stored.{AreStored, entries_at}
-use Rattle.raft_log_file_blocks.specs.raft_log_file_pair.specs.Pipes.{LogPipes, RunsOn, Said, State}
-use Rattle.raft_log_file_blocks.specs.Blocks.{IsOfLog}
+use Rattle.raft_log_block_cache.specs.raft_log_dual_pipes.specs.State.{Ties}
+use Rattle.raft_log_block_cache.specs.raft_log_dual_pipes.specs.Lying.{OpenPipes}
+use Rattle.raft_log_block_cache.specs.raft_log_dual_pipes.specs.Failing.{LogEndsLying}
+use Rattle.raft_log_memtable_index.specs.declared.group_files.GroupFiles.{GroupFiles}
+use Rattle.raft_log_memtable_index.specs.Shown.{Shown}
+use Rattle.raft_log_memtable_index.specs.Noted.{FilesRise}
+use Rattle.raft_log_block_cache.specs.raft_log_memtables.specs.Views.{AreMeant, view_of}
+use Rattle.raft_log_block_cache.specs.Stored.{AreStored, entries_at}
+use Rattle.raft_log_block_cache.specs.raft_log_dual_pipes.specs.Pipes.{LogPipes, RunsOn, Said, State}
+use Rattle.raft_log_block_cache.specs.Blocks.{IsOfLog}
 use Rattle.raft_log_engine_laws.specs.Shows.{Home, LogMap, Shows, log_in, sense}
 
 -- along each group's entries the file numbers never fall, in either queue, up to the last file of the queue

@@ -18,8 +18,8 @@ pub mod Quiet
 pub mod Raising
 pub mod Rewriting
 -- libraries below, passed on to the crates above
-pub use Rattle.raft_log_table_one
-pub use Rattle.raft_log_file_blocks.specs.raft_log_table_all
-pub use Rattle.raft_log_file_layout
-pub use Rattle.raft_log_file_blocks.specs.raft_log_file_pair
-pub use Rattle.raft_log_file_blocks
+pub use Rattle.raft_log_memtable
+pub use Rattle.raft_log_block_cache.specs.raft_log_memtables
+pub use Rattle.raft_log_active_file
+pub use Rattle.raft_log_block_cache.specs.raft_log_dual_pipes
+pub use Rattle.raft_log_block_cache

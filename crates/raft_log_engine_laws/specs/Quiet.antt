@@ -2,13 +2,13 @@
 -- every exit.
 use Rattle.std.specs.Prelude.{◌≡◌, List, []}
 use Rattle.raft_log_model_laws.specs.Groups.{taken}
-use Rattle.raft_log_disk.specs.Causes.{Fails}
+use Rattle.raft_log_fs.specs.Causes.{Fails}
 use Rattle.raft_log_record_base.specs.declared.errors.Error.{Error}
 use Rattle.raft_log_record_base.specs.declared.errors.Error.TheVariants as errors
 use Rattle.raft_log_directory_laws.specs.Calls.{Which}
 use Rattle.raft_log_directory_laws.specs.Calls.Which.{InAppend, InRewrite}
-use Rattle.raft_log_file_blocks.specs.raft_log_file_pair.specs.Pipes.{LogPipes, Said}
-use Rattle.raft_log_file_blocks.specs.raft_log_file_pair.specs.Calls.{FailsToRotateQueue, FailsToSyncQueue, RotatesQueue, SyncsQueue}
+use Rattle.raft_log_block_cache.specs.raft_log_dual_pipes.specs.Pipes.{LogPipes, Said}
+use Rattle.raft_log_block_cache.specs.raft_log_dual_pipes.specs.Calls.{FailsToRotateQueue, FailsToSyncQueue, RotatesQueue, SyncsQueue}
 use Rattle.raft_log_engine_laws.specs.Shows.{Home, LogMap, Shows}
 use Rattle.raft_log_engine_laws.specs.Holding.{Holds, IsLeftAt, RunsAs}
 use Rattle.raft_log_engine_laws.specs.Settled.{HoldsSettled, SameTables}

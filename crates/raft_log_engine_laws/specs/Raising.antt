@@ -6,10 +6,10 @@ use Rattle.raft_log_record_base.specs.declared.errors.Error.TheVariants as error
 use Rattle.raft_log_machine_laws.specs.Whereabouts.{OwesNothing}
 use Rattle.raft_log_directory_laws.specs.Calls.{Which}
 use Rattle.raft_log_directory_laws.specs.Calls.Which.{InAppend, InRewrite}
-use Rattle.raft_log_table_lists.specs.Shown.{Shown, whereabouts}
-use Rattle.raft_log_table_lists.specs.Noted.{IsLeastInRewrite, start_of}
-use Rattle.raft_log_table_one.specs.Files.{IsLeastInAppend}
-use Rattle.raft_log_file_blocks.specs.raft_log_file_pair.specs.Calls.{FailsToPurgeQueue, PurgesQueue}
+use Rattle.raft_log_memtable_index.specs.Shown.{Shown, whereabouts}
+use Rattle.raft_log_memtable_index.specs.Noted.{IsLeastInRewrite, start_of}
+use Rattle.raft_log_memtable.specs.Files.{IsLeastInAppend}
+use Rattle.raft_log_block_cache.specs.raft_log_dual_pipes.specs.Calls.{FailsToPurgeQueue, PurgesQueue}
 use Rattle.raft_log_engine_laws.specs.Shows.{Home, LogMap, Shows}
 use Rattle.raft_log_engine_laws.specs.Holding.{IsLeftAt}
 use Rattle.raft_log_engine_laws.specs.Settled.{HoldsSettled}

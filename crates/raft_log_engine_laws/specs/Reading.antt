@@ -7,11 +7,11 @@ use Rattle.std.specs.Ordering.{nat_cmp}
 use Rattle.raft_log_model_laws.specs.Groups.{taken}
 use Rattle.raft_log_model_laws.specs.Meaning.Slot.{Index, Key}
 use Rattle.raft_log_model_laws.specs.Meaning.Content.{Value}
-use Rattle.raft_log_table_lists.specs.Shown.{KeyValue, Shown}
-use Rattle.raft_log_table_lists.specs.Bridge.{bytes_held}
-use Rattle.raft_log_table_lists.specs.Listing.{ListsAll, is_below, is_from, values_within}
-use Rattle.raft_log_table_one.specs.Reads.{first_of, last_of}
-use Rattle.raft_log_file_blocks.specs.raft_log_file_pair.specs.Pipes.{Said}
+use Rattle.raft_log_memtable_index.specs.Shown.{KeyValue, Shown}
+use Rattle.raft_log_memtable_index.specs.Bridge.{bytes_held}
+use Rattle.raft_log_memtable_index.specs.Listing.{ListsAll, is_below, is_from, values_within}
+use Rattle.raft_log_memtable.specs.Reads.{first_of, last_of}
+use Rattle.raft_log_block_cache.specs.raft_log_dual_pipes.specs.Pipes.{Said}
 use Rattle.raft_log_engine_laws.specs.Shows.{Home, LogMap, Shows}
 use Rattle.raft_log_engine_laws.specs.Holding.{Holds}
 

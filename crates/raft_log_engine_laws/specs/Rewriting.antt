@@ -6,20 +6,20 @@ use Rattle.raft_log_model_laws.specs.Renamed.{renamed_tagged}
 use Rattle.raft_log_record_base.specs.declared.errors.Error.{Error}
 use Rattle.raft_log_record_base.specs.declared.errors.Error.TheVariants as errors
 use Rattle.raft_log_record_base.specs.declared.pipe_log.FileBlockHandle.{FileBlockHandle}
-use Rattle.raft_log_record_marks.specs.declared.marking.Marking.TheVariants.{Unmarked}
-use Rattle.raft_log_record_marks.specs.Marking.{marking_of_items}
-use Rattle.raft_log_record_marks.specs.Meaning.{tagged_items}
+use Rattle.raft_log_record_frames.specs.declared.marking.Marking.TheVariants.{Unmarked}
+use Rattle.raft_log_record_frames.specs.Marking.{marking_of_items}
+use Rattle.raft_log_record_frames.specs.Meaning.{tagged_items}
 use Rattle.raft_log_record_batches.specs.Batch.{Batch}
-use Rattle.raft_log_file_blocks.specs.Signing.{SaysItself, signed_for}
+use Rattle.raft_log_block_cache.specs.Signing.{SaysItself, signed_for}
 use Rattle.raft_log_directory_laws.specs.Calls.Which.{InRewrite}
-use Rattle.raft_log_table_lists.specs.Shown.{Shown}
-use Rattle.raft_log_table_lists.specs.Bridge.{Located, in_queue, unmarked}
-use Rattle.raft_log_file_blocks.specs.raft_log_table_all.specs.Owing.{AreOwedAt}
-use Rattle.raft_log_file_blocks.specs.raft_log_table_all.specs.Rewriting.{AreCopies, all_rewritten}
+use Rattle.raft_log_memtable_index.specs.Shown.{Shown}
+use Rattle.raft_log_memtable_index.specs.Bridge.{Located, in_queue, unmarked}
+use Rattle.raft_log_block_cache.specs.raft_log_memtables.specs.Owing.{AreOwedAt}
+use Rattle.raft_log_block_cache.specs.raft_log_memtables.specs.Rewriting.{AreCopies, all_rewritten}
 use Rattle.raft_log_record_batches.specs.Places.{entry_bytes}
-use Rattle.raft_log_file_blocks.specs.raft_log_table_all.specs.Views.{AreMeant}
+use Rattle.raft_log_block_cache.specs.raft_log_memtables.specs.Views.{AreMeant}
 use Rattle.raft_log_engine_laws.specs.Writing.{items_at}
-use Rattle.raft_log_file_blocks.specs.raft_log_file_pair.specs.Calls.{AppendsTo, FailsToAppendTo}
+use Rattle.raft_log_block_cache.specs.raft_log_dual_pipes.specs.Calls.{AppendsTo, FailsToAppendTo}
 use Rattle.raft_log_engine_laws.specs.Shows.{Home, IsLaidOut, KeepsOrForgets, LogMap, Shows}
 use Rattle.raft_log_engine_laws.specs.Holding.{Holds, IsLeftAt}
 use Rattle.raft_log_engine_laws.specs.Settled.{HoldsSettled, SameTables}

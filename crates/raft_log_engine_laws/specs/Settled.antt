@@ -1,11 +1,11 @@
 -- An engine with nothing pending in its log: a purge needs this before files go.
 use Rattle.std.specs.Prelude.{◌≡◌, List}
 use Rattle.raft_log_directory_laws.specs.Log.{IsSettled}
-use Rattle.raft_log_file_blocks.specs.raft_log_file_pair.specs.State.{Ties}
-use Rattle.raft_log_file_blocks.specs.raft_log_table_all.specs.Views.{AreMeant, view_of}
-use Rattle.raft_log_file_blocks.specs.Stored.{AreStored, entries_at}
-use Rattle.raft_log_file_blocks.specs.raft_log_file_pair.specs.Pipes.{RunsOn, State}
-use Rattle.raft_log_file_blocks.specs.Blocks.{IsOfLog}
+use Rattle.raft_log_block_cache.specs.raft_log_dual_pipes.specs.State.{Ties}
+use Rattle.raft_log_block_cache.specs.raft_log_memtables.specs.Views.{AreMeant, view_of}
+use Rattle.raft_log_block_cache.specs.Stored.{AreStored, entries_at}
+use Rattle.raft_log_block_cache.specs.raft_log_dual_pipes.specs.Pipes.{RunsOn, State}
+use Rattle.raft_log_block_cache.specs.Blocks.{IsOfLog}
 use Rattle.raft_log_engine_laws.specs.Shows.{Home, KeepsOrForgets, LogMap, Shows, log_in, sense}
 use Rattle.raft_log_engine_laws.specs.Holding.{FilesRiseIn, NotesEndIn}
 

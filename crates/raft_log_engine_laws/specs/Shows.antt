@@ -7,20 +7,20 @@ use Rattle.raft_log_record_base.specs.declared.pipe_log.LogQueue.TheVariants.{Ap
 use Rattle.raft_log_record_base.specs.declared.pipe_log.FileBlockHandle.{FileBlockHandle}
 use Rattle.raft_log_record_items.specs.Placed.{entries_len, laid_out, placed}
 use Rattle.raft_log_record_frames.specs.Record.{block_bytes}
-use Rattle.raft_log_record_marks.specs.declared.marking.Marking.TheVariants.{Broken}
-use Rattle.raft_log_record_marks.specs.Marking.{marking_of_items}
-use Rattle.raft_log_record_marks.specs.Meaning.{record_of, tagged_items}
+use Rattle.raft_log_record_frames.specs.declared.marking.Marking.TheVariants.{Broken}
+use Rattle.raft_log_record_frames.specs.Marking.{marking_of_items}
+use Rattle.raft_log_record_frames.specs.Meaning.{record_of, tagged_items}
 use Rattle.raft_log_record_batches.specs.declared.log_batch.BatchState.{BatchState}
 use Rattle.raft_log_record_batches.specs.declared.log_batch.BatchState.TheVariants.{Filling, Populated, Signed, Written}
 use Rattle.raft_log_record_batches.specs.Batch.{Batch}
 use Rattle.raft_log_record_batches.specs.Places.{entry_bytes}
-use Rattle.raft_log_file_layout.specs.declared.record.LogRecord.{LogRecord}
-use Rattle.raft_log_table_lists.specs.Shown.{Shown}
-use Rattle.raft_log_file_blocks.specs.raft_log_table_all.specs.declared.mem_tables.MemTables.{MemTables}
-use Rattle.raft_log_file_blocks.specs.raft_log_table_all.specs.Tables.{counts, shown_of}
-use Rattle.raft_log_file_blocks.specs.raft_log_file_pair.specs.Queues.{TwoQueues}
-use Rattle.raft_log_file_blocks.specs.raft_log_file_pair.specs.Pipes.{LogPipes, LogSense, Said, is_failed, queues}
-use Rattle.raft_log_file_blocks.specs.declared.block_cache.BlockCache.{BlockCache}
+use Rattle.raft_log_active_file.specs.declared.record.LogRecord.{LogRecord}
+use Rattle.raft_log_memtable_index.specs.Shown.{Shown}
+use Rattle.raft_log_block_cache.specs.raft_log_memtables.specs.declared.mem_tables.MemTables.{MemTables}
+use Rattle.raft_log_block_cache.specs.raft_log_memtables.specs.Tables.{counts, shown_of}
+use Rattle.raft_log_block_cache.specs.raft_log_dual_pipes.specs.Queues.{TwoQueues}
+use Rattle.raft_log_block_cache.specs.raft_log_dual_pipes.specs.Pipes.{LogPipes, LogSense, Said, is_failed, queues}
+use Rattle.raft_log_block_cache.specs.declared.block_cache.BlockCache.{BlockCache}
 use Rattle.raft_log_record_base.specs.Files.{no_block}
 
 -- what is read through an engine: for each group and slot an entry's bytes, or a key's value

@@ -1,21 +1,21 @@
 -- The tables of all groups take a whole atomic group of copies of one of them.
 use Rattle.std.specs.Prelude.{◌≡◌, ◌==◌, ℕ, true, false, List, [], ◌∷◌, ◌++◌, Option}
 use Rattle.raft_log_record_base.specs.declared.pipe_log.FileBlockHandle.{FileBlockHandle}
-use Rattle.raft_log_record_marks.specs.declared.status.AtomicGroupStatus.TheVariants.{End}
+use Rattle.raft_log_record_frames.specs.declared.status.AtomicGroupStatus.TheVariants.{End}
 use Rattle.raft_log_record_batches.specs.Batch.{Batch}
-use Rattle.raft_log_file_blocks.specs.Signing.{signed_for}
+use Rattle.raft_log_block_cache.specs.Signing.{signed_for}
 use Rattle.raft_log_directory_laws.specs.Calls.Which.{InRewrite}
-use Rattle.raft_log_table_lists.specs.declared.group_files.GroupFiles.{GroupFiles}
-use Rattle.raft_log_table_lists.specs.Shown.{IsOrderly}
-use Rattle.raft_log_table_lists.specs.Bridge.{Located}
-use Rattle.raft_log_table_lists.specs.Noted.{FilesRise}
-use Rattle.raft_log_file_blocks.specs.raft_log_table_all.specs.declared.mem_tables.MemTables.{MemTables}
-use Rattle.raft_log_file_blocks.specs.raft_log_table_all.specs.Joining.{noted_in}
-use Rattle.raft_log_file_blocks.specs.raft_log_table_all.specs.Rewriting.{TakesRewritten}
-use Rattle.raft_log_file_blocks.specs.raft_log_table_all.specs.Tables.{has_table, raw_of, replayed_of, shown_of}
-use Rattle.raft_log_file_blocks.specs.raft_log_file_pair.specs.Calls.{AppendsTo}
-use Rattle.raft_log_file_blocks.specs.raft_log_file_pair.specs.Pipes.{LogPipes}
-use Rattle.raft_log_file_blocks.specs.declared.block_cache.BlockCache.{BlockCache}
+use Rattle.raft_log_memtable_index.specs.declared.group_files.GroupFiles.{GroupFiles}
+use Rattle.raft_log_memtable_index.specs.Shown.{IsOrderly}
+use Rattle.raft_log_memtable_index.specs.Bridge.{Located}
+use Rattle.raft_log_memtable_index.specs.Noted.{FilesRise}
+use Rattle.raft_log_block_cache.specs.raft_log_memtables.specs.declared.mem_tables.MemTables.{MemTables}
+use Rattle.raft_log_block_cache.specs.raft_log_memtables.specs.Joining.{noted_in}
+use Rattle.raft_log_block_cache.specs.raft_log_memtables.specs.Rewriting.{TakesRewritten}
+use Rattle.raft_log_block_cache.specs.raft_log_memtables.specs.Tables.{has_table, raw_of, replayed_of, shown_of}
+use Rattle.raft_log_block_cache.specs.raft_log_dual_pipes.specs.Calls.{AppendsTo}
+use Rattle.raft_log_block_cache.specs.raft_log_dual_pipes.specs.Pipes.{LogPipes}
+use Rattle.raft_log_block_cache.specs.declared.block_cache.BlockCache.{BlockCache}
 use Rattle.raft_log_engine_laws.specs.Shows.{Home, KeepsOrForgets, LogMap, shows}
 use Rattle.raft_log_engine_laws.specs.Holding.{Holds}
 use Rattle.raft_log_engine_laws.specs.Writing.{items_at}

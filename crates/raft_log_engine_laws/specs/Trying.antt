@@ -5,12 +5,12 @@ use Rattle.raft_log_record_base.specs.declared.errors.Error.{Error}
 use Rattle.raft_log_record_base.specs.declared.errors.Error.TheVariants as errors
 use Rattle.raft_log_record_base.specs.declared.pipe_log.FileBlockHandle.{FileBlockHandle}
 use Rattle.raft_log_record_base.specs.declared.pipe_log.LogFileContext.{LogFileContext}
-use Rattle.raft_log_disk.specs.Causes.{IsLater}
+use Rattle.raft_log_fs.specs.Causes.{IsLater}
 use Rattle.raft_log_directory_laws.specs.Calls.Which.{InAppend}
-use Rattle.raft_log_file_blocks.specs.raft_log_file_pair.specs.Pipes.{LogPipes}
-use Rattle.raft_log_file_blocks.specs.raft_log_file_pair.specs.Calls.{AppendsTo, FailsToAppendTo}
-use Rattle.raft_log_file_blocks.specs.raft_log_file_pair.specs.Numbers.{EndsNumbersAt}
-use Rattle.raft_log_file_blocks.specs.raft_log_file_pipe.specs.Appending.{SaysTryAgain}
+use Rattle.raft_log_block_cache.specs.raft_log_dual_pipes.specs.Pipes.{LogPipes}
+use Rattle.raft_log_block_cache.specs.raft_log_dual_pipes.specs.Calls.{AppendsTo, FailsToAppendTo}
+use Rattle.raft_log_block_cache.specs.raft_log_dual_pipes.specs.Numbers.{EndsNumbersAt}
+use Rattle.raft_log_block_cache.specs.raft_log_file_pipe.specs.Appending.{SaysTryAgain}
 
 -- a record was tried, and there was no space for it
 abbrev pub TriesInVain : (LogFileContext → List ℕ) → LogPipes → LogPipes → Type 0

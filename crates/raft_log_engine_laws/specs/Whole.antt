@@ -7,13 +7,13 @@ use Rattle.raft_log_model_laws.specs.Groups.{of_group}
 use Rattle.raft_log_model_laws.specs.Renamed.{renamed}
 use Rattle.raft_log_machine_laws.specs.Machine.{IsJoined}
 use Rattle.raft_log_record_batches.specs.Batch.{Batch}
-use Rattle.raft_log_table_runs.specs.declared.place.Place.{Place}
-use Rattle.raft_log_table_lists.specs.Shown.{IsOrderly, Shown}
-use Rattle.raft_log_table_lists.specs.Bridge.{CanAllMove, Located, Move, all_moved, in_queue, items_of as copies_of}
-use Rattle.raft_log_table_lists.specs.Noted.{FilesRise}
-use Rattle.raft_log_file_blocks.specs.raft_log_table_all.specs.Rewriting.{IsCopy, all_rewritten, moves_of, rewritten_item}
-use Rattle.raft_log_file_blocks.specs.Stored.{Each}
-use Rattle.raft_log_file_blocks.specs.raft_log_table_all.specs.Views.{AreMeant}
+use Rattle.raft_log_extents.specs.declared.place.Place.{Place}
+use Rattle.raft_log_memtable_index.specs.Shown.{IsOrderly, Shown}
+use Rattle.raft_log_memtable_index.specs.Bridge.{CanAllMove, Located, Move, all_moved, in_queue, items_of as copies_of}
+use Rattle.raft_log_memtable_index.specs.Noted.{FilesRise}
+use Rattle.raft_log_block_cache.specs.raft_log_memtables.specs.Rewriting.{IsCopy, all_rewritten, moves_of, rewritten_item}
+use Rattle.raft_log_block_cache.specs.Stored.{Each}
+use Rattle.raft_log_block_cache.specs.raft_log_memtables.specs.Views.{AreMeant}
 use Rattle.raft_log_engine_laws.specs.Shows.{LogMap}
 use Rattle.raft_log_engine_laws.specs.Writing.{items_at}
 use Rattle.raft_log_engine_laws.specs.Parts.{FilesGoUp, SaysPart, WrittenPart}

@@ -11,4 +11,4 @@ pub mod calls;
 pub mod groups;
 pub mod purges;
 
-pub use raft_log_file_blocks;
+pub use raft_log_block_cache;

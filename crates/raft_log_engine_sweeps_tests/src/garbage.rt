@@ -1,10 +1,10 @@
 //! What a refused rewrite of Rewrite leaves as garbage is counted, so that the next purge rewrites Rewrite exactly
 //! where enough of it is.
 use log::Log;
-use raft_log_disk::Fault;
-use raft_log_disk_memory::MemoryFileSystem;
+use raft_log_fs::Fault;
+use raft_log_fs_memory::MemoryFileSystem;
 use raft_log_engine_core::Engine;
-use raft_log_file_pair::OpenRefused;
+use raft_log_dual_pipes::OpenRefused;
 use raft_log_file_settings::Config;
 use raft_log_record_base::{LogQueue, ReadableSize, Result};
 use raft_log_record_batches::LogBatch;

@@ -1,8 +1,8 @@
 //! A run of steps on a log, and what may stand of it.
 use crate::store::Store;
 use log::Log;
-use raft_log_disk::{Fault, FileSystem};
-use raft_log_disk_memory::{MemoryFileSystem, Remainder};
+use raft_log_fs::{Fault, FileSystem};
+use raft_log_fs_memory::{MemoryFileSystem, Remainder};
 use raft_log_record_base::Result;
 use raft_log_record_batches::LogBatch;
 use std::alloc::Global;

@@ -1,9 +1,9 @@
 //! A log in memory, open or closed.
 use log::Log;
-use raft_log_disk::FileSystem;
-use raft_log_disk_memory::MemoryFileSystem;
+use raft_log_fs::FileSystem;
+use raft_log_fs_memory::MemoryFileSystem;
 use raft_log_engine_core::Engine;
-use raft_log_file_pair::{Closed, OpenRefused};
+use raft_log_dual_pipes::{Closed, OpenRefused};
 use raft_log_file_settings::Config;
 use raft_log_record_base::{Error, ReadableSize, Result};
 use std::alloc::Global;

@@ -1,7 +1,7 @@
 //! Each changing call of a run fails in turn.
 use crate::run::played;
 use log::Log;
-use raft_log_disk::Fault;
+use raft_log_fs::Fault;
 use raft_log_record_base::Result;
 use std::alloc::Global;
 use std::test::Fail;

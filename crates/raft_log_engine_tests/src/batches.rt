@@ -1,8 +1,8 @@
 //! Batches that are signed for the files that they go into.
 use super::pair::pair;
 use log::Log;
-use raft_log_file_blocks::SignedBatch;
-use raft_log_file_pair::PipeLog;
+use raft_log_block_cache::SignedBatch;
+use raft_log_dual_pipes::PipeLog;
 use raft_log_record_base::{LogQueue, Result};
 use raft_log_record_batches::LogBatch;
 use std::alloc::Global;

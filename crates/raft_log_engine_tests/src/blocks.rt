@@ -2,8 +2,8 @@
 use super::counts::Count;
 use super::pair::pair;
 use log::Log;
-use raft_log_file_blocks::{BlockCache, SignedBatch};
-use raft_log_file_pair::PipeLog;
+use raft_log_block_cache::{BlockCache, SignedBatch};
+use raft_log_dual_pipes::PipeLog;
 use raft_log_record_base::{Error, FileBlockHandle, LogQueue, Result};
 use raft_log_record_batches::LogBatch;
 use raft_log_record_items::EntryIndex;

@@ -1,7 +1,7 @@
 //! Engines that are closed.
 use super::store::{Store, fresh};
 use log::Log;
-use raft_log_file_pair::PipeLog;
+use raft_log_dual_pipes::PipeLog;
 use raft_log_record_base::{Error, Result};
 use std::io::ErrorKind;
 use std::test::Fail;

@@ -1,11 +1,11 @@
 //! A log's pipes are opened over what was found of its queues, and hand the file system back where that is
 //! refused.
 use super::pair::{found, system};
-use raft_log_disk::{FileSystem, Permission};
-use raft_log_disk_memory::MemoryFileSystem;
+use raft_log_fs::{FileSystem, Permission};
+use raft_log_fs_memory::MemoryFileSystem;
 use raft_log_file_format::LogFileFormat;
-use raft_log_file_pair::{DualPipes, FoundPipe, OpenRefused, PipeLog};
-use raft_log_file_queue::File;
+use raft_log_dual_pipes::{DualPipes, FoundPipe, OpenRefused, PipeLog};
+use raft_log_active_file::File;
 use raft_log_record_base::{Error, LogQueue, Version};
 use std::collections::VecDeque;
 use std::test::Fail;

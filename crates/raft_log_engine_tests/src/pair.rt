@@ -1,12 +1,11 @@
 //! Both pipes of a log, over one file system.
 use log::Log;
-use raft_log_disk::{FileSystem, Permission};
-use raft_log_disk_memory::MemoryFileSystem;
+use raft_log_fs::{FileSystem, Permission};
+use raft_log_fs_memory::MemoryFileSystem;
 use raft_log_file_format::LogFileFormat;
-use raft_log_file_layout::LogLayout;
-use raft_log_file_pair::{DualPipes, FoundPipe, PipeLog};
+use raft_log_active_file::{File, LogLayout};
+use raft_log_dual_pipes::{DualPipes, FoundPipe, PipeLog};
 use raft_log_file_pipe::{FoundFiles, NewFiles, PipeSettings, ReactiveBytes, SinglePipe};
-use raft_log_file_queue::File;
 use raft_log_record_base::{Error, FileBlockHandle, FileId, LogFileContext, LogQueue, Version};
 use std::alloc::Global;
 use std::collections::VecDeque;

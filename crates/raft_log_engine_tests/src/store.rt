@@ -5,15 +5,15 @@ ghost use Rattle.raft_log_record_batches.specs.declared.log_batch.BatchState.The
 use super::counts::{Count, Counts};
 use super::pair::pair;
 use log::Log;
-use raft_log_disk::FileSystem;
-use raft_log_disk_memory::MemoryFileSystem;
+use raft_log_fs::FileSystem;
+use raft_log_fs_memory::MemoryFileSystem;
 use raft_log_engine_core::LogEngine;
-use raft_log_file_pair::{DualPipes, PipeLog};
-use raft_log_purge_rules::Thresholds;
+use raft_log_dual_pipes::{DualPipes, PipeLog};
+use raft_log_purge_policy::Thresholds;
 use raft_log_record_base::{Error, LogQueue, Result, Version};
 use raft_log_record_batches::{BatchState, LogBatch};
 use raft_log_record_items::EntryIndex;
-use raft_log_table_all::MemTables;
+use raft_log_memtables::MemTables;
 use std::alloc::Global;
 use std::test::Fail;
 

@@ -2,10 +2,10 @@
 //! back the files of which a record waits for the tables.
 use super::pair::{append, pair};
 use log::Log;
-use raft_log_disk::FileSystem;
-use raft_log_disk_memory::MemoryFileSystem;
+use raft_log_fs::FileSystem;
+use raft_log_fs_memory::MemoryFileSystem;
 use raft_log_file_listeners::{EventListener, Listeners, PurgeHook, ToldPipes};
-use raft_log_file_pair::{DualPipes, PipeLog};
+use raft_log_dual_pipes::{DualPipes, PipeLog};
 use raft_log_record_base::{FileBlockHandle, FileId, FileSeq, LogQueue};
 use std::alloc::Global;
 use std::sync::Arc;

@@ -9,7 +9,7 @@ use log::sink::Memory;
 use raft_cases::{CaseFault, Column, Command, play_on_files};
 use raft_log_file_settings::Config;
 use raft_log_file_writer::LogFileWriter;
-use raft_log_open_builder::DualPipesBuilder;
+use raft_log_recovery::DualPipesBuilder;
 use raft_log_record_base::Error;
 use raft_log_record_batches::LogBatch;
 use std::alloc::{AllocError, Global};

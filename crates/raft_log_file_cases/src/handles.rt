@@ -1,8 +1,8 @@
 //! Commands on a file system by the numbers of its files.
 use crate::outcomes::{made, refused};
 use raft_cases::{CaseFault, Command, show_bytes};
-use raft_log_disk::{FileSystem, Handle, Permission};
-use raft_log_disk_memory::MemoryFileSystem;
+use raft_log_fs::{FileSystem, Handle, Permission};
+use raft_log_fs_memory::MemoryFileSystem;
 use std::alloc::{AllocError, Global};
 use std::io::ErrorKind;
 

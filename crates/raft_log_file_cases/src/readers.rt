@@ -5,7 +5,7 @@ ghost use Rattle.raft_log_file_reader.specs.Reader.{IsReading};
 use crate::outcomes::{counted, failed};
 use crate::watched::Watched;
 use raft_cases::{CaseFault, Command, show_bytes};
-use raft_log_disk::{FileSystem, Handle, Permission};
+use raft_log_fs::{FileSystem, Handle, Permission};
 use raft_log_file_format::LogFileFormat;
 use raft_log_file_reader::{LogItemBatchFileReader, LogItemReader};
 use raft_log_file_uses::answers::answers_of;

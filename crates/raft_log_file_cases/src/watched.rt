@@ -1,11 +1,11 @@
 //! A file system in memory that counts reads, and keeps something beside some log files.
 
 ghost use Rattle.std.specs.Prelude.{◌≡◌};
-ghost use Rattle.raft_log_disk_memory.specs.Memory.{disk_of};
-ghost use Rattle.raft_log_disk_memory.specs.Turns.{armed, armed_with};
+ghost use Rattle.raft_log_fs_memory.specs.Memory.{disk_of};
+ghost use Rattle.raft_log_fs_memory.specs.Turns.{armed, armed_with};
 
-use raft_log_disk::{Fault, FileSystem, Handle, Permission};
-use raft_log_disk_memory::MemoryFileSystem;
+use raft_log_fs::{Fault, FileSystem, Handle, Permission};
+use raft_log_fs_memory::MemoryFileSystem;
 use std::alloc::Global;
 use std::cell::Cell;
 use std::io::ErrorKind;

@@ -3,7 +3,7 @@ use crate::outcomes::{failed, made, read};
 use crate::watched::Watched;
 use log::sink::Memory;
 use raft_cases::{CaseFault, Command, hex};
-use raft_log_disk::{FileSystem, Permission};
+use raft_log_fs::{FileSystem, Permission};
 use raft_log_file_format::LogFileFormat;
 use raft_log_file_writer::{
     LogFileReader, LogFileWriter, build_file_reader, build_file_writer, build_header,

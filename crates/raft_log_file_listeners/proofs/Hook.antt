@@ -9,8 +9,8 @@ use Rattle.raft_log_record_base.specs.declared.pipe_log.LogQueue.TheVariants.{Ap
 use Rattle.raft_log_file_listeners.specs.Active.{ActiveFiles, IsNext, ListsOrMisses, counted, first_held, first_waiting, one_less, one_more, place_of, with_count, with_file}
 use Rattle.raft_log_file_listeners.specs.Hearing.{HookHears, WritesHoldNothingBack, WrittenFilesAreHeld}
 use Rattle.raft_log_file_listeners.specs.Least.{lesser}
-use Rattle.raft_log_file_pair.specs.Telling.{BothHear, Hears, Told, begun}
-use Rattle.raft_log_file_pair.proofs.Telling.{second_hears}
+use Rattle.raft_log_dual_pipes.specs.Telling.{BothHear, Hears, Told, begun}
+use Rattle.raft_log_dual_pipes.proofs.Telling.{second_hears}
 use Rattle.raft_log_file_listeners.proofs.Held.{waiting_files_are_held}
 
 -- the first file of which a record waits

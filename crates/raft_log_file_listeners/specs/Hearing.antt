@@ -2,7 +2,7 @@
 use Rattle.std.specs.Prelude.{◌≡◌, ◌≤◌, ℕ, Some, [], ◌∷◌, ◌++◌}
 use Rattle.raft_log_record_base.specs.declared.pipe_log.FileBlockHandle.{FileBlockHandle}
 use Rattle.raft_log_record_base.specs.declared.pipe_log.LogQueue.{LogQueue}
-use Rattle.raft_log_file_pair.specs.Telling.{Hears, Told, begun}
+use Rattle.raft_log_dual_pipes.specs.Telling.{Hears, Told, begun}
 use Rattle.raft_log_file_listeners.specs.Active.{ActiveFiles, DropsListed, ListsOrMisses, counted, first_held, one_less, one_more, place_of}
 
 -- how each event changes the hook:

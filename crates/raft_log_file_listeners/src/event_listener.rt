@@ -2,8 +2,8 @@
 
 ghost use Rattle.std.specs.Prelude.{◌≡◌, ℕ, Option, None};
 ghost use Rattle.raft_log_record_base.specs.declared.pipe_log.LogQueue.{LogQueue};
-ghost use Rattle.raft_log_file_pair.specs.Telling.{Told};
-ghost use Rattle.raft_log_file_pair.specs.Telling.Told.{FileBegun, FilesPurged, RecordApplied, RecordWritten};
+ghost use Rattle.raft_log_dual_pipes.specs.Telling.{Told};
+ghost use Rattle.raft_log_dual_pipes.specs.Telling.Told.{FileBegun, FilesPurged, RecordApplied, RecordWritten};
 
 use raft_log_record_base::{FileBlockHandle, FileId, FileSeq, LogQueue};
 

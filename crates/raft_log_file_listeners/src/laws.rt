@@ -5,7 +5,7 @@ ghost use Rattle.raft_log_file_listeners.specs.Hearing.{WritesHoldNothingBack, W
 
 use crate::purge_hook::PurgeHook;
 use crate::told_pipes::ToldPipes;
-use raft_log_file_pair::PipeLog;
+use raft_log_dual_pipes::PipeLog;
 
 /// A file with a record that waits for the tables isn't purged: the hook pins that file, or one before it.
 pub fn waiting_files_are_held()

@@ -2,12 +2,12 @@
 
 ghost use Rattle.std.specs.Prelude.{◌≡◌, ◌++◌, ◌-◌};
 ghost use Rattle.raft_log_record_base.specs.declared.pipe_log.LogQueue.TheVariants.{Append, Rewrite};
-ghost use Rattle.raft_log_file_pair.specs.Telling.{Hears, begun, files_found};
+ghost use Rattle.raft_log_dual_pipes.specs.Telling.{Hears, begun, files_found};
 
 use crate::{EventListener, lesser};
 use log::Log;
-use raft_log_disk::Fault;
-use raft_log_file_pair::{Closed, PipeLog};
+use raft_log_fs::Fault;
+use raft_log_dual_pipes::{Closed, PipeLog};
 use raft_log_file_pipe::ReactiveBytes;
 use raft_log_record_base::{FileBlockHandle, FileId, FileSeq, LogQueue, Result};
 use std::alloc::Global;
@@ -74,7 +74,7 @@ fn tell_new_files<E: EventListener>(
 }
 
 impl<P: PipeLog, E: EventListener> PipeLog for ToldPipes<P, E> {
-    ghost use Rattle.raft_log_file_pair.specs.Telling.{BothHear};
+    ghost use Rattle.raft_log_dual_pipes.specs.Telling.{BothHear};
     ghost use Rattle.raft_log_file_listeners.specs.Least.{BothHoldBack};
 
     type Files = P::Files;

@@ -3,19 +3,19 @@ use Rattle.std.specs.Prelude.{Result, Ok, Err}
 use Rattle.std.specs.Result.{IfErr, OnOk, OnErr}
 use Rattle.std.specs.declared.io.ErrorKind.{ErrorKind}
 use Rattle.std.proofs.Common.{◌≡◌, ℕ, Some, List, [], ◌∷◌, refl, sym, ◌∙◌, ap, subst, arith}
-use Rattle.raft_log_disk.specs.Disk.{Disk}
-use Rattle.raft_log_disk.specs.Exits.{FailsToSync, Syncs}
-use Rattle.raft_log_disk.specs.Image.{IsSound}
-use Rattle.raft_log_file_laws.specs.LogFormat.{Format}
-use Rattle.raft_log_file_laws.specs.LogQueue.{LogFiles}
-use Rattle.raft_log_disk.specs.Touching.{TouchesOnly}
+use Rattle.raft_log_fs.specs.Disk.{Disk}
+use Rattle.raft_log_fs.specs.Exits.{FailsToSync, Syncs}
+use Rattle.raft_log_fs.specs.Image.{IsSound}
+use Rattle.raft_log_file_writer.specs.LogFormat.{Format}
+use Rattle.raft_log_file_writer.specs.LogQueue.{LogFiles}
+use Rattle.raft_log_fs.specs.Touching.{TouchesOnly}
 use Rattle.raft_log_file_format.specs.Header.{header_bytes}
-use Rattle.raft_log_file_queue.specs.Queue.{with_more, with_room, settled, synced}
-use Rattle.raft_log_file_queue.specs.Standing.{Names}
-use Rattle.raft_log_file_queue.specs.Layout.{FilePaths, IsLayout, path_of}
-use Rattle.raft_log_file_queue.specs.Exits.{IsOpen, AppendsRecord, FailsToAppend, SyncsAll, FailsToSyncAll}
-use Rattle.raft_log_file_queue.specs.declared.last_file.WriteFault.{WriteFault}
-use Rattle.raft_log_file_queue.specs.declared.last_file.WriteFault.TheVariants.{CutBack, Failed}
+use Rattle.raft_log_active_file.specs.Queue.{with_more, with_room, settled, synced}
+use Rattle.raft_log_active_file.specs.Standing.{Names}
+use Rattle.raft_log_active_file.specs.Layout.{FilePaths, IsLayout, path_of}
+use Rattle.raft_log_active_file.specs.Exits.{IsOpen, AppendsRecord, FailsToAppend, SyncsAll, FailsToSyncAll}
+use Rattle.raft_log_active_file.specs.declared.last_file.WriteFault.{WriteFault}
+use Rattle.raft_log_active_file.specs.declared.last_file.WriteFault.TheVariants.{CutBack, Failed}
 use Rattle.raft_log_file_pipe.specs.declared.pipe_files.PipeFiles.{PipeFiles}
 use Rattle.raft_log_file_pipe.specs.Files.{Listed, IsSpan, AllKept, IsPipe}
 use Rattle.raft_log_file_pipe.specs.Exits.{Adds, FailsToAdd, SyncsPipe, FailsToSyncPipe}

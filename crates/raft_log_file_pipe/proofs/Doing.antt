@@ -3,22 +3,22 @@ use Rattle.std.specs.Prelude.{Result, Ok, Err}
 use Rattle.std.specs.Result.{IfErr, IfOk, OnOk}
 use Rattle.std.specs.declared.io.ErrorKind.{ErrorKind}
 use Rattle.std.proofs.Common.{◌≡◌, inl, inr, ℕ, suc, Option, Some, None, List, [], ◌∷◌, ◌++◌, drop, length, false, refl, sym, ◌∙◌, ap, subst, arith}
-use Rattle.raft_log_disk.specs.Disk.{Disk}
-use Rattle.raft_log_disk.specs.Calls.{Creates, Renames}
-use Rattle.raft_log_disk.specs.Exits.{FailsToCreate, FailsToRename}
-use Rattle.raft_log_disk.specs.Reading.{IsOpened}
-use Rattle.raft_log_disk.specs.declared.handle.Handle.{Handle}
-use Rattle.raft_log_disk.specs.declared.handle.Permission.TheVariants.{ReadWrite}
+use Rattle.raft_log_fs.specs.Disk.{Disk}
+use Rattle.raft_log_fs.specs.Calls.{Creates, Renames}
+use Rattle.raft_log_fs.specs.Exits.{FailsToCreate, FailsToRename}
+use Rattle.raft_log_fs.specs.Reading.{IsOpened}
+use Rattle.raft_log_fs.specs.declared.handle.Handle.{Handle}
+use Rattle.raft_log_fs.specs.declared.handle.Permission.TheVariants.{ReadWrite}
 use Rattle.raft_log_record_base.specs.declared.errors.Error.{Error}
 use Rattle.raft_log_record_base.specs.declared.errors.Error.TheVariants as errors
 use Rattle.raft_log_file_format.specs.Header.{header_bytes}
 use Rattle.raft_log_file_format.specs.Name.{IsNameRefusal}
 use Rattle.raft_log_file_format.specs.declared.header.LogFileFormat.{LogFileFormat}
 use Rattle.raft_log_file_writer.specs.declared.writer.LogFileWriter.{LogFileWriter}
-use Rattle.raft_log_file_queue.specs.Layout.{FilePaths, path_of, plain_place}
-use Rattle.raft_log_file_queue.specs.Opening.{BeginsQueueBy}
-use Rattle.raft_log_file_queue.specs.Rotation.{RotatesBy, RotationMakes}
-use Rattle.raft_log_file_queue.specs.TakingUp.{ReopensBy}
+use Rattle.raft_log_active_file.specs.Layout.{FilePaths, path_of, plain_place}
+use Rattle.raft_log_active_file.specs.Opening.{BeginsQueueBy}
+use Rattle.raft_log_active_file.specs.Rotation.{RotatesBy, RotationMakes}
+use Rattle.raft_log_active_file.specs.TakingUp.{ReopensBy}
 use Rattle.raft_log_file_pipe.specs.declared.pipe_files.PipeFiles.{PipeFiles}
 use Rattle.raft_log_file_pipe.specs.declared.found_files.FoundFiles.{FoundFiles}
 use Rattle.raft_log_file_pipe.specs.Files.{Listed}

@@ -6,26 +6,26 @@ use Rattle.std.specs.Global.{Global}
 use Rattle.std.specs.Map.{update}
 use Rattle.std.specs.Str.{bytes_eq}
 use Rattle.std.proofs.Common.{◌≡◌, ℕ, ◌<◌, suc, Some, None, List, [], ◌∷◌, ◌++◌, length, drop, take, map, get_or, String, zero, false, inl, inr, append_assoc, refl, sym, ◌∙◌, ap, subst, arith}
-use Rattle.raft_log_disk.specs.Disk.{File, Disk}
+use Rattle.raft_log_fs.specs.Disk.{File, Disk}
 use Rattle.std.proofs.lemmas.List.{length-map, take-append-drop}
-use Rattle.raft_log_disk.specs.Arguments.{WrongName}
-use Rattle.raft_log_disk.specs.Calls.{Deletes, deleted}
-use Rattle.raft_log_disk.specs.Causes.{IsLater}
-use Rattle.raft_log_disk.specs.Exits.{FailsToDelete}
-use Rattle.raft_log_disk.specs.Image.{IsSound}
-use Rattle.raft_log_file_laws.specs.LogFormat.{Format}
-use Rattle.raft_log_file_laws.specs.LogQueue.{LogFiles, IsPast}
-use Rattle.raft_log_disk.specs.Touching.{HasFile}
-use Rattle.raft_log_disk.proofs.KeptLaws.{IsCalm, kept_delete}
-use Rattle.raft_log_disk.proofs.CauseLaws.{fails_after}
-use Rattle.raft_log_disk.proofs.Updates.{name_apart}
-use Rattle.raft_log_file_queue.specs.Queue.{begun}
-use Rattle.raft_log_file_queue.specs.States.{IsNew}
-use Rattle.raft_log_file_queue.specs.Standing.{Names}
-use Rattle.raft_log_file_queue.proofs.FileSteps.{new_over}
-use Rattle.raft_log_file_queue.specs.Layout.{FilePaths, IsLayout, path_of}
-use Rattle.raft_log_file_queue.specs.Exits.{IsOpen}
-use Rattle.raft_log_file_queue.specs.Rotation.{CanDrop, Drops, FailsToDrop, FilesStay}
+use Rattle.raft_log_fs.specs.Arguments.{WrongName}
+use Rattle.raft_log_fs.specs.Calls.{Deletes, deleted}
+use Rattle.raft_log_fs.specs.Causes.{IsLater}
+use Rattle.raft_log_fs.specs.Exits.{FailsToDelete}
+use Rattle.raft_log_fs.specs.Image.{IsSound}
+use Rattle.raft_log_file_writer.specs.LogFormat.{Format}
+use Rattle.raft_log_file_writer.specs.LogQueue.{LogFiles, IsPast}
+use Rattle.raft_log_fs.specs.Touching.{HasFile}
+use Rattle.raft_log_fs.proofs.KeptLaws.{IsCalm, kept_delete}
+use Rattle.raft_log_fs.proofs.CauseLaws.{fails_after}
+use Rattle.raft_log_fs.proofs.Updates.{name_apart}
+use Rattle.raft_log_active_file.specs.Queue.{begun}
+use Rattle.raft_log_active_file.specs.States.{IsNew}
+use Rattle.raft_log_active_file.specs.Standing.{Names}
+use Rattle.raft_log_active_file.proofs.FileSteps.{new_over}
+use Rattle.raft_log_active_file.specs.Layout.{FilePaths, IsLayout, path_of}
+use Rattle.raft_log_active_file.specs.Exits.{IsOpen}
+use Rattle.raft_log_active_file.specs.Rotation.{CanDrop, Drops, FailsToDrop, FilesStay}
 use Rattle.raft_log_file_pipe.specs.declared.pipe_files.PipeFiles.{PipeFiles}
 use Rattle.raft_log_file_pipe.specs.Files.{Listed, IsSpan, CanBeUsed, NoneHas, IsPipe}
 use Rattle.raft_log_file_pipe.specs.Calls.{DropsBy, DropsUntil}

@@ -1,13 +1,13 @@
 -- What a stop leaves of a pipe, found again.
 use Rattle.std.proofs.Common.{◌≡◌, ℕ, Option, Some, List, sym, ◌∙◌, ap, subst, arith}
-use Rattle.raft_log_disk.specs.Disk.{Disk}
-use Rattle.raft_log_disk.specs.Image.{IsSound}
-use Rattle.raft_log_file_laws.specs.LogFormat.{Format}
-use Rattle.raft_log_file_laws.specs.LogQueue.{LogFiles, IsLeftover, kept_to}
-use Rattle.raft_log_disk.proofs.ImageLaws.{image_is_sound}
-use Rattle.raft_log_file_queue.specs.Standing.{Names, Stands}
-use Rattle.raft_log_file_queue.proofs.Keeping.{files_restart}
-use Rattle.raft_log_file_queue.specs.Layout.{FilePaths, IsLayout, path_of}
+use Rattle.raft_log_fs.specs.Disk.{Disk}
+use Rattle.raft_log_fs.specs.Image.{IsSound}
+use Rattle.raft_log_file_writer.specs.LogFormat.{Format}
+use Rattle.raft_log_file_writer.specs.LogQueue.{LogFiles, IsLeftover, kept_to}
+use Rattle.raft_log_fs.proofs.ImageLaws.{image_is_sound}
+use Rattle.raft_log_active_file.specs.Standing.{Names, Stands}
+use Rattle.raft_log_active_file.proofs.Keeping.{files_restart}
+use Rattle.raft_log_active_file.specs.Layout.{FilePaths, IsLayout, path_of}
 use Rattle.raft_log_file_pipe.specs.Files.{Listed}
 use Rattle.raft_log_file_pipe.specs.Laws.{AreFoundOnDisk, PipesAreFound}
 use Rattle.raft_log_file_pipe.specs.Opening.{IsFound}

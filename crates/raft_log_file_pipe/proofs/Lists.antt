@@ -1,10 +1,10 @@
 -- The lists of a pipe's files, as names and files change.
 use Rattle.std.proofs.Common.{◌≡◌, ℕ, ◌+◌, ◌<◌, ◌≤◌, suc, Some, List, [], ◌∷◌, ◌++◌, length, false, true, cond, sym, ◌∙◌, ap, subst, inl, inr, arith}
 use Rattle.std.proofs.lemmas.Bool.{cases_Bool}
-use Rattle.raft_log_disk.specs.Disk.{Disk}
-use Rattle.raft_log_file_laws.specs.LogFormat.{Format}
-use Rattle.raft_log_file_queue.specs.Standing.{Names}
-use Rattle.raft_log_file_queue.specs.Layout.{FilePaths, IsLayout, path_of}
+use Rattle.raft_log_fs.specs.Disk.{Disk}
+use Rattle.raft_log_file_writer.specs.LogFormat.{Format}
+use Rattle.raft_log_active_file.specs.Standing.{Names}
+use Rattle.raft_log_active_file.specs.Layout.{FilePaths, IsLayout, path_of}
 use Rattle.raft_log_file_pipe.specs.Files.{Listed, IsSpan, IsKeptForUse, NoneHas, AllKept}
 
 -- the path of a file with a number

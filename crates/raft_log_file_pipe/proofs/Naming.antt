@@ -4,24 +4,24 @@ use Rattle.std.specs.declared.io.ErrorKind.{ErrorKind}
 use Rattle.std.specs.Map.{update}
 use Rattle.std.specs.Str.{bytes_eq}
 use Rattle.std.proofs.Common.{◌≡◌, ℕ, true, Some, None, List, refl, ◌∙◌, ap, inl, inr}
-use Rattle.raft_log_disk.specs.Disk.{Disk, ShortenedTo}
-use Rattle.raft_log_disk.specs.Arguments.{WrongCreate, WrongHandle, WrongRename, WrongWriter}
-use Rattle.raft_log_disk.specs.Calls.{Creates, Renames}
-use Rattle.raft_log_disk.specs.Exits.{FailsToCreate, FailsToRename, FailsToSync}
-use Rattle.raft_log_disk.specs.declared.handle.Handle.{Handle}
-use Rattle.raft_log_disk.proofs.KeptLaws.{IsCalm, kept_create, kept_rename}
-use Rattle.raft_log_disk.proofs.TouchingLaws.{touches_change, touches_sync}
-use Rattle.raft_log_disk.proofs.Updates.{name_apart}
+use Rattle.raft_log_fs.specs.Disk.{Disk, ShortenedTo}
+use Rattle.raft_log_fs.specs.Arguments.{WrongCreate, WrongHandle, WrongRename, WrongWriter}
+use Rattle.raft_log_fs.specs.Calls.{Creates, Renames}
+use Rattle.raft_log_fs.specs.Exits.{FailsToCreate, FailsToRename, FailsToSync}
+use Rattle.raft_log_fs.specs.declared.handle.Handle.{Handle}
+use Rattle.raft_log_fs.proofs.KeptLaws.{IsCalm, kept_create, kept_rename}
+use Rattle.raft_log_fs.proofs.TouchingLaws.{touches_change, touches_sync}
+use Rattle.raft_log_fs.proofs.Updates.{name_apart}
 use Rattle.raft_log_file_writer.specs.Writer.{Closes, FailsToClose, FailsToTakeUp, TakesUp}
 use Rattle.raft_log_file_writer.specs.Writer.FailsToClose.{not_cut, not_synced}
 use Rattle.raft_log_file_writer.specs.Writer.FailsToTakeUp.{not_measured, not_begun}
 use Rattle.raft_log_file_writer.specs.Writer.TakesUp.{goes_on, begins}
 use Rattle.raft_log_file_writer.specs.declared.writer.LogFileWriter.{LogFileWriter}
 use Rattle.raft_log_file_writer.proofs.WriterLaws.{cut_touches, touches_next, touches_refused}
-use Rattle.raft_log_file_queue.specs.Standing.{Names}
-use Rattle.raft_log_file_queue.specs.Exits.{BeginMakes}
-use Rattle.raft_log_file_queue.specs.Rotation.{RotationMakes}
-use Rattle.raft_log_file_queue.specs.Rotation.RotationMakes.{unfinished, unnamed, unbegun}
+use Rattle.raft_log_active_file.specs.Standing.{Names}
+use Rattle.raft_log_active_file.specs.Exits.{BeginMakes}
+use Rattle.raft_log_active_file.specs.Rotation.{RotationMakes}
+use Rattle.raft_log_active_file.specs.Rotation.RotationMakes.{unfinished, unnamed, unbegun}
 
 -- all names but these two are as they were
 abbrev pub NamesStayBut : List ℕ → List ℕ → Disk → Disk → Type 0

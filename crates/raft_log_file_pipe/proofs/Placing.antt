@@ -3,7 +3,7 @@ use Rattle.std.specs.String.{string_bytes}
 use Rattle.std.specs.Global.{Global}
 use Rattle.std.proofs.Common.{◌≡◌, ℕ, ◌+◌, ◌<◌, List, [], ◌∷◌, ◌++◌, length, map, take, drop, get_or, String, sym, ◌∙◌, ap, subst, arith}
 use Rattle.std.proofs.lemmas.List.{take_more, map-append, drop_more, take-append-drop, length-map, length-take-le}
-use Rattle.raft_log_disk.specs.Disk.{Disk}
+use Rattle.raft_log_fs.specs.Disk.{Disk}
 use Rattle.raft_log_file_pipe.specs.Placing.{HasSpace, LacksRoom, AllLackRoom, IsChosen}
 use Rattle.raft_log_file_pipe.specs.Placing.IsChosen.{first}
 

@@ -2,18 +2,18 @@
 use Rattle.std.proofs.Common.{◌≡◌, ℕ, ◌+◌, ◌-◌, ◌<◌, ◌≤◌, ◌&&◌, nat_lt, suc, zero, Some, List, [], ◌∷◌, ◌++◌, length, map, get_or, drop, take, Bool, false, true, cond, refl, sym, ◌∙◌, ap, subst, inl, inr, arith, append_assoc}
 use Rattle.std.proofs.lemmas.Bool.{cases_Bool}
 use Rattle.std.proofs.lemmas.List.{take_all}
-use Rattle.raft_log_disk.specs.Disk.{Disk}
-use Rattle.raft_log_file_laws.specs.LogFormat.{Format}
-use Rattle.raft_log_file_laws.specs.LogQueue.{LogFiles, IsPast}
-use Rattle.raft_log_disk.specs.Touching.{HasFile}
+use Rattle.raft_log_fs.specs.Disk.{Disk}
+use Rattle.raft_log_file_writer.specs.LogFormat.{Format}
+use Rattle.raft_log_file_writer.specs.LogQueue.{LogFiles, IsPast}
+use Rattle.raft_log_fs.specs.Touching.{HasFile}
 use Rattle.raft_log_record_base.specs.declared.errors.Error.{Error}
 use Rattle.raft_log_record_base.specs.declared.errors.Error.TheVariants as errors
 use Rattle.raft_log_file_format.specs.Name.{IsNameRefusal}
 use Rattle.raft_log_file_format.specs.Header.{header_bytes}
 use Rattle.raft_log_file_writer.specs.declared.writer.LogFileWriter.{LogFileWriter}
-use Rattle.raft_log_file_queue.specs.Standing.{Names}
-use Rattle.raft_log_file_queue.specs.Layout.{FilePaths, IsLayout, path_of}
-use Rattle.raft_log_file_queue.specs.Exits.{IsOpen}
+use Rattle.raft_log_active_file.specs.Standing.{Names}
+use Rattle.raft_log_active_file.specs.Layout.{FilePaths, IsLayout, path_of}
+use Rattle.raft_log_active_file.specs.Exits.{IsOpen}
 use Rattle.raft_log_file_pipe.specs.declared.pipe_files.PipeFiles.{PipeFiles}
 use Rattle.raft_log_file_pipe.specs.Files.{Listed, IsSpan, IsKeptForUse, NoneHas, AllKept, IsPipe}
 use Rattle.raft_log_file_pipe.specs.Calls.{DropsBy, DropsUntil}

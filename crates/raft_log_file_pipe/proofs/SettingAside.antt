@@ -8,28 +8,28 @@ use Rattle.std.proofs.Common.{Bor, map, ◌≡◌, ℕ, ◌<◌, ◌≤◌, ◌+
 use Rattle.std.proofs.lemmas.Bool.{cases_Bool}
 use Rattle.std.proofs.lemmas.List.{reverse-append, map-append}
 use Rattle.raft_log_record_base.specs.declared.errors.Error.{Error}
-use Rattle.raft_log_disk.specs.Disk.{Disk}
-use Rattle.raft_log_disk.specs.Arguments.{WrongRename}
-use Rattle.raft_log_disk.specs.Calls.{Renames}
-use Rattle.raft_log_disk.specs.Exits.{FailsToRename}
-use Rattle.raft_log_disk.specs.Image.{IsSound}
-use Rattle.raft_log_file_laws.specs.LogFormat.{Format}
-use Rattle.raft_log_file_laws.specs.LogQueue.{LogFiles, HoldsLast}
-use Rattle.raft_log_disk.specs.Touching.{TouchesOnly}
-use Rattle.raft_log_disk.proofs.KeptLaws.{IsCalm, kept_rename}
-use Rattle.raft_log_disk.proofs.Updates.{name_apart}
+use Rattle.raft_log_fs.specs.Disk.{Disk}
+use Rattle.raft_log_fs.specs.Arguments.{WrongRename}
+use Rattle.raft_log_fs.specs.Calls.{Renames}
+use Rattle.raft_log_fs.specs.Exits.{FailsToRename}
+use Rattle.raft_log_fs.specs.Image.{IsSound}
+use Rattle.raft_log_file_writer.specs.LogFormat.{Format}
+use Rattle.raft_log_file_writer.specs.LogQueue.{LogFiles, HoldsLast}
+use Rattle.raft_log_fs.specs.Touching.{TouchesOnly}
+use Rattle.raft_log_fs.proofs.KeptLaws.{IsCalm, kept_rename}
+use Rattle.raft_log_fs.proofs.Updates.{name_apart}
 use Rattle.raft_log_file_writer.specs.declared.writer.LogFileWriter.{LogFileWriter}
-use Rattle.raft_log_file_queue.specs.Queue.{settled}
-use Rattle.raft_log_file_queue.specs.Standing.{Names}
-use Rattle.raft_log_file_queue.specs.Bridge.{GapsStay}
-use Rattle.raft_log_file_queue.proofs.FileSteps.{active_holds, past_settled}
-use Rattle.raft_log_file_queue.proofs.Standing.{stands_weaker, same_files}
-use Rattle.raft_log_file_queue.proofs.SettingAside.{stands_set_aside, gaps_set_aside}
-use Rattle.raft_log_file_queue.specs.Layout.{FilePaths, IsLayout, path_of}
-use Rattle.raft_log_file_queue.specs.LastFile.{IsPastTo}
-use Rattle.raft_log_file_queue.specs.Exits.{IsFinished, Finishes, FailsToFinish}
-use Rattle.raft_log_file_queue.specs.Rotation.{StandsWithRecords}
-use Rattle.raft_log_file_queue.proofs.Rotating.{left_calm}
+use Rattle.raft_log_active_file.specs.Queue.{settled}
+use Rattle.raft_log_active_file.specs.Standing.{Names}
+use Rattle.raft_log_active_file.specs.Bridge.{GapsStay}
+use Rattle.raft_log_active_file.proofs.FileSteps.{active_holds, past_settled}
+use Rattle.raft_log_active_file.proofs.Standing.{stands_weaker, same_files}
+use Rattle.raft_log_active_file.proofs.SettingAside.{stands_set_aside, gaps_set_aside}
+use Rattle.raft_log_active_file.specs.Layout.{FilePaths, IsLayout, path_of}
+use Rattle.raft_log_active_file.specs.LastFile.{IsPastTo}
+use Rattle.raft_log_active_file.specs.Exits.{IsFinished, Finishes, FailsToFinish}
+use Rattle.raft_log_active_file.specs.Rotation.{StandsWithRecords}
+use Rattle.raft_log_active_file.proofs.Rotating.{left_calm}
 use Rattle.raft_log_file_pipe.specs.declared.pipe_files.PipeFiles.{PipeFiles}
 use Rattle.raft_log_file_pipe.specs.Files.{Listed, IsSpan, AllKept, IsPipe}
 use Rattle.raft_log_file_pipe.specs.Closing.{IsSettledBy, LeavesClosed, Reserves, ReservesAll, NumbersStay, StaysLeft, AreBelow, greatest_reserved}

@@ -6,23 +6,23 @@ use Rattle.std.specs.declared.io.ErrorKind.{ErrorKind}
 use Rattle.std.specs.Prelude.{Result, Ok, Err}
 use Rattle.std.specs.Result.{IfOk, IfErr}
 use Rattle.raft_log_record_base.specs.declared.errors.Error.{Error}
-use Rattle.raft_log_disk.specs.Disk.{File, Disk}
-use Rattle.raft_log_disk.specs.Image.{IsSound}
-use Rattle.raft_log_file_laws.specs.LogFormat.{Format}
-use Rattle.raft_log_disk.specs.Touching.{TouchesOnly}
-use Rattle.raft_log_disk.specs.declared.handle.Handle.{Handle}
-use Rattle.raft_log_disk.proofs.Updates.{name_here, name_apart}
-use Rattle.raft_log_disk.proofs.TouchingLaws.{same_file}
+use Rattle.raft_log_fs.specs.Disk.{File, Disk}
+use Rattle.raft_log_fs.specs.Image.{IsSound}
+use Rattle.raft_log_file_writer.specs.LogFormat.{Format}
+use Rattle.raft_log_fs.specs.Touching.{TouchesOnly}
+use Rattle.raft_log_fs.specs.declared.handle.Handle.{Handle}
+use Rattle.raft_log_fs.proofs.Updates.{name_here, name_apart}
+use Rattle.raft_log_fs.proofs.TouchingLaws.{same_file}
 use Rattle.raft_log_file_format.specs.declared.header.LogFileFormat.{LogFileFormat}
 use Rattle.raft_log_file_format.specs.Header.{header_bytes}
-use Rattle.raft_log_file_queue.specs.Queue.{with_room}
-use Rattle.raft_log_file_queue.specs.Beginning.{fresh_queue}
-use Rattle.raft_log_file_queue.specs.Reopening.{reread}
-use Rattle.raft_log_file_queue.specs.Standing.{Names}
-use Rattle.raft_log_file_queue.specs.Layout.{FilePaths, IsLayout, IsUnaligned, path_of}
-use Rattle.raft_log_file_queue.specs.Exits.{IsOpen}
-use Rattle.raft_log_file_queue.specs.Opening.{AllFilesStay, CanBegin, BeginsQueue, BeginsQueueBy, FailsToBeginQueue, BeginQueueMakes}
-use Rattle.raft_log_file_queue.specs.TakingUp.{GoesOnBehind, HandleBeginsWith, Reopens, ReopensBy, FailsToReopen, ReopenMakes}
+use Rattle.raft_log_active_file.specs.Queue.{with_room}
+use Rattle.raft_log_active_file.specs.Beginning.{fresh_queue}
+use Rattle.raft_log_active_file.specs.Reopening.{reread}
+use Rattle.raft_log_active_file.specs.Standing.{Names}
+use Rattle.raft_log_active_file.specs.Layout.{FilePaths, IsLayout, IsUnaligned, path_of}
+use Rattle.raft_log_active_file.specs.Exits.{IsOpen}
+use Rattle.raft_log_active_file.specs.Opening.{AllFilesStay, CanBegin, BeginsQueue, BeginsQueueBy, FailsToBeginQueue, BeginQueueMakes}
+use Rattle.raft_log_active_file.specs.TakingUp.{GoesOnBehind, HandleBeginsWith, Reopens, ReopensBy, FailsToReopen, ReopenMakes}
 use Rattle.raft_log_file_pipe.specs.declared.pipe_files.PipeFiles.{PipeFiles}
 use Rattle.raft_log_file_pipe.specs.Files.{Listed, IsSpan, AllKept, IsPipe}
 use Rattle.raft_log_file_pipe.specs.declared.found_files.FoundFiles.{FoundFiles}

@@ -5,29 +5,29 @@ use Rattle.std.specs.declared.io.ErrorKind.{ErrorKind}
 use Rattle.std.specs.Map.{update}
 use Rattle.std.specs.Str.{bytes_eq}
 use Rattle.std.proofs.Common.{◌≡◌, ◌⊎◌, inl, inr, true, ℕ, ◌<◌, ◌≤◌, ◌^◌, suc, Some, None, List, [], ◌∷◌, ◌++◌, drop, length, false, refl, sym, ◌∙◌, ap, subst, arith}
-use Rattle.raft_log_disk.specs.Disk.{Disk}
-use Rattle.raft_log_disk.specs.Calls.{Creates, Renames}
-use Rattle.raft_log_disk.specs.Causes.{Fails}
-use Rattle.raft_log_disk.specs.Causes.Fails.{has_stopped}
-use Rattle.raft_log_disk.specs.Exits.{FailsToCreate, FailsToRename}
-use Rattle.raft_log_disk.specs.Image.{IsSound}
-use Rattle.raft_log_file_laws.specs.LogFormat.{Format}
-use Rattle.raft_log_file_laws.specs.LogQueue.{LogFiles, rotated}
-use Rattle.raft_log_disk.specs.Reading.{IsOpened}
-use Rattle.raft_log_disk.specs.declared.handle.Handle.{Handle}
-use Rattle.raft_log_disk.specs.declared.handle.Permission.TheVariants.{ReadWrite}
-use Rattle.raft_log_disk.proofs.Updates.{name_here, name_apart}
+use Rattle.raft_log_fs.specs.Disk.{Disk}
+use Rattle.raft_log_fs.specs.Calls.{Creates, Renames}
+use Rattle.raft_log_fs.specs.Causes.{Fails}
+use Rattle.raft_log_fs.specs.Causes.Fails.{has_stopped}
+use Rattle.raft_log_fs.specs.Exits.{FailsToCreate, FailsToRename}
+use Rattle.raft_log_fs.specs.Image.{IsSound}
+use Rattle.raft_log_file_writer.specs.LogFormat.{Format}
+use Rattle.raft_log_file_writer.specs.LogQueue.{LogFiles, rotated}
+use Rattle.raft_log_fs.specs.Reading.{IsOpened}
+use Rattle.raft_log_fs.specs.declared.handle.Handle.{Handle}
+use Rattle.raft_log_fs.specs.declared.handle.Permission.TheVariants.{ReadWrite}
+use Rattle.raft_log_fs.proofs.Updates.{name_here, name_apart}
 use Rattle.raft_log_record_base.specs.declared.errors.Error.{Error}
 use Rattle.raft_log_record_base.specs.declared.errors.Error.TheVariants as errors
 use Rattle.raft_log_file_format.specs.declared.header.LogFileFormat.{LogFileFormat}
 use Rattle.raft_log_file_format.specs.Header.{header_bytes}
 use Rattle.raft_log_file_writer.specs.declared.writer.LogFileWriter.{LogFileWriter}
-use Rattle.raft_log_file_queue.specs.Queue.{with_room}
-use Rattle.raft_log_file_queue.specs.Standing.{Names}
-use Rattle.raft_log_file_queue.specs.Layout.{FilePaths, IsLayout, IsUnaligned, path_of, plain_place}
-use Rattle.raft_log_file_queue.specs.Exits.{IsOpen}
-use Rattle.raft_log_file_queue.specs.Rotation.{CanRotate, IsSpare, RotatesBy, RotatesToNew, FailsToRotateToNew, RotatesOver, FailsToRotateOver, RotationMakes, FilesStay}
-use Rattle.raft_log_file_queue.proofs.Rotating.{open_left}
+use Rattle.raft_log_active_file.specs.Queue.{with_room}
+use Rattle.raft_log_active_file.specs.Standing.{Names}
+use Rattle.raft_log_active_file.specs.Layout.{FilePaths, IsLayout, IsUnaligned, path_of, plain_place}
+use Rattle.raft_log_active_file.specs.Exits.{IsOpen}
+use Rattle.raft_log_active_file.specs.Rotation.{CanRotate, IsSpare, RotatesBy, RotatesToNew, FailsToRotateToNew, RotatesOver, FailsToRotateOver, RotationMakes, FilesStay}
+use Rattle.raft_log_active_file.proofs.Rotating.{open_left}
 use Rattle.raft_log_file_pipe.specs.declared.pipe_files.PipeFiles.{PipeFiles}
 use Rattle.raft_log_file_pipe.specs.Files.{Listed, IsSpan, NoneHas, AllKept, IsPipe}
 use Rattle.raft_log_file_pipe.specs.Calls.{TurnsBy, TurnsNot}

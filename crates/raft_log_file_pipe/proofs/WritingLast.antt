@@ -2,12 +2,12 @@
 use Rattle.std.proofs.Common.{◌≡◌, ℕ, ◌+◌, ◌-◌, ◌≤◌, Bool, Option, Some, None, List, [], ◌∷◌, ◌++◌, length, take, drop, refl, sym, ◌∙◌, ap, subst, arith}
 use Rattle.std.proofs.lemmas.List.{length-append, length-replicate, length-take-le}
 use Rattle.std.proofs.Math.Seq.{drop-append_seam, take-append_seam}
-use Rattle.raft_log_disk.specs.Disk.{Wrote, Disk, grown, overwritten, zeros}
-use Rattle.raft_log_disk.specs.Calls.{after_change}
-use Rattle.raft_log_disk.specs.Exits.{Writes}
-use Rattle.raft_log_disk.specs.Touching.{HasFile}
-use Rattle.raft_log_disk.specs.declared.handle.Handle.{Handle}
-use Rattle.raft_log_disk.proofs.Updates.{file_here}
+use Rattle.raft_log_fs.specs.Disk.{Wrote, Disk, grown, overwritten, zeros}
+use Rattle.raft_log_fs.specs.Calls.{after_change}
+use Rattle.raft_log_fs.specs.Exits.{Writes}
+use Rattle.raft_log_fs.specs.Touching.{HasFile}
+use Rattle.raft_log_fs.specs.declared.handle.Handle.{Handle}
+use Rattle.raft_log_fs.proofs.Updates.{file_here}
 use Rattle.raft_log_record_base.specs.declared.pipe_log.LogQueue.{LogQueue}
 use Rattle.raft_log_record_base.specs.declared.pipe_log.LogFileContext.{LogFileContext}
 use Rattle.raft_log_record_base.specs.declared.pipe_log.FileBlockHandle.{FileBlockHandle}
@@ -16,9 +16,9 @@ use Rattle.raft_log_file_writer.specs.Writer.{TakesUp}
 use Rattle.raft_log_file_writer.specs.Writer.TakesUp.{goes_on, begins}
 use Rattle.raft_log_file_writer.specs.Reader.{AreBytesAt}
 use Rattle.raft_log_file_writer.specs.declared.writer.LogFileWriter.{LogFileWriter}
-use Rattle.raft_log_file_queue.specs.Layout.{FilePaths}
-use Rattle.raft_log_file_queue.specs.Exits.{BeginsBy}
-use Rattle.raft_log_file_queue.specs.TakingUp.{TakesUpBy}
+use Rattle.raft_log_active_file.specs.Layout.{FilePaths}
+use Rattle.raft_log_active_file.specs.Exits.{BeginsBy}
+use Rattle.raft_log_active_file.specs.TakingUp.{TakesUpBy}
 use Rattle.raft_log_file_pipe.specs.declared.pipe_files.PipeFiles.{PipeFiles}
 use Rattle.raft_log_file_pipe.specs.declared.found_files.FoundFiles.{FoundFiles}
 use Rattle.raft_log_file_pipe.specs.declared.new_files.NewFiles.{NewFiles}

@@ -1,9 +1,9 @@
 -- Appending a record to a pipe: what the call did, and what holds after it.
 use Rattle.std.specs.Prelude.{◌≡◌, ◌≢◌, ◌⊎◌, ℕ, ◌+◌, ◌<◌, ◌≤◌, List, length}
 use Rattle.std.specs.declared.io.ErrorKind.TheVariants.{StorageFull}
-use Rattle.raft_log_disk.specs.Disk.{Disk}
-use Rattle.raft_log_disk.specs.Causes.{IsLater}
-use Rattle.raft_log_file_laws.specs.LogFormat.{Format}
+use Rattle.raft_log_fs.specs.Disk.{Disk}
+use Rattle.raft_log_fs.specs.Causes.{IsLater}
+use Rattle.raft_log_file_writer.specs.LogFormat.{Format}
 use Rattle.raft_log_record_base.specs.declared.errors.Error.{Error}
 use Rattle.raft_log_record_base.specs.declared.errors.Error.TheVariants as errors
 use Rattle.raft_log_record_base.specs.declared.pipe_log.LogQueue.{LogQueue}
@@ -11,10 +11,10 @@ use Rattle.raft_log_record_base.specs.declared.pipe_log.FileBlockHandle.{FileBlo
 use Rattle.raft_log_record_base.specs.declared.pipe_log.LogFileContext.{LogFileContext}
 use Rattle.raft_log_file_format.specs.Header.{header_bytes}
 use Rattle.raft_log_file_writer.specs.Writer.{WritesNext}
-use Rattle.raft_log_file_queue.specs.Layout.{FilePaths}
-use Rattle.raft_log_file_queue.specs.Exits.{AppendMakes}
-use Rattle.raft_log_file_queue.specs.declared.last_file.WriteFault.{WriteFault}
-use Rattle.raft_log_file_queue.specs.declared.last_file.WriteFault.TheVariants.{CutBack, Failed}
+use Rattle.raft_log_active_file.specs.Layout.{FilePaths}
+use Rattle.raft_log_active_file.specs.Exits.{AppendMakes}
+use Rattle.raft_log_active_file.specs.declared.last_file.WriteFault.{WriteFault}
+use Rattle.raft_log_active_file.specs.declared.last_file.WriteFault.TheVariants.{CutBack, Failed}
 use Rattle.raft_log_file_pipe.specs.Placing.{IsPlaced}
 use Rattle.raft_log_file_pipe.specs.Exits.{IsTurned, Rotates, RotationLeaves, Adds, FailsToAdd, SameLists}
 use Rattle.raft_log_file_pipe.specs.declared.pipe_files.PipeFiles.{PipeFiles}

@@ -1,14 +1,14 @@
 -- Which file calls a call of a pipe made, in their order: no others, and only what they change.
 use Rattle.std.specs.Prelude.{◌≡◌, ◌⊎◌, ℕ, true, None, List, [], ◌∷◌, length}
 use Rattle.std.specs.declared.io.ErrorKind.{ErrorKind}
-use Rattle.raft_log_disk.specs.Disk.{Disk}
-use Rattle.raft_log_disk.specs.Calls.{Creates, Deletes, Renames}
-use Rattle.raft_log_disk.specs.Exits.{FailsToCreate, FailsToDelete, FailsToRename}
-use Rattle.raft_log_disk.specs.Reading.{IsOpened}
-use Rattle.raft_log_disk.specs.declared.handle.Permission.TheVariants.{ReadWrite}
+use Rattle.raft_log_fs.specs.Disk.{Disk}
+use Rattle.raft_log_fs.specs.Calls.{Creates, Deletes, Renames}
+use Rattle.raft_log_fs.specs.Exits.{FailsToCreate, FailsToDelete, FailsToRename}
+use Rattle.raft_log_fs.specs.Reading.{IsOpened}
+use Rattle.raft_log_fs.specs.declared.handle.Permission.TheVariants.{ReadWrite}
 use Rattle.raft_log_file_writer.specs.declared.writer.LogFileWriter.{LogFileWriter}
-use Rattle.raft_log_file_queue.specs.Layout.{FilePaths, path_of, plain_place}
-use Rattle.raft_log_file_queue.specs.Rotation.{RotatesBy, RotationMakes}
+use Rattle.raft_log_active_file.specs.Layout.{FilePaths, path_of, plain_place}
+use Rattle.raft_log_active_file.specs.Rotation.{RotatesBy, RotationMakes}
 use Rattle.raft_log_file_pipe.specs.Files.{Listed}
 
 -- A rotation finishes the active file. If no file is kept for recycling, it creates the next one; otherwise it renames

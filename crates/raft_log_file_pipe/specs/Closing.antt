@@ -1,19 +1,19 @@
 -- Closing a pipe: its active file is finished, and the files that it keeps for recycling get reserved names.
 use Rattle.std.specs.Prelude.{◌≡◌, ℕ, ◌<◌, ◌≤◌, ◌⊎◌, suc, max, true, false, if◌then◌else◌, List, [], ◌∷◌, reverse, Result, Ok, Err}
 use Rattle.std.specs.declared.io.ErrorKind.{ErrorKind}
-use Rattle.raft_log_disk.specs.Disk.{Disk}
-use Rattle.raft_log_disk.specs.Calls.{Renames}
-use Rattle.raft_log_disk.specs.Exits.{FailsToRename}
+use Rattle.raft_log_fs.specs.Disk.{Disk}
+use Rattle.raft_log_fs.specs.Calls.{Renames}
+use Rattle.raft_log_fs.specs.Exits.{FailsToRename}
 use Rattle.raft_log_record_base.specs.declared.errors.Error.{Error}
 use Rattle.raft_log_record_base.specs.declared.errors.Error.TheVariants as errors
-use Rattle.raft_log_file_laws.specs.LogFormat.{Format}
-use Rattle.raft_log_file_laws.specs.LogQueue.{LogFiles}
+use Rattle.raft_log_file_writer.specs.LogFormat.{Format}
+use Rattle.raft_log_file_writer.specs.LogQueue.{LogFiles}
 use Rattle.raft_log_file_writer.specs.Writer.{Closes, FailsToClose}
 use Rattle.raft_log_file_writer.specs.declared.writer.LogFileWriter.{LogFileWriter}
-use Rattle.raft_log_file_queue.specs.Queue.{settled}
-use Rattle.raft_log_file_queue.specs.Bridge.{GapsStay}
-use Rattle.raft_log_file_queue.specs.Layout.{FilePaths, path_of}
-use Rattle.raft_log_file_queue.specs.Rotation.{StandsWithRecords}
+use Rattle.raft_log_active_file.specs.Queue.{settled}
+use Rattle.raft_log_active_file.specs.Bridge.{GapsStay}
+use Rattle.raft_log_active_file.specs.Layout.{FilePaths, path_of}
+use Rattle.raft_log_active_file.specs.Rotation.{StandsWithRecords}
 use Rattle.raft_log_file_pipe.specs.Files.{Listed, IsSpan, IsPipe}
 use Rattle.raft_log_file_pipe.specs.declared.pipe_files.PipeFiles.{PipeFiles}
 

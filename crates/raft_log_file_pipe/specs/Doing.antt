@@ -3,9 +3,9 @@
 use Rattle.std.specs.Prelude.{◌≡◌, ◌≢◌, ◌⊎◌, ℕ, ◌<◌, ◌≤◌, ◌^◌, false, List, [], ◌∷◌, ◌++◌, length, suc}
 use Rattle.std.specs.declared.io.ErrorKind.{ErrorKind}
 use Rattle.std.specs.declared.io.ErrorKind.TheVariants.{StorageFull}
-use Rattle.raft_log_disk.specs.Disk.{Disk}
-use Rattle.raft_log_disk.specs.Exits.{FailsToSync}
-use Rattle.raft_log_disk.specs.declared.handle.Handle.{Handle}
+use Rattle.raft_log_fs.specs.Disk.{Disk}
+use Rattle.raft_log_fs.specs.Exits.{FailsToSync}
+use Rattle.raft_log_fs.specs.declared.handle.Handle.{Handle}
 use Rattle.raft_log_record_base.specs.declared.errors.Error.{Error}
 use Rattle.raft_log_record_base.specs.declared.errors.Error.TheVariants as errors
 use Rattle.raft_log_record_base.specs.declared.pipe_log.LogQueue.{LogQueue}
@@ -14,12 +14,12 @@ use Rattle.raft_log_record_base.specs.declared.pipe_log.LogFileContext.{LogFileC
 use Rattle.raft_log_file_format.specs.Header.{header_bytes}
 use Rattle.raft_log_file_format.specs.declared.header.LogFileFormat.{LogFileFormat}
 use Rattle.raft_log_file_writer.specs.Writer.{WritesNext}
-use Rattle.raft_log_file_queue.specs.Layout.{FilePaths, path_of}
-use Rattle.raft_log_file_queue.specs.Exits.{AppendMakes}
-use Rattle.raft_log_file_queue.specs.Opening.{BeginsQueueBy}
-use Rattle.raft_log_file_queue.specs.TakingUp.{ReopensBy}
-use Rattle.raft_log_file_queue.specs.declared.last_file.WriteFault.{WriteFault}
-use Rattle.raft_log_file_queue.specs.declared.last_file.WriteFault.TheVariants.{CutBack, Failed}
+use Rattle.raft_log_active_file.specs.Layout.{FilePaths, path_of}
+use Rattle.raft_log_active_file.specs.Exits.{AppendMakes}
+use Rattle.raft_log_active_file.specs.Opening.{BeginsQueueBy}
+use Rattle.raft_log_active_file.specs.TakingUp.{ReopensBy}
+use Rattle.raft_log_active_file.specs.declared.last_file.WriteFault.{WriteFault}
+use Rattle.raft_log_active_file.specs.declared.last_file.WriteFault.TheVariants.{CutBack, Failed}
 use Rattle.raft_log_file_pipe.specs.Files.{Listed}
 use Rattle.raft_log_file_pipe.specs.Calls.{TurnsBy, TurnsNot, DropsUntil}
 use Rattle.raft_log_file_pipe.specs.Exits.{IsTurned, SameFiles, SameLists}

@@ -1,22 +1,22 @@
 -- What holds for a pipe after each of its calls, whether it succeeds or fails.
 use Rattle.std.specs.Prelude.{◌≡◌, ℕ, false, ◌≤◌, ◌^◌, List, [], ◌∷◌, ◌++◌, length, drop, suc}
 use Rattle.std.specs.declared.io.ErrorKind.{ErrorKind}
-use Rattle.raft_log_disk.specs.Disk.{Disk}
-use Rattle.raft_log_disk.specs.Causes.{Fails}
-use Rattle.raft_log_disk.specs.Exits.{FailsToSync, Syncs}
-use Rattle.raft_log_file_laws.specs.Chains.{Written}
-use Rattle.raft_log_file_laws.specs.LogFormat.{Format}
-use Rattle.raft_log_file_laws.specs.LogQueue.{LogFiles, rotated}
-use Rattle.raft_log_disk.specs.Touching.{HasFile}
+use Rattle.raft_log_fs.specs.Disk.{Disk}
+use Rattle.raft_log_fs.specs.Causes.{Fails}
+use Rattle.raft_log_fs.specs.Exits.{FailsToSync, Syncs}
+use Rattle.raft_log_file_writer.specs.LawsChains.{Written}
+use Rattle.raft_log_file_writer.specs.LogFormat.{Format}
+use Rattle.raft_log_file_writer.specs.LogQueue.{LogFiles, rotated}
+use Rattle.raft_log_fs.specs.Touching.{HasFile}
 use Rattle.raft_log_record_base.specs.declared.errors.Error.{Error}
 use Rattle.raft_log_record_base.specs.declared.errors.Error.TheVariants as errors
 use Rattle.raft_log_file_format.specs.declared.header.LogFileFormat.{LogFileFormat}
-use Rattle.raft_log_file_queue.specs.Queue.{whole, with_more, with_room, settled, synced}
-use Rattle.raft_log_file_queue.specs.Bridge.{GapsStay}
-use Rattle.raft_log_file_queue.specs.Layout.{FilePaths}
-use Rattle.raft_log_file_queue.specs.Rotation.{StandsWithRecords, StaysBehind}
-use Rattle.raft_log_file_queue.specs.declared.last_file.WriteFault.{WriteFault}
-use Rattle.raft_log_file_queue.specs.declared.last_file.WriteFault.TheVariants.{CutBack, Failed}
+use Rattle.raft_log_active_file.specs.Queue.{whole, with_more, with_room, settled, synced}
+use Rattle.raft_log_active_file.specs.Bridge.{GapsStay}
+use Rattle.raft_log_active_file.specs.Layout.{FilePaths}
+use Rattle.raft_log_active_file.specs.Rotation.{StandsWithRecords, StaysBehind}
+use Rattle.raft_log_active_file.specs.declared.last_file.WriteFault.{WriteFault}
+use Rattle.raft_log_active_file.specs.declared.last_file.WriteFault.TheVariants.{CutBack, Failed}
 use Rattle.raft_log_file_pipe.specs.Files.{Listed, IsSpan, IsPipe}
 use Rattle.raft_log_file_pipe.specs.Calls.{IsUnopened, TurnsBy, TurnsNot}
 use Rattle.raft_log_file_pipe.specs.declared.pipe_files.PipeFiles.{PipeFiles}

@@ -1,16 +1,16 @@
 -- The files of a pipe, and their state on a disk.
 use Rattle.std.specs.Prelude.{◌≡◌, ℕ, ◌<◌, ◌^◌, false, Some, List, [], ◌∷◌, suc}
-use Rattle.raft_log_disk.specs.Disk.{File, Disk}
-use Rattle.raft_log_file_laws.specs.LogFormat.{Format}
-use Rattle.raft_log_file_laws.specs.LogQueue.{LogFiles}
-use Rattle.raft_log_disk.specs.Touching.{HasFile}
+use Rattle.raft_log_fs.specs.Disk.{File, Disk}
+use Rattle.raft_log_file_writer.specs.LogFormat.{Format}
+use Rattle.raft_log_file_writer.specs.LogQueue.{LogFiles}
+use Rattle.raft_log_fs.specs.Touching.{HasFile}
 use Rattle.raft_log_file_format.specs.Header.{header_bytes}
-use Rattle.raft_log_file_queue.specs.Queue.{begun}
-use Rattle.raft_log_file_queue.specs.States.{IsNew}
-use Rattle.raft_log_file_queue.specs.Standing.{Names}
-use Rattle.raft_log_file_queue.specs.declared.format.File as listed
-use Rattle.raft_log_file_queue.specs.Layout.{FilePaths, path_of}
-use Rattle.raft_log_file_queue.specs.Exits.{IsOpen}
+use Rattle.raft_log_active_file.specs.Queue.{begun}
+use Rattle.raft_log_active_file.specs.States.{IsNew}
+use Rattle.raft_log_active_file.specs.Standing.{Names}
+use Rattle.raft_log_active_file.specs.declared.format.File as listed
+use Rattle.raft_log_active_file.specs.Layout.{FilePaths, path_of}
+use Rattle.raft_log_active_file.specs.Exits.{IsOpen}
 use Rattle.raft_log_file_pipe.specs.declared.pipe_files.PipeFiles.{PipeFiles}
 
 -- a file as a pipe lists it

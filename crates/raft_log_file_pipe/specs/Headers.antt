@@ -4,7 +4,7 @@ use Rattle.std.specs.String.{string_bytes}
 use Rattle.raft_log_record_base.specs.declared.errors.Error.{Error}
 use Rattle.raft_log_record_base.specs.declared.errors.Error.TheVariants as errors
 use Rattle.raft_log_file_format.specs.declared.header.LogFileFormat.{LogFileFormat}
-use Rattle.raft_log_file_queue.specs.Layout.{IsUnaligned}
+use Rattle.raft_log_active_file.specs.Layout.{IsUnaligned}
 
 -- the text of the error for a format with an alignment
 abbrev pub told_aligned : List ℕ

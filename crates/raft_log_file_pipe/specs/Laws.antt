@@ -1,16 +1,16 @@
 -- What follows for a pipe on a disk, and for one that has failed.
 use Rattle.std.specs.Prelude.{◌≡◌, ℕ, ◌≤◌, false, Option, List, length}
-use Rattle.raft_log_disk.specs.Disk.{Disk}
-use Rattle.raft_log_disk.specs.Image.{IsImage, IsSound}
-use Rattle.raft_log_disk.specs.Reading.{IsOpened}
-use Rattle.raft_log_disk.specs.Touching.{HasFile}
-use Rattle.raft_log_disk.specs.declared.handle.Permission.TheVariants.{ReadWrite}
-use Rattle.raft_log_file_laws.specs.LogFormat.{Format, CanTellFormat}
-use Rattle.raft_log_file_laws.specs.LogQueue.{LogFiles, IsLeftover, kept_to, NoChanceInLast, KeepsQueue}
-use Rattle.raft_log_file_queue.specs.Standing.{Names, Stands}
-use Rattle.raft_log_file_queue.specs.Reopening.{IsReadTo}
-use Rattle.raft_log_file_queue.specs.Layout.{FilePaths, path_of}
-use Rattle.raft_log_file_queue.specs.Rotation.{StandsWithRecords}
+use Rattle.raft_log_fs.specs.Disk.{Disk}
+use Rattle.raft_log_fs.specs.Image.{IsImage, IsSound}
+use Rattle.raft_log_fs.specs.Reading.{IsOpened}
+use Rattle.raft_log_fs.specs.Touching.{HasFile}
+use Rattle.raft_log_fs.specs.declared.handle.Permission.TheVariants.{ReadWrite}
+use Rattle.raft_log_file_writer.specs.LogFormat.{Format, CanTellFormat}
+use Rattle.raft_log_file_writer.specs.LogQueue.{LogFiles, IsLeftover, kept_to, NoChanceInLast, KeepsQueue}
+use Rattle.raft_log_active_file.specs.Standing.{Names, Stands}
+use Rattle.raft_log_active_file.specs.Reopening.{IsReadTo}
+use Rattle.raft_log_active_file.specs.Layout.{FilePaths, path_of}
+use Rattle.raft_log_active_file.specs.Rotation.{StandsWithRecords}
 use Rattle.raft_log_file_pipe.specs.Files.{Listed, IsSpan, AllKept, IsPipe}
 use Rattle.raft_log_file_pipe.specs.Opening.{IsFound, HasOwnHeader, first_number}
 use Rattle.raft_log_file_pipe.specs.declared.pipe_files.PipeFiles.{PipeFiles}

@@ -1,20 +1,20 @@
 -- Opening a pipe: over the files that were found of its queue, or over none.
 use Rattle.std.specs.Prelude.{◌≡◌, ℕ, false, Option, Some, None, List, [], ◌∷◌, ◌++◌}
-use Rattle.raft_log_disk.specs.Disk.{Disk}
-use Rattle.raft_log_disk.specs.Causes.{Fails}
-use Rattle.raft_log_file_laws.specs.LogFormat.{Format}
-use Rattle.raft_log_file_laws.specs.LogQueue.{Past, LogFiles, IsAbsent}
+use Rattle.raft_log_fs.specs.Disk.{Disk}
+use Rattle.raft_log_fs.specs.Causes.{Fails}
+use Rattle.raft_log_file_writer.specs.LogFormat.{Format}
+use Rattle.raft_log_file_writer.specs.LogQueue.{Past, LogFiles, IsAbsent}
 use Rattle.raft_log_record_base.specs.declared.errors.Error.{Error}
 use Rattle.raft_log_record_base.specs.declared.errors.Error.TheVariants as errors
 use Rattle.raft_log_file_format.specs.Header.{header_bytes, first_format}
 use Rattle.raft_log_file_format.specs.declared.header.LogFileFormat.{LogFileFormat}
-use Rattle.raft_log_file_queue.specs.Queue.{with_room}
-use Rattle.raft_log_file_queue.specs.Beginning.{IsFresh, fresh_queue}
-use Rattle.raft_log_file_queue.specs.Bridge.{GapsStay}
-use Rattle.raft_log_file_queue.specs.Reopening.{reread}
-use Rattle.raft_log_file_queue.specs.Layout.{FilePaths, path_of}
-use Rattle.raft_log_file_queue.specs.Opening.{BeginQueueMakes, BeginsQueueBy, IsHalfBegun}
-use Rattle.raft_log_file_queue.specs.TakingUp.{IsLeftBehind, HandleBeginsWith, IsHalfOpen, ReopenMakes, ReopensBy}
+use Rattle.raft_log_active_file.specs.Queue.{with_room}
+use Rattle.raft_log_active_file.specs.Beginning.{IsFresh, fresh_queue}
+use Rattle.raft_log_active_file.specs.Bridge.{GapsStay}
+use Rattle.raft_log_active_file.specs.Reopening.{reread}
+use Rattle.raft_log_active_file.specs.Layout.{FilePaths, path_of}
+use Rattle.raft_log_active_file.specs.Opening.{BeginQueueMakes, BeginsQueueBy, IsHalfBegun}
+use Rattle.raft_log_active_file.specs.TakingUp.{IsLeftBehind, HandleBeginsWith, IsHalfOpen, ReopenMakes, ReopensBy}
 use Rattle.raft_log_file_pipe.specs.Headers.{IsAlignmentRefusal}
 use Rattle.raft_log_file_pipe.specs.Files.{Listed, IsSpan, AllKept, IsPipe}
 use Rattle.raft_log_file_pipe.specs.declared.found_files.FoundFiles.{FoundFiles}

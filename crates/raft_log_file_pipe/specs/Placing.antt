@@ -1,9 +1,9 @@
 -- In which directory a new file is created.
 use Rattle.std.specs.Prelude.{◌≡◌, ◌⊎◌, ℕ, ◌<◌, ◌≤◌, Bool, true, false, List, [], ◌∷◌, ◌++◌, length}
-use Rattle.raft_log_disk.specs.Disk.{Disk}
-use Rattle.raft_log_disk.specs.Arguments.{WrongListing}
+use Rattle.raft_log_fs.specs.Disk.{Disk}
+use Rattle.raft_log_fs.specs.Arguments.{WrongListing}
 use Rattle.std.specs.declared.io.ErrorKind.{ErrorKind}
-use Rattle.raft_log_file_queue.specs.Layout.{plain_place}
+use Rattle.raft_log_active_file.specs.Layout.{plain_place}
 use Rattle.raft_log_file_pipe.specs.Files.{Listed}
 
 -- a directory has room for `size` bytes: the free space reported for it is no less

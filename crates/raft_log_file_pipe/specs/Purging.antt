@@ -2,16 +2,16 @@
 use Rattle.std.specs.Prelude.{◌≡◌, ℕ, ◌-◌, ◌<◌, ◌≤◌, ◌^◌, false, nat_lt, ◌&&◌, if◌then◌else◌, Some, None, List, [], ◌∷◌, ◌++◌, length, map, take, drop, slice_index_or, suc}
 use Rattle.std.specs.Map.{update}
 use Rattle.std.specs.Str.{bytes_eq}
-use Rattle.raft_log_disk.specs.Disk.{Disk}
-use Rattle.raft_log_disk.specs.Causes.{Fails}
-use Rattle.raft_log_file_laws.specs.LogFormat.{Format}
-use Rattle.raft_log_file_laws.specs.LogQueue.{LogFiles}
+use Rattle.raft_log_fs.specs.Disk.{Disk}
+use Rattle.raft_log_fs.specs.Causes.{Fails}
+use Rattle.raft_log_file_writer.specs.LogFormat.{Format}
+use Rattle.raft_log_file_writer.specs.LogQueue.{LogFiles}
 use Rattle.raft_log_record_base.specs.declared.errors.Error.{Error}
 use Rattle.raft_log_record_base.specs.declared.errors.Error.TheVariants as errors
-use Rattle.raft_log_file_queue.specs.Standing.{Names}
-use Rattle.raft_log_file_queue.specs.Bridge.{GapsStay}
-use Rattle.raft_log_file_queue.specs.Layout.{FilePaths, path_of}
-use Rattle.raft_log_file_queue.specs.Rotation.{StandsWithRecords}
+use Rattle.raft_log_active_file.specs.Standing.{Names}
+use Rattle.raft_log_active_file.specs.Bridge.{GapsStay}
+use Rattle.raft_log_active_file.specs.Layout.{FilePaths, path_of}
+use Rattle.raft_log_active_file.specs.Rotation.{StandsWithRecords}
 use Rattle.raft_log_file_pipe.specs.Files.{Listed, NoneHas, IsSpan, IsPipe}
 use Rattle.raft_log_file_pipe.specs.Calls.{DropsBy, DropsUntil}
 use Rattle.raft_log_file_pipe.specs.Exits.{SameFiles}

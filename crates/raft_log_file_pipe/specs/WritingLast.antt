@@ -1,13 +1,13 @@
 -- On any disk, a pipe writes the file that it lists as the active one, and that file holds what it wrote.
 use Rattle.std.specs.Prelude.{◌≡◌, List, ℕ}
-use Rattle.raft_log_disk.specs.Disk.{Disk}
-use Rattle.raft_log_disk.specs.Touching.{HasFile}
+use Rattle.raft_log_fs.specs.Disk.{Disk}
+use Rattle.raft_log_fs.specs.Touching.{HasFile}
 use Rattle.raft_log_record_base.specs.declared.pipe_log.LogQueue.{LogQueue}
 use Rattle.raft_log_record_base.specs.declared.pipe_log.FileBlockHandle.{FileBlockHandle}
 use Rattle.raft_log_record_base.specs.declared.pipe_log.LogFileContext.{LogFileContext}
 use Rattle.raft_log_file_format.specs.declared.header.LogFileFormat.{LogFileFormat}
 use Rattle.raft_log_file_writer.specs.Reader.{AreBytesAt}
-use Rattle.raft_log_file_queue.specs.Layout.{FilePaths}
+use Rattle.raft_log_active_file.specs.Layout.{FilePaths}
 use Rattle.raft_log_file_pipe.specs.Appending.{context_of}
 use Rattle.raft_log_file_pipe.specs.Doing.{AppendsBy, OpensPipeBy, TurnsPipeBy}
 use Rattle.raft_log_file_pipe.specs.declared.found_files.FoundFiles.{FoundFiles}

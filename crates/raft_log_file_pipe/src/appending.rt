@@ -1,8 +1,8 @@
 //! Appending to a pipe: rotates if the active file has reached the target size, and truncates after a failed write.
 
 ghost use Rattle.std.specs.Prelude.{◌≡◌, ◌<◌, ◌≤◌, ◌^◌, IfErr, IfOk, OnErr, OnOk};
-ghost use Rattle.raft_log_disk.specs.Causes.{IsLater};
-ghost use Rattle.raft_log_file_queue.specs.declared.last_file.WriteFault.TheVariants.{CutBack};
+ghost use Rattle.raft_log_fs.specs.Causes.{IsLater};
+ghost use Rattle.raft_log_active_file.specs.declared.last_file.WriteFault.TheVariants.{CutBack};
 ghost use Rattle.std.specs.declared.io.ErrorKind.TheVariants.{StorageFull};
 ghost use Rattle.raft_log_file_format.specs.Header.{header_bytes};
 ghost use Rattle.raft_log_file_pipe.specs.Appending.{AppendFails, AppendsAt, GoesElsewhere, GoesInto, GoesOnBy, SaysTryAgain, Tells, TurnsElsewhere, TurnsFirst};
@@ -16,8 +16,8 @@ use crate::reactive_bytes::ReactiveBytes;
 use crate::rotating::rotate;
 use crate::writing::add;
 use log::{Log, error};
-use raft_log_disk::FileSystem;
-use raft_log_file_queue::{PipeFormat, WriteFault};
+use raft_log_fs::FileSystem;
+use raft_log_active_file::{PipeFormat, WriteFault};
 use raft_log_record_base::{Error, FileBlockHandle, FileId, LogFileContext, LogQueue, Result};
 use std::alloc::Global;
 use std::io::ErrorKind;

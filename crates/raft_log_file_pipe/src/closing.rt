@@ -1,14 +1,14 @@
 //! Closing a pipe: its active file is finished, and files kept for recycling get reserved names, for the next open.
 
 ghost use Rattle.std.specs.Prelude.{◌≡◌, [], ◌∷◌, if◌then◌else◌, max, reverse, false, OnOk};
-ghost use Rattle.raft_log_disk.specs.Causes.{IsLater};
+ghost use Rattle.raft_log_fs.specs.Causes.{IsLater};
 ghost use Rattle.raft_log_file_pipe.specs.Closing.{FinishesAs, FinishesOrNot, IsSettledBy, LeavesClosed, Reserves, ReservesAll, StaysLeft, greatest_reserved};
 ghost use Rattle.raft_log_file_pipe.specs.Exits.{SameLists};
 
 use crate::pipe_files::PipeFiles;
 use log::{Log, error};
-use raft_log_disk::FileSystem;
-use raft_log_file_queue::{DEFAULT_PATH_ID, File, PipeFormat, finish_file};
+use raft_log_fs::FileSystem;
+use raft_log_active_file::{DEFAULT_PATH_ID, File, PipeFormat, finish_file};
 use raft_log_record_base::{Error, FileSeq, Result};
 use std::alloc::Global;
 use std::collections::VecDeque;

@@ -1,6 +1,6 @@
 //! The files of a queue that no pipe has open.
 
-use raft_log_file_queue::File;
+use raft_log_active_file::File;
 use std::collections::VecDeque;
 
 /// The files of a queue as they were found while no pipe has it open, and how far the last one was read.

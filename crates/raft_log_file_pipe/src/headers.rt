@@ -3,7 +3,7 @@
 ghost use Rattle.std.specs.Prelude.{◌≡◌, IfErr, IfOk};
 ghost use Rattle.raft_log_file_format.specs.Header.{header_bytes};
 ghost use Rattle.raft_log_file_pipe.specs.Headers.{IsAlignmentRefusal};
-ghost use Rattle.raft_log_file_queue.specs.Layout.{IsUnaligned};
+ghost use Rattle.raft_log_active_file.specs.Layout.{IsUnaligned};
 
 use raft_log_file_format::LogFileFormat;
 use raft_log_record_base::{Error, Result};

@@ -3,7 +3,7 @@
 ghost use Rattle.raft_log_file_pipe.specs.WritingLast.{PipesWriteTheirLast};
 ghost use Rattle.raft_log_file_pipe.specs.Laws.{PipesAreFound, PipesAreKept};
 
-use raft_log_file_queue::PipeFormat;
+use raft_log_active_file::PipeFormat;
 
 /// After any stop without a CRC collision, all records of a pipe's earlier files are read, and all durable ones of the
 /// last. Of the pending ones some first ones are read. What the stop leaves is the queue again.

@@ -5,12 +5,12 @@ ghost use Rattle.raft_log_file_pipe.specs.Placing.{IsChosen, TellsRoom};
 ghost use Rattle.raft_log_record_base.specs.declared.errors.Error.TheVariants.{Memory};
 ghost use Rattle.raft_log_file_format.specs.Header.{header_bytes};
 ghost use Rattle.raft_log_file_pipe.specs.Headers.{IsAlignmentRefusal};
-ghost use Rattle.raft_log_file_queue.specs.Layout.{IsUnaligned};
+ghost use Rattle.raft_log_active_file.specs.Layout.{IsUnaligned};
 
 use crate::headers::encode_header;
-use raft_log_disk::FileSystem;
+use raft_log_fs::FileSystem;
 use raft_log_file_format::LogFileFormat;
-use raft_log_file_queue::{DEFAULT_PATH_ID, PathId, PipeFormat};
+use raft_log_active_file::{DEFAULT_PATH_ID, PathId, PipeFormat};
 use raft_log_record_base::{Error, Result};
 use std::alloc::Global;
 use std::io::ErrorKind;

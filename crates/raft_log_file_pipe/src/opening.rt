@@ -1,23 +1,23 @@
 //! Opening a pipe: over the files that were found of its queue, or over none.
 
 ghost use Rattle.std.specs.Prelude.{◌≡◌, [], false, IfErr, IfOk};
-ghost use Rattle.raft_log_disk.specs.Causes.{IsLater};
+ghost use Rattle.raft_log_fs.specs.Causes.{IsLater};
 ghost use Rattle.raft_log_file_pipe.specs.Opening.{BeginLeaves, BeginsPipe, IsListedAs, IsListedFirst, OpenLeaves, OpensPipe, TakeUpLeaves, TakesUpFound, first_number, taken_up};
 ghost use Rattle.raft_log_file_pipe.specs.Placing.{IsChosen};
 ghost use Rattle.raft_log_file_pipe.specs.Doing.{OpensPipeBy};
 ghost use Rattle.raft_log_file_format.specs.Header.{header_bytes};
-ghost use Rattle.raft_log_file_queue.specs.Layout.{path_of};
-ghost use Rattle.raft_log_file_queue.specs.Opening.{BeginsQueueBy};
-ghost use Rattle.raft_log_file_queue.specs.TakingUp.{ReopensBy};
+ghost use Rattle.raft_log_active_file.specs.Layout.{path_of};
+ghost use Rattle.raft_log_active_file.specs.Opening.{BeginsQueueBy};
+ghost use Rattle.raft_log_active_file.specs.TakingUp.{ReopensBy};
 
 use crate::found_files::FoundFiles;
 use crate::headers::encode_header;
 use crate::new_files::{NewFiles, choose_directory};
 use crate::pipe_files::PipeFiles;
 use log::{Log, error};
-use raft_log_disk::{FileSystem, Handle, Permission};
+use raft_log_fs::{FileSystem, Handle, Permission};
 use raft_log_file_format::LogFileFormat;
-use raft_log_file_queue::{DEFAULT_FIRST_FILE_SEQ, File, PipeFormat, begin_queue, reopen_file};
+use raft_log_active_file::{DEFAULT_FIRST_FILE_SEQ, File, PipeFormat, begin_queue, reopen_file};
 use raft_log_record_base::{Error, FileSeq, Result};
 use std::alloc::Global;
 use std::collections::VecDeque;

@@ -3,8 +3,8 @@
 ghost use Rattle.std.specs.Prelude.{◌≡◌, ℕ, ◌≤◌, ◌-◌, List, ◌∷◌, ◌++◌, nat_lt, ◌&&◌, length, map, take, IfErr, IfOk, OnErr, OnOk};
 ghost use Rattle.std.specs.String.{string_bytes};
 ghost use Rattle.raft_log_record_base.specs.declared.errors.Error.TheVariants.{Memory};
-ghost use Rattle.raft_log_disk.specs.Causes.{IsLater};
-ghost use Rattle.raft_log_file_queue.specs.Layout.{path_of};
+ghost use Rattle.raft_log_fs.specs.Causes.{IsLater};
+ghost use Rattle.raft_log_active_file.specs.Layout.{path_of};
 ghost use Rattle.raft_log_file_format.specs.Name.{IsNameRefusal};
 ghost use Rattle.raft_log_file_pipe.specs.Files.{Listed};
 ghost use Rattle.raft_log_file_pipe.specs.Purging.{CountFails, DropsTo, FailsToDropAll, IsOtherOrMemory, IsInSpan, IsRaised, PartFails, PurgeLeaves, Purges, going, paths_going, staying};
@@ -14,8 +14,8 @@ ghost use Rattle.raft_log_record_base.specs.Files.{is_signed};
 
 use crate::pipe_files::PipeFiles;
 use log::{Log, error};
-use raft_log_disk::FileSystem;
-use raft_log_file_queue::{File, PipeFormat, drop_file};
+use raft_log_fs::FileSystem;
+use raft_log_active_file::{File, PipeFormat, drop_file};
 use raft_log_record_base::{Error, FileSeq, Result};
 use std::alloc::Global;
 use std::collections::VecDeque;

@@ -2,11 +2,11 @@
 
 ghost use Rattle.std.specs.Prelude.{◌≡◌, ◌<◌, ◌∷◌, [], drop, length, suc, IfOk, IfErr, OnErr, OnOk};
 ghost use Rattle.std.specs.VecDeque.{deque_len, deque_capacity};
-ghost use Rattle.raft_log_disk.specs.Causes.{IsLater};
-ghost use Rattle.raft_log_disk.specs.Reading.{IsOpened};
-ghost use Rattle.raft_log_disk.specs.declared.handle.Permission.TheVariants as permissions;
+ghost use Rattle.raft_log_fs.specs.Causes.{IsLater};
+ghost use Rattle.raft_log_fs.specs.Reading.{IsOpened};
+ghost use Rattle.raft_log_fs.specs.declared.handle.Permission.TheVariants as permissions;
 ghost use Rattle.raft_log_file_format.specs.Header.{header_bytes};
-ghost use Rattle.raft_log_file_queue.specs.Layout.{plain_place};
+ghost use Rattle.raft_log_active_file.specs.Layout.{plain_place};
 ghost use Rattle.raft_log_file_pipe.specs.Placing.{IsChosen, IsPlaced};
 ghost use Rattle.raft_log_file_pipe.specs.Exits.{IsTurned, Rotates, RotationLeaves, SameLists, StaysClosed};
 ghost use Rattle.raft_log_file_pipe.specs.Doing.{FailsToTurnBy, TurnsPipeBy};
@@ -14,8 +14,8 @@ ghost use Rattle.raft_log_file_pipe.specs.Doing.{FailsToTurnBy, TurnsPipeBy};
 use crate::new_files::{NewFiles, choose_directory};
 use crate::pipe_files::PipeFiles;
 use log::{Log, error};
-use raft_log_disk::{FileSystem, Handle, Permission};
-use raft_log_file_queue::{File, PathId, PipeFormat, plain_place, rotate_over, rotate_to_new};
+use raft_log_fs::{FileSystem, Handle, Permission};
+use raft_log_active_file::{File, PathId, PipeFormat, plain_place, rotate_over, rotate_to_new};
 use raft_log_record_base::{Error, FileSeq, Result};
 use std::alloc::Global;
 use std::io::ErrorKind;

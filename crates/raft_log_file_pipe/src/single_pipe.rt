@@ -2,7 +2,7 @@
 
 ghost use Rattle.std.specs.Prelude.{◌≡◌, ◌↔◌, ◌+◌, ◌-◌, ◌*◌, ◌/◌, ◌^◌, ◌<◌, ◌≤◌, length, min, suc, ℕ, true, false, Ok, Err, IfErr, IfOk, IsErr, IsTrue, OnErr, OnOk};
 ghost use Rattle.raft_log_record_base.specs.declared.errors.Error.TheVariants as errors;
-ghost use Rattle.raft_log_disk.specs.Causes.{IsLater};
+ghost use Rattle.raft_log_fs.specs.Causes.{IsLater};
 
 use crate::appending::append;
 use crate::closing::{finish, reserve_files};
@@ -15,8 +15,8 @@ use crate::reactive_bytes::ReactiveBytes;
 use crate::rotating::rotate;
 use crate::writing::sync;
 use log::{Log, error};
-use raft_log_disk::FileSystem;
-use raft_log_file_queue::PipeFormat;
+use raft_log_fs::FileSystem;
+use raft_log_active_file::PipeFormat;
 use raft_log_file_writer::LogFileReader;
 use raft_log_record_base::{Error, FileBlockHandle, FileSeq, LogQueue, Result};
 use std::alloc::Global;
@@ -49,11 +49,11 @@ impl<G: PipeFormat> SinglePipe<G> {
     ghost use Rattle.raft_log_file_pipe.specs.Appending.{AppendFails, AppendsAt, GoesElsewhere, GoesOnBy, SaysTryAgain};
     ghost use Rattle.raft_log_file_pipe.specs.Purging.{IsInSpan, IsRaised, PurgeLeaves, Purges, paths_going};
     ghost use Rattle.raft_log_file_pipe.specs.Placing.{IsPlaced};
-    ghost use Rattle.raft_log_disk.specs.Exits.{Syncs};
+    ghost use Rattle.raft_log_fs.specs.Exits.{Syncs};
     ghost use Rattle.raft_log_file_pipe.specs.Calls.{DropsBy};
     ghost use Rattle.raft_log_file_pipe.specs.Doing.{AppendsBy, FailsToAppendBy, FailsToPurgeBy, FailsToSyncBy, FailsToTurnBy, TurnsPipeBy};
     ghost use Rattle.raft_log_file_pipe.specs.Reading.{IsReadAt, IsReadRefused};
-    ghost use Rattle.raft_log_disk.specs.Touching.{HasFile};
+    ghost use Rattle.raft_log_fs.specs.Touching.{HasFile};
     ghost use Rattle.raft_log_file_writer.specs.Reader.{AreBytesAt};
     ghost use Rattle.raft_log_file_pipe.specs.Exits.{FailsToSyncPipe, IsTurned, Rotates, RotationLeaves, SameLists, SyncsPipe};
 

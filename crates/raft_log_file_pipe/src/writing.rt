@@ -1,16 +1,16 @@
 //! Records that are written to the active file of a pipe.
 
 ghost use Rattle.std.specs.Prelude.{◌≡◌, ◌<◌, ◌^◌, IfErr, OnErr, OnOk, IfOk};
-ghost use Rattle.raft_log_disk.specs.Causes.{IsLater};
-ghost use Rattle.raft_log_disk.specs.Exits.{FailsToSync, Syncs};
+ghost use Rattle.raft_log_fs.specs.Causes.{IsLater};
+ghost use Rattle.raft_log_fs.specs.Exits.{FailsToSync, Syncs};
 ghost use Rattle.raft_log_file_writer.specs.Writer.{WritesNext};
-ghost use Rattle.raft_log_file_queue.specs.Exits.{AppendMakes};
+ghost use Rattle.raft_log_active_file.specs.Exits.{AppendMakes};
 ghost use Rattle.raft_log_file_pipe.specs.Exits.{Adds, FailsToAdd, FailsToSyncPipe, SameLists, SyncsPipe};
 
 use crate::pipe_files::PipeFiles;
 use log::Log;
-use raft_log_disk::FileSystem;
-use raft_log_file_queue::{PipeFormat, WriteFault, append_record, sync_records};
+use raft_log_fs::FileSystem;
+use raft_log_active_file::{PipeFormat, WriteFault, append_record, sync_records};
 use std::io::ErrorKind;
 
 /// Appends a record to the active file, and returns its offset in bytes. If the write fails, the file is truncated to

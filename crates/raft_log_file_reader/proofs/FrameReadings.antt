@@ -12,7 +12,7 @@ use Rattle.raft_log_record_items.specs.Placed.{placed}
 use Rattle.raft_log_record_frames.specs.Record.{IsFrame, Front, block_of, frame_at}
 use Rattle.raft_log_record_frames.proofs.Frames.{frame_back, frames_take_bytes}
 use Rattle.raft_log_record_frames.proofs.Fronts.{frame_is_read, record_of_block}
-use Rattle.raft_log_file_laws.specs.Chains.{Refuses, spelled}
+use Rattle.raft_log_file_writer.specs.LawsChains.{Refuses, spelled}
 use Rattle.raft_log_file_reader.specs.Batches.{padding_len, GoesOnAt, batch_at, block_at, context_of, HasBatches}
 use Rattle.raft_log_file_reader.specs.Batches.GoesOnAt.{behind_padding, at_once}
 use Rattle.raft_log_file_reader.specs.Laws.{EndsBehind, IsFrameOf, BatchesAreFrames, WholeBlockMakesRecord}

@@ -3,7 +3,7 @@ use Rattle.std.specs.Vec.Iter.{into_iter_items}
 use Rattle.std.proofs.Common.{◌≡◌, ◌+◌, ◌<◌, ◌≤◌, List, [], ◌∷◌, ◌++◌, length, Ok, Err, refl, sym, ap, subst, ◌∙◌, arith}
 use Rattle.raft_log_record_base.specs.declared.errors.Error.{Error}
 use Rattle.raft_log_record_items.specs.declared.item.LogItem.{LogItem}
-use Rattle.raft_log_disk.specs.Disk.{Disk}
+use Rattle.raft_log_fs.specs.Disk.{Disk}
 use Rattle.raft_log_file_reader.specs.Answers.{Answer, given}
 use Rattle.raft_log_file_reader.specs.ItemBatches.{GivesRest, AnswersGoOn, most_left}
 use Rattle.raft_log_file_reader.specs.ItemReader.{IsFileAtWork, StillGives, disk_of, most_to_come}

@@ -5,10 +5,10 @@ use Rattle.std.proofs.lemmas.List.{length-take, length-drop, length-append, take
 use Rattle.raft_log_record_base.specs.Fault.{FailsOrMemory}
 use Rattle.raft_log_record_base.specs.declared.errors.Error.{Error}
 use Rattle.raft_log_record_base.specs.declared.errors.Error.TheVariants as errors
-use Rattle.raft_log_disk.specs.Disk.{Disk}
-use Rattle.raft_log_disk.specs.Reading.{IsSize, IsUnread}
-use Rattle.raft_log_disk.specs.Reading.IsUnread.{stopped, gone, unreadable}
-use Rattle.raft_log_disk.specs.declared.handle.Handle.{Handle}
+use Rattle.raft_log_fs.specs.Disk.{Disk}
+use Rattle.raft_log_fs.specs.Reading.{IsSize, IsUnread}
+use Rattle.raft_log_fs.specs.Reading.IsUnread.{stopped, gone, unreadable}
+use Rattle.raft_log_fs.specs.declared.handle.Handle.{Handle}
 use Rattle.raft_log_file_format.specs.Header.{IsFileHeader, header_at}
 use Rattle.raft_log_file_format.specs.declared.header.LogFileFormat.{LogFileFormat}
 use Rattle.raft_log_file_reader.specs.Source.{bytes_in, bytes_of, CannotRead, CannotReadPart}

@@ -4,7 +4,7 @@ use Rattle.std.proofs.Common.{◌≡◌, ℕ, ◌+◌, ◌-◌, ◌<◌, ◌≤�
 use Rattle.std.proofs.lemmas.List.{take-append-drop, drop_more, get_or-drop, get_or-append_right, length-append, length-drop}
 use Rattle.std.proofs.lemmas.Bool.{cases_order}
 use Rattle.raft_log_record_base.specs.declared.pipe_log.FileId.{FileId}
-use Rattle.raft_log_disk.specs.Disk.{IsPathIn}
+use Rattle.raft_log_fs.specs.Disk.{IsPathIn}
 use Rattle.raft_log_file_reader.specs.Files.{IsNameOf, IsLogPath}
 
 slash_in : (directory name : List ℕ) → get_or (directory ++ 47 ∷ name) (length directory) 0 ≡ 47

@@ -2,7 +2,7 @@
 use Rattle.std.proofs.Common.{ℕ, ◌+◌, ◌≤◌, length, Result, Ok, Err, IfErr, arith}
 use Rattle.raft_log_record_base.specs.declared.errors.Error.{Error}
 use Rattle.raft_log_record_base.specs.declared.errors.Error.TheVariants as errors
-use Rattle.raft_log_disk.specs.Disk.{Disk}
+use Rattle.raft_log_fs.specs.Disk.{Disk}
 use Rattle.raft_log_file_reader.specs.Source.{bytes_of, CannotRead}
 use Rattle.raft_log_file_reader.specs.Holding.{HoldsPart}
 use Rattle.raft_log_file_reader.specs.declared.source.Source.{Source}

@@ -6,9 +6,9 @@ use Rattle.raft_log_record_base.specs.Files.{file_cmp}
 use Rattle.raft_log_record_base.specs.declared.errors.Error.{Error}
 use Rattle.raft_log_record_base.specs.declared.errors.Error.TheVariants as errors
 use Rattle.raft_log_record_base.specs.declared.pipe_log.FileId.{FileId}
-use Rattle.raft_log_disk.specs.Disk.{Disk, IsPathIn}
-use Rattle.raft_log_disk.specs.Arguments.{IsAfterStop}
-use Rattle.raft_log_disk.specs.Reading.{IsListing}
+use Rattle.raft_log_fs.specs.Disk.{Disk, IsPathIn}
+use Rattle.raft_log_fs.specs.Arguments.{IsAfterStop}
+use Rattle.raft_log_fs.specs.Reading.{IsListing}
 use Rattle.raft_log_file_format.specs.Name.{IsNamed, suffix_of}
 use Rattle.raft_log_file_reader.specs.declared.log_file.LogFile.{LogFile}
 

@@ -1,6 +1,6 @@
 -- What a window holds of a file.
 use Rattle.std.specs.Prelude.{◌≡◌, length}
-use Rattle.raft_log_disk.specs.Disk.{Disk}
+use Rattle.raft_log_fs.specs.Disk.{Disk}
 use Rattle.raft_log_file_reader.specs.Window.{IsPart}
 use Rattle.raft_log_file_reader.specs.Source.{bytes_of}
 use Rattle.raft_log_file_reader.specs.declared.source.Source.{Source}

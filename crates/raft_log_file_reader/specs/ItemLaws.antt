@@ -1,7 +1,7 @@
 -- Laws of a reader of items.
 use Rattle.std.specs.Prelude.{List}
 use Rattle.std.specs.Iterator.{Drains}
-use Rattle.raft_log_disk.specs.Disk.{Disk}
+use Rattle.raft_log_fs.specs.Disk.{Disk}
 use Rattle.raft_log_file_reader.specs.Answers.{Answer}
 use Rattle.raft_log_file_reader.specs.ItemReader.{StillGives, GivesFirst}
 use Rattle.raft_log_file_reader.specs.declared.item_reader.LogItemReader.{LogItemReader}

@@ -1,7 +1,7 @@
 -- A reader of items: what it still returns, and what a call returns.
 use Rattle.std.specs.Prelude.{◌≡◌, ℕ, ◌+◌, List, [], ◌∷◌, ◌++◌, length, Option, MatchOption}
 use Rattle.std.specs.Vec.Iter.{into_iter_items}
-use Rattle.raft_log_disk.specs.Disk.{Disk}
+use Rattle.raft_log_fs.specs.Disk.{Disk}
 use Rattle.raft_log_file_reader.specs.Reader.{IsReading}
 use Rattle.raft_log_file_reader.specs.Answers.{Answer, given, GivesFiles}
 use Rattle.raft_log_file_reader.specs.Files.{IsFileAt, AreFilesOf}

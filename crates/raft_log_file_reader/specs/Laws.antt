@@ -6,7 +6,7 @@ use Rattle.raft_log_record_items.specs.declared.item.LogItem.{LogItem}
 use Rattle.raft_log_record_items.specs.Placed.{placed}
 use Rattle.raft_log_record_base.specs.declared.pipe_log.LogFileContext.{LogFileContext}
 use Rattle.raft_log_record_frames.specs.Record.{IsFrame, Front, block_of, record_at}
-use Rattle.raft_log_file_laws.specs.Chains.{Written, Reads}
+use Rattle.raft_log_file_writer.specs.LawsChains.{Written, Reads}
 use Rattle.raft_log_file_reader.specs.Batches.{HasBatch, HasBatches, HasNoMore, IsBroken, padding_len, batch_at, block_at, context_of}
 use Rattle.raft_log_file_reader.specs.declared.open_file.OpenFile.{OpenFile}
 

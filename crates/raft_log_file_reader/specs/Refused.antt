@@ -7,7 +7,7 @@ use Rattle.raft_log_record_base.specs.declared.errors.Error.{Error}
 use Rattle.raft_log_record_base.specs.declared.errors.Error.TheVariants as errors
 use Rattle.raft_log_record_base.specs.declared.pipe_log.FileBlockHandle.{FileBlockHandle}
 use Rattle.raft_log_record_frames.specs.Record.{block_of}
-use Rattle.raft_log_disk.specs.Disk.{Disk}
+use Rattle.raft_log_fs.specs.Disk.{Disk}
 use Rattle.raft_log_file_reader.specs.Source.{bytes_of, IsUnreadFrom}
 use Rattle.raft_log_file_reader.specs.Batches.{IsBroken}
 use Rattle.raft_log_file_reader.specs.declared.source.Source.{Source}

@@ -3,8 +3,8 @@ use Rattle.std.specs.Prelude.{ℕ, ◌+◌, ◌≤◌, List, [], Option, Some, N
 use Rattle.std.specs.declared.io.ErrorKind.{ErrorKind}
 use Rattle.raft_log_record_base.specs.declared.errors.Error.{Error}
 use Rattle.raft_log_record_base.specs.declared.errors.Error.TheVariants as errors
-use Rattle.raft_log_disk.specs.Disk.{Disk, File}
-use Rattle.raft_log_disk.specs.Reading.{IsUnread}
+use Rattle.raft_log_fs.specs.Disk.{Disk, File}
+use Rattle.raft_log_fs.specs.Reading.{IsUnread}
 use Rattle.raft_log_file_reader.specs.declared.source.Source.{Source}
 
 -- the bytes of a file; none if it doesn't exist

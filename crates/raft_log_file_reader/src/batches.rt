@@ -1,12 +1,12 @@
 //! Reads the batches of log files, one file after another.
 ghost use Rattle.std.specs.Prelude.{◌≡◌, ◌∷◌, [], Err, true, IfOk, IfErr};
-ghost use Rattle.raft_log_disk.specs.Reading.{IsOpened};
-ghost use Rattle.raft_log_disk.specs.declared.handle.Permission.TheVariants.{ReadOnly};
+ghost use Rattle.raft_log_fs.specs.Reading.{IsOpened};
+ghost use Rattle.raft_log_fs.specs.declared.handle.Permission.TheVariants.{ReadOnly};
 ghost use Rattle.raft_log_file_reader.specs.Answers.{IsReadOpenRefusal};
 
 use crate::LogItemBatchFileReader;
 use crate::log_file::LogFile;
-use raft_log_disk::{FileSystem, Handle, Permission};
+use raft_log_fs::{FileSystem, Handle, Permission};
 use raft_log_record_base::{Error, Result};
 use raft_log_record_batches::LogItemBatch;
 use std::alloc::Global;
@@ -26,7 +26,7 @@ pub(crate) struct BatchReader {
 
 impl BatchReader {
     ghost use Rattle.std.specs.Prelude.{◌+◌, ◌<◌, length, MatchOption, MatchBool, IfSome, OnErr};
-    ghost use Rattle.raft_log_disk.specs.Disk.{Disk};
+    ghost use Rattle.raft_log_fs.specs.Disk.{Disk};
     ghost use Rattle.raft_log_file_reader.specs.Reader.{IsReading, HasNoneOpen};
     ghost use Rattle.raft_log_file_reader.specs.Answers.{given};
     ghost use Rattle.raft_log_file_reader.specs.ItemBatches.{GivesRest, AnswersGoOn, files_of, most_left};

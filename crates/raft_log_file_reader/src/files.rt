@@ -2,12 +2,12 @@
 ghost use Rattle.std.specs.Prelude.{◌≡◌, ◌↔◌, ◌∷◌, [], ◌++◌, map, true, Some, IfOk, IfErr};
 ghost use Rattle.std.specs.String.{string_bytes};
 ghost use Rattle.raft_log_record_base.specs.declared.errors.Error.TheVariants.{Memory};
-ghost use Rattle.raft_log_disk.specs.Arguments.{IsDeclined};
+ghost use Rattle.raft_log_fs.specs.Arguments.{IsDeclined};
 ghost use Rattle.raft_log_file_reader.specs.Files.{IsLogPath, IsFileAt, IsNoFile, AreFilesOf, IsNoDirectory, AreFoundAmong};
 ghost use Rattle.raft_log_file_reader.specs.Telling.{TellsInvalid, TellsAbsent};
 
 use crate::log_file::LogFile;
-use raft_log_disk::{FileSystem, Permission};
+use raft_log_fs::{FileSystem, Permission};
 use raft_log_file_format::FileNameExt;
 use raft_log_record_base::{Error, FileId, Result};
 use std::alloc::Global;

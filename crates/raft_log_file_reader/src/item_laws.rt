@@ -1,7 +1,7 @@
 //! Laws of a reader of items.
 ghost use Rattle.raft_log_file_reader.specs.ItemLaws.{CallsGiveAll};
 
-use raft_log_disk::FileSystem;
+use raft_log_fs::FileSystem;
 
 /// Calling a reader of items until it returns nothing returns all that is read of its files.
 pub fn calls_give_all<F: FileSystem>()

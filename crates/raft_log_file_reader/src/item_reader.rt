@@ -3,7 +3,7 @@
 use crate::batches::BatchReader;
 use crate::files::{file_at, files_in};
 use crate::log_file::LogFile;
-use raft_log_disk::FileSystem;
+use raft_log_fs::FileSystem;
 use raft_log_record_base::Result;
 use raft_log_record_items::LogItem;
 use std::alloc::Global;

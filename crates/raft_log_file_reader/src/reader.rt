@@ -8,7 +8,7 @@ use crate::header::read_format;
 use crate::open_file::OpenFile;
 use crate::source::Source;
 use crate::window::Window;
-use raft_log_disk::{FileSystem, Handle};
+use raft_log_fs::{FileSystem, Handle};
 use raft_log_file_format::LogFileFormat;
 use raft_log_record_base::{FileBlockHandle, FileId, LogQueue, Result};
 use raft_log_record_batches::LogItemBatch;
@@ -40,7 +40,7 @@ fn no_block() -> FileBlockHandle
 }
 
 impl LogItemBatchFileReader {
-    ghost use Rattle.raft_log_disk.specs.Disk.{Disk};
+    ghost use Rattle.raft_log_fs.specs.Disk.{Disk};
     ghost use Rattle.raft_log_file_reader.specs.Reader.{IsReading, HasNoneOpen, IsUnmoved, Opens, AnswersBatch, IsInsideFile, file_of, end_of, last_block};
     ghost use Rattle.raft_log_file_reader.specs.Source.{bytes_of};
     ghost use Rattle.raft_log_file_reader.specs.Batches.{HasBlock};

@@ -1,6 +1,6 @@
 //! A file from which bytes are read.
 
-use raft_log_disk::Handle;
+use raft_log_fs::Handle;
 
 /// A file from which bytes are read.
 #[derive(Clone, Copy, Debug, PartialEq, Eq)]

@@ -4,7 +4,7 @@ ghost use Rattle.raft_log_file_reader.specs.Window.{IsPart, Covers};
 ghost use Rattle.raft_log_file_reader.specs.Source.{bytes_of, CannotRead, CannotReadPart};
 
 use crate::source::Source;
-use raft_log_disk::FileSystem;
+use raft_log_fs::FileSystem;
 use raft_log_record_base::{Error, Result};
 use std::alloc::Global;
 

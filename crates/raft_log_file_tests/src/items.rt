@@ -1,6 +1,6 @@
 //! The items of a directory whose allocations fail.
-use raft_log_disk::FileSystem;
-use raft_log_disk_memory::MemoryFileSystem;
+use raft_log_fs::FileSystem;
+use raft_log_fs_memory::MemoryFileSystem;
 use raft_log_file_format::LogFileFormat;
 use raft_log_file_reader::LogItemReader;
 use raft_log_record_base::{FileId, LogFileContext, LogQueue, Result, Version};

@@ -1,7 +1,7 @@
 //! A call that runs out of memory fails with `OutOfMemory` and changes nothing; made again, it succeeds. Run it with
 //! each allocation failing in turn.
-use raft_log_disk::{FileSystem, Permission};
-use raft_log_disk_memory::{MemoryFileSystem, Remainder};
+use raft_log_fs::{FileSystem, Permission};
+use raft_log_fs_memory::{MemoryFileSystem, Remainder};
 use std::io::ErrorKind;
 use std::process::Abort;
 use std::test::Fail;

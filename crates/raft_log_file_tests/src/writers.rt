@@ -1,6 +1,6 @@
 //! A writer of a log file whose allocations fail.
-use raft_log_disk::{FileSystem, Permission};
-use raft_log_disk_memory::{MemoryFileSystem, Remainder};
+use raft_log_fs::{FileSystem, Permission};
+use raft_log_fs_memory::{MemoryFileSystem, Remainder};
 use raft_log_file_format::LogFileFormat;
 use raft_log_file_writer::{LogFileWriter, build_file_writer};
 use raft_log_record_base::{Result, Version};

@@ -1,6 +1,6 @@
 -- What reading a directory returns.
 use Rattle.std.specs.Prelude.{ℕ, List}
-use Rattle.raft_log_disk.specs.Disk.{Disk}
+use Rattle.raft_log_fs.specs.Disk.{Disk}
 use Rattle.raft_log_file_reader.specs.Files.{AreFilesOf}
 use Rattle.raft_log_file_reader.specs.Answers.{Answer, GivesFiles}
 use Rattle.raft_log_file_reader.specs.declared.log_file.LogFile.{LogFile}

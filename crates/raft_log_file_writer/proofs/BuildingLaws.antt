@@ -5,12 +5,12 @@ use Rattle.std.proofs.Common.{refl, sym, ◌∙◌, ap, subst}
 use Rattle.raft_log_record_base.specs.declared.errors.Error.TheVariants as errors
 use Rattle.raft_log_file_format.specs.declared.header.LogFileFormat.{LogFileFormat}
 use Rattle.raft_log_file_format.specs.Header.{header_bytes}
-use Rattle.raft_log_disk.specs.Disk.{Disk}
-use Rattle.raft_log_disk.specs.Image.{IsSound}
-use Rattle.raft_log_disk.specs.Touching.{TouchesOnly, TouchesOnlyNames}
-use Rattle.raft_log_disk.specs.declared.handle.Handle.{Handle}
-use Rattle.raft_log_disk.proofs.NamesLaws.{creation_leaves}
-use Rattle.raft_log_disk.proofs.TouchingLaws.{names_then, names_file}
+use Rattle.raft_log_fs.specs.Disk.{Disk}
+use Rattle.raft_log_fs.specs.Image.{IsSound}
+use Rattle.raft_log_fs.specs.Touching.{TouchesOnly, TouchesOnlyNames}
+use Rattle.raft_log_fs.specs.declared.handle.Handle.{Handle}
+use Rattle.raft_log_fs.proofs.NamesLaws.{creation_leaves}
+use Rattle.raft_log_fs.proofs.TouchingLaws.{names_then, names_file}
 use Rattle.raft_log_file_writer.specs.declared.writer.LogFileWriter.{LogFileWriter}
 use Rattle.raft_log_file_writer.specs.Writer.{TakesUp, goes_on, begins, FailsToTakeUp}
 use Rattle.raft_log_file_writer.specs.Building.{Finds, is_made, was_there, Builds, FailsToBuild, not_taken_up}

@@ -4,20 +4,20 @@ use Rattle.std.specs.declared.io.ErrorKind.{ErrorKind}
 use Rattle.std.proofs.Common.{refl, sym, ◌∙◌, ap, subst, arith, length-append, length-drop}
 use Rattle.std.proofs.lemmas.List.{append-nil, append_assoc, drop-append-le, drop_all, take_all, take_at, length-take}
 use Rattle.std.proofs.lemmas.Bool.{false≢true}
-use Rattle.raft_log_disk.specs.Disk.{Wrote, ShortenedTo, File, Disk, at_rest, zeros, overwritten}
-use Rattle.raft_log_disk.specs.Calls.{with_change, after_change, flushed}
-use Rattle.raft_log_disk.specs.Arguments.{WrongWriter, WrongHandle}
-use Rattle.raft_log_disk.specs.Exits.{Syncs, FailsToSync}
-use Rattle.raft_log_file_laws.specs.Chains.{Written, IsSelfDelimiting, AreFrames, BeginsWith, spelled}
-use Rattle.raft_log_file_laws.specs.KeepsSynced.{HoldsChain, HoldsAtLeast, StandsBehind, kept_records}
-use Rattle.raft_log_file_laws.specs.Shortening.{CanShorten, IsShortened}
-use Rattle.raft_log_disk.specs.Touching.{HasFile}
-use Rattle.raft_log_disk.specs.declared.handle.Handle.{Handle}
-use Rattle.raft_log_disk.specs.declared.handle.Permission.TheVariants.{ReadWrite}
-use Rattle.raft_log_file_laws.proofs.ChainLaws.{spelled-append, frames_front}
-use Rattle.raft_log_file_laws.proofs.KeepsSyncedLaws.{left_keeps_part, holds_grown, holds_written, holds_more, holds_read, holds_synced, holds_at_least, all_at_least, holds_used_again, holds_in_front}
-use Rattle.raft_log_file_laws.proofs.ShorteningLaws.{reads_whole, can_shorten_kept, kept_shortened, is_shortened, shortened_kept, shortened_synced}
-use Rattle.raft_log_disk.proofs.TouchingLaws.{same_file, has_done, has_changed, has_synced}
+use Rattle.raft_log_fs.specs.Disk.{Wrote, ShortenedTo, File, Disk, at_rest, zeros, overwritten}
+use Rattle.raft_log_fs.specs.Calls.{with_change, after_change, flushed}
+use Rattle.raft_log_fs.specs.Arguments.{WrongWriter, WrongHandle}
+use Rattle.raft_log_fs.specs.Exits.{Syncs, FailsToSync}
+use Rattle.raft_log_file_writer.specs.LawsChains.{Written, IsSelfDelimiting, AreFrames, BeginsWith, spelled}
+use Rattle.raft_log_file_writer.specs.KeepsSynced.{HoldsChain, HoldsAtLeast, StandsBehind, kept_records}
+use Rattle.raft_log_file_writer.specs.Shortening.{CanShorten, IsShortened}
+use Rattle.raft_log_fs.specs.Touching.{HasFile}
+use Rattle.raft_log_fs.specs.declared.handle.Handle.{Handle}
+use Rattle.raft_log_fs.specs.declared.handle.Permission.TheVariants.{ReadWrite}
+use Rattle.raft_log_file_writer.proofs.LawsChainLaws.{spelled-append, frames_front}
+use Rattle.raft_log_file_writer.proofs.KeepsSyncedLaws.{left_keeps_part, holds_grown, holds_written, holds_more, holds_read, holds_synced, holds_at_least, all_at_least, holds_used_again, holds_in_front}
+use Rattle.raft_log_file_writer.proofs.ShorteningLaws.{reads_whole, can_shorten_kept, kept_shortened, is_shortened, shortened_kept, shortened_synced}
+use Rattle.raft_log_fs.proofs.TouchingLaws.{same_file, has_done, has_changed, has_synced}
 use Rattle.raft_log_file_writer.specs.declared.writer.LogFileWriter.{LogFileWriter}
 use Rattle.raft_log_file_writer.specs.Writer.{MakesRoom, reach, FailsToWriteAt, WritesNext, FailsToWriteNext, CutsBehind, ends_there, is_cut, Closes, FailsToClose, not_cut, not_synced, TakesUp, goes_on, begins, FailsToTakeUp, not_measured, not_begun}
 use Rattle.raft_log_file_writer.specs.Chains.{DurableIsLeft, HasStaleFrom, IsAtEnd, IsReady, WriterKeepsChain, HoldsNothing, RestHoldsNothing, GetsHeader, WriterBeginsChain}

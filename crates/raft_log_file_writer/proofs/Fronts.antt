@@ -3,11 +3,11 @@ use Rattle.std.specs.Prelude.{◌≡◌, ℕ, ◌+◌, ◌-◌, ◌<◌, ◌≤�
 use Rattle.std.proofs.Common.{refl, sym, ◌∙◌, ap, arith, inl, inr, take, drop, length-append}
 use Rattle.std.proofs.lemmas.List.{append-nil, append_assoc, take_at, take-append-drop, take-append-le, length-take, length-take-le, get_or-take, ext_get_or}
 use Rattle.std.proofs.lemmas.List.Elements.{All-push}
-use Rattle.raft_log_disk.specs.Disk.{Change, Wrote, ShortenedTo, GrewTo, File, zeros, grown}
-use Rattle.raft_log_disk.specs.Image.{IsSoundFile, Spares}
-use Rattle.raft_log_disk.specs.Calls.{with_change, after_change, flushed, IsTorn, InPart}
-use Rattle.raft_log_disk.proofs.ChangeLaws.{part_may, overwritten_torn}
-use Rattle.raft_log_file_laws.proofs.KeepsSyncedLaws.{left_keeps_part}
+use Rattle.raft_log_fs.specs.Disk.{Change, Wrote, ShortenedTo, GrewTo, File, zeros, grown}
+use Rattle.raft_log_fs.specs.Image.{IsSoundFile, Spares}
+use Rattle.raft_log_fs.specs.Calls.{with_change, after_change, flushed, IsTorn, InPart}
+use Rattle.raft_log_fs.proofs.ChangeLaws.{part_may, overwritten_torn}
+use Rattle.raft_log_file_writer.proofs.KeepsSyncedLaws.{left_keeps_part}
 use Rattle.raft_log_file_writer.specs.Writer.{IsDurable}
 
 -- the file begins with these bytes, and ends here at the latest

@@ -4,13 +4,13 @@ use Rattle.std.specs.declared.io.ErrorKind.{ErrorKind}
 use Rattle.std.proofs.Common.{refl, sym, ◌∙◌, ap, subst, arith}
 use Rattle.std.proofs.lemmas.List.{append-nil}
 use Rattle.std.proofs.lemmas.List.Elements.{All-weaker}
-use Rattle.raft_log_disk.specs.Disk.{File, Disk, file_limit}
-use Rattle.raft_log_disk.specs.Image.{IsSound, end_of}
-use Rattle.raft_log_disk.specs.Causes.{Fails}
-use Rattle.raft_log_disk.specs.Reading.{IsSize}
-use Rattle.raft_log_disk.specs.declared.handle.Handle.{Handle}
-use Rattle.raft_log_disk.specs.declared.handle.Permission.TheVariants.{ReadWrite}
-use Rattle.raft_log_disk.proofs.TouchingLaws.{same_file}
+use Rattle.raft_log_fs.specs.Disk.{File, Disk, file_limit}
+use Rattle.raft_log_fs.specs.Image.{IsSound, end_of}
+use Rattle.raft_log_fs.specs.Causes.{Fails}
+use Rattle.raft_log_fs.specs.Reading.{IsSize}
+use Rattle.raft_log_fs.specs.declared.handle.Handle.{Handle}
+use Rattle.raft_log_fs.specs.declared.handle.Permission.TheVariants.{ReadWrite}
+use Rattle.raft_log_fs.proofs.TouchingLaws.{same_file}
 use Rattle.raft_log_file_writer.specs.declared.writer.LogFileWriter.{LogFileWriter}
 use Rattle.raft_log_file_writer.specs.Writer.{IsWritten, reach, WritesAtPlace, FailsToWriteAt, WritesNext, FailsToWriteNext, KeepsWritten, needs_header, TakesUp, goes_on, begins, FailsToTakeUp, not_begun, CanBeTakenUp, IsTakenUp}
 

@@ -9,9 +9,9 @@ use Rattle.raft_log_record_base.specs.declared.errors.Error.TheVariants as error
 use Rattle.raft_log_record_base.specs.Fault.{FailsOrMemory, DecodesOrMemory, ReadsOrMemory}
 use Rattle.raft_log_file_format.specs.declared.header.LogFileFormat.{LogFileFormat}
 use Rattle.raft_log_file_format.specs.Header.{IsFileHeader, header_at}
-use Rattle.raft_log_disk.specs.Disk.{File, Disk}
-use Rattle.raft_log_disk.specs.Touching.{HasFile}
-use Rattle.raft_log_disk.specs.declared.handle.Handle.{Handle}
+use Rattle.raft_log_fs.specs.Disk.{File, Disk}
+use Rattle.raft_log_fs.specs.Touching.{HasFile}
+use Rattle.raft_log_fs.specs.declared.handle.Handle.{Handle}
 use Rattle.raft_log_file_writer.specs.Reader.{BeginsWithHeader, GivesFormat, IsFormatRefusal}
 
 -- what was read into a room, and no more of it, is what stands there

@@ -3,14 +3,14 @@ use Rattle.std.specs.Prelude.{◌≡◌, ℕ, ◌+◌, ◌-◌, ◌<◌, ◌≤�
 use Rattle.std.proofs.Common.{refl, sym, ◌∙◌, ap, subst, arith, inl, inr, length-append, length-drop}
 use Rattle.std.proofs.lemmas.Bool.{cases_lt}
 use Rattle.std.proofs.lemmas.List.{append-nil, drop-append-le, take-append-le, length-take, length-replicate, get_or-replicate, get_or_append_left, get_or-append_right, get_or_past, nil_from_length}
-use Rattle.raft_log_disk.specs.Disk.{Wrote, GrewTo, File, Disk, zeros}
-use Rattle.raft_log_disk.specs.Calls.{with_change, after_change, InPart}
-use Rattle.raft_log_file_laws.specs.Chains.{Written}
-use Rattle.raft_log_file_laws.specs.KeepsSynced.{HoldsChain, IsStale}
-use Rattle.raft_log_disk.specs.Touching.{HasFile}
-use Rattle.raft_log_disk.specs.declared.handle.Handle.{Handle}
-use Rattle.raft_log_disk.proofs.ChangeLaws.{overwritten_torn}
-use Rattle.raft_log_file_laws.proofs.KeepsSyncedLaws.{holds_grown}
+use Rattle.raft_log_fs.specs.Disk.{Wrote, GrewTo, File, Disk, zeros}
+use Rattle.raft_log_fs.specs.Calls.{with_change, after_change, InPart}
+use Rattle.raft_log_file_writer.specs.LawsChains.{Written}
+use Rattle.raft_log_file_writer.specs.KeepsSynced.{HoldsChain, IsStale}
+use Rattle.raft_log_fs.specs.Touching.{HasFile}
+use Rattle.raft_log_fs.specs.declared.handle.Handle.{Handle}
+use Rattle.raft_log_fs.proofs.ChangeLaws.{overwritten_torn}
+use Rattle.raft_log_file_writer.proofs.KeepsSyncedLaws.{holds_grown}
 use Rattle.raft_log_file_writer.specs.Writer.{MakesRoom, allocated}
 use Rattle.raft_log_file_writer.specs.Chains.{HasStaleFrom}
 use Rattle.raft_log_file_writer.proofs.WriterLaws.{room_keeps}

@@ -4,20 +4,20 @@ use Rattle.std.specs.Result.{OnOk, OnErr, IfErr}
 use Rattle.std.specs.declared.io.ErrorKind.{ErrorKind}
 use Rattle.std.proofs.Common.{refl, sym, ◌∙◌, ap, subst, arith, inl, inr, min, length-append}
 use Rattle.std.proofs.lemmas.List.{append-nil, nil_from_length, get_or_push}
-use Rattle.raft_log_disk.proofs.Updates.{file_here}
+use Rattle.raft_log_fs.proofs.Updates.{file_here}
 use Rattle.std.proofs.lemmas.Bool.{lt-ltb, le-ltb}
 use Rattle.std.proofs.Math.Nat.{le-max_left}
-use Rattle.raft_log_disk.specs.Disk.{Change, Wrote, ShortenedTo, GrewTo, File, Disk, at_rest, file_limit}
-use Rattle.raft_log_disk.specs.Image.{IsSound, IsSoundFile, end_of}
-use Rattle.raft_log_disk.specs.Calls.{IsRight, with_change, after_change, flushed, InPart, IsTorn, Changes, RefusedWhole}
-use Rattle.raft_log_disk.specs.Causes.{Fails, IsLater}
-use Rattle.raft_log_disk.specs.Arguments.{WrongWriter, WrongHandle}
-use Rattle.raft_log_disk.specs.Exits.{Writes, FailsToWrite, FailsToSync, Syncs, Grows, FailsToGrow}
-use Rattle.raft_log_disk.specs.Touching.{HasFile, TouchesOnly}
-use Rattle.raft_log_disk.specs.declared.handle.Handle.{Handle}
-use Rattle.raft_log_disk.specs.declared.handle.Permission.TheVariants.{ReadWrite}
-use Rattle.raft_log_disk.proofs.CauseLaws.{later_same, later_then, later_change, fails_after, fails_change, fails_whole}
-use Rattle.raft_log_disk.proofs.TouchingLaws.{has_done, has_changed, has_synced, has_weaker, touches_same, touches_then, touches_change}
+use Rattle.raft_log_fs.specs.Disk.{Change, Wrote, ShortenedTo, GrewTo, File, Disk, at_rest, file_limit}
+use Rattle.raft_log_fs.specs.Image.{IsSound, IsSoundFile, end_of}
+use Rattle.raft_log_fs.specs.Calls.{IsRight, with_change, after_change, flushed, InPart, IsTorn, Changes, RefusedWhole}
+use Rattle.raft_log_fs.specs.Causes.{Fails, IsLater}
+use Rattle.raft_log_fs.specs.Arguments.{WrongWriter, WrongHandle}
+use Rattle.raft_log_fs.specs.Exits.{Writes, FailsToWrite, FailsToSync, Syncs, Grows, FailsToGrow}
+use Rattle.raft_log_fs.specs.Touching.{HasFile, TouchesOnly}
+use Rattle.raft_log_fs.specs.declared.handle.Handle.{Handle}
+use Rattle.raft_log_fs.specs.declared.handle.Permission.TheVariants.{ReadWrite}
+use Rattle.raft_log_fs.proofs.CauseLaws.{later_same, later_then, later_change, fails_after, fails_change, fails_whole}
+use Rattle.raft_log_fs.proofs.TouchingLaws.{has_done, has_changed, has_synced, has_weaker, touches_same, touches_then, touches_change}
 use Rattle.raft_log_file_writer.specs.declared.writer.LogFileWriter.{LogFileWriter}
 use Rattle.raft_log_file_writer.specs.Writer.{IsWritten, AreItsBytes, IsClosed, IsDurable, IsSynced, DurableStays, KeepsWritten, IsWriterAt, allocated, reach, MakesRoom, is_there, is_allocated, is_refused, WritesAtPlace, FailsToWriteAt, WritesNext, FailsToWriteNext, CutsBehind, ends_there, is_cut, FailsToCutBehind, Closes, FailsToClose, not_synced}
 use Rattle.raft_log_file_writer.proofs.Fronts.{IsFront, front_later, front_grown, front_torn, front_written, cut_whole, front_whole, front_cut, durable_grown, durable_behind, durable_cut, durable_all, durable_flushed}

@@ -5,12 +5,12 @@ use Rattle.raft_log_record_base.specs.declared.errors.Error.{Error}
 use Rattle.raft_log_record_base.specs.declared.errors.Error.TheVariants as errors
 use Rattle.raft_log_file_format.specs.declared.header.LogFileFormat.{LogFileFormat}
 use Rattle.raft_log_file_format.specs.Header.{IsHeaderRefusal, header_bytes}
-use Rattle.raft_log_disk.specs.Disk.{File, Disk}
-use Rattle.raft_log_disk.specs.Calls.{Creates}
-use Rattle.raft_log_disk.specs.Reading.{IsOpened}
-use Rattle.raft_log_disk.specs.Exits.{FailsToCreate}
-use Rattle.raft_log_disk.specs.declared.handle.Handle.{Handle}
-use Rattle.raft_log_disk.specs.declared.handle.Permission.TheVariants.{ReadWrite}
+use Rattle.raft_log_fs.specs.Disk.{File, Disk}
+use Rattle.raft_log_fs.specs.Calls.{Creates}
+use Rattle.raft_log_fs.specs.Reading.{IsOpened}
+use Rattle.raft_log_fs.specs.Exits.{FailsToCreate}
+use Rattle.raft_log_fs.specs.declared.handle.Handle.{Handle}
+use Rattle.raft_log_fs.specs.declared.handle.Permission.TheVariants.{ReadWrite}
 use Rattle.raft_log_file_writer.specs.Reader.{IsOpenRefusal}
 use Rattle.raft_log_file_writer.specs.Writer.{IsWritten, TakesUp, FailsToTakeUp, taken_up}
 use Rattle.raft_log_file_writer.specs.declared.writer.LogFileWriter.{LogFileWriter}

@@ -1,14 +1,14 @@
 -- A chain of records in a file: what each call of the file's writer does to it.
 use Rattle.std.specs.Prelude.{◌≡◌, ℕ, ◌≤◌, Bool, true, Some, List, [], ◌∷◌, ◌++◌, length, take, drop}
 use Rattle.std.specs.declared.io.ErrorKind.{ErrorKind}
-use Rattle.raft_log_disk.specs.Disk.{File, Disk, at_rest, zeros}
-use Rattle.raft_log_disk.specs.Image.{IsLeft}
-use Rattle.raft_log_file_laws.specs.Chains.{Written, IsSelfDelimiting, spelled}
-use Rattle.raft_log_file_laws.specs.KeepsSynced.{HoldsChain, HoldsAtLeast, StandsBehind}
-use Rattle.raft_log_disk.specs.Exits.{Syncs, FailsToSync}
-use Rattle.raft_log_disk.specs.declared.handle.Handle.{Handle}
-use Rattle.raft_log_disk.specs.declared.handle.Permission.TheVariants.{ReadWrite}
-use Rattle.raft_log_disk.specs.Touching.{HasFile}
+use Rattle.raft_log_fs.specs.Disk.{File, Disk, at_rest, zeros}
+use Rattle.raft_log_fs.specs.Image.{IsLeft}
+use Rattle.raft_log_file_writer.specs.LawsChains.{Written, IsSelfDelimiting, spelled}
+use Rattle.raft_log_file_writer.specs.KeepsSynced.{HoldsChain, HoldsAtLeast, StandsBehind}
+use Rattle.raft_log_fs.specs.Exits.{Syncs, FailsToSync}
+use Rattle.raft_log_fs.specs.declared.handle.Handle.{Handle}
+use Rattle.raft_log_fs.specs.declared.handle.Permission.TheVariants.{ReadWrite}
+use Rattle.raft_log_fs.specs.Touching.{HasFile}
 use Rattle.raft_log_file_writer.specs.declared.writer.LogFileWriter.{LogFileWriter}
 use Rattle.raft_log_file_writer.specs.Writer.{IsWritten, IsDurable, WritesNext, FailsToWriteNext, Closes, FailsToClose, TakesUp, FailsToTakeUp, needs_header}
 

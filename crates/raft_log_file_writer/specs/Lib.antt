@@ -1,4 +1,10 @@
-pub mod Reader
-pub mod Writer
 pub mod Building
 pub mod Chains
+pub mod CrashExamples
+pub mod KeepsSynced
+pub mod LawsChains
+pub mod LogFormat
+pub mod LogQueue
+pub mod Reader
+pub mod Shortening
+pub mod Writer

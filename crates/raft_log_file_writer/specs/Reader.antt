@@ -5,11 +5,11 @@ use Rattle.raft_log_record_base.specs.declared.errors.Error.TheVariants as error
 use Rattle.raft_log_record_base.specs.Fault.{Fault, FailsOrMemory}
 use Rattle.raft_log_file_format.specs.declared.header.LogFileFormat.{LogFileFormat}
 use Rattle.raft_log_file_format.specs.Header.{IsFileHeader, header_at}
-use Rattle.raft_log_disk.specs.Disk.{File, Disk}
-use Rattle.raft_log_disk.specs.Arguments.{WrongName, IsAfterStop}
-use Rattle.raft_log_disk.specs.Reading.{IsUnread, IsNotMeasured}
-use Rattle.raft_log_disk.specs.Touching.{HasFile}
-use Rattle.raft_log_disk.specs.declared.handle.Handle.{Handle}
+use Rattle.raft_log_fs.specs.Disk.{File, Disk}
+use Rattle.raft_log_fs.specs.Arguments.{WrongName, IsAfterStop}
+use Rattle.raft_log_fs.specs.Reading.{IsUnread, IsNotMeasured}
+use Rattle.raft_log_fs.specs.Touching.{HasFile}
+use Rattle.raft_log_fs.specs.declared.handle.Handle.{Handle}
 
 -- why a file wasn't opened: the file system has stopped, or, if it runs, memory ran out or no file has the path
 abbrev pub IsOpenRefusal : List ℕ → Disk → Error → Type 0

@@ -2,15 +2,15 @@
 
 ghost use Rattle.std.specs.Prelude.{◌≡◌, true, false, Some, IfOk, IfErr};
 ghost use Rattle.raft_log_file_format.specs.Header.{HasWrittenHeader, IsFileHeader, IsHeaderRefusal, header_bytes};
-ghost use Rattle.raft_log_disk.specs.Causes.{IsLater};
-ghost use Rattle.raft_log_disk.specs.Touching.{TouchesOnlyNames};
+ghost use Rattle.raft_log_fs.specs.Causes.{IsLater};
+ghost use Rattle.raft_log_fs.specs.Touching.{TouchesOnlyNames};
 ghost use Rattle.raft_log_file_writer.specs.Building.{Builds, FailsToBuild, FailsToFind, Finds, IsGoneOn};
 ghost use Rattle.raft_log_file_writer.specs.Writer.{IsWritten};
 
 use super::reader::open_file;
 use super::writer::LogFileWriter;
 use log::Log;
-use raft_log_disk::{FileSystem, Handle, Permission};
+use raft_log_fs::{FileSystem, Handle, Permission};
 use raft_log_file_format::LogFileFormat;
 use raft_log_record_base::Result;
 use std::alloc::Global;

@@ -2,7 +2,7 @@
 
 ghost use Rattle.raft_log_file_writer.specs.Chains.{DurableIsLeft, RestHoldsNothing, WriterBeginsChain, WriterKeepsChain};
 
-use raft_log_file_laws::chains::Framing;
+use crate::chains::Framing;
 
 /// The durable bytes of a file remain after any stop.
 pub fn durable_bytes_are_left()

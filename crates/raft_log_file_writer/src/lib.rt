@@ -2,7 +2,9 @@
 #![tactic(auto)]
 
 pub mod build;
+pub mod chains;
 pub mod laws;
+pub mod logs;
 pub mod reader;
 pub mod writer;
 

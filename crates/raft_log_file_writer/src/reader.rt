@@ -1,11 +1,11 @@
 //! Reading one log file.
 
 ghost use Rattle.std.specs.Prelude.{◌≡◌, ℕ, length, IfOk, IfErr, OnOk};
-ghost use Rattle.raft_log_disk.specs.Reading.{FillsRoom, IsOpened, IsSize};
-ghost use Rattle.raft_log_disk.specs.Touching.{HasFile};
+ghost use Rattle.raft_log_fs.specs.Reading.{FillsRoom, IsOpened, IsSize};
+ghost use Rattle.raft_log_fs.specs.Touching.{HasFile};
 ghost use Rattle.raft_log_file_writer.specs.Reader.{AreBytesAt, BeginsWithHeader, GivesFormat, IsBlockRefusal, IsFormatRefusal, IsOpenRefusal, IsReadRefusal, IsSizeRefusal};
 
-use raft_log_disk::{FileSystem, Handle, Permission};
+use raft_log_fs::{FileSystem, Handle, Permission};
 use raft_log_file_format::LogFileFormat;
 use raft_log_record_base::{Error, FileBlockHandle, Result};
 use std::alloc::Global;

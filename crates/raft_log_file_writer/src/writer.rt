@@ -1,12 +1,12 @@
 //! Writing one log file: allocates ahead of its end, and truncates it to what was written.
 
 ghost use Rattle.std.specs.Prelude.{◌≡◌, ℕ, ◌+◌, ◌<◌, ◌^◌, ◌++◌, List, length, nat_lt, ◌||◌, IfOk, IfErr, OnOk, OnErr};
-ghost use Rattle.raft_log_disk.specs.Causes.{Fails, IsLater};
-ghost use Rattle.raft_log_disk.specs.Exits.{FailsToSync, Syncs};
-ghost use Rattle.raft_log_disk.specs.Touching.{TouchesOnly};
+ghost use Rattle.raft_log_fs.specs.Causes.{Fails, IsLater};
+ghost use Rattle.raft_log_fs.specs.Exits.{FailsToSync, Syncs};
+ghost use Rattle.raft_log_fs.specs.Touching.{TouchesOnly};
 
 use log::{Log, warn};
-use raft_log_disk::{FileSystem, Handle};
+use raft_log_fs::{FileSystem, Handle};
 use std::io::ErrorKind;
 
 /// The most bytes that are allocated ahead of a write, beyond those that it needs.

@@ -1,10 +1,10 @@
 //! Directories that no engine left: what opens, what is told of the others, and what stands on the disk then.
 use crate::logs::size_of;
 use log::Log;
-use raft_log_disk::{Fault, FileSystem};
-use raft_log_disk_memory::MemoryFileSystem;
+use raft_log_fs::{Fault, FileSystem};
+use raft_log_fs_memory::MemoryFileSystem;
 use raft_log_engine_core::Engine;
-use raft_log_file_pair::OpenRefused;
+use raft_log_dual_pipes::OpenRefused;
 use raft_log_file_settings::{Config, RecoveryMode};
 use raft_log_record_base::{Error, LogQueue, Result};
 use std::alloc::Global;

@@ -1,9 +1,9 @@
 //! Logs that are opened over a file system in memory, and the sizes of its files.
 use log::Log;
-use raft_log_disk::{FileSystem, Permission};
-use raft_log_disk_memory::MemoryFileSystem;
+use raft_log_fs::{FileSystem, Permission};
+use raft_log_fs_memory::MemoryFileSystem;
 use raft_log_engine_core::Engine;
-use raft_log_file_pair::OpenRefused;
+use raft_log_dual_pipes::OpenRefused;
 use raft_log_file_settings::Config;
 use raft_log_record_base::Result;
 use std::alloc::Global;

@@ -3,8 +3,8 @@
 use crate::directories::{Row, holding};
 use crate::logs::opened;
 use log::Log;
-use raft_log_closed::fork;
-use raft_log_disk_memory::MemoryFileSystem;
+use raft_log_offline::fork;
+use raft_log_fs_memory::MemoryFileSystem;
 use raft_log_engine_core::Engine;
 use raft_log_file_settings::Config;
 use raft_log_record_base::{ReadableSize, Result};

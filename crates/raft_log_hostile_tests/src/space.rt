@@ -1,8 +1,8 @@
 //! Logs whose directories have little space: what finds none in one goes to the other, or is refused.
 use crate::logs::{opened, size_of};
 use log::Log;
-use raft_log_disk::{Fault, FileSystem};
-use raft_log_disk_memory::MemoryFileSystem;
+use raft_log_fs::{Fault, FileSystem};
+use raft_log_fs_memory::MemoryFileSystem;
 use raft_log_engine_core::Engine;
 use raft_log_file_settings::Config;
 use raft_log_record_base::{Error, LogQueue, ReadableSize, Result};

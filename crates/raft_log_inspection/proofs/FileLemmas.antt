@@ -5,12 +5,12 @@ use Rattle.std.proofs.Common.{◌≡◌, ℕ, ◌+◌, ◌<◌, Option, None, Li
 use Rattle.std.proofs.lemmas.List.{take_more}
 use Rattle.std.proofs.lemmas.Grind.{flat_map-append}
 use Rattle.raft_log_record_base.specs.declared.pipe_log.LogQueue.{LogQueue}
-use Rattle.raft_log_disk.specs.Disk.{Disk}
-use Rattle.raft_log_table_segments.specs.Machines.{Batch}
-use Rattle.raft_log_table_segments.specs.Segments.{all_batches}
-use Rattle.raft_log_open_scan.specs.declared.scanning.found.FoundFile.{FoundFile}
-use Rattle.raft_log_open_scan.proofs.Steps.{zip_push}
-use Rattle.raft_log_open_found.specs.Batches.{TakesBatches}
+use Rattle.raft_log_fs.specs.Disk.{Disk}
+use Rattle.raft_log_replay.specs.Machines.{Batch}
+use Rattle.raft_log_replay.specs.Segments.{all_batches}
+use Rattle.raft_log_recovery_scan.specs.declared.scanning.found.FoundFile.{FoundFile}
+use Rattle.raft_log_recovery_scan.proofs.Steps.{zip_push}
+use Rattle.raft_log_recovery_read.specs.Batches.{TakesBatches}
 use Rattle.raft_log_inspection.specs.Intact.{IsIntactFile}
 use Rattle.raft_log_inspection.specs.Steps.{HandsFile, HandsFiles}
 use Rattle.raft_log_inspection.specs.declared.damage.Damage.{Damage}

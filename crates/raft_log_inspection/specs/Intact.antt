@@ -6,17 +6,17 @@ use Rattle.raft_log_record_base.specs.declared.errors.Error.{Error}
 use Rattle.raft_log_record_base.specs.declared.pipe_log.LogQueue.{LogQueue}
 use Rattle.raft_log_record_base.specs.declared.pipe_log.LogQueue.TheVariants as queues
 use Rattle.raft_log_record_base.specs.declared.pipe_log.FileId.{FileId}
-use Rattle.raft_log_disk.specs.Disk.{Disk}
+use Rattle.raft_log_fs.specs.Disk.{Disk}
 use Rattle.raft_log_file_reader.specs.Source.{bytes_in}
-use Rattle.raft_log_table_segments.specs.Machines.{Batch}
-use Rattle.raft_log_table_segments.specs.Segments.{all_batches}
-use Rattle.raft_log_open_scan.specs.Found.{AreFilesIn, found_path}
-use Rattle.raft_log_open_scan.specs.Runs.{IsConsecutive}
-use Rattle.raft_log_open_scan.specs.declared.file_kind.FileKind.{FileKind}
-use Rattle.raft_log_open_scan.specs.declared.file_kind.FileKind.TheVariants as kinds
-use Rattle.raft_log_open_scan.specs.declared.scanning.found.FoundFile.{FoundFile}
-use Rattle.raft_log_open_found.specs.Batches.{TakesBatches, said}
-use Rattle.raft_log_open_found.specs.Reading.{FileReading, ReadsBytes}
+use Rattle.raft_log_replay.specs.Machines.{Batch}
+use Rattle.raft_log_replay.specs.Segments.{all_batches}
+use Rattle.raft_log_recovery_scan.specs.Found.{AreFilesIn, found_path}
+use Rattle.raft_log_recovery_scan.specs.Runs.{IsConsecutive}
+use Rattle.raft_log_recovery_scan.specs.declared.file_kind.FileKind.{FileKind}
+use Rattle.raft_log_recovery_scan.specs.declared.file_kind.FileKind.TheVariants as kinds
+use Rattle.raft_log_recovery_scan.specs.declared.scanning.found.FoundFile.{FoundFile}
+use Rattle.raft_log_recovery_read.specs.Batches.{TakesBatches, said}
+use Rattle.raft_log_recovery_read.specs.Reading.{FileReading, ReadsBytes}
 use Rattle.raft_log_inspection.specs.declared.inspecting.QueueInspection.{QueueInspection}
 
 -- the kind of a queue's files

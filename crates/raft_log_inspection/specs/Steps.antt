@@ -5,14 +5,14 @@ use Rattle.std.specs.List.{AllZip}
 use Rattle.std.specs.List.Sorted.{IsPermutation}
 use Rattle.std.specs.String.{string_bytes}
 use Rattle.raft_log_record_base.specs.declared.pipe_log.LogQueue.{LogQueue}
-use Rattle.raft_log_disk.specs.Disk.{Disk}
-use Rattle.raft_log_disk.specs.Reading.{IsListing}
-use Rattle.raft_log_table_segments.specs.Machines.{Batch}
-use Rattle.raft_log_table_segments.specs.Segments.{all_batches}
-use Rattle.raft_log_open_scan.specs.Found.{AreFilesIn}
-use Rattle.raft_log_open_scan.specs.declared.file_kind.FileKind.{FileKind}
-use Rattle.raft_log_open_scan.specs.declared.scanning.found.FoundFile.{FoundFile}
-use Rattle.raft_log_open_found.specs.Batches.{TakesBatches}
+use Rattle.raft_log_fs.specs.Disk.{Disk}
+use Rattle.raft_log_fs.specs.Reading.{IsListing}
+use Rattle.raft_log_replay.specs.Machines.{Batch}
+use Rattle.raft_log_replay.specs.Segments.{all_batches}
+use Rattle.raft_log_recovery_scan.specs.Found.{AreFilesIn}
+use Rattle.raft_log_recovery_scan.specs.declared.file_kind.FileKind.{FileKind}
+use Rattle.raft_log_recovery_scan.specs.declared.scanning.found.FoundFile.{FoundFile}
+use Rattle.raft_log_recovery_read.specs.Batches.{TakesBatches}
 use Rattle.raft_log_inspection.specs.Intact.{AreZeros, IsIntactFile}
 use Rattle.raft_log_inspection.specs.declared.damage.Damage.{Damage}
 use Rattle.raft_log_inspection.specs.declared.zeros.Piece.{Piece}

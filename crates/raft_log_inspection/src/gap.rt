@@ -1,9 +1,9 @@
 //! Gaps in the numbers of a queue's files.
 
 ghost use Rattle.std.specs.Prelude.{◌≡◌, ◌↔◌, [], IsTrue, IfOk};
-ghost use Rattle.raft_log_open_scan.specs.Runs.{FollowsNumber, IsConsecutive};
+ghost use Rattle.raft_log_recovery_scan.specs.Runs.{FollowsNumber, IsConsecutive};
 
-use raft_log_open_scan::scanning::found::FoundFile;
+use raft_log_recovery_scan::scanning::found::FoundFile;
 use raft_log_record_base::FileSeq;
 use std::alloc::{AllocError, Global};
 

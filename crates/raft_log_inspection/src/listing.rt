@@ -3,15 +3,15 @@
 ghost use Rattle.std.specs.Prelude.{◌≡◌, ◌<◌, [], ◌∷◌, ◌++◌, All, IfOk, OnOk, length, map, slice_index_or};
 ghost use Rattle.std.specs.List.{AllZip};
 ghost use Rattle.std.specs.String.{string_bytes};
-ghost use Rattle.raft_log_disk.specs.Reading.{IsListing};
-ghost use Rattle.raft_log_open_scan.specs.Found.{found_path};
+ghost use Rattle.raft_log_fs.specs.Reading.{IsListing};
+ghost use Rattle.raft_log_recovery_scan.specs.Found.{found_path};
 ghost use Rattle.raft_log_inspection.specs.Intact.{kind_of};
 ghost use Rattle.raft_log_inspection.specs.Steps.{AreOrderedFiles, AreListed};
 
 use crate::fault::InspectFault;
-use raft_log_disk::FileSystem;
-use raft_log_open_scan::scanning::found::{FoundFile, find_files};
-use raft_log_open_scan::{FileKind, FileName};
+use raft_log_fs::FileSystem;
+use raft_log_recovery_scan::scanning::found::{FoundFile, find_files};
+use raft_log_recovery_scan::{FileKind, FileName};
 use raft_log_record_base::LogQueue;
 use std::alloc::Global;
 

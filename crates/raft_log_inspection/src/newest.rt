@@ -2,7 +2,7 @@
 
 ghost use Rattle.std.specs.Prelude.{◌≤◌, All};
 
-use raft_log_open_scan::scanning::found::FoundFile;
+use raft_log_recovery_scan::scanning::found::FoundFile;
 use raft_log_record_base::FileSeq;
 
 /// The highest number of these files; 0 if there are none.

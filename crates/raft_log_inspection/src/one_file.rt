@@ -10,12 +10,12 @@ use crate::damage::Damage;
 use crate::fault::InspectFault;
 use crate::listing::{kind_of, path_of};
 use crate::zeros::has_zeros_from;
-use raft_log_disk::{FileSystem, Permission};
+use raft_log_fs::{FileSystem, Permission};
 use raft_log_file_reader::LogItemBatchFileReader;
-use raft_log_open_found::{FoundFile as ReadFile, ListedFile, read_file};
-use raft_log_open_scan::scanning::found::FoundFile;
+use raft_log_recovery_read::{FoundFile as ReadFile, ListedFile, read_file};
+use raft_log_recovery_scan::scanning::found::FoundFile;
 use raft_log_record_base::{FileId, FileSeq, LogQueue};
-use raft_log_table_segments::ReplayMachine;
+use raft_log_replay::ReplayMachine;
 use std::alloc::Global;
 
 /// Reads a file of a queue, whose last file has the number `newest`. Hands a machine its records, and returns the

@@ -5,7 +5,7 @@ ghost use Rattle.raft_log_file_reader.specs.Source.{bytes_in};
 ghost use Rattle.raft_log_inspection.specs.Intact.{AreZeros};
 ghost use Rattle.raft_log_inspection.specs.Steps.{IsPieceOf};
 
-use raft_log_disk::{FileSystem, Handle};
+use raft_log_fs::{FileSystem, Handle};
 use raft_log_record_base::Result;
 use std::alloc::Global;
 use std::io::ErrorKind;

@@ -1,5 +1,5 @@
 //! A file system in which a read of one file waits for a read of another one.
-use raft_log_disk::{Fault, FileSystem, Handle, Permission};
+use raft_log_fs::{Fault, FileSystem, Handle, Permission};
 use std::io::ErrorKind;
 use std::sync::atomic::AtomicU64;
 use std::sync::atomic::Ordering::SeqCst;

@@ -2,7 +2,7 @@
 use crate::batches::Word;
 use crate::store::Store;
 use log::Log;
-use raft_log_file_pair::PipeLog;
+use raft_log_dual_pipes::PipeLog;
 use raft_log_record_base::Result;
 
 /// What is done or asked.

@@ -2,10 +2,10 @@
 use crate::batches::{Word, entry, of_entries, of_words};
 use crate::settings::Settings;
 use log::Log;
-use raft_log_disk::FileSystem;
+use raft_log_fs::FileSystem;
 use raft_log_engine_core::{Engine, EnginePipes, LogEngine};
 use raft_log_file_listeners::EventListener;
-use raft_log_file_pair::{OpenRefused, PipeLog};
+use raft_log_dual_pipes::{OpenRefused, PipeLog};
 use raft_log_record_base::{LogQueue, Result};
 use raft_log_record_batches::LogBatch;
 use raft_log_record_items::{RawEntries, RawMessage};

@@ -1,17 +1,17 @@
 //! A log is recovered one queue after the other.
 use log::Log;
-use raft_log_disk::FileSystem;
-use raft_log_disk_memory::MemoryFileSystem;
-use raft_log_file_pair::{OpenRefused, PipeLog};
+use raft_log_fs::FileSystem;
+use raft_log_fs_memory::MemoryFileSystem;
+use raft_log_dual_pipes::{OpenRefused, PipeLog};
 use raft_log_file_settings::Config;
-use raft_log_open_builder::DualPipesBuilder;
+use raft_log_recovery::DualPipesBuilder;
 use raft_log_open_player::acts::uses;
 use raft_log_open_player::settings::SMALL;
 use raft_log_open_player::steps::Step;
 use raft_log_open_player::steps::Step::{Append, Rewrite};
-use raft_log_open_scan::RecoveryConfig;
+use raft_log_recovery_scan::RecoveryConfig;
 use raft_log_record_base::{LogQueue, Result};
-use raft_log_table_contexts::MemTableRecoverContextFactory;
+use raft_log_replay_context::MemTableRecoverContextFactory;
 use std::alloc::Global;
 use std::thread::Threads;
 

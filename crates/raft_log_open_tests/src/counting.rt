@@ -1,5 +1,5 @@
 //! A file system that counts its reads.
-use raft_log_disk::{Fault, FileSystem, Handle, Permission};
+use raft_log_fs::{Fault, FileSystem, Handle, Permission};
 use std::io::ErrorKind;
 use std::sync::Arc;
 use std::sync::atomic::AtomicU64;

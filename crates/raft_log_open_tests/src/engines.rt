@@ -1,10 +1,10 @@
 //! An engine that is opened says where its log lies, and tells who listens.
 use log::Log;
-use raft_log_disk::FileSystem;
-use raft_log_disk_memory::MemoryFileSystem;
+use raft_log_fs::FileSystem;
+use raft_log_fs_memory::MemoryFileSystem;
 use raft_log_engine_core::LogEngine;
 use raft_log_file_listeners::{EventListener, Listeners, Nobody};
-use raft_log_file_pair::{OpenRefused, PipeLog};
+use raft_log_dual_pipes::{OpenRefused, PipeLog};
 use raft_log_open_player::settings::{Settings, USUAL};
 use raft_log_open_player::steps::Step::{Append, Has};
 use raft_log_open_player::steps::{Step, play};

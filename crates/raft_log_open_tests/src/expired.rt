@@ -1,7 +1,7 @@
 //! Tests of the Rust crate's purges of logs of many files, under their names.
 use log::Log;
-use raft_log_disk::FileSystem;
-use raft_log_disk_memory::MemoryFileSystem;
+use raft_log_fs::FileSystem;
+use raft_log_fs_memory::MemoryFileSystem;
 use raft_log_file_listeners::EventListener;
 use raft_log_open_player::acts::Act::{Forks, Uses};
 use raft_log_open_player::acts::{Act, played};

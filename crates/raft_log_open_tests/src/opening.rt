@@ -1,6 +1,6 @@
 //! Logs that are opened, left, and opened again.
 use log::Log;
-use raft_log_disk_memory::Remainder;
+use raft_log_fs_memory::Remainder;
 use raft_log_file_settings::RecoveryMode;
 use raft_log_open_player::acts::Act::{Arms, Cuts, Lacks, Leaves, Refuses, Uses};
 use raft_log_open_player::acts::{Act, Cause, played, played_behind};

@@ -1,8 +1,8 @@
 //! Tests of the Rust crate's purges, under their names: what stands behind a purge, whole or cut short, and an
 //! open.
 use log::Log;
-use raft_log_disk::FileSystem;
-use raft_log_disk_memory::MemoryFileSystem;
+use raft_log_fs::FileSystem;
+use raft_log_fs_memory::MemoryFileSystem;
 use raft_log_open_player::acts::uses;
 use raft_log_open_player::batches::Word::{Delete, Put, Say};
 use raft_log_open_player::settings::SMALL;

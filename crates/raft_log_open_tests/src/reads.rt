@@ -1,8 +1,8 @@
 //! How often files are read for entries.
 use super::counting::{A_READ, Counting};
 use log::Log;
-use raft_log_disk::FileSystem;
-use raft_log_disk_memory::MemoryFileSystem;
+use raft_log_fs::FileSystem;
+use raft_log_fs_memory::MemoryFileSystem;
 use raft_log_open_player::acts::{opened, uses};
 use raft_log_open_player::settings::USUAL;
 use raft_log_open_player::steps::Step::{Append, Entry, Has};

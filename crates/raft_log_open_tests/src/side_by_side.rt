@@ -1,17 +1,17 @@
 //! The chunks of a queue are read side by side, by `rayon` and by scoped threads.
 use log::Log;
-use raft_log_disk_memory::MemoryFileSystem;
+use raft_log_fs_memory::MemoryFileSystem;
 use raft_log_engine_core::{LogEngine, ReplayThreads};
 use raft_log_file_listeners::Nobody;
-use raft_log_file_pair::{OpenRefused, PipeLog};
-use raft_log_open_builder::DualPipesBuilder;
+use raft_log_dual_pipes::{OpenRefused, PipeLog};
+use raft_log_recovery::DualPipesBuilder;
 use raft_log_open_player::acts::uses;
 use raft_log_open_player::gated::Gated;
 use raft_log_open_player::settings::SMALL;
 use raft_log_open_player::steps::Step;
 use raft_log_open_player::steps::Step::Append;
 use raft_log_record_base::{Error, LogQueue, Result};
-use raft_log_table_contexts::MemTableRecoverContextFactory;
+use raft_log_replay_context::MemTableRecoverContextFactory;
 use std::alloc::Global;
 use std::thread::Threads;
 

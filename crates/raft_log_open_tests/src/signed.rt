@@ -1,6 +1,6 @@
 //! A log one of whose files has a sign in front of its number.
-use raft_log_disk::FileSystem;
-use raft_log_disk_memory::MemoryFileSystem;
+use raft_log_fs::FileSystem;
+use raft_log_fs_memory::MemoryFileSystem;
 use raft_log_open_player::acts::uses;
 use raft_log_open_player::settings::{SMALL, Settings};
 use raft_log_open_player::steps::Step::{Append, Has, Rewrite};

@@ -4,12 +4,12 @@ use Rattle.std.specs.Option.{option_and_then}
 use Rattle.std.proofs.Common.{◌≡◌, ◌↔◌, ℕ, Option, Some, None, List, [], ◌∷◌, refl, sym, ap, ◌∙◌, arith}
 use Rattle.raft_log_record_base.specs.declared.pipe_log.LogQueue.{LogQueue}
 use Rattle.raft_log_record_base.specs.declared.pipe_log.LogQueue.TheVariants as queues
-use Rattle.raft_log_disk.specs.Disk.{Disk}
-use Rattle.raft_log_table_segments.specs.Machines.{Batch}
-use Rattle.raft_log_closed.specs.Findings.{Lists, told_by}
-use Rattle.raft_log_closed.specs.Kept.{KeepsRuns, kept}
-use Rattle.raft_log_closed.specs.Runs.{HasNoHole, Run, finding, runs_of}
-use Rattle.raft_log_closed.specs.declared.checker.ConsistencyChecker.{ConsistencyChecker}
+use Rattle.raft_log_fs.specs.Disk.{Disk}
+use Rattle.raft_log_replay.specs.Machines.{Batch}
+use Rattle.raft_log_offline.specs.Findings.{Lists, told_by}
+use Rattle.raft_log_offline.specs.Kept.{KeepsRuns, kept}
+use Rattle.raft_log_offline.specs.Runs.{HasNoHole, Run, finding, runs_of}
+use Rattle.raft_log_offline.specs.declared.checker.ConsistencyChecker.{ConsistencyChecker}
 use Rattle.raft_log_operator.specs.Sound.{AreNone, HasCleanFiles, HasIntactFiles, HaveNoHole, InspectsLog, IsIntactLog}
 use Rattle.raft_log_operator.specs.declared.inspection.LogFaults.{LogFaults}
 use Rattle.raft_log_operator.specs.declared.place.Place.{Place}

@@ -2,11 +2,11 @@
 use Rattle.std.specs.Prelude.{◌≡◌, ℕ, List, []}
 use Rattle.raft_log_record_base.specs.declared.pipe_log.LogQueue.{LogQueue}
 use Rattle.raft_log_record_base.specs.declared.pipe_log.LogQueue.TheVariants as queues
-use Rattle.raft_log_disk.specs.Disk.{Disk}
+use Rattle.raft_log_fs.specs.Disk.{Disk}
 use Rattle.raft_log_file_settings.specs.Settings.{directories_of}
-use Rattle.raft_log_table_segments.specs.Machines.{Batch}
+use Rattle.raft_log_replay.specs.Machines.{Batch}
 use Rattle.raft_log_inspection.specs.Intact.{IsClean, IsIntactQueue}
-use Rattle.raft_log_closed.specs.Runs.{HasNoHole, runs_of}
+use Rattle.raft_log_offline.specs.Runs.{HasNoHole, runs_of}
 use Rattle.raft_log_operator.specs.Tasks.{kept_settings}
 use Rattle.raft_log_operator.specs.declared.command.Task.{Task}
 use Rattle.raft_log_operator.specs.declared.command.Task.TheVariants.{Check, Stat}

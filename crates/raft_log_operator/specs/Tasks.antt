@@ -2,11 +2,11 @@
 use Rattle.std.specs.Prelude.{◌≡◌, ℕ, false, List, String, string_bytes}
 use Rattle.std.specs.Option.{option_map}
 use Rattle.std.specs.declared.alloc.Global.{Global}
-use Rattle.raft_log_disk.specs.Disk.{Disk}
+use Rattle.raft_log_fs.specs.Disk.{Disk}
 use Rattle.raft_log_file_settings.specs.Settings.{Settings, default_settings, directories_of}
-use Rattle.raft_log_closed.specs.Forks.{FailsToFork, Forks}
+use Rattle.raft_log_offline.specs.Forks.{FailsToFork, Forks}
 use Rattle.raft_log_record_base.specs.declared.pipe_log.FileId.{FileId}
-use Rattle.raft_log_unpadded.specs.Unpadding.{FailsToUnpad, Unpads}
+use Rattle.raft_log_open.specs.Unpadding.{FailsToUnpad, Unpads}
 use Rattle.raft_log_operator.specs.declared.command.Task.{Task}
 use Rattle.raft_log_operator.specs.declared.command.Task.TheVariants.{Fork, Unpad}
 use Rattle.raft_log_operator.specs.declared.fault.CommandFault.{CommandFault}

@@ -1,7 +1,7 @@
 //! Copies a log into a directory.
 ghost use Rattle.std.specs.Prelude.{IfErr, IfOk, OnOk, map};
 ghost use Rattle.std.specs.String.{string_bytes};
-ghost use Rattle.raft_log_closed.specs.Forks.{FailsToFork, Forks};
+ghost use Rattle.raft_log_offline.specs.Forks.{FailsToFork, Forks};
 ghost use Rattle.raft_log_operator.specs.Tasks.{Copies, FailsToCopy, kept_settings};
 
 use crate::fault::{CommandFault, Outcome};

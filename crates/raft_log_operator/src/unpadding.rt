@@ -1,7 +1,7 @@
 //! Removes the padding from a log.
 ghost use Rattle.std.specs.Prelude.{IfErr, IfOk, OnOk};
 ghost use Rattle.raft_log_file_settings.specs.Settings.{directories_of};
-ghost use Rattle.raft_log_unpadded.specs.Unpadding.{FailsToUnpad, Unpads};
+ghost use Rattle.raft_log_open.specs.Unpadding.{FailsToUnpad, Unpads};
 ghost use Rattle.raft_log_operator.specs.Tasks.{FailsToTakePadding, TakesPadding, kept_settings};
 
 use crate::fault::{CommandFault, Outcome};
@@ -9,7 +9,7 @@ use crate::place::Place;
 use crate::settings::kept_settings;
 use crate::text::FileText;
 use raft_log_engine::{Error, FileId, FileSystem};
-use raft_log_unpadded::unpad;
+use raft_log_open::unpad;
 use std::alloc::Global;
 use std::io;
 use std::io::Write;

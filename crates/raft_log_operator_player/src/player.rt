@@ -1,7 +1,7 @@
 //! The lines of a script, and what is written of them.
 use log::Log;
-use raft_log_disk::{Fault, FileSystem, Handle, Permission};
-use raft_log_disk_memory::{MemoryFileSystem, Remainder};
+use raft_log_fs::{Fault, FileSystem, Handle, Permission};
+use raft_log_fs_memory::{MemoryFileSystem, Remainder};
 use raft_log_operator::{Command, run};
 use std::alloc::{AllocError, Global};
 use std::io;

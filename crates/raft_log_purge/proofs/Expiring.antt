@@ -4,27 +4,27 @@ use Rattle.std.proofs.lemmas.Bool.{false≢true}
 use Rattle.std.specs.Prelude.{Result, Ok, Err, IfErr, IfOk, OnOk}
 use Rattle.std.specs.Result.{result_ok}
 use Rattle.raft_log_model_laws.specs.Groups.{taken}
-use Rattle.raft_log_disk.specs.Causes.{IsLater}
+use Rattle.raft_log_fs.specs.Causes.{IsLater}
 use Rattle.raft_log_record_base.specs.declared.errors.Error.{Error}
 use Rattle.raft_log_directory_laws.specs.Calls.Which.{InAppend}
-use Rattle.raft_log_table_one.specs.declared.global_stats.GlobalStats.{GlobalStats}
-use Rattle.raft_log_table_all.specs.declared.mem_tables.MemTables.{MemTables}
-use Rattle.raft_log_file_pair.specs.Pipes.{LogPipes, Said, is_failed}
-use Rattle.raft_log_file_pair.specs.Calls.{SyncsQueue}
-use Rattle.raft_log_purge_parts.specs.raft_log_file_blocks.specs.declared.block_cache.BlockCache.{BlockCache}
-use Rattle.raft_log_purge_parts.specs.raft_log_engine_laws.specs.Shows.{Home, LogMap, Shows, has_failed, shows}
-use Rattle.raft_log_purge_parts.specs.raft_log_engine_laws.specs.Holding.{Holds}
-use Rattle.raft_log_purge_parts.specs.raft_log_engine_laws.proofs.Settling.{settled_held}
-use Rattle.raft_log_purge_rules.specs.declared.thresholds.Thresholds.{Thresholds}
-use Rattle.raft_log_purge_rules.specs.declared.rounds.Rounds.{Rounds}
-use Rattle.raft_log_purge_rules.specs.Picking.{count_of}
-use Rattle.raft_log_purge_rules.specs.Surveying.{Surveys, SurveysIfTold}
-use Rattle.raft_log_purge_rules.specs.declared.survey.Survey.{Survey}
-use Rattle.raft_log_purge_rules.specs.declared.watermarks.Watermarks.{Watermarks}
-use Rattle.raft_log_purge_parts.proofs.PartExits.{later_on, same_later}
-use Rattle.raft_log_purge_parts.specs.Owed.{OwesSame}
-use Rattle.raft_log_purge_parts.proofs.Owing.{owed_too_much}
-use Rattle.raft_log_purge_parts.proofs.Reasons.{purge_reason_after, reason_after}
+use Rattle.raft_log_memtable.specs.declared.global_stats.GlobalStats.{GlobalStats}
+use Rattle.raft_log_memtables.specs.declared.mem_tables.MemTables.{MemTables}
+use Rattle.raft_log_dual_pipes.specs.Pipes.{LogPipes, Said, is_failed}
+use Rattle.raft_log_dual_pipes.specs.Calls.{SyncsQueue}
+use Rattle.raft_log_purge_copy.specs.raft_log_block_cache.specs.declared.block_cache.BlockCache.{BlockCache}
+use Rattle.raft_log_purge_copy.specs.raft_log_engine_laws.specs.Shows.{Home, LogMap, Shows, has_failed, shows}
+use Rattle.raft_log_purge_copy.specs.raft_log_engine_laws.specs.Holding.{Holds}
+use Rattle.raft_log_purge_copy.specs.raft_log_engine_laws.proofs.Settling.{settled_held}
+use Rattle.raft_log_purge_policy.specs.declared.thresholds.Thresholds.{Thresholds}
+use Rattle.raft_log_purge_policy.specs.declared.rounds.Rounds.{Rounds}
+use Rattle.raft_log_purge_policy.specs.Picking.{count_of}
+use Rattle.raft_log_purge_policy.specs.Surveying.{Surveys, SurveysIfTold}
+use Rattle.raft_log_purge_policy.specs.declared.survey.Survey.{Survey}
+use Rattle.raft_log_purge_policy.specs.declared.watermarks.Watermarks.{Watermarks}
+use Rattle.raft_log_purge_copy.proofs.PartExits.{later_on, same_later}
+use Rattle.raft_log_purge_copy.specs.Owed.{OwesSame}
+use Rattle.raft_log_purge_copy.proofs.Owing.{owed_too_much}
+use Rattle.raft_log_purge_copy.proofs.Reasons.{purge_reason_after, reason_after}
 use Rattle.raft_log_purge.specs.RewriteQueue.{FailsToRewriteRewrite, RewritesRewrite}
 use Rattle.raft_log_purge.specs.declared.expired_files.PurgeCounts.{PurgeCounts}
 use Rattle.raft_log_purge.specs.Append.{FailsToRewriteAppend}

@@ -1,12 +1,12 @@
 -- Where nothing is held back, files go.
 use Rattle.std.specs.Prelude.{◌≡◌, ℕ, Bool, List, Option, None}
 use Rattle.std.proofs.Common.{inl, inr, subst}
-use Rattle.raft_log_table_all.specs.declared.mem_tables.MemTables.{MemTables}
-use Rattle.raft_log_file_pair.specs.Pipes.{LogPipes}
-use Rattle.raft_log_purge_parts.specs.raft_log_engine_laws.specs.Shows.{Shows}
-use Rattle.raft_log_purge_rules.specs.Watermarks.{TakesAppend}
-use Rattle.raft_log_purge_rules.specs.declared.thresholds.Thresholds.{Thresholds}
-use Rattle.raft_log_purge_rules.specs.declared.rounds.Rounds.{Rounds}
+use Rattle.raft_log_memtables.specs.declared.mem_tables.MemTables.{MemTables}
+use Rattle.raft_log_dual_pipes.specs.Pipes.{LogPipes}
+use Rattle.raft_log_purge_copy.specs.raft_log_engine_laws.specs.Shows.{Shows}
+use Rattle.raft_log_purge_policy.specs.Watermarks.{TakesAppend}
+use Rattle.raft_log_purge_policy.specs.declared.thresholds.Thresholds.{Thresholds}
+use Rattle.raft_log_purge_policy.specs.declared.rounds.Rounds.{Rounds}
 use Rattle.raft_log_purge.specs.Expired.{LosesBelow, PurgesIfPast}
 use Rattle.raft_log_purge.specs.Free.{FreeFilesGo}
 

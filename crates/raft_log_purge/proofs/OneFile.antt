@@ -1,14 +1,14 @@
 -- Append's span has one file once all of it was rewritten.
 use Rattle.std.proofs.Common.{◌≡◌, ◌≤◌, ℕ, suc, List, inl, inr, sym, ap, ◌∙◌, arith}
-use Rattle.raft_log_file_laws.specs.LogQueue.{LogFiles}
+use Rattle.raft_log_file_writer.specs.LogQueue.{LogFiles}
 use Rattle.raft_log_directory_laws.specs.Calls.Which.{InAppend}
-use Rattle.raft_log_file_pair.specs.Pipes.{LogPipes, RunsOn, Said, State}
-use Rattle.raft_log_file_pair.specs.Calls.{PurgesQueue, RotatesQueue, SyncsQueue}
-use Rattle.raft_log_purge_parts.specs.raft_log_engine_laws.specs.Shows.{Home, LogMap, Shows, sense}
-use Rattle.raft_log_purge_parts.specs.raft_log_engine_laws.specs.Holding.{Holds}
-use Rattle.raft_log_purge_rules.specs.Watermarks.{first_at}
-use Rattle.raft_log_file_pair.specs.LastFile.{last_of}
-use Rattle.raft_log_purge_parts.specs.Parts.{StaysInFile}
+use Rattle.raft_log_dual_pipes.specs.Pipes.{LogPipes, RunsOn, Said, State}
+use Rattle.raft_log_dual_pipes.specs.Calls.{PurgesQueue, RotatesQueue, SyncsQueue}
+use Rattle.raft_log_purge_copy.specs.raft_log_engine_laws.specs.Shows.{Home, LogMap, Shows, sense}
+use Rattle.raft_log_purge_copy.specs.raft_log_engine_laws.specs.Holding.{Holds}
+use Rattle.raft_log_purge_policy.specs.Watermarks.{first_at}
+use Rattle.raft_log_dual_pipes.specs.LastFile.{last_of}
+use Rattle.raft_log_purge_copy.specs.Parts.{StaysInFile}
 use Rattle.raft_log_purge.specs.Append.{GoesOnPast, HasOneFile, beginning}
 
 -- a purge of Append's files leaves the last one

@@ -6,43 +6,43 @@ use Rattle.std.specs.Ordering.{nat_cmp}
 use Rattle.std.proofs.lemmas.Bool.{false≢true}
 use Rattle.raft_log_model_laws.proofs.Cases.{at_bool}
 use Rattle.raft_log_machine_laws.proofs.TruthRaises.{no_word}
-use Rattle.raft_log_disk.specs.Causes.{IsLater}
+use Rattle.raft_log_fs.specs.Causes.{IsLater}
 use Rattle.raft_log_record_base.specs.declared.errors.Error.{Error}
 use Rattle.raft_log_record_base.specs.declared.errors.Error.TheVariants as errors
 use Rattle.raft_log_record_base.specs.declared.pipe_log.LogQueue.TheVariants.{Append}
 use Rattle.raft_log_directory_laws.specs.Calls.Which.{InAppend, InRewrite}
-use Rattle.raft_log_table_lists.specs.Shown.{Shown}
-use Rattle.raft_log_table_one.specs.Files.{IsLeastInAppend}
-use Rattle.raft_log_table_one.proofs.Leasts.{front_is_least}
-use Rattle.raft_log_table_all.specs.declared.group_table.GroupTable.{GroupTable}
-use Rattle.raft_log_table_all.specs.declared.mem_tables.MemTables.{MemTables}
-use Rattle.raft_log_table_all.specs.Tables.{has_table, shown_in, shown_of}
-use Rattle.raft_log_table_all.specs.Walking.{ListsGroups}
-use Rattle.raft_log_file_pair.specs.Pipes.{LogPipes}
-use Rattle.raft_log_file_pair.specs.Calls.{FailsToPurgeQueue, FailsToSyncQueue, PurgesQueue, SyncsQueue, TellsFailure}
-use Rattle.raft_log_file_pair.specs.Numbers.{EndsNumbersBelow}
-use Rattle.raft_log_purge_parts.specs.raft_log_file_blocks.specs.declared.block_cache.BlockCache.{BlockCache}
-use Rattle.raft_log_purge_parts.specs.raft_log_engine_laws.specs.Shows.{Home, LogMap, Shows, sense, shows}
-use Rattle.raft_log_purge_parts.specs.raft_log_engine_laws.specs.Holding.{Holds, IsLeftAt}
-use Rattle.raft_log_purge_parts.specs.raft_log_engine_laws.proofs.Keeping.{holds_runs}
-use Rattle.raft_log_purge_parts.specs.raft_log_engine_laws.specs.Settled.{HoldsSettled}
-use Rattle.raft_log_purge_parts.specs.raft_log_engine_laws.specs.Raising.{AppendMayBegin, PurgeLeavesHeld}
-use Rattle.raft_log_purge_parts.specs.raft_log_engine_laws.proofs.Settling.{failed_sync, settled_held, sync_settles_log}
-use Rattle.raft_log_purge_parts.specs.raft_log_engine_laws.proofs.Raising.{raise_refused, raised}
-use Rattle.raft_log_purge_rules.specs.Watermarks.{first_at}
-use Rattle.raft_log_file_pair.specs.LastFile.{last_of}
-use Rattle.raft_log_table_all.specs.Walking.{IsLeastOf}
-use Rattle.raft_log_purge_parts.specs.Groups.{Rewrites, RewritesGroups, StopsAtGroups, StopsRewriting}
-use Rattle.raft_log_purge_parts.specs.Moving.{IsRewrittenTo}
-use Rattle.raft_log_purge_parts.specs.Rewriting.{OweNothing}
-use Rattle.raft_log_purge_parts.specs.Syncing.{CountsEach}
-use Rattle.raft_log_purge_parts.specs.Reasons.{HasFileReason}
-use Rattle.raft_log_purge_parts.proofs.Grouping.{among, part_same, part_wider, rewritten_is_past}
-use Rattle.raft_log_purge_parts.proofs.Leasts.{queue_may_begin}
-use Rattle.raft_log_purge_parts.proofs.PartExits.{alive_ok, later_on, same_later, tells_err}
-use Rattle.raft_log_purge_parts.proofs.Spanned.{within_span}
-use Rattle.raft_log_purge_parts.proofs.Reasons.{memory_is_none, memory_reason, purge_reason, reason_after, sync_reason, tells_nothing}
-use Rattle.raft_log_purge_parts.proofs.Staying.{stays_on, stays_same, sync_stays}
+use Rattle.raft_log_memtable_index.specs.Shown.{Shown}
+use Rattle.raft_log_memtable.specs.Files.{IsLeastInAppend}
+use Rattle.raft_log_memtable.proofs.Leasts.{front_is_least}
+use Rattle.raft_log_memtables.specs.declared.group_table.GroupTable.{GroupTable}
+use Rattle.raft_log_memtables.specs.declared.mem_tables.MemTables.{MemTables}
+use Rattle.raft_log_memtables.specs.Tables.{has_table, shown_in, shown_of}
+use Rattle.raft_log_memtables.specs.Walking.{ListsGroups}
+use Rattle.raft_log_dual_pipes.specs.Pipes.{LogPipes}
+use Rattle.raft_log_dual_pipes.specs.Calls.{FailsToPurgeQueue, FailsToSyncQueue, PurgesQueue, SyncsQueue, TellsFailure}
+use Rattle.raft_log_dual_pipes.specs.Numbers.{EndsNumbersBelow}
+use Rattle.raft_log_purge_copy.specs.raft_log_block_cache.specs.declared.block_cache.BlockCache.{BlockCache}
+use Rattle.raft_log_purge_copy.specs.raft_log_engine_laws.specs.Shows.{Home, LogMap, Shows, sense, shows}
+use Rattle.raft_log_purge_copy.specs.raft_log_engine_laws.specs.Holding.{Holds, IsLeftAt}
+use Rattle.raft_log_purge_copy.specs.raft_log_engine_laws.proofs.Keeping.{holds_runs}
+use Rattle.raft_log_purge_copy.specs.raft_log_engine_laws.specs.Settled.{HoldsSettled}
+use Rattle.raft_log_purge_copy.specs.raft_log_engine_laws.specs.Raising.{AppendMayBegin, PurgeLeavesHeld}
+use Rattle.raft_log_purge_copy.specs.raft_log_engine_laws.proofs.Settling.{failed_sync, settled_held, sync_settles_log}
+use Rattle.raft_log_purge_copy.specs.raft_log_engine_laws.proofs.Raising.{raise_refused, raised}
+use Rattle.raft_log_purge_policy.specs.Watermarks.{first_at}
+use Rattle.raft_log_dual_pipes.specs.LastFile.{last_of}
+use Rattle.raft_log_memtables.specs.Walking.{IsLeastOf}
+use Rattle.raft_log_purge_copy.specs.Groups.{Rewrites, RewritesGroups, StopsAtGroups, StopsRewriting}
+use Rattle.raft_log_purge_copy.specs.Moving.{IsRewrittenTo}
+use Rattle.raft_log_purge_copy.specs.Rewriting.{OweNothing}
+use Rattle.raft_log_purge_copy.specs.Syncing.{CountsEach}
+use Rattle.raft_log_purge_copy.specs.Reasons.{HasFileReason}
+use Rattle.raft_log_purge_copy.proofs.Grouping.{among, part_same, part_wider, rewritten_is_past}
+use Rattle.raft_log_purge_copy.proofs.Leasts.{queue_may_begin}
+use Rattle.raft_log_purge_copy.proofs.PartExits.{alive_ok, later_on, same_later, tells_err}
+use Rattle.raft_log_purge_copy.proofs.Spanned.{within_span}
+use Rattle.raft_log_purge_copy.proofs.Reasons.{memory_is_none, memory_reason, purge_reason, reason_after, sync_reason, tells_nothing}
+use Rattle.raft_log_purge_copy.proofs.Staying.{stays_on, stays_same, sync_stays}
 use Rattle.raft_log_purge.proofs.OneFile.{purge_stays}
 use Rattle.raft_log_purge.specs.Append.{AreRewrittenTo, FailsToLoseTo, LosesTo, RewritesAll, RewritesSynced, RewritesThese, beginning}
 

@@ -1,38 +1,38 @@
 -- Append is purged by the rules: its exits, put together of what each part told.
 use Rattle.std.proofs.Common.{◌≡◌, ◌<◌, ◌≤◌, ℕ, max, Bool, List, [], Option, None, inl, refl, sym, subst, ◌∙◌, arith}
 use Rattle.std.specs.Prelude.{Result, Ok, Err, IfErr, OnOk}
-use Rattle.raft_log_disk.specs.Causes.{IsLater}
+use Rattle.raft_log_fs.specs.Causes.{IsLater}
 use Rattle.raft_log_record_base.specs.declared.errors.Error.{Error}
 use Rattle.raft_log_record_base.specs.declared.errors.Error.TheVariants as errors
 use Rattle.raft_log_record_base.specs.declared.pipe_log.LogQueue.TheVariants.{Append}
 use Rattle.raft_log_directory_laws.specs.Calls.Which.{InAppend}
-use Rattle.raft_log_table_lists.specs.Shown.{Shown}
-use Rattle.raft_log_table_one.proofs.Leasts.{front_is_least}
-use Rattle.raft_log_table_all.specs.declared.mem_tables.MemTables.{MemTables}
-use Rattle.raft_log_table_all.specs.Tables.{shown_of}
-use Rattle.raft_log_table_all.specs.Walking.{IsLeastOf, ListsGroups}
-use Rattle.raft_log_file_pair.specs.Pipes.{LogPipes}
-use Rattle.raft_log_file_pair.specs.Calls.{FailsToPurgeQueue, PurgesQueue, TellsFailure}
-use Rattle.raft_log_file_pair.specs.Numbers.{EndsNumbersBelow}
-use Rattle.raft_log_purge_parts.specs.raft_log_file_blocks.specs.declared.block_cache.BlockCache.{BlockCache}
-use Rattle.raft_log_purge_parts.specs.raft_log_engine_laws.specs.Shows.{Home, LogMap, Shows, sense, shows}
-use Rattle.raft_log_purge_parts.specs.raft_log_engine_laws.specs.Holding.{Holds}
-use Rattle.raft_log_purge_parts.specs.raft_log_engine_laws.specs.Settled.{HoldsSettled}
-use Rattle.raft_log_purge_parts.specs.raft_log_engine_laws.specs.Raising.{AppendMayBegin}
-use Rattle.raft_log_purge_parts.specs.raft_log_engine_laws.proofs.Settling.{settled_held}
-use Rattle.raft_log_purge_parts.specs.raft_log_engine_laws.proofs.Raising.{raise_refused, raised}
-use Rattle.raft_log_purge_rules.specs.Watermarks.{first_at}
-use Rattle.raft_log_file_pair.specs.LastFile.{last_of}
-use Rattle.raft_log_purge_parts.specs.Groups.{StopsRewriting}
-use Rattle.raft_log_purge_parts.specs.Marks.{CarriesMarks}
-use Rattle.raft_log_purge_parts.specs.Moving.{IsRewrittenTo}
-use Rattle.raft_log_purge_parts.specs.Parts.{PartIsRefused}
-use Rattle.raft_log_purge_parts.specs.Rewriting.{OweNothing}
-use Rattle.raft_log_purge_parts.proofs.Grouping.{among, part_wider}
-use Rattle.raft_log_purge_parts.proofs.Leasts.{queue_may_begin}
-use Rattle.raft_log_purge_parts.proofs.PartExits.{alive_ok, later_on, same_later, tells_err}
-use Rattle.raft_log_purge_parts.proofs.Spanned.{within_span}
-use Rattle.raft_log_purge_parts.proofs.Reasons.{memory_is_none, memory_reason, purge_reason, reason_after, reason_of_files, tells_nothing}
+use Rattle.raft_log_memtable_index.specs.Shown.{Shown}
+use Rattle.raft_log_memtable.proofs.Leasts.{front_is_least}
+use Rattle.raft_log_memtables.specs.declared.mem_tables.MemTables.{MemTables}
+use Rattle.raft_log_memtables.specs.Tables.{shown_of}
+use Rattle.raft_log_memtables.specs.Walking.{IsLeastOf, ListsGroups}
+use Rattle.raft_log_dual_pipes.specs.Pipes.{LogPipes}
+use Rattle.raft_log_dual_pipes.specs.Calls.{FailsToPurgeQueue, PurgesQueue, TellsFailure}
+use Rattle.raft_log_dual_pipes.specs.Numbers.{EndsNumbersBelow}
+use Rattle.raft_log_purge_copy.specs.raft_log_block_cache.specs.declared.block_cache.BlockCache.{BlockCache}
+use Rattle.raft_log_purge_copy.specs.raft_log_engine_laws.specs.Shows.{Home, LogMap, Shows, sense, shows}
+use Rattle.raft_log_purge_copy.specs.raft_log_engine_laws.specs.Holding.{Holds}
+use Rattle.raft_log_purge_copy.specs.raft_log_engine_laws.specs.Settled.{HoldsSettled}
+use Rattle.raft_log_purge_copy.specs.raft_log_engine_laws.specs.Raising.{AppendMayBegin}
+use Rattle.raft_log_purge_copy.specs.raft_log_engine_laws.proofs.Settling.{settled_held}
+use Rattle.raft_log_purge_copy.specs.raft_log_engine_laws.proofs.Raising.{raise_refused, raised}
+use Rattle.raft_log_purge_policy.specs.Watermarks.{first_at}
+use Rattle.raft_log_dual_pipes.specs.LastFile.{last_of}
+use Rattle.raft_log_purge_copy.specs.Groups.{StopsRewriting}
+use Rattle.raft_log_purge_copy.specs.Marks.{CarriesMarks}
+use Rattle.raft_log_purge_copy.specs.Moving.{IsRewrittenTo}
+use Rattle.raft_log_purge_copy.specs.Parts.{PartIsRefused}
+use Rattle.raft_log_purge_copy.specs.Rewriting.{OweNothing}
+use Rattle.raft_log_purge_copy.proofs.Grouping.{among, part_wider}
+use Rattle.raft_log_purge_copy.proofs.Leasts.{queue_may_begin}
+use Rattle.raft_log_purge_copy.proofs.PartExits.{alive_ok, later_on, same_later, tells_err}
+use Rattle.raft_log_purge_copy.proofs.Spanned.{within_span}
+use Rattle.raft_log_purge_copy.proofs.Reasons.{memory_is_none, memory_reason, purge_reason, reason_after, reason_of_files, tells_nothing}
 use Rattle.raft_log_purge.specs.Append.{RewritesSynced, up_to}
 use Rattle.raft_log_purge.specs.Expired.{FailsToLoseBelow, FailsToPurgeAppend, LosesBelow, RewritesPicked}
 use Rattle.raft_log_purge.proofs.Past.{left_or_held}

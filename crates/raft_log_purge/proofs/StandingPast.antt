@@ -3,12 +3,12 @@ use Rattle.std.proofs.Common.{◌≡◌, ◌+◌, ◌<◌, ℕ, List, [], ◌∷
 use Rattle.std.proofs.lemmas.List.{take_more}
 use Rattle.raft_log_machine_laws.proofs.TruthRaises.{no_word}
 use Rattle.raft_log_record_base.specs.declared.pipe_log.LogQueue.TheVariants.{Rewrite}
-use Rattle.raft_log_table_lists.specs.Shown.{Shown}
-use Rattle.raft_log_table_one.specs.Files.{IsMinFile}
-use Rattle.raft_log_table_one.specs.Stats.{plus}
-use Rattle.raft_log_table_one.specs.Table.{Raw, shown}
-use Rattle.raft_log_table_all.specs.Tables.{shown_in}
-use Rattle.raft_log_table_all.specs.declared.group_table.GroupTable.{GroupTable}
+use Rattle.raft_log_memtable_index.specs.Shown.{Shown}
+use Rattle.raft_log_memtable.specs.Files.{IsMinFile}
+use Rattle.raft_log_memtable.specs.Stats.{plus}
+use Rattle.raft_log_memtable.specs.Table.{Raw, shown}
+use Rattle.raft_log_memtables.specs.Tables.{shown_in}
+use Rattle.raft_log_memtables.specs.declared.group_table.GroupTable.{GroupTable}
 use Rattle.raft_log_purge.specs.Garbage.{CountsFrom, CountsPast, StandsPast}
 
 -- of a group that has a table

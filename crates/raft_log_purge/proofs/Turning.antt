@@ -6,45 +6,45 @@ use Rattle.std.specs.Ordering.{nat_cmp}
 use Rattle.std.proofs.lemmas.Bool.{false≢true}
 use Rattle.raft_log_model_laws.proofs.Cases.{at_bool}
 use Rattle.raft_log_machine_laws.proofs.TruthRaises.{no_word}
-use Rattle.raft_log_disk.specs.Causes.{IsLater}
-use Rattle.raft_log_file_laws.specs.LogQueue.{LogFiles}
+use Rattle.raft_log_fs.specs.Causes.{IsLater}
+use Rattle.raft_log_file_writer.specs.LogQueue.{LogFiles}
 use Rattle.raft_log_record_base.specs.declared.errors.Error.{Error}
 use Rattle.raft_log_record_base.specs.declared.errors.Error.TheVariants as errors
 use Rattle.raft_log_record_base.specs.declared.pipe_log.LogQueue.TheVariants.{Rewrite}
 use Rattle.raft_log_directory_laws.specs.Calls.Which.{InRewrite}
-use Rattle.raft_log_purge_parts.specs.raft_log_file_layout.specs.declared.record.LogRecord.{LogRecord}
-use Rattle.raft_log_table_lists.specs.declared.group_files.GroupFiles.{GroupFiles}
-use Rattle.raft_log_table_lists.specs.Shown.{IsOrderly, Shown}
-use Rattle.raft_log_table_one.specs.Files.{ArePast}
-use Rattle.raft_log_table_one.proofs.Leasts.{begins_past}
-use Rattle.raft_log_table_all.specs.declared.group_table.GroupTable.{GroupTable}
-use Rattle.raft_log_table_all.specs.declared.mem_tables.MemTables.{MemTables}
-use Rattle.raft_log_table_all.specs.Tables.{has_table, shown_in, shown_of}
-use Rattle.raft_log_table_all.specs.Walking.{ListsGroups}
-use Rattle.raft_log_file_pair.specs.Steps.{next_log}
-use Rattle.raft_log_file_pair.specs.Pipes.{LogPipes, is_failed}
-use Rattle.raft_log_file_pair.specs.Calls.{FailsToRotateQueue, FailsToSyncQueue, RotatesQueue, SyncsQueue, TellsFailure}
-use Rattle.raft_log_file_pair.specs.Numbers.{EndsNumbers}
-use Rattle.raft_log_purge_parts.specs.raft_log_file_blocks.specs.declared.block_cache.BlockCache.{BlockCache}
-use Rattle.raft_log_purge_parts.specs.raft_log_engine_laws.specs.Shows.{Home, LogMap, Shows, sense, shows}
-use Rattle.raft_log_purge_parts.specs.raft_log_engine_laws.specs.Holding.{Holds}
-use Rattle.raft_log_purge_parts.specs.raft_log_engine_laws.proofs.Keeping.{holds_runs}
-use Rattle.raft_log_purge_parts.specs.raft_log_engine_laws.specs.Settled.{HoldsSettled}
-use Rattle.raft_log_purge_parts.specs.raft_log_engine_laws.specs.Quiet.{TurnLeavesHeld}
-use Rattle.raft_log_purge_parts.specs.raft_log_engine_laws.proofs.Settling.{failed_sync, rewrite_rotates, settled_held, sync_settles_log, turn_refused}
-use Rattle.raft_log_table_all.specs.Walking.{IsLeastOf}
-use Rattle.raft_log_purge_parts.specs.Syncing.{CountsEach}
-use Rattle.raft_log_purge_parts.specs.Files.{FailsToLoseFiles, LosesFiles, RemainsSettled}
-use Rattle.raft_log_purge_parts.specs.Stale.{written_file}
-use Rattle.raft_log_purge_parts.proofs.Grouping.{among}
-use Rattle.raft_log_purge_parts.proofs.PartExits.{alive_ok, later_on, same_later, tells_err}
-use Rattle.raft_log_purge_parts.proofs.Spanned.{limited_reason}
-use Rattle.raft_log_purge_parts.proofs.Reasons.{memory_is_none, memory_reason, reason_after, reason_of_files, sync_reason, tells_nothing, turn_reason}
-use Rattle.raft_log_purge_parts.specs.Restated.{IsRestatedFrom, Restates, RestatesEach, StopsRestating, last_file}
+use Rattle.raft_log_purge_copy.specs.raft_log_active_file.specs.declared.record.LogRecord.{LogRecord}
+use Rattle.raft_log_memtable_index.specs.declared.group_files.GroupFiles.{GroupFiles}
+use Rattle.raft_log_memtable_index.specs.Shown.{IsOrderly, Shown}
+use Rattle.raft_log_memtable.specs.Files.{ArePast}
+use Rattle.raft_log_memtable.proofs.Leasts.{begins_past}
+use Rattle.raft_log_memtables.specs.declared.group_table.GroupTable.{GroupTable}
+use Rattle.raft_log_memtables.specs.declared.mem_tables.MemTables.{MemTables}
+use Rattle.raft_log_memtables.specs.Tables.{has_table, shown_in, shown_of}
+use Rattle.raft_log_memtables.specs.Walking.{ListsGroups}
+use Rattle.raft_log_dual_pipes.specs.Steps.{next_log}
+use Rattle.raft_log_dual_pipes.specs.Pipes.{LogPipes, is_failed}
+use Rattle.raft_log_dual_pipes.specs.Calls.{FailsToRotateQueue, FailsToSyncQueue, RotatesQueue, SyncsQueue, TellsFailure}
+use Rattle.raft_log_dual_pipes.specs.Numbers.{EndsNumbers}
+use Rattle.raft_log_purge_copy.specs.raft_log_block_cache.specs.declared.block_cache.BlockCache.{BlockCache}
+use Rattle.raft_log_purge_copy.specs.raft_log_engine_laws.specs.Shows.{Home, LogMap, Shows, sense, shows}
+use Rattle.raft_log_purge_copy.specs.raft_log_engine_laws.specs.Holding.{Holds}
+use Rattle.raft_log_purge_copy.specs.raft_log_engine_laws.proofs.Keeping.{holds_runs}
+use Rattle.raft_log_purge_copy.specs.raft_log_engine_laws.specs.Settled.{HoldsSettled}
+use Rattle.raft_log_purge_copy.specs.raft_log_engine_laws.specs.Quiet.{TurnLeavesHeld}
+use Rattle.raft_log_purge_copy.specs.raft_log_engine_laws.proofs.Settling.{failed_sync, rewrite_rotates, settled_held, sync_settles_log, turn_refused}
+use Rattle.raft_log_memtables.specs.Walking.{IsLeastOf}
+use Rattle.raft_log_purge_copy.specs.Syncing.{CountsEach}
+use Rattle.raft_log_purge_copy.specs.Files.{FailsToLoseFiles, LosesFiles, RemainsSettled}
+use Rattle.raft_log_purge_copy.specs.Stale.{written_file}
+use Rattle.raft_log_purge_copy.proofs.Grouping.{among}
+use Rattle.raft_log_purge_copy.proofs.PartExits.{alive_ok, later_on, same_later, tells_err}
+use Rattle.raft_log_purge_copy.proofs.Spanned.{limited_reason}
+use Rattle.raft_log_purge_copy.proofs.Reasons.{memory_is_none, memory_reason, reason_after, reason_of_files, sync_reason, tells_nothing, turn_reason}
+use Rattle.raft_log_purge_copy.specs.Restated.{IsRestatedFrom, Restates, RestatesEach, StopsRestating, last_file}
 use Rattle.raft_log_purge.specs.RewriteQueue.{FailsToRewriteRewrite, RestatesAll, RewritesRewrite, every, first_file}
-use Rattle.raft_log_purge_parts.proofs.Each.{from_lower}
-use Rattle.raft_log_purge_parts.proofs.Holding.{IsLeft, last_is, last_told, synced_last}
-use Rattle.raft_log_purge_parts.proofs.GroupMoving.{least_from}
+use Rattle.raft_log_purge_copy.proofs.Each.{from_lower}
+use Rattle.raft_log_purge_copy.proofs.Holding.{IsLeft, last_is, last_told, synced_last}
+use Rattle.raft_log_purge_copy.proofs.GroupMoving.{least_from}
 
 -- All groups.
 

@@ -2,34 +2,34 @@
 use Rattle.std.proofs.Common.{◌≡◌, ◌⊎◌, ◌<◌, ◌≤◌, ℕ, Bool, true, false, List, [], Option, Some, None, inl, inr, refl, sym, ap, subst, arith}
 use Rattle.std.specs.Prelude.{Result, Ok, Err, IfErr, OnOk, MatchBool}
 use Rattle.raft_log_model_laws.specs.Groups.{taken}
-use Rattle.raft_log_disk.specs.Causes.{IsLater}
+use Rattle.raft_log_fs.specs.Causes.{IsLater}
 use Rattle.raft_log_record_base.specs.declared.errors.Error.{Error}
 use Rattle.raft_log_record_base.specs.declared.errors.Error.TheVariants as errors
 use Rattle.raft_log_directory_laws.specs.Calls.Which.{InAppend}
-use Rattle.raft_log_table_lists.specs.Shown.{Shown}
-use Rattle.raft_log_table_all.specs.declared.mem_tables.MemTables.{MemTables}
-use Rattle.raft_log_file_pair.specs.Pipes.{LogPipes, Said, is_failed}
-use Rattle.raft_log_file_pair.specs.Calls.{FailsToRotateQueue, FailsToSyncQueue, RotatesQueue, SyncsQueue, TellsFailure}
-use Rattle.raft_log_file_pair.specs.Numbers.{EndsNumbers}
-use Rattle.raft_log_purge_parts.specs.raft_log_engine_laws.specs.Shows.{Home, LogMap, Shows, has_failed}
-use Rattle.raft_log_purge_parts.specs.raft_log_engine_laws.specs.Holding.{Holds, IsLeftAt}
-use Rattle.raft_log_purge_parts.specs.raft_log_engine_laws.proofs.Keeping.{holds_runs}
-use Rattle.raft_log_purge_parts.specs.raft_log_engine_laws.proofs.Calling.{synced_all}
-use Rattle.raft_log_purge_parts.specs.raft_log_engine_laws.proofs.Refusing.{unsynced_left}
-use Rattle.raft_log_purge_parts.specs.raft_log_engine_laws.specs.Settled.{HoldsSettled}
-use Rattle.raft_log_purge_parts.specs.raft_log_engine_laws.specs.Quiet.{TurnLeavesHeld}
-use Rattle.raft_log_purge_parts.specs.raft_log_engine_laws.proofs.Settling.{append_rotates, settled_held, turn_refused}
-use Rattle.raft_log_file_pair.specs.LastFile.{last_of}
-use Rattle.raft_log_purge_parts.specs.Groups.{StopsRewriting}
-use Rattle.raft_log_purge_parts.specs.Marks.{CarriesMarks}
-use Rattle.raft_log_purge_parts.specs.Moving.{IsRewrittenTo}
-use Rattle.raft_log_purge_parts.specs.Parts.{PartIsRefused, Remains}
-use Rattle.raft_log_purge_parts.specs.Rewriting.{OweNothing}
-use Rattle.raft_log_purge_parts.proofs.Grouping.{owe_then}
-use Rattle.raft_log_purge_parts.proofs.PartExits.{alive_ok, later_on, same_later, tells_err}
-use Rattle.raft_log_purge_parts.proofs.Reasons.{purge_reason_after, reason_after, reason_of_files, sync_reason, turn_reason}
+use Rattle.raft_log_memtable_index.specs.Shown.{Shown}
+use Rattle.raft_log_memtables.specs.declared.mem_tables.MemTables.{MemTables}
+use Rattle.raft_log_dual_pipes.specs.Pipes.{LogPipes, Said, is_failed}
+use Rattle.raft_log_dual_pipes.specs.Calls.{FailsToRotateQueue, FailsToSyncQueue, RotatesQueue, SyncsQueue, TellsFailure}
+use Rattle.raft_log_dual_pipes.specs.Numbers.{EndsNumbers}
+use Rattle.raft_log_purge_copy.specs.raft_log_engine_laws.specs.Shows.{Home, LogMap, Shows, has_failed}
+use Rattle.raft_log_purge_copy.specs.raft_log_engine_laws.specs.Holding.{Holds, IsLeftAt}
+use Rattle.raft_log_purge_copy.specs.raft_log_engine_laws.proofs.Keeping.{holds_runs}
+use Rattle.raft_log_purge_copy.specs.raft_log_engine_laws.proofs.Calling.{synced_all}
+use Rattle.raft_log_purge_copy.specs.raft_log_engine_laws.proofs.Refusing.{unsynced_left}
+use Rattle.raft_log_purge_copy.specs.raft_log_engine_laws.specs.Settled.{HoldsSettled}
+use Rattle.raft_log_purge_copy.specs.raft_log_engine_laws.specs.Quiet.{TurnLeavesHeld}
+use Rattle.raft_log_purge_copy.specs.raft_log_engine_laws.proofs.Settling.{append_rotates, settled_held, turn_refused}
+use Rattle.raft_log_dual_pipes.specs.LastFile.{last_of}
+use Rattle.raft_log_purge_copy.specs.Groups.{StopsRewriting}
+use Rattle.raft_log_purge_copy.specs.Marks.{CarriesMarks}
+use Rattle.raft_log_purge_copy.specs.Moving.{IsRewrittenTo}
+use Rattle.raft_log_purge_copy.specs.Parts.{PartIsRefused, Remains}
+use Rattle.raft_log_purge_copy.specs.Rewriting.{OweNothing}
+use Rattle.raft_log_purge_copy.proofs.Grouping.{owe_then}
+use Rattle.raft_log_purge_copy.proofs.PartExits.{alive_ok, later_on, same_later, tells_err}
+use Rattle.raft_log_purge_copy.proofs.Reasons.{purge_reason_after, reason_after, reason_of_files, sync_reason, turn_reason}
 use Rattle.raft_log_purge.specs.Append.{AreRewrittenTo, FailsToLoseTo, FailsToRewriteAppend, GoesOnBehindMarks, HasOneFile, LosesTo, PassesGate, RewritesAll, RewritesAndLoses, RewritesAppend, RewritesSynced, StopsGoingOn, ends_after, gate_of, up_to}
-use Rattle.raft_log_purge_parts.proofs.Staying.{stays_on}
+use Rattle.raft_log_purge_copy.proofs.Staying.{stays_on}
 use Rattle.raft_log_purge.proofs.Past.{every}
 use Rattle.raft_log_purge.proofs.OneFile.{begins_low, one_is_left, turned}
 

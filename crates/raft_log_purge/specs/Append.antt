@@ -2,27 +2,27 @@
 use Rattle.std.specs.Prelude.{◌≡◌, ◌⊎◌, ◌↔◌, ◌<◌, ◌==◌, IsTrue, ℕ, suc, min, max, Bool, true, false, List, [], Option, Some, None, MatchBool}
 use Rattle.std.specs.List.{list_any}
 use Rattle.raft_log_model_laws.specs.Groups.{taken}
-use Rattle.raft_log_disk.specs.Causes.{IsLater}
+use Rattle.raft_log_fs.specs.Causes.{IsLater}
 use Rattle.raft_log_record_base.specs.declared.errors.Error.{Error}
 use Rattle.raft_log_record_base.specs.declared.errors.Error.TheVariants as errors
 use Rattle.raft_log_record_base.specs.declared.pipe_log.LogQueue.TheVariants.{Append}
 use Rattle.raft_log_directory_laws.specs.Calls.Which.{InAppend, InRewrite}
-use Rattle.raft_log_table_all.specs.declared.mem_tables.MemTables.{MemTables}
-use Rattle.raft_log_table_all.specs.Walking.{IsLeastOf}
-use Rattle.raft_log_file_pair.specs.Pipes.{LogPipes, Said, is_failed}
-use Rattle.raft_log_file_pair.specs.Calls.{RotatesQueue, SyncsQueue}
-use Rattle.raft_log_purge_parts.specs.raft_log_engine_laws.specs.Shows.{Home, LogMap, Shows, has_failed}
-use Rattle.raft_log_purge_parts.specs.raft_log_engine_laws.specs.Holding.{Holds, IsLeftAt}
-use Rattle.raft_log_purge_parts.specs.raft_log_engine_laws.specs.Settled.{HoldsSettled}
-use Rattle.raft_log_purge_rules.specs.Watermarks.{first_at}
-use Rattle.raft_log_file_pair.specs.LastFile.{last_of}
-use Rattle.raft_log_purge_parts.specs.Parts.{StaysInFile}
-use Rattle.raft_log_purge_parts.specs.Marks.{CarriesMarks}
-use Rattle.raft_log_purge_parts.specs.Groups.{Rewrites}
-use Rattle.raft_log_purge_parts.specs.Moving.{IsRewrittenTo}
-use Rattle.raft_log_purge_parts.specs.Reasons.{HasFileReason, HasPurgeReason, HasReason}
-use Rattle.raft_log_purge_parts.specs.Rewriting.{OweNothing}
-use Rattle.raft_log_purge_parts.specs.Syncing.{CountsEach}
+use Rattle.raft_log_memtables.specs.declared.mem_tables.MemTables.{MemTables}
+use Rattle.raft_log_memtables.specs.Walking.{IsLeastOf}
+use Rattle.raft_log_dual_pipes.specs.Pipes.{LogPipes, Said, is_failed}
+use Rattle.raft_log_dual_pipes.specs.Calls.{RotatesQueue, SyncsQueue}
+use Rattle.raft_log_purge_copy.specs.raft_log_engine_laws.specs.Shows.{Home, LogMap, Shows, has_failed}
+use Rattle.raft_log_purge_copy.specs.raft_log_engine_laws.specs.Holding.{Holds, IsLeftAt}
+use Rattle.raft_log_purge_copy.specs.raft_log_engine_laws.specs.Settled.{HoldsSettled}
+use Rattle.raft_log_purge_policy.specs.Watermarks.{first_at}
+use Rattle.raft_log_dual_pipes.specs.LastFile.{last_of}
+use Rattle.raft_log_purge_copy.specs.Parts.{StaysInFile}
+use Rattle.raft_log_purge_copy.specs.Marks.{CarriesMarks}
+use Rattle.raft_log_purge_copy.specs.Groups.{Rewrites}
+use Rattle.raft_log_purge_copy.specs.Moving.{IsRewrittenTo}
+use Rattle.raft_log_purge_copy.specs.Reasons.{HasFileReason, HasPurgeReason, HasReason}
+use Rattle.raft_log_purge_copy.specs.Rewriting.{OweNothing}
+use Rattle.raft_log_purge_copy.specs.Syncing.{CountsEach}
 
 -- The gate.
 

@@ -1,11 +1,11 @@
 -- Purges that count what is live in Rewrite before them, and after them.
 use Rattle.std.specs.Prelude.{◌≡◌, ◌↔◌, IsTrue, ℕ, Bool, List, Option}
-use Rattle.raft_log_table_all.specs.declared.mem_tables.MemTables.{MemTables}
-use Rattle.raft_log_file_pair.specs.Pipes.{LogPipes}
+use Rattle.raft_log_memtables.specs.declared.mem_tables.MemTables.{MemTables}
+use Rattle.raft_log_dual_pipes.specs.Pipes.{LogPipes}
 use Rattle.raft_log_purge.specs.RewriteQueue.{reset_counts}
-use Rattle.raft_log_purge_parts.specs.raft_log_engine_laws.specs.Shows.{Shows}
-use Rattle.raft_log_purge_rules.specs.declared.thresholds.Thresholds.{Thresholds}
-use Rattle.raft_log_purge_rules.specs.Watermarks.{IsAnyPast}
+use Rattle.raft_log_purge_copy.specs.raft_log_engine_laws.specs.Shows.{Shows}
+use Rattle.raft_log_purge_policy.specs.declared.thresholds.Thresholds.{Thresholds}
+use Rattle.raft_log_purge_policy.specs.Watermarks.{IsAnyPast}
 use Rattle.raft_log_purge.specs.Counting.{CountsIf, CountsStanding}
 use Rattle.raft_log_purge.specs.ExpiredFiles.{KeepsCounts, PurgesExpired, StopsAtRewrite}
 use Rattle.raft_log_purge.specs.declared.expired_files.PurgeCounts.{PurgeCounts}

@@ -1,10 +1,10 @@
 -- What is counted of Rewrite from one purge to the next.
 use Rattle.std.specs.Prelude.{◌≡◌, ◌-◌, ℕ, Bool, true, false}
 use Rattle.raft_log_record_base.specs.declared.pipe_log.LogQueue.TheVariants.{Rewrite}
-use Rattle.raft_log_table_one.specs.declared.global_stats.GlobalStats.{GlobalStats}
-use Rattle.raft_log_table_one.specs.Stats.{added, deleted, live}
-use Rattle.raft_log_table_all.specs.Walking.{Stand}
-use Rattle.raft_log_table_all.specs.declared.mem_tables.MemTables.{MemTables}
+use Rattle.raft_log_memtable.specs.declared.global_stats.GlobalStats.{GlobalStats}
+use Rattle.raft_log_memtable.specs.Stats.{added, deleted, live}
+use Rattle.raft_log_memtables.specs.Walking.{Stand}
+use Rattle.raft_log_memtables.specs.declared.mem_tables.MemTables.{MemTables}
 use Rattle.raft_log_purge.specs.declared.expired_files.PurgeCounts.{PurgeCounts}
 
 -- the counts if so much is live in Rewrite: what is live and wasn't counted was written; what was counted and isn't

@@ -1,27 +1,27 @@
 -- What a purge does with Append if its files are past their threshold.
 use Rattle.std.specs.Prelude.{◌≡◌, ◌⊎◌, ◌↔◌, IsTrue, ℕ, max, Bool, true, false, List, [], Option, Some, None}
-use Rattle.raft_log_disk.specs.Causes.{IsLater}
+use Rattle.raft_log_fs.specs.Causes.{IsLater}
 use Rattle.raft_log_record_base.specs.declared.errors.Error.{Error}
 use Rattle.raft_log_record_base.specs.declared.errors.Error.TheVariants as errors
 use Rattle.raft_log_record_base.specs.declared.pipe_log.LogQueue.TheVariants.{Append}
 use Rattle.raft_log_directory_laws.specs.Calls.Which.{InAppend}
-use Rattle.raft_log_table_all.specs.declared.mem_tables.MemTables.{MemTables}
-use Rattle.raft_log_table_all.specs.Owing.{AreOwed}
-use Rattle.raft_log_table_all.specs.Walking.{IsLeastOf, ListsGroups}
-use Rattle.raft_log_purge_parts.specs.raft_log_engine_laws.specs.Shows.{Home, LogMap, Shows, has_failed}
-use Rattle.raft_log_purge_parts.specs.raft_log_engine_laws.specs.Holding.{Holds, IsLeftAt}
-use Rattle.raft_log_purge_parts.specs.raft_log_engine_laws.specs.Settled.{HoldsSettled}
-use Rattle.raft_log_purge_rules.specs.declared.thresholds.Thresholds.{Thresholds}
-use Rattle.raft_log_purge_rules.specs.declared.watermarks.Watermarks.{Watermarks}
-use Rattle.raft_log_purge_rules.specs.Watermarks.{TakesAppend, first_at, watermarks_of}
-use Rattle.raft_log_file_pair.specs.LastFile.{last_of}
-use Rattle.raft_log_purge_rules.specs.declared.rounds.Rounds.{Rounds}
-use Rattle.raft_log_purge_rules.specs.Behind.{round_behind}
-use Rattle.raft_log_purge_rules.specs.Picking.{answers_at, asks_at, count_of, rewrites_at}
-use Rattle.raft_log_purge_parts.specs.Marks.{CarriesMarks}
-use Rattle.raft_log_purge_parts.specs.Moving.{IsRewrittenTo}
-use Rattle.raft_log_purge_parts.specs.Reasons.{HasFileReason, HasPurgeReason}
-use Rattle.raft_log_purge_parts.specs.Rewriting.{OweNothing}
+use Rattle.raft_log_memtables.specs.declared.mem_tables.MemTables.{MemTables}
+use Rattle.raft_log_memtables.specs.Owing.{AreOwed}
+use Rattle.raft_log_memtables.specs.Walking.{IsLeastOf, ListsGroups}
+use Rattle.raft_log_purge_copy.specs.raft_log_engine_laws.specs.Shows.{Home, LogMap, Shows, has_failed}
+use Rattle.raft_log_purge_copy.specs.raft_log_engine_laws.specs.Holding.{Holds, IsLeftAt}
+use Rattle.raft_log_purge_copy.specs.raft_log_engine_laws.specs.Settled.{HoldsSettled}
+use Rattle.raft_log_purge_policy.specs.declared.thresholds.Thresholds.{Thresholds}
+use Rattle.raft_log_purge_policy.specs.declared.watermarks.Watermarks.{Watermarks}
+use Rattle.raft_log_purge_policy.specs.Watermarks.{TakesAppend, first_at, watermarks_of}
+use Rattle.raft_log_dual_pipes.specs.LastFile.{last_of}
+use Rattle.raft_log_purge_policy.specs.declared.rounds.Rounds.{Rounds}
+use Rattle.raft_log_purge_policy.specs.Behind.{round_behind}
+use Rattle.raft_log_purge_policy.specs.Picking.{answers_at, asks_at, count_of, rewrites_at}
+use Rattle.raft_log_purge_copy.specs.Marks.{CarriesMarks}
+use Rattle.raft_log_purge_copy.specs.Moving.{IsRewrittenTo}
+use Rattle.raft_log_purge_copy.specs.Reasons.{HasFileReason, HasPurgeReason}
+use Rattle.raft_log_purge_copy.specs.Rewriting.{OweNothing}
 use Rattle.raft_log_purge.specs.declared.expired.PickedGroups.{PickedGroups}
 use Rattle.raft_log_purge.specs.Append.{RewritesSynced, StaysOrIsLeftSettled, up_to}
 

@@ -1,11 +1,11 @@
 -- Files that nobody pins.
 use Rattle.std.specs.Prelude.{ℕ, List, Option, None}
-use Rattle.raft_log_table_all.specs.declared.mem_tables.MemTables.{MemTables}
-use Rattle.raft_log_file_pair.specs.HoldingBack.{NothingIsHeldBack}
-use Rattle.raft_log_file_pair.specs.Pipes.{LogPipes}
-use Rattle.raft_log_purge_parts.specs.raft_log_engine_laws.specs.Shows.{Shows}
-use Rattle.raft_log_purge_rules.specs.Watermarks.{TakesAppend}
-use Rattle.raft_log_purge_rules.specs.declared.thresholds.Thresholds.{Thresholds}
+use Rattle.raft_log_memtables.specs.declared.mem_tables.MemTables.{MemTables}
+use Rattle.raft_log_dual_pipes.specs.HoldingBack.{NothingIsHeldBack}
+use Rattle.raft_log_dual_pipes.specs.Pipes.{LogPipes}
+use Rattle.raft_log_purge_copy.specs.raft_log_engine_laws.specs.Shows.{Shows}
+use Rattle.raft_log_purge_policy.specs.Watermarks.{TakesAppend}
+use Rattle.raft_log_purge_policy.specs.declared.thresholds.Thresholds.{Thresholds}
 use Rattle.raft_log_purge.specs.declared.expired_files.PurgeCounts.{PurgeCounts}
 use Rattle.raft_log_purge.specs.Expired.{LosesBelow}
 use Rattle.raft_log_purge.specs.ExpiredFiles.{PurgesExpired}

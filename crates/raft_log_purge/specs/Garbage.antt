@@ -2,18 +2,18 @@
 use Rattle.std.specs.Prelude.{◌≡◌, ◌⊎◌, ◌<◌, ◌≤◌, ℕ, List, [], ◌∷◌, Option, Some, None}
 use Rattle.raft_log_record_base.specs.declared.pipe_log.LogQueue.TheVariants.{Rewrite}
 use Rattle.raft_log_directory_laws.specs.Calls.Which.{InRewrite}
-use Rattle.raft_log_table_lists.specs.Shown.{Shown}
-use Rattle.raft_log_table_one.specs.Files.{IsMinFile}
-use Rattle.raft_log_table_one.specs.Reads.{StandIn}
-use Rattle.raft_log_table_one.specs.Stats.{added, deleted, plus}
-use Rattle.raft_log_table_one.specs.declared.global_stats.GlobalStats.{GlobalStats}
-use Rattle.raft_log_table_all.specs.Tables.{has_table}
-use Rattle.raft_log_table_all.specs.Walking.{ListsGroups}
-use Rattle.raft_log_table_all.specs.declared.mem_tables.MemTables.{MemTables}
-use Rattle.raft_log_file_pair.specs.Calls.{RotatesQueue}
-use Rattle.raft_log_file_pair.specs.Pipes.{LogPipes}
-use Rattle.raft_log_purge_parts.specs.raft_log_engine_laws.specs.Shows.{Shows}
-use Rattle.raft_log_purge_parts.specs.Restated.{last_file}
+use Rattle.raft_log_memtable_index.specs.Shown.{Shown}
+use Rattle.raft_log_memtable.specs.Files.{IsMinFile}
+use Rattle.raft_log_memtable.specs.Reads.{StandIn}
+use Rattle.raft_log_memtable.specs.Stats.{added, deleted, plus}
+use Rattle.raft_log_memtable.specs.declared.global_stats.GlobalStats.{GlobalStats}
+use Rattle.raft_log_memtables.specs.Tables.{has_table}
+use Rattle.raft_log_memtables.specs.Walking.{ListsGroups}
+use Rattle.raft_log_memtables.specs.declared.mem_tables.MemTables.{MemTables}
+use Rattle.raft_log_dual_pipes.specs.Calls.{RotatesQueue}
+use Rattle.raft_log_dual_pipes.specs.Pipes.{LogPipes}
+use Rattle.raft_log_purge_copy.specs.raft_log_engine_laws.specs.Shows.{Shows}
+use Rattle.raft_log_purge_copy.specs.Restated.{last_file}
 use Rattle.raft_log_purge.specs.RewriteQueue.{RestatesAll, reset_counts}
 
 -- how many entries and values of a group count: all live ones if its least file of Rewrite is past `file`, else none

@@ -1,23 +1,23 @@
 -- Rewrite is rewritten: what is live there is written again, and its old files go.
 use Rattle.std.specs.Prelude.{◌≡◌, ◌↔◌, ◌+◌, ◌-◌, ◌<◌, IsTrue, ℕ, max, Bool, true, false, []}
-use Rattle.raft_log_disk.specs.Causes.{IsLater}
+use Rattle.raft_log_fs.specs.Causes.{IsLater}
 use Rattle.raft_log_record_base.specs.declared.errors.Error.{Error}
 use Rattle.raft_log_record_base.specs.declared.errors.Error.TheVariants as errors
 use Rattle.raft_log_record_base.specs.declared.pipe_log.LogQueue.TheVariants.{Rewrite}
 use Rattle.raft_log_directory_laws.specs.Calls.Which.{InRewrite}
-use Rattle.raft_log_table_one.specs.declared.global_stats.GlobalStats.{GlobalStats}
-use Rattle.raft_log_table_all.specs.declared.mem_tables.MemTables.{MemTables}
-use Rattle.raft_log_file_pair.specs.State.{pipe_at}
-use Rattle.raft_log_file_pair.specs.Pipes.{LogPipes, files_of}
-use Rattle.raft_log_file_pair.specs.Calls.{RotatesQueue, SyncsQueue}
-use Rattle.raft_log_purge_parts.specs.raft_log_engine_laws.specs.Shows.{Home, LogMap, Shows, has_failed}
-use Rattle.raft_log_purge_parts.specs.raft_log_engine_laws.specs.Holding.{Holds}
-use Rattle.raft_log_purge_parts.specs.raft_log_engine_laws.specs.Settled.{HoldsSettled}
-use Rattle.raft_log_purge_parts.specs.Files.{LosesFiles}
-use Rattle.raft_log_purge_parts.specs.Reasons.{GivesReason}
-use Rattle.raft_log_purge_parts.specs.Stale.{written_file}
-use Rattle.raft_log_purge_parts.specs.Syncing.{CountsEach}
-use Rattle.raft_log_purge_parts.specs.Restated.{IsRestatedFrom, Restates, StaysOrIsLeft, last_file}
+use Rattle.raft_log_memtable.specs.declared.global_stats.GlobalStats.{GlobalStats}
+use Rattle.raft_log_memtables.specs.declared.mem_tables.MemTables.{MemTables}
+use Rattle.raft_log_dual_pipes.specs.State.{pipe_at}
+use Rattle.raft_log_dual_pipes.specs.Pipes.{LogPipes, files_of}
+use Rattle.raft_log_dual_pipes.specs.Calls.{RotatesQueue, SyncsQueue}
+use Rattle.raft_log_purge_copy.specs.raft_log_engine_laws.specs.Shows.{Home, LogMap, Shows, has_failed}
+use Rattle.raft_log_purge_copy.specs.raft_log_engine_laws.specs.Holding.{Holds}
+use Rattle.raft_log_purge_copy.specs.raft_log_engine_laws.specs.Settled.{HoldsSettled}
+use Rattle.raft_log_purge_copy.specs.Files.{LosesFiles}
+use Rattle.raft_log_purge_copy.specs.Reasons.{GivesReason}
+use Rattle.raft_log_purge_copy.specs.Stale.{written_file}
+use Rattle.raft_log_purge_copy.specs.Syncing.{CountsEach}
+use Rattle.raft_log_purge_copy.specs.Restated.{IsRestatedFrom, Restates, StaysOrIsLeft, last_file}
 
 -- every group
 abbrev pub every : ℕ → Bool

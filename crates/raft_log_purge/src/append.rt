@@ -2,13 +2,13 @@
 
 ghost use Rattle.std.specs.Prelude.{◌≡◌, true, IfErr, IfOk, OnErr, OnOk};
 ghost use Rattle.raft_log_directory_laws.specs.Calls.Which.{InAppend};
-ghost use Rattle.raft_log_disk.specs.Causes.{IsLater};
-ghost use Rattle.raft_log_file_pair.specs.Calls.{FailsToRotateQueue, TellsFailure};
-ghost use Rattle.raft_log_file_pair.specs.Numbers.{EndsNumbers};
-ghost use Rattle.raft_log_purge_parts.specs.raft_log_engine_laws.specs.Shows.{shows};
-ghost use Rattle.raft_log_table_all.specs.Tables.{IsAtRest};
-ghost use Rattle.raft_log_purge_parts.specs.Groups.{StopsAtGroups, StopsRewriting};
-ghost use Rattle.raft_log_purge_parts.specs.Owed.{AddsNoMarks};
+ghost use Rattle.raft_log_fs.specs.Causes.{IsLater};
+ghost use Rattle.raft_log_dual_pipes.specs.Calls.{FailsToRotateQueue, TellsFailure};
+ghost use Rattle.raft_log_dual_pipes.specs.Numbers.{EndsNumbers};
+ghost use Rattle.raft_log_purge_copy.specs.raft_log_engine_laws.specs.Shows.{shows};
+ghost use Rattle.raft_log_memtables.specs.Tables.{IsAtRest};
+ghost use Rattle.raft_log_purge_copy.specs.Groups.{StopsAtGroups, StopsRewriting};
+ghost use Rattle.raft_log_purge_copy.specs.Owed.{AddsNoMarks};
 ghost use Rattle.raft_log_purge.specs.Append.{
   FailsToLoseTo,
   FailsToRewriteAppend,
@@ -24,11 +24,11 @@ ghost use Rattle.raft_log_purge.specs.Append.{
 };
 
 use log::Log;
-use raft_log_file_pair::PipeLog;
-use raft_log_purge_parts::raft_log_file_blocks::BlockCache;
-use raft_log_purge_parts::{rewrite_groups, rewrite_marks};
+use raft_log_dual_pipes::PipeLog;
+use raft_log_purge_copy::raft_log_block_cache::BlockCache;
+use raft_log_purge_copy::{rewrite_groups, rewrite_marks};
 use raft_log_record_base::{Error, FileId, FileSeq, LogQueue, Result};
-use raft_log_table_all::MemTables;
+use raft_log_memtables::MemTables;
 use std::alloc::Global;
 
 /// Rewrites Append up to a file, the watermark, but none after the last; up to the last if there is no watermark. Can

@@ -4,10 +4,10 @@
 
 ghost use Rattle.std.specs.Prelude.{◌≤◌, IfErr, IfOk, OnErr, OnOk};
 ghost use Rattle.raft_log_record_base.specs.declared.pipe_log.LogQueue.TheVariants.{Append};
-ghost use Rattle.raft_log_file_pair.specs.HoldingBack.{PipesHoldBack};
-ghost use Rattle.raft_log_purge_parts.specs.raft_log_engine_laws.specs.Shows.{shows};
-ghost use Rattle.raft_log_table_all.specs.Tables.{IsAtRest};
-ghost use Rattle.raft_log_purge_parts.specs.Owed.{AddsNoMarks};
+ghost use Rattle.raft_log_dual_pipes.specs.HoldingBack.{PipesHoldBack};
+ghost use Rattle.raft_log_purge_copy.specs.raft_log_engine_laws.specs.Shows.{shows};
+ghost use Rattle.raft_log_memtables.specs.Tables.{IsAtRest};
+ghost use Rattle.raft_log_purge_copy.specs.Owed.{AddsNoMarks};
 ghost use Rattle.raft_log_purge.specs.Append.{FailsToRewriteAppend, RewritesAppend};
 ghost use Rattle.raft_log_purge.specs.Counted.{
   CountsAndKeeps,
@@ -18,15 +18,14 @@ ghost use Rattle.raft_log_purge.specs.Counted.{
 ghost use Rattle.raft_log_purge.specs.Counting.{CountsStanding, CountsTwice};
 ghost use Rattle.raft_log_purge.specs.ExpiredFiles.{FailsToPurgeExpired, SyncsAndRewrites};
 
-use crate::append::rewrite_append_queue;
-use crate::expired::Purged;
+use crate::{append::rewrite_append_queue, expired::Purged};
 use crate::expired_files::{PurgeCounts, purge_expired_files, sync_and_rewrite};
 use log::Log;
-use raft_log_file_pair::PipeLog;
-use raft_log_purge_parts::raft_log_file_blocks::BlockCache;
-use raft_log_purge_rules::{Thresholds, is_any_past};
+use raft_log_dual_pipes::PipeLog;
+use raft_log_purge_copy::raft_log_block_cache::BlockCache;
+use raft_log_purge_policy::{Thresholds, is_any_past};
 use raft_log_record_base::{FileSeq, Result};
-use raft_log_table_all::MemTables;
+use raft_log_memtables::MemTables;
 use std::alloc::Global;
 
 /// Purges both queues as `purge_expired_files` does. If neither is past its threshold, nothing is counted.

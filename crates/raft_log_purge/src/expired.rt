@@ -3,14 +3,14 @@
 
 ghost use Rattle.std.specs.Prelude.{◌≡◌, ◌==◌, false, IfErr, IfOk, IsSome, OnErr, OnOk};
 ghost use Rattle.std.specs.List.{list_any};
-ghost use Rattle.raft_log_purge_parts.specs.raft_log_engine_laws.specs.Shows.{shows};
-ghost use Rattle.raft_log_table_all.specs.Owing.{AreOwed};
-ghost use Rattle.raft_log_table_all.specs.Tables.{IsAtRest};
-ghost use Rattle.raft_log_table_all.specs.Walking.{Stand};
-ghost use Rattle.raft_log_purge_parts.specs.Owed.{AddsNoMarks};
-ghost use Rattle.raft_log_purge_rules.specs.Picking.{count_of};
-ghost use Rattle.raft_log_purge_rules.specs.Surveying.{SurveysIfTold};
-ghost use Rattle.raft_log_purge_rules.specs.Watermarks.{TakesAppend};
+ghost use Rattle.raft_log_purge_copy.specs.raft_log_engine_laws.specs.Shows.{shows};
+ghost use Rattle.raft_log_memtables.specs.Owing.{AreOwed};
+ghost use Rattle.raft_log_memtables.specs.Tables.{IsAtRest};
+ghost use Rattle.raft_log_memtables.specs.Walking.{Stand};
+ghost use Rattle.raft_log_purge_copy.specs.Owed.{AddsNoMarks};
+ghost use Rattle.raft_log_purge_policy.specs.Picking.{count_of};
+ghost use Rattle.raft_log_purge_policy.specs.Surveying.{SurveysIfTold};
+ghost use Rattle.raft_log_purge_policy.specs.Watermarks.{TakesAppend};
 ghost use Rattle.raft_log_purge.specs.Standing.{StandIfTold};
 ghost use Rattle.raft_log_purge.specs.Expired.{
   FailsToLoseBelow,
@@ -24,16 +24,16 @@ ghost use Rattle.raft_log_purge.specs.Expired.{
 
 use crate::append::{rewrite_synced, up_to};
 use log::Log;
-use raft_log_file_pair::PipeLog;
-use raft_log_purge_parts::carry_marks;
-use raft_log_purge_parts::raft_log_file_blocks::BlockCache;
-use raft_log_purge_rules::{
+use raft_log_dual_pipes::PipeLog;
+use raft_log_purge_copy::carry_marks;
+use raft_log_purge_copy::raft_log_block_cache::BlockCache;
+use raft_log_purge_policy::{
     GroupLists, Rounds, Survey, Thresholds, Watermarks, answered_groups, append_watermarks,
     survey_groups, survey_unless_known, takes_append,
 };
 use raft_log_record_base::{FileId, FileSeq, LogQueue, Result};
 use raft_log_record_items::LogItem;
-use raft_log_table_all::MemTables;
+use raft_log_memtables::MemTables;
 use std::alloc::{AllocError, Global};
 
 /// What a purge returns, and what it counted on its way.

@@ -2,12 +2,12 @@
 
 ghost use Rattle.std.specs.Prelude.{◌≡◌, ◌≤◌, ℕ, IfErr, IfOk, OnErr, OnOk};
 ghost use Rattle.raft_log_record_base.specs.declared.pipe_log.LogQueue.TheVariants.{Append};
-ghost use Rattle.raft_log_file_pair.specs.HoldingBack.{PipesHoldBack};
-ghost use Rattle.raft_log_purge_parts.specs.raft_log_engine_laws.specs.Shows.{shows};
-ghost use Rattle.raft_log_table_all.specs.Tables.{IsAtRest};
-ghost use Rattle.raft_log_purge_parts.specs.Owed.{AddsNoMarks};
-ghost use Rattle.raft_log_purge_rules.specs.Picking.{count_of};
-ghost use Rattle.raft_log_purge_rules.specs.Surveying.{SurveysIfTold};
+ghost use Rattle.raft_log_dual_pipes.specs.HoldingBack.{PipesHoldBack};
+ghost use Rattle.raft_log_purge_copy.specs.raft_log_engine_laws.specs.Shows.{shows};
+ghost use Rattle.raft_log_memtables.specs.Tables.{IsAtRest};
+ghost use Rattle.raft_log_purge_copy.specs.Owed.{AddsNoMarks};
+ghost use Rattle.raft_log_purge_policy.specs.Picking.{count_of};
+ghost use Rattle.raft_log_purge_policy.specs.Surveying.{SurveysIfTold};
 ghost use Rattle.raft_log_purge.specs.Garbage.{CountsRefused};
 ghost use Rattle.raft_log_purge.specs.RewriteQueue.{FailsToRewriteRewrite, reset_counts};
 ghost use Rattle.raft_log_purge.specs.Standing.{StandIfTold};
@@ -23,12 +23,12 @@ ghost use Rattle.raft_log_purge.specs.ExpiredFiles.{
 use crate::expired::{Purged, purge_append, survey_if_past};
 use crate::rewrite_queue::rewrite_rewrite_queue;
 use log::Log;
-use raft_log_file_pair::PipeLog;
-use raft_log_purge_parts::raft_log_file_blocks::BlockCache;
-use raft_log_purge_rules::{Rounds, Survey, Thresholds, takes_rewrite};
+use raft_log_dual_pipes::PipeLog;
+use raft_log_purge_copy::raft_log_block_cache::BlockCache;
+use raft_log_purge_policy::{Rounds, Survey, Thresholds, takes_rewrite};
 use raft_log_record_base::{LogQueue, Result};
-use raft_log_table_all::MemTables;
-use raft_log_table_one::GlobalStats;
+use raft_log_memtables::MemTables;
+use raft_log_memtable::GlobalStats;
 use std::alloc::Global;
 
 /// What is counted from one purge of a log to the next.
@@ -43,12 +43,12 @@ pub struct PurgeCounts {
 }
 
 impl PurgeCounts {
-    ghost use Rattle.raft_log_purge_rules.specs.Picking.{count_of};
+    ghost use Rattle.raft_log_purge_policy.specs.Picking.{count_of};
     ghost use Rattle.raft_log_record_base.specs.declared.pipe_log.LogQueue.TheVariants.{Rewrite};
-    ghost use Rattle.raft_log_table_one.specs.Stats.{added, no_entries};
+    ghost use Rattle.raft_log_memtable.specs.Stats.{added, no_entries};
     ghost use Rattle.raft_log_purge.specs.Counting.{counted, CountsIf, CountsStanding};
     ghost use Rattle.raft_log_purge.specs.Standing.{StandIfTold};
-    ghost use Rattle.raft_log_purge_rules.specs.Surveying.{SurveysIfTold};
+    ghost use Rattle.raft_log_purge_policy.specs.Surveying.{SurveysIfTold};
 
     /// This many entries and values were written to Rewrite before; nothing else was counted yet.
     pub fn new(alloc: Global, written: u64) -> PurgeCounts

@@ -1,22 +1,22 @@
 //! Rewrite is rewritten: what is live there is written again, and its old files go.
 
 ghost use Rattle.std.specs.Prelude.{◌≡◌, ◌≤◌, IfErr, OnErr, OnOk};
-ghost use Rattle.raft_log_purge_parts.specs.raft_log_engine_laws.specs.Shows.{shows};
-ghost use Rattle.raft_log_table_all.specs.Tables.{IsAtRest, has_table};
-ghost use Rattle.raft_log_table_all.specs.Walking.{ListsGroups};
-ghost use Rattle.raft_log_purge_parts.specs.Owed.{AddsNoMarks};
+ghost use Rattle.raft_log_purge_copy.specs.raft_log_engine_laws.specs.Shows.{shows};
+ghost use Rattle.raft_log_memtables.specs.Tables.{IsAtRest, has_table};
+ghost use Rattle.raft_log_memtables.specs.Walking.{ListsGroups};
+ghost use Rattle.raft_log_purge_copy.specs.Owed.{AddsNoMarks};
 ghost use Rattle.raft_log_purge.specs.Garbage.{CountsRefused};
 ghost use Rattle.raft_log_purge.specs.RewriteQueue.{FailsToRewriteRewrite, RestatesAll, RewritesRewrite, reset_counts};
 
 use crate::garbage::count_restated;
 use log::Log;
-use raft_log_file_pair::PipeLog;
-use raft_log_purge_parts::purge_stale;
-use raft_log_purge_parts::raft_log_file_blocks::BlockCache;
-use raft_log_purge_parts::restating::restate_groups;
+use raft_log_dual_pipes::PipeLog;
+use raft_log_purge_copy::purge_stale;
+use raft_log_purge_copy::raft_log_block_cache::BlockCache;
+use raft_log_purge_copy::restating::restate_groups;
 use raft_log_record_base::{LogQueue, Result};
-use raft_log_table_all::MemTables;
-use raft_log_table_one::GlobalStats;
+use raft_log_memtables::MemTables;
+use raft_log_memtable::GlobalStats;
 use std::alloc::Global;
 
 /// Rewrites Rewrite. It rotates; all groups are restated, and it is synced. The garbage is taken off the counts; then

@@ -1,8 +1,8 @@
 //! A slow reader of a queue's files. It knows their names, their header and the records of a sweep, and calls nothing
 //! of the libraries that write them.
 use crate::numbered::mark;
-use raft_log_disk::{FileSystem, Permission};
-use raft_log_disk_memory::MemoryFileSystem;
+use raft_log_fs::{FileSystem, Permission};
+use raft_log_fs_memory::MemoryFileSystem;
 use raft_log_record_base::LogQueue;
 use std::alloc::{AllocError, Global};
 

@@ -4,8 +4,8 @@ use crate::runs::{Run, restarts};
 use crate::slow_reader::all_bytes;
 use log::sink::Memory;
 use raft_cases::{CaseFault, Command};
-use raft_log_disk::{Fault, FileSystem};
-use raft_log_disk_memory::{MemoryFileSystem, Piece, Remainder};
+use raft_log_fs::{Fault, FileSystem};
+use raft_log_fs_memory::{MemoryFileSystem, Piece, Remainder};
 use raft_log_record_base::{Error, LogQueue};
 use std::alloc::{AllocError, Global};
 

@@ -6,7 +6,7 @@ use crate::queues::{Queue, begin, file_path, play_on_queue};
 use crate::sweeps::{play_pair, play_sweep};
 use log::sink::Memory;
 use raft_cases::{CaseFault, Column, Command, play_on_files};
-use raft_log_disk_memory::MemoryFileSystem;
+use raft_log_fs_memory::MemoryFileSystem;
 use std::alloc::Global;
 
 /// A file system in memory, and what writes its files.

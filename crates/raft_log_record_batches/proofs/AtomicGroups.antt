@@ -2,12 +2,12 @@
 use Rattle.std.proofs.Common.{◌≡◌, ℕ, List, sym, ap, subst}
 use Rattle.raft_log_record_base.specs.Number.{IsU64, u64_bytes}
 use Rattle.raft_log_record_items.specs.declared.item.LogItem.{LogItem}
-use Rattle.raft_log_record_marks.specs.declared.status.AtomicGroupStatus.{AtomicGroupStatus}
-use Rattle.raft_log_record_marks.specs.declared.marking.Marking.TheVariants.{Unmarked}
-use Rattle.raft_log_record_marks.specs.Marking.{mark_item, marking_of_items}
-use Rattle.raft_log_record_marks.specs.Meaning.{BecomesPart}
-use Rattle.raft_log_record_marks.proofs.Marks.{written_mark}
-use Rattle.raft_log_record_marks.proofs.Meanings.{becomes_part}
+use Rattle.raft_log_record_frames.specs.declared.status.AtomicGroupStatus.{AtomicGroupStatus}
+use Rattle.raft_log_record_frames.specs.declared.marking.Marking.TheVariants.{Unmarked}
+use Rattle.raft_log_record_frames.specs.Marking.{mark_item, marking_of_items}
+use Rattle.raft_log_record_frames.specs.Meaning.{BecomesPart}
+use Rattle.raft_log_record_frames.proofs.Marks.{written_mark}
+use Rattle.raft_log_record_frames.proofs.Meanings.{becomes_part}
 use Rattle.raft_log_record_batches.specs.Batch.{Batch, with_item, Becomes}
 
 -- a batch without a mark becomes a part of a group by the mark that is added

@@ -13,7 +13,7 @@ use Rattle.raft_log_record_items.proofs.ItemPlaces.{laid_out-append}
 use Rattle.raft_log_record_items.specs.Placed.{run_len, content_len, entries_len, laid_run, laid_content, laid_out}
 use Rattle.raft_log_record_batches.specs.declared.log_batch.BatchState.{BatchState}
 use Rattle.raft_log_record_batches.specs.declared.log_batch.BatchState.TheVariants.{Filling, Populated, Signed, Written}
-use Rattle.raft_log_record_lists.specs.ItemBatch.{ItemBatch, AddsItems}
+use Rattle.raft_log_record_frames.specs.ItemBatch.{ItemBatch, AddsItems}
 use Rattle.raft_log_record_batches.specs.Batch.{Batch, IsBatch, IsMade, IsSigned, HasNoEntries, HoldsIn, max_entries_len, roomy}
 use Rattle.raft_log_record_batches.specs.Entries.{entries_of, entries_item, entries_items, joined, bytes_len, with_entries}
 use Rattle.raft_log_record_batches.proofs.Buffer.{in_filling, roomy_same}

@@ -1,9 +1,12 @@
+pub mod AtomicGroups
+pub mod Bounds
 pub mod Buffer
-pub mod Items
 pub mod Encoded
 pub mod Entries
 pub mod EntriesFrom
-pub mod AtomicGroups
-pub mod PlacedMeanings
+pub mod Items
+pub mod Lengths
 pub mod Moves
+pub mod PlacedMeanings
 pub mod Places
+pub mod Worked

@@ -16,7 +16,7 @@ use Rattle.raft_log_record_batches.specs.declared.log_batch.BatchState.{BatchSta
 use Rattle.raft_log_record_batches.specs.declared.log_batch.BatchState.TheVariants.{Filling, Written}
 use Rattle.raft_log_record_frames.specs.Record.{block_bytes}
 use Rattle.raft_log_record_batches.specs.Batch.{IsBatch, max_entries_len, batch_size, roomy}
-use Rattle.raft_log_record_lists.specs.ItemBatch.{items_size}
+use Rattle.raft_log_record_frames.specs.ItemBatch.{items_size}
 use Rattle.raft_log_record_frames.proofs.Made.{four_bytes}
 use Rattle.raft_log_record_batches.proofs.Buffer.{all_entries, in_filling, roomy_same}
 use Rattle.raft_log_record_batches.proofs.Items.{run_len-laid, laid_twice, filling_size, more_bytes, items_added, still_filling}

@@ -1,8 +1,8 @@
 -- Builders of atomic groups, and the mark that a batch gets.
 use Rattle.std.specs.Prelude.{◌≡◌, ℕ, Option, Some, None}
-use Rattle.raft_log_record_marks.specs.declared.status.AtomicGroupStatus.{AtomicGroupStatus}
-use Rattle.raft_log_record_marks.specs.declared.status.AtomicGroupStatus.TheVariants.{Begin, Middle, End}
-use Rattle.raft_log_record_marks.specs.Marking.{mark_item}
+use Rattle.raft_log_record_frames.specs.declared.status.AtomicGroupStatus.{AtomicGroupStatus}
+use Rattle.raft_log_record_frames.specs.declared.status.AtomicGroupStatus.TheVariants.{Begin, Middle, End}
+use Rattle.raft_log_record_frames.specs.Marking.{mark_item}
 use Rattle.raft_log_record_batches.specs.Batch.{Batch, with_item, Becomes}
 
 -- the number of the group, and the last mark that was added

@@ -11,7 +11,7 @@ use Rattle.raft_log_record_batches.specs.declared.log_batch.BatchState.TheVarian
 use Rattle.raft_log_record_items.specs.Items.{put_item}
 use Rattle.raft_log_record_items.specs.Writing.{plain_item}
 use Rattle.raft_log_record_frames.specs.Record.{block_bytes, record_bytes, IsRecord}
-use Rattle.raft_log_record_lists.specs.ItemBatch.{ItemBatch, HasItemRoom, items_size}
+use Rattle.raft_log_record_frames.specs.ItemBatch.{ItemBatch, HasItemRoom, items_size}
 use Rattle.raft_log_record_frames.specs.Made.{HoldsRecordBytes}
 
 -- the state, the items, the bytes of their entries, and for how many items and bytes of a record there is room before

@@ -3,8 +3,8 @@ use Rattle.std.specs.Prelude.{◌≡◌, ℕ, List, IsTrue, codes}
 use Rattle.std.specs.String.{string_bytes}
 use Rattle.raft_log_record_base.specs.declared.errors.Error.{Error}
 use Rattle.raft_log_record_base.specs.declared.errors.Error.TheVariants as errors
-use Rattle.raft_log_record_marks.specs.Key.{is_internal}
-use Rattle.raft_log_record_marks.specs.Marking.{mark_key}
+use Rattle.raft_log_record_frames.specs.Key.{is_internal}
+use Rattle.raft_log_record_frames.specs.Marking.{mark_key}
 
 -- the error's text if a key is one of the log's own
 abbrev pub reserved_key : List ℕ

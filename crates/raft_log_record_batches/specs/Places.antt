@@ -6,9 +6,9 @@ use Rattle.raft_log_record_items.specs.declared.item.LogItem.{LogItem}
 use Rattle.raft_log_record_items.specs.Placed.{entries_len, laid_out, placed}
 use Rattle.raft_log_record_items.specs.Writing.{plain_item}
 use Rattle.raft_log_record_frames.specs.Record.{block_bytes}
-use Rattle.raft_log_record_lists.specs.ItemBatch.{all_entries}
+use Rattle.raft_log_record_frames.specs.ItemBatch.{all_entries}
 use Rattle.raft_log_record_batches.specs.Batch.{Batch}
-use Rattle.raft_log_record_marks.specs.Meaning.{record_of}
+use Rattle.raft_log_record_frames.specs.Meaning.{record_of}
 
 -- the bytes of an entry in these bytes of its block
 abbrev pub entry_bytes : List ℕ → EntryIndex → List ℕ

@@ -1,6 +1,6 @@
 //! Atomic groups: several batches that count together or not at all. A mark in each batch says which part it is.
 use crate::log_batch::LogBatch;
-use raft_log_record_marks::{AtomicGroupStatus, mark_value};
+use raft_log_record_frames::{AtomicGroupStatus, mark_value};
 use std::alloc::{AllocError, Global};
 use std::marker::Model;
 
@@ -23,14 +23,14 @@ impl Model for AtomicGroupBuilder {
 
 impl AtomicGroupBuilder {
     ghost use Rattle.std.specs.Prelude.{◌≡◌, Some, None, OnOk, OnErr};
-    ghost use Rattle.raft_log_record_marks.specs.declared.status.AtomicGroupStatus.TheVariants.{
+    ghost use Rattle.raft_log_record_frames.specs.declared.status.AtomicGroupStatus.TheVariants.{
       Begin,
       Middle,
       End,
     };
-    ghost use Rattle.raft_log_record_marks.specs.declared.marking.Marking.TheVariants.{Unmarked};
-    ghost use Rattle.raft_log_record_marks.specs.Marking.{marking_of_items};
-    ghost use Rattle.raft_log_record_marks.specs.Meaning.{BecomesPart};
+    ghost use Rattle.raft_log_record_frames.specs.declared.marking.Marking.TheVariants.{Unmarked};
+    ghost use Rattle.raft_log_record_frames.specs.Marking.{marking_of_items};
+    ghost use Rattle.raft_log_record_frames.specs.Meaning.{BecomesPart};
     ghost use Rattle.raft_log_record_batches.specs.declared.log_batch.BatchState.TheVariants.{Filling};
     ghost use Rattle.raft_log_record_batches.specs.AtomicGroup.{IsGroupOpen, Marks};
     ghost use Rattle.raft_log_record_batches.specs.Batch.{Becomes, with_item};

@@ -2,6 +2,7 @@
 #![tactic(auto)]
 
 pub mod atomic_group;
+pub mod bounds;
 mod entry_writer;
 pub mod laws;
 pub mod log_batch;
@@ -9,13 +10,13 @@ pub mod log_batch;
 pub use atomic_group::AtomicGroupBuilder;
 pub use entry_writer::{EntrySlices, EntryWriter};
 pub use log_batch::{BatchState, LogBatch};
+pub use raft_log_record_frames::LogItemBatch;
 pub use raft_log_record_frames::{
     LOG_BATCH_HEADER_LEN, decode_entries_block, decode_footer, decode_header,
 };
+pub use raft_log_record_frames::{AtomicGroupStatus, Marking};
 pub use raft_log_record_items::{
     Bytes, Command, CompressionType, EntryIndex, EntryIndexes, Error, FileBlockHandle, FileId,
     FileSeq, KeyValue, LogFileContext, LogItem, LogItemContent, LogQueue, Message, MessageExt,
     OpType, Result, Version,
 };
-pub use raft_log_record_lists::LogItemBatch;
-pub use raft_log_record_marks::{AtomicGroupStatus, Marking};

@@ -2,18 +2,16 @@
 ghost use Rattle.std.specs.Prelude.{◌≡◌, ◌+◌, ◌≤◌, ◌==◌, if◌then◌else◌};
 ghost use Rattle.std.specs.Prelude.{false, ℕ, List, length, vec_len, vec_capacity, IsOk, OnOk, OnErr, IfErr};
 ghost use Rattle.raft_log_record_items.specs.Items.{put_item};
-ghost use Rattle.raft_log_record_marks.specs.Key.{is_internal};
-ghost use Rattle.raft_log_record_marks.specs.Marking.{has_mark_key};
+ghost use Rattle.raft_log_record_frames.specs.Key.{is_internal};
+ghost use Rattle.raft_log_record_frames.specs.Marking.{has_mark_key};
 ghost use Rattle.raft_log_record_batches.specs.Batch.{max_entries_len, kept_buffer, roomy};
 ghost use Rattle.raft_log_record_batches.specs.Key.{IsKeyRefusal, IsMarkRefusal};
 
-use raft_log_record_frames::LOG_BATCH_HEADER_LEN;
+use raft_log_record_frames::{LOG_BATCH_HEADER_LEN, LogItemBatch, MARK_GROUP, MARK_KEY, Marking, items_size};
 use raft_log_record_frames::record::{are_bytes, fill_record, write_checksum};
 use raft_log_record_items::{
     Bytes, Command, Error, FileBlockHandle, LogFileContext, LogItem, Message, Result,
 };
-use raft_log_record_lists::{LogItemBatch, items_size};
-use raft_log_record_marks::{MARK_GROUP, MARK_KEY, Marking};
 use std::alloc::{AllocError, Global};
 use std::marker::Model;
 
@@ -82,10 +80,10 @@ impl LogBatch {
     ghost use Rattle.raft_log_record_items.specs.Placed.{entries_len, laid_out};
     ghost use Rattle.raft_log_record_frames.specs.Record.{record_len};
     ghost use Rattle.raft_log_record_frames.specs.Made.{IsMemoryOrFull};
-    ghost use Rattle.raft_log_record_marks.specs.Key.{is_internal};
-    ghost use Rattle.raft_log_record_marks.specs.Marking.{mark_key, marking_of_items};
+    ghost use Rattle.raft_log_record_frames.specs.Key.{is_internal};
+    ghost use Rattle.raft_log_record_frames.specs.Marking.{mark_key, marking_of_items};
     ghost use Rattle.raft_log_record_batches.specs.declared.log_batch.BatchState.TheVariants.{Filling, Populated};
-    ghost use Rattle.raft_log_record_lists.specs.ItemBatch.{command_item, AllLieIn};
+    ghost use Rattle.raft_log_record_frames.specs.ItemBatch.{command_item, AllLieIn};
     ghost use Rattle.raft_log_record_batches.specs.Key.{IsKeyRefusal};
     ghost use Rattle.raft_log_record_batches.specs.Batch.{batch_size, empty_batch, emptied, max_kept_len};
     ghost use Rattle.raft_log_record_batches.specs.Batch.{written_at, signed_as, signed_bytes, IsButBuffer};
@@ -479,7 +477,7 @@ fn check_key(alloc: Global, key: &[u8]) -> Result<()>
 }
 
 /// Fails if a put of this key would be a mark of an atomic group.
-#[tactic(auto, unfolding(raft_log_record_marks::specs::Marking::has_mark_key))]
+#[tactic(auto, unfolding(raft_log_record_frames::specs::Marking::has_mark_key))]
 fn check_mark(alloc: Global, raft_group_id: u64, key: &[u8]) -> Result<()>
     ensures ok { OnOk result ((value : List ℕ) → has_mark_key (put_item raft_group_id key.now value) ≡ false) }
     ensures errors { IfErr result (λ e. IsMarkRefusal e raft_group_id key.now) }

@@ -1,8 +1,12 @@
-pub mod Words
-pub mod Headers
 pub mod Blocks
 pub mod Footers
 pub mod Frames
-pub mod Made
-pub mod Written
 pub mod Fronts
+pub mod Headers
+pub mod ItemBatches
+pub mod Made
+pub mod Marks
+pub mod Meanings
+pub mod Placing
+pub mod Words
+pub mod Written

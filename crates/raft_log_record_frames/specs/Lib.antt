@@ -1,5 +1,9 @@
+pub mod Frames
+pub mod ItemBatch
+pub mod Key
+pub mod Made
+pub mod Marking
+pub mod Meaning
 pub mod Record
 pub mod Signatures
-pub mod Frames
 pub mod Written
-pub mod Made

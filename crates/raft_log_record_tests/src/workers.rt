@@ -7,8 +7,8 @@ use raft_log_record_commands::spelled::items;
 use raft_log_record_items::LogItem;
 use raft_log_record_items::items::copied;
 use raft_log_table_commands::show_tables;
-use raft_log_table_contexts::MemTableRecoverContextFactory;
-use raft_log_table_segments::{ReplayMachine, ReplaySource, replay_segments};
+use raft_log_replay_context::MemTableRecoverContextFactory;
+use raft_log_replay::{ReplayMachine, ReplaySource, replay_segments};
 use std::alloc::Global;
 use std::thread::Threads;
 

@@ -3,6 +3,6 @@ pub use Rattle.raft_log_record_checksum
 pub use Rattle.raft_log_record_base
 pub use Rattle.raft_log_record_items
 pub use Rattle.raft_log_record_frames
-pub use Rattle.raft_log_record_marks
-pub use Rattle.raft_log_record_lists
+pub use Rattle.raft_log_record_frames
+pub use Rattle.raft_log_record_frames
 pub use Rattle.raft_log_record_batches

@@ -18,4 +18,4 @@ pub use raft_log_record_items::{
     Bytes, Command, CompressionType, EntryIndex, EntryIndexes, KeyValue, LogItem, LogItemContent,
     Message, MessageExt, OpType,
 };
-pub use raft_log_record_marks::{AtomicGroupStatus, Marking};
+pub use raft_log_record_frames::{AtomicGroupStatus, Marking};

@@ -7,8 +7,8 @@ use raft_log_record_commands::spelled::items;
 use raft_log_record_commands::words::{number_in, numbers, queue_in};
 use raft_log_record_items::LogItem;
 use raft_log_record_items::items::copied;
-use raft_log_table_all::MemTables;
-use raft_log_table_contexts::MemTableRecoverContext;
+use raft_log_memtables::MemTables;
+use raft_log_replay_context::MemTableRecoverContext;
 use std::alloc::Global;
 
 /// A record: its file and its items.

@@ -4,7 +4,7 @@ use raft_log_record_base::LogQueue;
 use raft_log_record_commands::answers::{failed, push_line, queue_name, show_entry, truth};
 use raft_log_record_commands::words::{byte_lists, file};
 use raft_log_record_items::{Bytes, EntryIndex};
-use raft_log_table_one::MemTable;
+use raft_log_memtable::MemTable;
 use std::alloc::{AllocError, Global};
 
 /// Plays a command that reads the table; none if it is none of these.

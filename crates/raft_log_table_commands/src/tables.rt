@@ -6,8 +6,8 @@ use raft_log_record_commands::answers::{done, failed, show_items};
 use raft_log_record_commands::spelled::items;
 use raft_log_record_commands::words::{file, numbers};
 use raft_log_record_items::LogItem;
-use raft_log_table_all::MemTables;
-use raft_log_table_lists::GroupFiles;
+use raft_log_memtables::MemTables;
+use raft_log_memtable_index::GroupFiles;
 use std::alloc::{AllocError, Global};
 
 /// The tables of a case: those of the oldest segment first. A command is for the newest.

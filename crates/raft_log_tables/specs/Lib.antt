@@ -1,7 +1,7 @@
 -- re-exports of the libraries below
-pub use Rattle.raft_log_table_runs
-pub use Rattle.raft_log_table_lists
-pub use Rattle.raft_log_table_one
-pub use Rattle.raft_log_table_all
-pub use Rattle.raft_log_table_segments
-pub use Rattle.raft_log_table_contexts
+pub use Rattle.raft_log_extents
+pub use Rattle.raft_log_memtable_index
+pub use Rattle.raft_log_memtable
+pub use Rattle.raft_log_memtables
+pub use Rattle.raft_log_replay
+pub use Rattle.raft_log_replay_context

@@ -13,23 +13,23 @@ use Rattle.raft_log_engine.specs.raft_log_model_laws.proofs.Tests.{put_sets}
 use Rattle.raft_log_engine.specs.raft_log_record_base.specs.declared.errors.Error.{Error}
 use Rattle.raft_log_engine.specs.raft_log_record_items.specs.declared.entry.EntryIndex.{EntryIndex}
 use Rattle.raft_log_engine.specs.raft_log_record_items.specs.Items.{put_item}
-use Rattle.raft_log_engine.specs.raft_log_record_marks.specs.Key.{is_internal}
-use Rattle.raft_log_engine.specs.raft_log_record_marks.specs.Meaning.{marked, record_of, tagged, tagged_items, unless_mark}
-use Rattle.raft_log_engine.specs.raft_log_record_marks.specs.declared.marking.Marking.{Marking}
-use Rattle.raft_log_engine.specs.raft_log_record_marks.proofs.Meanings.{keeps_mark, no_mark_key}
-use Rattle.raft_log_engine.specs.raft_log_disk.specs.Disk.{Disk}
+use Rattle.raft_log_engine.specs.raft_log_record_frames.specs.Key.{is_internal}
+use Rattle.raft_log_engine.specs.raft_log_record_frames.specs.Meaning.{marked, record_of, tagged, tagged_items, unless_mark}
+use Rattle.raft_log_engine.specs.raft_log_record_frames.specs.declared.marking.Marking.{Marking}
+use Rattle.raft_log_engine.specs.raft_log_record_frames.proofs.Meanings.{keeps_mark, no_mark_key}
+use Rattle.raft_log_engine.specs.raft_log_fs.specs.Disk.{Disk}
 use Rattle.raft_log_engine.specs.raft_log_record_batches.specs.Batch.{Batch, Puts, empty_batch}
 use Rattle.raft_log_engine.specs.raft_log_record_batches.specs.Places.{entry_bytes}
 use Rattle.raft_log_engine.specs.raft_log_file_settings.specs.declared.config.Config.{Config}
-use Rattle.raft_log_engine.specs.raft_log_table_all.specs.declared.mem_tables.MemTables.{MemTables}
-use Rattle.raft_log_engine.specs.raft_log_file_blocks.specs.declared.block_cache.BlockCache.{BlockCache}
-use Rattle.raft_log_engine.specs.raft_log_file_pair.specs.Pipes.{LogPipes, Said, is_failed}
-use Rattle.raft_log_engine.specs.raft_log_file_pair.specs.ClosingCalls.{ClosesSettled}
+use Rattle.raft_log_engine.specs.raft_log_memtables.specs.declared.mem_tables.MemTables.{MemTables}
+use Rattle.raft_log_engine.specs.raft_log_block_cache.specs.declared.block_cache.BlockCache.{BlockCache}
+use Rattle.raft_log_engine.specs.raft_log_dual_pipes.specs.Pipes.{LogPipes, Said, is_failed}
+use Rattle.raft_log_engine.specs.raft_log_dual_pipes.specs.ClosingCalls.{ClosesSettled}
 use Rattle.raft_log_engine.specs.raft_log_engine_laws.specs.Shows.{Home, LogMap, Shows, said_of, shows}
 use Rattle.raft_log_engine.specs.raft_log_engine_laws.specs.Holding.{Holds}
 use Rattle.raft_log_engine.specs.raft_log_engine_laws.specs.Reading.{ReadsValue}
 use Rattle.raft_log_engine.specs.raft_log_engine_laws.specs.Writing.{Writes, WritesBytes}
-use Rattle.raft_log_engine.specs.raft_log_open_directory.specs.Opening.{OpensDirectory}
+use Rattle.raft_log_engine.specs.raft_log_open.specs.Opening.{OpensDirectory}
 use Rattle.raft_log_ten_lines.specs.Saving.{SavesInLog}
 
 -- a key that a batch took isn't the log's own

@@ -1,18 +1,18 @@
 -- What a caller of an engine does with it.
 use Rattle.std.specs.Prelude.{◌≡◌, ℕ, List, [], ◌∷◌, Option, Some, None, true}
-use Rattle.raft_log_engine.specs.raft_log_disk.specs.Disk.{Disk}
+use Rattle.raft_log_engine.specs.raft_log_fs.specs.Disk.{Disk}
 use Rattle.raft_log_engine.specs.raft_log_record_items.specs.Items.{put_item}
 use Rattle.raft_log_engine.specs.raft_log_record_batches.specs.Batch.{Batch}
 use Rattle.raft_log_engine.specs.raft_log_file_settings.specs.declared.config.Config.{Config}
-use Rattle.raft_log_engine.specs.raft_log_table_all.specs.declared.mem_tables.MemTables.{MemTables}
-use Rattle.raft_log_engine.specs.raft_log_file_blocks.specs.declared.block_cache.BlockCache.{BlockCache}
-use Rattle.raft_log_engine.specs.raft_log_file_pair.specs.Pipes.{LogPipes}
-use Rattle.raft_log_engine.specs.raft_log_file_pair.specs.ClosingCalls.{ClosesSettled}
+use Rattle.raft_log_engine.specs.raft_log_memtables.specs.declared.mem_tables.MemTables.{MemTables}
+use Rattle.raft_log_engine.specs.raft_log_block_cache.specs.declared.block_cache.BlockCache.{BlockCache}
+use Rattle.raft_log_engine.specs.raft_log_dual_pipes.specs.Pipes.{LogPipes}
+use Rattle.raft_log_engine.specs.raft_log_dual_pipes.specs.ClosingCalls.{ClosesSettled}
 use Rattle.raft_log_engine.specs.raft_log_engine_laws.specs.Shows.{Home, LogMap, Shows, shows}
 use Rattle.raft_log_engine.specs.raft_log_engine_laws.specs.Holding.{Holds}
 use Rattle.raft_log_engine.specs.raft_log_engine_laws.specs.Reading.{ReadsValue}
 use Rattle.raft_log_engine.specs.raft_log_engine_laws.specs.Writing.{Writes}
-use Rattle.raft_log_engine.specs.raft_log_open_directory.specs.Opening.{OpensDirectory}
+use Rattle.raft_log_engine.specs.raft_log_open.specs.Opening.{OpensDirectory}
 
 -- A log was opened; a batch that puts this value at a group's key was written and synced; the key was read; and the log
 -- was closed, with everything synced. Whatever map the log had when it was opened, the value was read back.

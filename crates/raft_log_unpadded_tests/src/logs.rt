@@ -1,6 +1,6 @@
 //! A log with an alignment, reckoned by hand, and what its files hold without the padding.
-use raft_log_disk::{FileSystem, Permission};
-use raft_log_disk_memory::MemoryFileSystem;
+use raft_log_fs::{FileSystem, Permission};
+use raft_log_fs_memory::MemoryFileSystem;
 use raft_log_file_settings::Config;
 use raft_log_record_base::Result;
 use std::alloc::Global;

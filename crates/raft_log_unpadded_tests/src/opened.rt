@@ -4,10 +4,10 @@ use crate::logs::{
     holds, settings,
 };
 use log::Log;
-use raft_log_disk::{Fault, FileSystem};
-use raft_log_disk_memory::MemoryFileSystem;
+use raft_log_fs::{Fault, FileSystem};
+use raft_log_fs_memory::MemoryFileSystem;
 use raft_log_engine_core::Engine;
-use raft_log_file_pair::OpenRefused;
+use raft_log_dual_pipes::OpenRefused;
 use raft_log_record_base::{Error, Result};
 use raft_log_record_items::RawEntries;
 use std::alloc::Global;

@@ -3,10 +3,10 @@ use crate::logs::{
     FIRST, FIRST_PADDED, FIRST_WITHOUT, SECOND, SECOND_PADDED, SECOND_WITHOUT, are_whole, holding,
     holds, settings,
 };
-use raft_log_disk::{Fault, FileSystem};
-use raft_log_disk_memory::MemoryFileSystem;
+use raft_log_fs::{Fault, FileSystem};
+use raft_log_fs_memory::MemoryFileSystem;
 use raft_log_record_base::{Error, Result};
-use raft_log_unpadded::unpad;
+use raft_log_open::unpad;
 use std::alloc::Global;
 use std::test::Fail;
 

@@ -2,7 +2,7 @@
 //! again, it opens the log. Run it with each allocation failing in turn.
 use crate::logs::{FIRST_PADDED, SECOND_PADDED, are_whole, holding, settings};
 use crate::opened::{has_entries, opened};
-use raft_log_disk_memory::MemoryFileSystem;
+use raft_log_fs_memory::MemoryFileSystem;
 use raft_log_engine_core::Engine;
 use raft_log_file_settings::Config;
 use raft_log_record_base::{Error, Result};

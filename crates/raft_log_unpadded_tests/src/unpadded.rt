@@ -4,12 +4,11 @@ use crate::logs::{
     SECOND_WITHOUT, TWO_ENTRIES, holding, holds, is_there, save, settings,
 };
 use log::Log;
-use raft_log_disk_memory::MemoryFileSystem;
-use raft_log_file_pair::{OpenRefused, PipeLog};
-use raft_log_open_directory::{OpenedLog, open_directory};
+use raft_log_fs_memory::MemoryFileSystem;
+use raft_log_dual_pipes::{OpenRefused, PipeLog};
+use raft_log_open::{OpenedLog, open_directory, unpad};
 use raft_log_record_base::{Error, FileId, LogQueue, Result};
-use raft_log_table_segments::ReplayThreads;
-use raft_log_unpadded::unpad;
+use raft_log_replay::ReplayThreads;
 use std::alloc::Global;
 use std::test::Fail;
 use std::thread::Threads;

@@ -3,33 +3,33 @@ use Rattle.std.proofs.Common.{◌≡◌, ◌∙◌, ◌⊎◌, inl, inr, ℕ, fa
 use Rattle.std.proofs.Math.Path.{fun_ext}
 use Rattle.std.proofs.Math.Seq.{take-nil}
 use Rattle.raft_log_model_laws.specs.Groups.{taken}
-use Rattle.raft_log_disk.specs.Disk.{Disk as OnDisk, File, at_rest, empty_disk}
-use Rattle.raft_log_disk.specs.Exits.{Arms, denied_by}
-use Rattle.raft_log_disk.specs.Image.{IsFileImage, IsImage, IsLeft, IsSound}
-use Rattle.raft_log_disk.proofs.ImageLaws.{disk_ext, only_at_rest}
-use Rattle.raft_log_disk_memory.specs.Memory.{disk_of}
-use Rattle.raft_log_disk_memory.specs.declared.memory.MemoryFileSystem.{MemoryFileSystem}
+use Rattle.raft_log_fs.specs.Disk.{Disk as OnDisk, File, at_rest, empty_disk}
+use Rattle.raft_log_fs.specs.Exits.{Arms, denied_by}
+use Rattle.raft_log_fs.specs.Image.{IsFileImage, IsImage, IsLeft, IsSound}
+use Rattle.raft_log_fs.proofs.ImageLaws.{disk_ext, only_at_rest}
+use Rattle.raft_log_fs_memory.specs.Memory.{disk_of}
+use Rattle.raft_log_fs_memory.specs.declared.memory.MemoryFileSystem.{MemoryFileSystem}
 use Rattle.raft_log_file_settings.specs.declared.config.Config.{Config}
-use Rattle.raft_log_file_pair.specs.Lying.{none_open}
-use Rattle.raft_log_file_pair.proofs.OnDiskLaws.{logs_go_on_disks}
-use Rattle.raft_voter_standing_laws.specs.raft_log_engine_laws.specs.raft_log_file_pair.specs.OnDisk.{LogRestsOn}
-use Rattle.raft_voter_standing_laws.specs.raft_log_engine_laws.specs.raft_log_file_pair.specs.Pipes.{Said}
-use Rattle.raft_voter_standing_laws.specs.raft_log_engine_laws.specs.Holding.{Holds, IsLeftAt}
-use Rattle.raft_voter_standing_laws.specs.raft_log_engine_laws.specs.Shows.{Home, LogMap, Shows, has_failed, log_in}
-use Rattle.raft_voter_standing_laws.specs.raft_log_engine_laws.proofs.Lying.{closed_engines_are_left}
-use Rattle.raft_log_open_laws.specs.Bare.{IsBare}
-use Rattle.raft_log_open_laws.specs.ByCalls.{home_of}
-use Rattle.raft_log_open_laws.specs.ForkLeaving.{EndsFork, LeavesSource}
-use Rattle.raft_log_open_laws.proofs.ByCalls.{two_queues}
-use Rattle.raft_log_open_laws.proofs.Left.{crashed_logs_rest}
-use Rattle.raft_log_open_laws.proofs.Leaving.{forks_leave_the_source}
-use Rattle.raft_log_open_laws.proofs.Running.{crashed_engines_open}
+use Rattle.raft_log_dual_pipes.specs.Lying.{none_open}
+use Rattle.raft_log_dual_pipes.proofs.OnDiskLaws.{logs_go_on_disks}
+use Rattle.raft_voter_durability_laws.specs.raft_log_engine_laws.specs.raft_log_dual_pipes.specs.OnDisk.{LogRestsOn}
+use Rattle.raft_voter_durability_laws.specs.raft_log_engine_laws.specs.raft_log_dual_pipes.specs.Pipes.{Said}
+use Rattle.raft_voter_durability_laws.specs.raft_log_engine_laws.specs.Holding.{Holds, IsLeftAt}
+use Rattle.raft_voter_durability_laws.specs.raft_log_engine_laws.specs.Shows.{Home, LogMap, Shows, has_failed, log_in}
+use Rattle.raft_voter_durability_laws.specs.raft_log_engine_laws.proofs.Lying.{closed_engines_are_left}
+use Rattle.raft_log_recovery_laws.specs.Bare.{IsBare}
+use Rattle.raft_log_recovery_laws.specs.ByCalls.{home_of}
+use Rattle.raft_log_recovery_laws.specs.ForkLeaving.{EndsFork, LeavesSource}
+use Rattle.raft_log_recovery_laws.proofs.ByCalls.{two_queues}
+use Rattle.raft_log_recovery_laws.proofs.Left.{crashed_logs_rest}
+use Rattle.raft_log_recovery_laws.proofs.Leaving.{forks_leave_the_source}
+use Rattle.raft_log_recovery_laws.proofs.Running.{crashed_engines_open}
 use Rattle.raft_voter.specs.Rounds.{fresh_world}
 use Rattle.raft_voter.specs.Service.{CutRound, MayFollow, uncut}
-use Rattle.raft_voter_standing_laws.specs.Standing.{IsLeftAmong}
-use Rattle.raft_voter_standing_laws.proofs.Keeping.{left_alone}
-use Rattle.raft_voter_opening_laws.specs.raft_voter_store.specs.Service.{LeavesAt}
-use Rattle.raft_voter_opening_laws.specs.raft_voter_store.specs.Service.LeavesAt.{left as is_left, running}
+use Rattle.raft_voter_durability_laws.specs.Standing.{IsLeftAmong}
+use Rattle.raft_voter_durability_laws.proofs.Keeping.{left_alone}
+use Rattle.raft_voter_store_laws.specs.raft_voter_store.specs.Service.{LeavesAt}
+use Rattle.raft_voter_store_laws.specs.raft_voter_store.specs.Service.LeavesAt.{left as is_left, running}
 use Rattle.raft_voter_world.specs.declared.faults.Fault.{Fault}
 use Rattle.raft_voter_world.specs.declared.faults.Fault.TheVariants.{Refuse, Stop}
 use Rattle.raft_voter_log.specs.Faults.{fault_of}

@@ -1,19 +1,19 @@
 -- Settings that name the same directories.
 use Rattle.std.proofs.Common.{◌≡◌, ◌<◌, ℕ, List, length, ap, arith, subst, sym}
 use Rattle.std.specs.Prelude.{Contains}
-use Rattle.raft_log_disk.specs.Disk.{Disk}
+use Rattle.raft_log_fs.specs.Disk.{Disk}
 use Rattle.raft_log_record_base.specs.declared.pipe_log.LogQueue.TheVariants.{Append}
 use Rattle.raft_log_file_format.specs.Name.{suffix_of}
 use Rattle.raft_log_file_settings.specs.Settings.{Settings, directories_of}
 use Rattle.raft_log_file_settings.specs.declared.config.Config.{Config}
-use Rattle.raft_voter_standing_laws.specs.raft_log_engine_laws.specs.raft_log_file_layout.specs.Paths.{IsPathWith, reserved_suffix_of}
-use Rattle.raft_voter_standing_laws.specs.raft_log_engine_laws.specs.Shows.{Home, log_in}
-use Rattle.raft_voter_standing_laws.specs.raft_log_engine_laws.specs.raft_log_file_pair.specs.OnDisk.{LogRestsOn}
-use Rattle.raft_log_open_laws.specs.raft_log_open_builder.specs.Directories.{paths_of}
-use Rattle.raft_log_open_laws.specs.Bare.{IsBare}
-use Rattle.raft_log_open_laws.specs.ByCalls.{home_of}
+use Rattle.raft_voter_durability_laws.specs.raft_log_engine_laws.specs.raft_log_active_file.specs.Paths.{IsPathWith, reserved_suffix_of}
+use Rattle.raft_voter_durability_laws.specs.raft_log_engine_laws.specs.Shows.{Home, log_in}
+use Rattle.raft_voter_durability_laws.specs.raft_log_engine_laws.specs.raft_log_dual_pipes.specs.OnDisk.{LogRestsOn}
+use Rattle.raft_log_recovery_laws.specs.raft_log_recovery.specs.Directories.{paths_of}
+use Rattle.raft_log_recovery_laws.specs.Bare.{IsBare}
+use Rattle.raft_log_recovery_laws.specs.ByCalls.{home_of}
 use Rattle.raft_voter.specs.Service.{CutRound, MayFollow}
-use Rattle.raft_voter_standing_laws.specs.Standing.{IsLeftAmong}
+use Rattle.raft_voter_durability_laws.specs.Standing.{IsLeftAmong}
 use Rattle.raft_voter_log.specs.Instance.{AreSame}
 use Rattle.raft_voter_log.specs.Leaving.{FilesLeave}
 use Rattle.raft_voter_log.specs.Leaving.FilesLeave.{bare, left, rests}

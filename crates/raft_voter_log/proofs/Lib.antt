@@ -1,5 +1,10 @@
-pub mod Homes
-pub mod Standing
-pub mod Purging
-pub mod Opens
 pub mod Crashes
+pub mod Homes
+pub mod Opening
+pub mod Opens
+pub mod Purging
+mod Refusing
+pub mod Resting
+pub mod RunsPurging
+pub mod Standing
+pub mod Walking

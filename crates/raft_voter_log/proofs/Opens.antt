@@ -1,28 +1,28 @@
 -- An open of a log's files serves the voters that stand in them; refused, it leaves them.
 use Rattle.std.proofs.Common.{◌≡◌, ◌∙◌, ◌⊎◌, inl, inr, ℕ, false, List, ap, refl, sym, subst, arith}
-use Rattle.raft_log_disk.specs.Disk.{Disk as OnDisk}
-use Rattle.raft_log_disk.specs.Image.{IsSound}
-use Rattle.raft_log_disk_memory.specs.Memory.{disk_of}
-use Rattle.raft_log_disk_memory.specs.declared.memory.MemoryFileSystem.{MemoryFileSystem}
+use Rattle.raft_log_fs.specs.Disk.{Disk as OnDisk}
+use Rattle.raft_log_fs.specs.Image.{IsSound}
+use Rattle.raft_log_fs_memory.specs.Memory.{disk_of}
+use Rattle.raft_log_fs_memory.specs.declared.memory.MemoryFileSystem.{MemoryFileSystem}
 use Rattle.raft_log_file_settings.specs.declared.config.Config.{Config}
-use Rattle.raft_voter_standing_laws.specs.raft_log_engine_laws.specs.raft_log_file_pair.specs.OnDisk.{LogRestsOn}
-use Rattle.raft_voter_standing_laws.specs.raft_log_engine_laws.specs.Shows.{Home, Shows, has_failed, log_in, shows as shows_all}
-use Rattle.raft_log_open_laws.specs.Bare.{IsBare}
-use Rattle.raft_log_open_laws.specs.ByCalls.{home_of}
+use Rattle.raft_voter_durability_laws.specs.raft_log_engine_laws.specs.raft_log_dual_pipes.specs.OnDisk.{LogRestsOn}
+use Rattle.raft_voter_durability_laws.specs.raft_log_engine_laws.specs.Shows.{Home, Shows, has_failed, log_in, shows as shows_all}
+use Rattle.raft_log_recovery_laws.specs.Bare.{IsBare}
+use Rattle.raft_log_recovery_laws.specs.ByCalls.{home_of}
 use Rattle.raft_voter_outline.specs.State.{State}
 use Rattle.raft_voter.specs.Rounds.{World, fresh_world}
 use Rattle.raft_voter.specs.Service.{CutRound, IsFromOutside, IsOpenAt, MayFollow, uncut}
 use Rattle.raft_voter.specs.declared.service.Cause.{Cause}
-use Rattle.raft_voter_standing_laws.specs.Standing.{IsLeftAmong, IsLeftWith, Keeps}
+use Rattle.raft_voter_durability_laws.specs.Standing.{IsLeftAmong, IsLeftWith, Keeps}
 use Rattle.raft_log_record_base.specs.declared.errors.Error.{Error}
 use Rattle.raft_log_record_base.specs.declared.errors.Error.TheVariants as errors
-use Rattle.raft_voter_reading.specs.declared.unread.Unread.{Unread}
-use Rattle.raft_voter_reading.specs.declared.unread.Unread.TheVariants as causes
-use Rattle.raft_voter_opening_laws.specs.Opens.{ServesFound}
-use Rattle.raft_voter_opening_laws.proofs.Finding.{first_opens_are_fresh, left_voters_are_found, resting_voters_are_found}
-use Rattle.raft_voter_opening_laws.specs.raft_voter_store.specs.Opening.{FailsToOpenVoters, OpensVoters}
-use Rattle.raft_voter_opening_laws.specs.raft_voter_store.specs.Service.{service_in}
-use Rattle.raft_voter_opening_laws.specs.raft_voter_store.proofs.Serving.{open_in}
+use Rattle.raft_voter_recovery.specs.declared.unread.Unread.{Unread}
+use Rattle.raft_voter_recovery.specs.declared.unread.Unread.TheVariants as causes
+use Rattle.raft_voter_store_laws.specs.Opens.{ServesFound}
+use Rattle.raft_voter_store_laws.proofs.Finding.{first_opens_are_fresh, left_voters_are_found, resting_voters_are_found}
+use Rattle.raft_voter_store_laws.specs.raft_voter_store.specs.Opening.{FailsToOpenVoters, OpensVoters}
+use Rattle.raft_voter_store_laws.specs.raft_voter_store.specs.Service.{service_in}
+use Rattle.raft_voter_store_laws.specs.raft_voter_store.proofs.Serving.{open_in}
 use Rattle.raft_voter_world.specs.Stores.{FindsVoters}
 use Rattle.raft_voter_log.specs.declared.files.LogFiles.{LogFiles}
 use Rattle.raft_voter_log.specs.Causes.{cause_of, unread_cause}

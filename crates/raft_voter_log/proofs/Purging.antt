@@ -3,22 +3,22 @@ use Rattle.std.proofs.Common.{◌≡◌, ◌∙◌, ◌⊎◌, inl, inr, ℕ, Bo
 use Rattle.std.proofs.lemmas.Bool.{false≢true}
 use Rattle.raft_log_record_base.specs.declared.errors.Error.{Error}
 use Rattle.raft_log_record_base.specs.declared.errors.Error.TheVariants as errors
-use Rattle.raft_voter_standing_laws.specs.raft_log_engine_laws.specs.Fetching.{HadFailed}
-use Rattle.raft_voter_standing_laws.specs.raft_log_engine_laws.specs.raft_log_file_pair.specs.Pipes.{LogPipes}
-use Rattle.raft_voter_standing_laws.specs.raft_log_engine_laws.specs.Shows.{Home, Shows, has_failed}
+use Rattle.raft_voter_durability_laws.specs.raft_log_engine_laws.specs.Fetching.{HadFailed}
+use Rattle.raft_voter_durability_laws.specs.raft_log_engine_laws.specs.raft_log_dual_pipes.specs.Pipes.{LogPipes}
+use Rattle.raft_voter_durability_laws.specs.raft_log_engine_laws.specs.Shows.{Home, Shows, has_failed}
 use Rattle.raft_log_engine.specs.raft_log_engine_core.specs.declared.engine.LogEngine.{LogEngine}
 use Rattle.raft_log_purge.specs.Append.{FailsToRewriteAppend}
 use Rattle.raft_voter_outline.specs.State.{State}
 use Rattle.raft_voter.specs.Rounds.{World}
 use Rattle.raft_voter.specs.declared.service.Cause.{Cause}
 use Rattle.raft_voter.specs.Service.{CutRound, IsOpenAt, MayFollow, uncut}
-use Rattle.raft_voter_standing_laws.specs.Calls.{KeepsOrLeaves}
-use Rattle.raft_voter_standing_laws.specs.Standing.{AreOutlines, IsLeftAmong, Keeps}
-use Rattle.raft_voter_standing_laws.proofs.Ending.{left_behind_rounds}
-use Rattle.raft_voter_opening_laws.specs.raft_voter_store.specs.Service.{LeavesAt, service_in}
-use Rattle.raft_voter_opening_laws.specs.raft_voter_store.specs.Service.LeavesAt.{left, running}
-use Rattle.raft_voter_opening_laws.specs.raft_voter_store.specs.Upkeep.{KeepsOrLeavesVoters, KeepsVoters}
-use Rattle.raft_voter_opening_laws.specs.raft_voter_store.proofs.Serving.{open_in}
+use Rattle.raft_voter_durability_laws.specs.Calls.{KeepsOrLeaves}
+use Rattle.raft_voter_durability_laws.specs.Standing.{AreOutlines, IsLeftAmong, Keeps}
+use Rattle.raft_voter_durability_laws.proofs.Ending.{left_behind_rounds}
+use Rattle.raft_voter_store_laws.specs.raft_voter_store.specs.Service.{LeavesAt, service_in}
+use Rattle.raft_voter_store_laws.specs.raft_voter_store.specs.Service.LeavesAt.{left, running}
+use Rattle.raft_voter_store_laws.specs.raft_voter_store.specs.Upkeep.{KeepsOrLeavesVoters, KeepsVoters}
+use Rattle.raft_voter_store_laws.specs.raft_voter_store.proofs.Serving.{open_in}
 use Rattle.raft_voter_world.specs.Stores.{KeepsVoters as KeepsServed}
 use Rattle.raft_voter_world.specs.declared.faults.Purge.{Purge}
 use Rattle.raft_voter_log.specs.Causes.{purge_cause}

@@ -1,21 +1,21 @@
 -- What calls that change no voter leave of a store.
 use Rattle.std.proofs.Common.{◌≡◌, ◌∙◌, ◌⊎◌, inl, inr, ℕ, List, [], Result, Ok, Err, IfErr, ap, sym, subst}
-use Rattle.raft_voter_standing_laws.specs.raft_log_engine_laws.specs.Fetching.{StaysButBlock}
-use Rattle.raft_voter_standing_laws.specs.raft_log_engine_laws.specs.Shows.{Home, Shows, has_failed}
-use Rattle.raft_log_disk.specs.Disk.{Disk as OnDisk}
-use Rattle.raft_log_disk.specs.Exits.{denied_by}
-use Rattle.raft_log_disk.specs.declared.handle.Fault.{Fault as DiskFault}
-use Rattle.raft_log_disk_memory.specs.Turns.{armed, armed_with}
-use Rattle.raft_log_disk_memory.specs.declared.memory.MemoryFileSystem.{MemoryFileSystem}
+use Rattle.raft_voter_durability_laws.specs.raft_log_engine_laws.specs.Fetching.{StaysButBlock}
+use Rattle.raft_voter_durability_laws.specs.raft_log_engine_laws.specs.Shows.{Home, Shows, has_failed}
+use Rattle.raft_log_fs.specs.Disk.{Disk as OnDisk}
+use Rattle.raft_log_fs.specs.Exits.{denied_by}
+use Rattle.raft_log_fs.specs.declared.handle.Fault.{Fault as DiskFault}
+use Rattle.raft_log_fs_memory.specs.Turns.{armed, armed_with}
+use Rattle.raft_log_fs_memory.specs.declared.memory.MemoryFileSystem.{MemoryFileSystem}
 use Rattle.raft_log_engine.specs.raft_log_engine_core.specs.Whole.{ArmsEngine}
 use Rattle.raft_voter_outline.specs.State.{State}
 use Rattle.raft_voter.specs.Rounds.{World}
 use Rattle.raft_voter.specs.Service.{CutRound, MayFollow}
-use Rattle.raft_voter_meaning_laws.proofs.Owning.{one_world}
-use Rattle.raft_voter_standing_laws.specs.Standing.{AreOutlines, IsLeftAmong, Keeps}
-use Rattle.raft_voter_reading.specs.Reading.{ListsVoters}
-use Rattle.raft_voter_opening_laws.specs.raft_voter_store.specs.Service.{LeavesAt, service_in}
-use Rattle.raft_voter_opening_laws.specs.raft_voter_store.specs.Service.LeavesAt.{left, running}
+use Rattle.raft_voter_records.proofs.Owning.{one_world}
+use Rattle.raft_voter_durability_laws.specs.Standing.{AreOutlines, IsLeftAmong, Keeps}
+use Rattle.raft_voter_recovery.specs.Reading.{ListsVoters}
+use Rattle.raft_voter_store_laws.specs.raft_voter_store.specs.Service.{LeavesAt, service_in}
+use Rattle.raft_voter_store_laws.specs.raft_voter_store.specs.Service.LeavesAt.{left, running}
 use Rattle.raft_voter_world.specs.declared.faults.Fault.{Fault}
 use Rattle.raft_voter_world.specs.declared.faults.Fault.TheVariants.{Refuse, Stop}
 use Rattle.raft_voter_world.specs.Stores.{StaysAsItWas, TellsVoters}

@@ -4,8 +4,8 @@ use Rattle.raft_log_record_base.specs.declared.errors.Error.{Error}
 use Rattle.raft_log_record_base.specs.declared.errors.Error.TheVariants as errors
 use Rattle.raft_voter.specs.declared.service.Cause.{Cause}
 use Rattle.raft_voter.specs.declared.service.Cause.TheVariants.{Failed, FileSystem, Memory}
-use Rattle.raft_voter_reading.specs.declared.unread.Unread.{Unread}
-use Rattle.raft_voter_reading.specs.declared.unread.Unread.TheVariants as unread
+use Rattle.raft_voter_recovery.specs.declared.unread.Unread.{Unread}
+use Rattle.raft_voter_recovery.specs.declared.unread.Unread.TheVariants as unread
 
 -- `Memory` for out of memory, and `FileSystem` for all other errors
 abbrev pub cause_of : Error → Cause

@@ -1,8 +1,8 @@
 -- Faults and crashes of a world, in the terms of the file system.
-use Rattle.raft_log_disk.specs.declared.handle.Fault.{Fault as DiskFault}
-use Rattle.raft_log_disk.specs.declared.handle.Fault.TheVariants as faults
-use Rattle.raft_log_disk_memory.specs.raft_log_disk_storage.specs.declared.remainder.Remainder.{Remainder}
-use Rattle.raft_log_disk_memory.specs.raft_log_disk_storage.specs.declared.remainder.Remainder.TheVariants as remainders
+use Rattle.raft_log_fs.specs.declared.handle.Fault.{Fault as DiskFault}
+use Rattle.raft_log_fs.specs.declared.handle.Fault.TheVariants as faults
+use Rattle.raft_log_fs_memory.specs.raft_log_fs_state.specs.declared.remainder.Remainder.{Remainder}
+use Rattle.raft_log_fs_memory.specs.raft_log_fs_state.specs.declared.remainder.Remainder.TheVariants as remainders
 use Rattle.raft_voter_world.specs.declared.event.Left.{Left}
 use Rattle.raft_voter_world.specs.declared.event.Left.TheVariants.{All, First, Last}
 use Rattle.raft_voter_world.specs.declared.faults.Fault.{Fault}

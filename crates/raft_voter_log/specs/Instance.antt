@@ -1,31 +1,31 @@
 -- A store of voters on a log and the log's files, as the store and the disk of a world.
 use Rattle.std.specs.Prelude.{◌≡◌, ◌⊎◌, ℕ, false, true, List, Option, None}
-use Rattle.raft_log_disk.specs.Disk.{Disk as OnDisk}
-use Rattle.raft_log_disk.specs.Exits.{Arms}
-use Rattle.raft_log_disk_memory.specs.Answers.{IsLeftOf}
-use Rattle.raft_log_disk_memory.specs.Memory.{disk_of}
-use Rattle.raft_log_disk_memory.specs.Turns.{armed, armed_with}
-use Rattle.raft_log_disk_memory.specs.declared.memory.MemoryFileSystem.{MemoryFileSystem}
+use Rattle.raft_log_fs.specs.Disk.{Disk as OnDisk}
+use Rattle.raft_log_fs.specs.Exits.{Arms}
+use Rattle.raft_log_fs_memory.specs.Answers.{IsLeftOf}
+use Rattle.raft_log_fs_memory.specs.Memory.{disk_of}
+use Rattle.raft_log_fs_memory.specs.Turns.{armed, armed_with}
+use Rattle.raft_log_fs_memory.specs.declared.memory.MemoryFileSystem.{MemoryFileSystem}
 use Rattle.raft_log_record_base.specs.declared.errors.Error.{Error}
 use Rattle.raft_log_file_settings.specs.Settings.{settings_of}
 use Rattle.raft_log_file_settings.specs.declared.config.Config.{Config}
-use Rattle.raft_voter_standing_laws.specs.raft_log_engine_laws.specs.raft_log_file_pair.specs.ClosingCalls.{ClosesLog}
-use Rattle.raft_voter_standing_laws.specs.raft_log_engine_laws.specs.raft_log_file_pair.specs.Pipes.{LogPipes}
-use Rattle.raft_voter_standing_laws.specs.raft_log_engine_laws.specs.Shows.{Shows, has_failed}
+use Rattle.raft_voter_durability_laws.specs.raft_log_engine_laws.specs.raft_log_dual_pipes.specs.ClosingCalls.{ClosesLog}
+use Rattle.raft_voter_durability_laws.specs.raft_log_engine_laws.specs.raft_log_dual_pipes.specs.Pipes.{LogPipes}
+use Rattle.raft_voter_durability_laws.specs.raft_log_engine_laws.specs.Shows.{Shows, has_failed}
 use Rattle.raft_log_purge.specs.Append.{RewritesAppend}
 use Rattle.raft_log_purge.specs.Counted.{PurgesAndCounts}
 use Rattle.raft_log_purge.specs.ExpiredFiles.{SyncsAndRewrites}
 use Rattle.raft_log_engine.specs.raft_log_engine_core.specs.Purging.{StopsPurgingExpired, StopsRewritingAppend}
 use Rattle.raft_log_engine.specs.raft_log_engine_core.specs.Whole.{ArmsEngine}
 use Rattle.raft_log_engine.specs.raft_log_engine_core.specs.declared.engine.LogEngine.{LogEngine}
-use Rattle.raft_log_engine.specs.raft_log_closed.specs.Forks.{FailsToFork, Forks}
-use Rattle.raft_log_open_laws.specs.ByCalls.{home_of}
+use Rattle.raft_log_engine.specs.raft_log_offline.specs.Forks.{FailsToFork, Forks}
+use Rattle.raft_log_recovery_laws.specs.ByCalls.{home_of}
 use Rattle.raft_voter_outline.specs.State.{State}
 use Rattle.raft_voter.specs.declared.service.Cause.{Cause}
 use Rattle.raft_voter.specs.declared.service.Cause.TheVariants.{Memory}
-use Rattle.raft_voter_reading.specs.declared.unread.Unread.{Unread}
-use Rattle.raft_voter_opening_laws.specs.raft_voter_store.specs.Opening.{FailsToOpenVoters, OpensVoters}
-use Rattle.raft_voter_opening_laws.specs.raft_voter_store.specs.Service.{LeavesAt}
+use Rattle.raft_voter_recovery.specs.declared.unread.Unread.{Unread}
+use Rattle.raft_voter_store_laws.specs.raft_voter_store.specs.Opening.{FailsToOpenVoters, OpensVoters}
+use Rattle.raft_voter_store_laws.specs.raft_voter_store.specs.Service.{LeavesAt}
 use Rattle.raft_voter_world.specs.declared.event.Left.{Left}
 use Rattle.raft_voter_world.specs.declared.faults.Fault.{Fault}
 use Rattle.raft_voter_world.specs.declared.faults.Purge.{Purge}

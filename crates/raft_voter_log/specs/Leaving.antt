@@ -1,21 +1,21 @@
 -- Which voters a log's files have while no store has them open, and which CRC collisions must not be in them.
 use Rattle.std.specs.Prelude.{◌≡◌}
-use Rattle.raft_log_disk.specs.Disk.{Disk}
-use Rattle.raft_log_disk.specs.Image.{IsImage}
+use Rattle.raft_log_fs.specs.Disk.{Disk}
+use Rattle.raft_log_fs.specs.Image.{IsImage}
 use Rattle.raft_log_file_settings.specs.declared.config.Config.{Config}
-use Rattle.raft_voter_standing_laws.specs.raft_log_engine_laws.specs.raft_log_file_pair.specs.OnDisk.{LogRestsOn}
-use Rattle.raft_voter_standing_laws.specs.raft_log_engine_laws.specs.Shows.{Home, LogMap, Shows, log_in}
-use Rattle.raft_log_open_laws.specs.Bare.{IsBare}
-use Rattle.raft_log_open_laws.specs.ByCalls.{home_of}
-use Rattle.raft_log_open_laws.specs.InPlace.{StandsWithoutChance}
-use Rattle.raft_log_open_laws.specs.Left.{IsCrashOf}
-use Rattle.raft_log_open_laws.specs.Running.{LeavesNoChance}
+use Rattle.raft_voter_durability_laws.specs.raft_log_engine_laws.specs.raft_log_dual_pipes.specs.OnDisk.{LogRestsOn}
+use Rattle.raft_voter_durability_laws.specs.raft_log_engine_laws.specs.Shows.{Home, LogMap, Shows, log_in}
+use Rattle.raft_log_recovery_laws.specs.Bare.{IsBare}
+use Rattle.raft_log_recovery_laws.specs.ByCalls.{home_of}
+use Rattle.raft_log_recovery_laws.specs.InPlace.{StandsWithoutChance}
+use Rattle.raft_log_recovery_laws.specs.Left.{IsCrashOf}
+use Rattle.raft_log_recovery_laws.specs.Running.{LeavesNoChance}
 use Rattle.raft_voter.specs.Rounds.{World, fresh_world}
 use Rattle.raft_voter.specs.Service.{CutRound, MayFollow, uncut}
-use Rattle.raft_voter_meaning_laws.specs.Voters.{Means}
-use Rattle.raft_voter_standing_laws.specs.Standing.{IsLeftAmong}
-use Rattle.raft_voter_opening_laws.specs.raft_voter_store.specs.Service.{LeavesAt}
-use Rattle.raft_voter_opening_laws.specs.raft_voter_store.specs.Service.LeavesAt.{left as is_left, running}
+use Rattle.raft_voter_records.specs.Voters.{Means}
+use Rattle.raft_voter_durability_laws.specs.Standing.{IsLeftAmong}
+use Rattle.raft_voter_store_laws.specs.raft_voter_store.specs.Service.{LeavesAt}
+use Rattle.raft_voter_store_laws.specs.raft_voter_store.specs.Service.LeavesAt.{left as is_left, running}
 
 -- The files of these settings have voters that may follow this round:
 -- - `bare`: no log began there, so all voters are fresh.

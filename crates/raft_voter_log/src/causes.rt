@@ -4,7 +4,7 @@ ghost use Rattle.raft_voter_log.specs.Causes.{cause_of, purge_cause, unread_caus
 
 use raft_log_engine::Error;
 use raft_voter::Cause;
-use raft_voter_reading::Unread;
+use raft_voter_recovery::Unread;
 
 /// Why opening a log, or reading its voters, failed: `Memory` or `FileSystem`.
 pub fn unread_cause(cause: &Unread) -> Cause

@@ -1,22 +1,21 @@
 //! A log's files, while no store is open on them.
 ghost use Rattle.std.specs.Prelude.{◌≡◌, IfErr, IfOk, OnOk};
-ghost use Rattle.raft_log_disk.specs.Disk.{empty_disk};
-ghost use Rattle.raft_log_disk_memory.specs.Memory.{disk_of};
+ghost use Rattle.raft_log_fs.specs.Disk.{empty_disk};
+ghost use Rattle.raft_log_fs_memory.specs.Memory.{disk_of};
 ghost use Rattle.raft_log_engine.specs.raft_log_engine_core.specs.Reads.{shows_of};
 ghost use Rattle.raft_voter.specs.Rounds.{fresh_world};
 ghost use Rattle.raft_voter.specs.Service.{uncut};
-ghost use Rattle.raft_voter_outlines.specs.Kept.{outlines_in};
+ghost use Rattle.raft_voter_outline.specs.Kept.{outlines_in};
 ghost use Rattle.raft_voter_log.specs.Instance.{AreSame, HasWorkers, log_disk};
 ghost use Rattle.raft_voter_log.specs.Leaving.{FilesLeave};
 
-use crate::causes::unread_cause;
+use crate::{causes::unread_cause, voters::LogVoters};
 use crate::faults::{fault_of, remainder_of};
-use crate::voters::LogVoters;
 use log::sink::Discard;
 use log::{LevelFilter, Log, Logged};
 use raft_log_engine::{Config, EnginePipes, FileSystem, MemoryFileSystem, Nobody, PipeLog, fork};
 use raft_voter::{Cause, FilesRefused, Memory};
-use raft_voter_opening_laws::raft_voter_store::VoterStore;
+use raft_voter_store_laws::raft_voter_store::VoterStore;
 use raft_voter_world::{Fault, Left, VoterDisk};
 use std::alloc::Global;
 use std::thread::Threads;

@@ -5,7 +5,12 @@
 mod causes;
 mod faults;
 mod files;
+pub mod logs;
+pub mod plain;
+pub mod purges;
+pub mod sessions;
 mod voters;
+pub mod workers;
 
 pub use files::LogFiles;
 pub use voters::LogVoters;

@@ -1,11 +1,11 @@
 //! An open store of voters on a log.
 ghost use Rattle.std.specs.Prelude.{◌≡◌, ◌≤◌, length, IfErr, IfOk, OnOk};
 ghost use Rattle.raft_log_engine.specs.raft_log_engine_core.specs.Reads.{shows_of};
-ghost use Rattle.raft_log_file_pair.specs.HoldingBack.{PipesHoldBack};
-ghost use Rattle.raft_log_open_laws.specs.ByCalls.{home_of};
+ghost use Rattle.raft_log_dual_pipes.specs.HoldingBack.{PipesHoldBack};
+ghost use Rattle.raft_log_recovery_laws.specs.ByCalls.{home_of};
 ghost use Rattle.raft_log_record_base.specs.declared.pipe_log.LogQueue.TheVariants.{Append};
-ghost use Rattle.raft_voter_outlines.specs.Kept.{outlines_in};
-ghost use Rattle.raft_voter_opening_laws.specs.raft_voter_store.specs.Service.{service_in};
+ghost use Rattle.raft_voter_outline.specs.Kept.{outlines_in};
+ghost use Rattle.raft_voter_store_laws.specs.raft_voter_store.specs.Service.{service_in};
 ghost use Rattle.raft_voter_log.specs.Instance.{log_upkeep};
 
 use crate::causes::{purge_cause, unread_cause};
@@ -13,7 +13,7 @@ use crate::faults::fault_of;
 use log::Log;
 use raft_log_engine::{Config, EnginePipes, FileSystem, MemoryFileSystem, Nobody, PipeLog};
 use raft_voter::{Cause, Items, Memory, Reply, Request, RoundFault, RoundService, Voter};
-use raft_voter_opening_laws::raft_voter_store::VoterStore;
+use raft_voter_store_laws::raft_voter_store::VoterStore;
 use raft_voter_world::{Fault, Purge, VoterStorage};
 use std::alloc::Global;
 

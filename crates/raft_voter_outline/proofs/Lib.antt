@@ -1,8 +1,9 @@
-pub mod Indexes
-pub mod Steps
-pub mod Ordered
-pub mod Bareness
-mod Unrolling
 mod Apart
-mod Planning
+pub mod Bareness
 pub mod Deciding
+pub mod Indexes
+pub mod Ordered
+pub mod Pairs
+mod Planning
+pub mod Steps
+mod Unrolling

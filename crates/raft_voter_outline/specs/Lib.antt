@@ -1,7 +1,10 @@
-pub mod State
+pub mod Decisions
+pub mod Kept
+pub mod Lending
+pub mod Outlines
+pub mod Pairs
+pub mod Plans
+pub mod Restoring
 pub mod Rules
 pub mod Runs
-pub mod Outlines
-pub mod Plans
-pub mod Decisions
-pub mod Restoring
+pub mod State

@@ -8,6 +8,8 @@
 #![tactic(auto)]
 
 mod outline;
+mod outlines;
 
 pub use outline::{Answer, Change, Decision, Outline, Write};
+pub use outlines::Outlines;
 pub use raft_voter_messages::{Items, Memory, Reply, Request, VoterState};

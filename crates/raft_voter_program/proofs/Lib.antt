@@ -1,2 +1,6 @@
-pub mod Settling
+pub mod Fronts
+pub mod Left
 mod Loaded
+mod Rising
+pub mod Settling
+pub mod Verdicts

@@ -1,13 +1,13 @@
 -- Which files of a run are kept, and the status of a session whose log is to be kept.
 use Rattle.std.specs.Prelude.{◌≡◌, ◌⊎◌, ℕ, List, [], ◌++◌, Option, None, Some, false, string_bytes}
 use Rattle.std.specs.Option.{option_map}
-use Rattle.raft_log_disk.specs.Disk.{Disk}
-use Rattle.raft_log_disk_memory.specs.Memory.{disk_of}
+use Rattle.raft_log_fs.specs.Disk.{Disk}
+use Rattle.raft_log_fs_memory.specs.Memory.{disk_of}
 use Rattle.raft_log_directory_copies.specs.Copies.{AreGathered}
 use Rattle.raft_log_directory_copies.specs.declared.stored_file.StoredFile.{StoredFile}
 use Rattle.raft_voter_log.specs.declared.files.LogFiles.{LogFiles}
 use Rattle.raft_voter_session.specs.Told.{Said}
-use Rattle.raft_voter_run.specs.Leaving.{EndsLeaving}
+use Rattle.raft_voter_program.specs.Leaving.{EndsLeaving}
 
 -- these are the files of a directory, as they are read; none if it doesn't exist
 abbrev pub AreFilesIn : Disk → List ℕ → List StoredFile → Type 0

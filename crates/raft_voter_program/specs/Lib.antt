@@ -1,4 +1,10 @@
-pub mod Setup
 pub mod Asking
-pub mod Loading
 pub mod Keeping
+pub mod Leaving
+pub mod Lines
+pub mod Listing
+pub mod Loading
+pub mod Run
+pub mod RunSetup
+pub mod Setup
+pub mod Writing

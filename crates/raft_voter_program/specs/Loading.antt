@@ -1,12 +1,12 @@
 -- What is written about a log in a real directory.
 use Rattle.std.specs.Prelude.{◌≡◌, ◌⊎◌, ℕ, List, Option, codes}
 use Rattle.std.specs.Io.KnownBytes.{Keeps}
-use Rattle.raft_log_disk_memory.specs.Memory.{disk_of}
+use Rattle.raft_log_fs_memory.specs.Memory.{disk_of}
 use Rattle.raft_log_directory_copies.specs.Copies.{HoldsFiles}
 use Rattle.raft_log_file_settings.specs.Settings.{settings_of}
 use Rattle.raft_voter.specs.Service.{Service}
 use Rattle.raft_voter_world.specs.Stores.{Disk}
-use Rattle.raft_voter_listing.specs.Listing.{ListsEarly, ListsVoters}
+use Rattle.raft_voter_program.specs.Listing.{ListsEarly, ListsVoters}
 use Rattle.raft_voter_log.specs.declared.files.LogFiles.{LogFiles}
 use Rattle.raft_voter_program.specs.Setup.{usual_settings}
 

@@ -1,7 +1,7 @@
 -- The files that a session's settings give.
 use Rattle.std.specs.Prelude.{◌≡◌, ◌⊎◌, ℕ, List, Option, None, Some, codes}
-use Rattle.raft_log_disk.specs.Disk.{empty_disk}
-use Rattle.raft_log_disk_memory.specs.Memory.{disk_of}
+use Rattle.raft_log_fs.specs.Disk.{empty_disk}
+use Rattle.raft_log_fs_memory.specs.Memory.{disk_of}
 use Rattle.raft_log_record_base.specs.declared.errors.Error.{Error}
 use Rattle.raft_log_record_base.specs.declared.errors.Error.TheVariants as errors
 use Rattle.raft_log_file_settings.specs.Reading.{HasWrongKey, SaysSettings}
@@ -10,9 +10,9 @@ use Rattle.raft_log_file_settings.specs.Settings.{Settings, default_settings, se
 use Rattle.raft_log_file_settings.specs.declared.fault.ConfigFault.{ConfigFault}
 use Rattle.toml.specs.Parse.{parse_document}
 use Rattle.raft_voter_log.specs.declared.files.LogFiles.{LogFiles}
-use Rattle.raft_voter_run.specs.Setup.{Setup}
-use Rattle.raft_voter_run.specs.declared.setup.NoFiles.{NoFiles}
-use Rattle.raft_voter_run.specs.declared.setup.NoFiles.TheVariants as none
+use Rattle.raft_voter_program.specs.RunSetup.{Setup}
+use Rattle.raft_voter_program.specs.declared.run_setup.NoFiles.{NoFiles}
+use Rattle.raft_voter_program.specs.declared.run_setup.NoFiles.TheVariants as none
 
 -- the settings if a session has none: the default ones, in the directory `raft`
 abbrev pub usual_settings : Settings

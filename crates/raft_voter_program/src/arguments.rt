@@ -2,7 +2,7 @@
 ghost use Rattle.std.specs.Prelude.{IfOk, map, string_bytes};
 ghost use Rattle.raft_voter_program.specs.Asking.{Asks};
 
-use raft_voter_run::has_arguments;
+use crate::has_arguments;
 use std::alloc::AllocError;
 use std::env;
 use std::env::Env;

@@ -6,15 +6,25 @@
 #![tactic(auto)]
 
 mod arguments;
+mod listing;
 mod loading;
+mod run_running;
+mod run_setup;
 mod running;
 mod saving;
 mod setup;
+mod writing;
 
 pub use arguments::{Arguments, USAGE};
+pub use crate::{exit_status, has_arguments};
+pub use listing::list_voters;
 pub use loading::load;
 pub use raft_voter_log;
-pub use raft_voter_run::{exit_status, has_arguments};
+pub use run_running::{
+    Ended, exit_status, has_arguments, program, run, run_bytes, run_bytes_leaving, run_leaving,
+};
+pub use run_setup::{NoFiles, StoreSetup};
 pub use running::{program, run, start};
 pub use saving::{kept_files, save};
 pub use setup::LogSetup;
+pub use writing::write_whole;

@@ -7,7 +7,7 @@ use log::{Log, error};
 use raft_log_directory_copies::{CopyFault, load_directory};
 use raft_log_engine::MemoryFileSystem;
 use raft_voter::RoundService;
-use raft_voter_listing::list_voters;
+use crate::list_voters;
 use raft_voter_log::{LogFiles, LogVoters};
 use raft_voter_world::VoterDisk;
 use std::alloc::Global;

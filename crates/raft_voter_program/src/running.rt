@@ -1,16 +1,13 @@
 //! The program over a store on a log.
 ghost use Rattle.std.specs.Prelude.{◌≡◌, false, true, IfOk, IfSome, OnErr};
-ghost use Rattle.raft_voter_run.specs.Run.{Ends, EndsEarly, WritesSession};
+ghost use Rattle.raft_voter_program.specs.Run.{Ends, EndsEarly, WritesSession};
 ghost use Rattle.raft_voter_program.specs.Setup.{log_setup};
 
 use crate::arguments::{Arguments, USAGE};
-use crate::loading::load;
-use crate::saving::save;
-use crate::setup::LogSetup;
+use crate::{exit_status, loading::load, saving::save, setup::LogSetup, write_whole};
 use log::Log;
 use raft_voter::RoundService;
 use raft_voter_log::{LogFiles, LogVoters};
-use raft_voter_run::{exit_status, write_whole};
 use raft_voter_world::{VoterDisk, VoterStorage};
 use std::alloc::Global;
 use std::env::Env;
@@ -65,7 +62,7 @@ fn print_usage<W: Write>(writer: &mut W) -> io::Result<u8>
     Ok(0)
 }
 
-/// The program of `raft_voter_run` over a store on a log: rejects arguments without reading anything, and runs a
+/// The program of `raft_voter_program` over a store on a log: rejects arguments without reading anything, and runs a
 /// session without arguments. Fails with an `Err` if memory, the reader or the writer fails; then no verdict is
 /// claimed.
 pub fn program<R: Threads + Log + Sync, I: Read, W: Write>(
@@ -85,7 +82,7 @@ pub fn program<R: Threads + Log + Sync, I: Read, W: Write>(
         (W.contents writer.old) (W.contents writer.new))) }
     ensures unread { has_arguments ≡ true → reader.new ≡ reader.old }
 {
-    raft_voter_run::program::<R, LogVoters, LogFiles, LogSetup, I, W>(
+    crate::program::<R, LogVoters, LogFiles, LogSetup, I, W>(
         rt,
         has_arguments,
         alloc,
@@ -95,7 +92,7 @@ pub fn program<R: Threads + Log + Sync, I: Read, W: Write>(
     )
 }
 
-/// The run of `raft_voter_run` over a store on a log: reads a session, runs its events, and writes the transcript with
+/// The run of `raft_voter_program` over a store on a log: reads a session, runs its events, and writes the transcript with
 /// a verdict. Or it writes that the settings are rejected, or which line is the first unreadable one.
 ///
 /// The status is 0 if the verdict is yes, 1 if it is no or the settings are rejected, and 2 for an unreadable line.
@@ -116,7 +113,7 @@ pub fn run<R: Threads + Log + Sync, I: Read, W: Write>(
         ⟦<LogFiles as VoterDisk<R, LogVoters>>⟧.disk log_setup) false input
         (W.contents writer.old) (W.contents writer.new))) }
 {
-    raft_voter_run::run::<R, LogVoters, LogFiles, LogSetup, I, W>(
+    crate::run::<R, LogVoters, LogFiles, LogSetup, I, W>(
         rt,
         alloc,
         &LogSetup {},

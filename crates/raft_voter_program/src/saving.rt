@@ -1,18 +1,17 @@
 //! A session whose log is kept in a real directory.
 ghost use Rattle.std.specs.Prelude.{IfOk, IfSome, OnErr, false, string_bytes};
-ghost use Rattle.raft_log_disk_memory.specs.Memory.{disk_of};
-ghost use Rattle.raft_voter_run.specs.Leaving.{WritesLeaving};
-ghost use Rattle.raft_voter_run.specs.Run.{EndsEarly, WritesSession};
+ghost use Rattle.raft_log_fs_memory.specs.Memory.{disk_of};
+ghost use Rattle.raft_voter_program.specs.Leaving.{WritesLeaving};
+ghost use Rattle.raft_voter_program.specs.Run.{EndsEarly, WritesSession};
 ghost use Rattle.raft_voter_program.specs.Keeping.{AreFilesIn, AreKept, EndsKept, IsToldOrUnkept};
 ghost use Rattle.raft_voter_program.specs.Setup.{log_setup};
 
-use crate::setup::LogSetup;
+use crate::{run_leaving, setup::LogSetup};
 use log::{Log, error};
 use raft_log_directory_copies::{CopyFault, StoredFile, gather, write_directory};
 use raft_log_engine::{FileSystem, MemoryFileSystem};
 use raft_voter::RoundService;
 use raft_voter_log::{LogFiles, LogVoters};
-use raft_voter_run::run_leaving;
 use raft_voter_world::{VoterDisk, VoterStorage};
 use std::alloc::Global;
 use std::fs::File;

@@ -8,7 +8,7 @@ ghost use Rattle.raft_voter_program.specs.Setup.{IsUnset, log_setup, refusal_of,
 use log::Log;
 use raft_log_engine::{Config, Error};
 use raft_voter_log::{LogFiles, LogVoters};
-use raft_voter_run::{NoFiles, StoreSetup};
+use crate::{NoFiles, StoreSetup};
 use std::alloc::{AllocError, Global};
 
 /// The directory of the log if a session has no settings.

@@ -1,1 +1,12 @@
 pub mod Bounds
+pub mod EncodingSaying
+pub mod Entries
+pub mod Leading
+pub mod OldForms
+pub mod Owning
+pub mod Pending
+pub mod Reading
+pub mod Requests
+pub mod Saying
+pub mod Short
+pub mod Writing

@@ -5,7 +5,7 @@ use Rattle.raft_log_record_items.specs.Items.{put_item}
 use Rattle.raft_log_record_batches.specs.Batch.{Batch, empty_batch, with_item}
 use Rattle.raft_log_record_batches.specs.Entries.{with_entries}
 use Rattle.raft_log_record_batches.specs.EntriesFrom.{indexes_at}
-use Rattle.raft_log_record_lists.specs.ItemBatch.{command_item}
+use Rattle.raft_log_record_frames.specs.ItemBatch.{command_item}
 use Rattle.raft_voter_messages.specs.declared.reply.VoterState.{VoterState}
 use Rattle.raft_voter_messages.specs.declared.request.Request.{Request}
 use Rattle.raft_voter_messages.specs.StoredForms.{state_text}

@@ -1,2 +1,10 @@
-pub mod Entries
+pub mod Among
+pub mod BoundsLaws
 pub mod Changes
+pub mod EncodingLaws
+pub mod Entries
+pub mod Examples
+pub mod Laws
+pub mod MeaningChanges
+pub mod Readings
+pub mod Voters

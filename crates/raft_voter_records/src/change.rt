@@ -3,7 +3,7 @@ ghost use Rattle.std.specs.Prelude.{◌≡◌, ◌≤◌, OnOk, OnErr, IfErr};
 ghost use Rattle.raft_log_record_base.specs.declared.errors.Error.TheVariants as errors;
 ghost use Rattle.raft_log_record_batches.specs.declared.log_batch.BatchState.TheVariants.{Filling};
 ghost use Rattle.raft_log_record_batches.specs.Batch.{AddsItem, Becomes};
-ghost use Rattle.raft_log_record_lists.specs.ItemBatch.{command_item};
+ghost use Rattle.raft_log_record_frames.specs.ItemBatch.{command_item};
 ghost use Rattle.raft_voter_outline.specs.Outlines.{ChangesEach, sent_of};
 ghost use Rattle.raft_voter_records.specs.Changes.{IsFresh, StaysFresh, with_change, with_state, with_write};
 

@@ -4,8 +4,13 @@
 //! the command that deletes old ones, and then the new state.
 #![tactic(auto)]
 
+pub mod bounds;
 mod change;
+pub mod changes;
+pub mod encoding;
+pub mod examples;
 mod stored_entries;
+pub mod voters;
 
 pub use change::{VOTER_KEY, fill_change};
 pub use stored_entries::StoredEntries;

@@ -1,14 +1,14 @@
 -- A store that is closed is left, and its log goes on.
 use Rattle.std.proofs.Common.{◌≡◌, ℕ, false, List, [], refl, subst, sym}
-use Rattle.raft_log_disk.specs.Disk.{Disk as OnDisk}
-use Rattle.raft_voter_standing_laws.specs.raft_log_engine_laws.specs.Holding.{Holds}
-use Rattle.raft_voter_standing_laws.specs.raft_log_engine_laws.specs.Shows.{Home, LogMap, Shows, has_failed}
-use Rattle.raft_voter_standing_laws.specs.raft_log_engine_laws.proofs.Lying.{closed_engines_are_left}
-use Rattle.raft_log_open_laws.specs.ByCalls.{home_of}
+use Rattle.raft_log_fs.specs.Disk.{Disk as OnDisk}
+use Rattle.raft_voter_durability_laws.specs.raft_log_engine_laws.specs.Holding.{Holds}
+use Rattle.raft_voter_durability_laws.specs.raft_log_engine_laws.specs.Shows.{Home, LogMap, Shows, has_failed}
+use Rattle.raft_voter_durability_laws.specs.raft_log_engine_laws.proofs.Lying.{closed_engines_are_left}
+use Rattle.raft_log_recovery_laws.specs.ByCalls.{home_of}
 use Rattle.raft_voter.specs.Service.{CutRound, MayFollow}
-use Rattle.raft_voter_standing_laws.specs.Standing.{IsLeftAmong}
-use Rattle.raft_voter_standing_laws.proofs.Keeping.{left_alone}
-use Rattle.raft_voter_opening_laws.proofs.Finding.{crashed_voters_are_found, left_voters_are_found}
+use Rattle.raft_voter_durability_laws.specs.Standing.{IsLeftAmong}
+use Rattle.raft_voter_durability_laws.proofs.Keeping.{left_alone}
+use Rattle.raft_voter_store_laws.proofs.Finding.{crashed_voters_are_found, left_voters_are_found}
 use Rattle.raft_voter_store.specs.Service.{LeavesAt}
 use Rattle.raft_voter_store.specs.Service.LeavesAt.{left as is_left, running}
 use Rattle.raft_voter_log.specs.Instance.{ClosesStore}

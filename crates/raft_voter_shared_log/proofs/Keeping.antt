@@ -3,8 +3,8 @@ use Rattle.std.proofs.Common.{◌≡◌, ◌∙◌, inl, inr, ℕ, true, [], sym
 use Rattle.std.proofs.lemmas.Bool.{false≢true}
 use Rattle.raft_log_record_base.specs.declared.errors.Error.{Error}
 use Rattle.raft_log_record_base.specs.declared.errors.Error.TheVariants as errors
-use Rattle.raft_voter_standing_laws.specs.raft_log_engine_laws.specs.Shows.{Home, LogMap, Shows, has_failed}
-use Rattle.raft_log_purge_parts.specs.Reasons.{HasPurgeReason, HasReason}
+use Rattle.raft_voter_durability_laws.specs.raft_log_engine_laws.specs.Shows.{Home, LogMap, Shows, has_failed}
+use Rattle.raft_log_purge_copy.specs.Reasons.{HasPurgeReason, HasReason}
 use Rattle.raft_voter_outline.specs.State.{State}
 use Rattle.raft_voter.specs.Rounds.{World}
 use Rattle.raft_voter.specs.Service.{IsOpenAt, Service}

@@ -3,22 +3,22 @@ use Rattle.std.proofs.Common.{◌≡◌, ◌∙◌, inl, inr, ℕ, List, [], ◌
 use Rattle.std.proofs.Math.Logic.{∥∥₁_map}
 use Rattle.std.proofs.Math.Seq.{take-nil}
 use Rattle.raft_log_model_laws.specs.Groups.{taken}
-use Rattle.raft_log_disk.specs.Disk.{Disk}
-use Rattle.raft_log_disk.specs.Image.{IsImage, IsSound}
-use Rattle.raft_voter_standing_laws.specs.raft_log_engine_laws.specs.raft_log_file_pair.specs.OnDisk.{LogRestsOn}
-use Rattle.raft_voter_standing_laws.specs.raft_log_engine_laws.specs.raft_log_file_pair.specs.Pipes.{Said}
+use Rattle.raft_log_fs.specs.Disk.{Disk}
+use Rattle.raft_log_fs.specs.Image.{IsImage, IsSound}
+use Rattle.raft_voter_durability_laws.specs.raft_log_engine_laws.specs.raft_log_dual_pipes.specs.OnDisk.{LogRestsOn}
+use Rattle.raft_voter_durability_laws.specs.raft_log_engine_laws.specs.raft_log_dual_pipes.specs.Pipes.{Said}
 use Rattle.raft_log_file_settings.specs.declared.config.Config.{Config}
-use Rattle.raft_voter_standing_laws.specs.raft_log_engine_laws.specs.Shows.{Home, Shows, log_in}
-use Rattle.raft_log_open_laws.specs.ByCalls.{home_of}
-use Rattle.raft_log_open_laws.specs.Left.{IsCrashOf}
-use Rattle.raft_log_open_laws.proofs.Left.{crashed_logs_rest}
-use Rattle.raft_log_open_laws.proofs.Running.{crashed_engines_open}
+use Rattle.raft_voter_durability_laws.specs.raft_log_engine_laws.specs.Shows.{Home, Shows, log_in}
+use Rattle.raft_log_recovery_laws.specs.ByCalls.{home_of}
+use Rattle.raft_log_recovery_laws.specs.Left.{IsCrashOf}
+use Rattle.raft_log_recovery_laws.proofs.Left.{crashed_logs_rest}
+use Rattle.raft_log_recovery_laws.proofs.Running.{crashed_engines_open}
 use Rattle.raft_voter.specs.Rounds.{World, fresh_world}
 use Rattle.raft_voter.specs.Service.{CutRound, IsOpenAt, MayFollow}
-use Rattle.raft_voter_outlines.specs.Kept.{outlines_in}
-use Rattle.raft_voter_standing_laws.specs.Standing.{IsLeftAmong, Keeps}
-use Rattle.raft_voter_opening_laws.specs.Opens.{ServesFound}
-use Rattle.raft_voter_opening_laws.proofs.Finding.{first_opens_are_fresh}
+use Rattle.raft_voter_outline.specs.Kept.{outlines_in}
+use Rattle.raft_voter_durability_laws.specs.Standing.{IsLeftAmong, Keeps}
+use Rattle.raft_voter_store_laws.specs.Opens.{ServesFound}
+use Rattle.raft_voter_store_laws.proofs.Finding.{first_opens_are_fresh}
 use Rattle.raft_voter_store.specs.Service.{LeavesAt}
 use Rattle.raft_voter_store.specs.Service.LeavesAt.{left as is_left, running}
 use Rattle.raft_voter_store.proofs.Serving.{open_in}

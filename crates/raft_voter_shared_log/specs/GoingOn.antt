@@ -1,16 +1,16 @@
 -- A store that threads shared is closed, and its log is opened again, after a crash or without one.
 use Rattle.std.specs.Prelude.{◌≡◌, ℕ, List}
-use Rattle.raft_log_disk.specs.Disk.{Disk}
-use Rattle.raft_log_disk.specs.Image.{IsSound}
-use Rattle.raft_voter_standing_laws.specs.raft_log_engine_laws.specs.Shows.{Home, Shows}
-use Rattle.raft_log_open_laws.specs.ByCalls.{ForAllNaming, home_of}
-use Rattle.raft_log_open_laws.specs.InPlace.{StandsWithoutChance}
-use Rattle.raft_log_open_laws.specs.Left.{IsCrashOf}
+use Rattle.raft_log_fs.specs.Disk.{Disk}
+use Rattle.raft_log_fs.specs.Image.{IsSound}
+use Rattle.raft_voter_durability_laws.specs.raft_log_engine_laws.specs.Shows.{Home, Shows}
+use Rattle.raft_log_recovery_laws.specs.ByCalls.{ForAllNaming, home_of}
+use Rattle.raft_log_recovery_laws.specs.InPlace.{StandsWithoutChance}
+use Rattle.raft_log_recovery_laws.specs.Left.{IsCrashOf}
 use Rattle.raft_log_file_settings.specs.declared.config.Config.{Config}
 use Rattle.raft_voter.specs.Rounds.{World}
 use Rattle.raft_voter.specs.Service.{CutRound, MayFollow}
-use Rattle.raft_voter_standing_laws.specs.Standing.{IsLeftAmong}
-use Rattle.raft_voter_opening_laws.specs.Opens.{FindsVoters}
+use Rattle.raft_voter_durability_laws.specs.Standing.{IsLeftAmong}
+use Rattle.raft_voter_store_laws.specs.Opens.{FindsVoters}
 use Rattle.raft_voter_store.specs.Service.{LeavesAt}
 use Rattle.raft_voter_log.specs.Instance.{ClosesStore}
 

@@ -1,18 +1,18 @@
 -- Consecutive openings of a log.
 use Rattle.std.specs.Prelude.{◌≡◌, ◌⊎◌, ℕ, List, [], ◌∷◌, map}
-use Rattle.raft_log_disk.specs.Disk.{Disk}
-use Rattle.raft_log_disk.specs.Image.{IsImage, IsSound}
-use Rattle.raft_voter_standing_laws.specs.raft_log_engine_laws.specs.Shows.{Home, LogMap, Shows, log_in}
-use Rattle.raft_voter_standing_laws.specs.raft_log_engine_laws.specs.raft_log_file_pair.specs.OnDisk.{LogRestsOn}
-use Rattle.raft_log_open_laws.specs.Bare.{IsBare}
-use Rattle.raft_log_open_laws.specs.ByCalls.{home_of}
-use Rattle.raft_log_open_laws.specs.InPlace.{StandsWithoutChance}
-use Rattle.raft_log_open_laws.specs.Left.{IsCrashOf}
+use Rattle.raft_log_fs.specs.Disk.{Disk}
+use Rattle.raft_log_fs.specs.Image.{IsImage, IsSound}
+use Rattle.raft_voter_durability_laws.specs.raft_log_engine_laws.specs.Shows.{Home, LogMap, Shows, log_in}
+use Rattle.raft_voter_durability_laws.specs.raft_log_engine_laws.specs.raft_log_dual_pipes.specs.OnDisk.{LogRestsOn}
+use Rattle.raft_log_recovery_laws.specs.Bare.{IsBare}
+use Rattle.raft_log_recovery_laws.specs.ByCalls.{home_of}
+use Rattle.raft_log_recovery_laws.specs.InPlace.{StandsWithoutChance}
+use Rattle.raft_log_recovery_laws.specs.Left.{IsCrashOf}
 use Rattle.raft_voter.specs.Rounds.{Explains, World}
 use Rattle.raft_voter.specs.Service.{CutRound, IsOpenAt, MayFollow, Service}
-use Rattle.raft_voter_meaning_laws.specs.Voters.{Means}
-use Rattle.raft_voter_outlines.specs.Kept.{outlines_in}
-use Rattle.raft_voter_standing_laws.specs.Standing.{IsLeftAmong}
+use Rattle.raft_voter_records.specs.Voters.{Means}
+use Rattle.raft_voter_outline.specs.Kept.{outlines_in}
+use Rattle.raft_voter_durability_laws.specs.Standing.{IsLeftAmong}
 use Rattle.raft_voter_store.specs.Service.{LeavesAt, service_in}
 use Rattle.raft_voter_log.specs.Instance.{ClosesStore}
 use Rattle.raft_voter_log.specs.Leaving.{SparesStore}

@@ -1,12 +1,12 @@
 -- Opening a store of voters succeeds or fails.
 use Rattle.std.specs.Prelude.{◌≡◌, ◌⊎◌, ℕ, List}
-use Rattle.raft_log_disk.specs.Disk.{Disk}
-use Rattle.raft_voter_standing_laws.specs.raft_log_engine_laws.specs.Shows.{Shows}
+use Rattle.raft_log_fs.specs.Disk.{Disk}
+use Rattle.raft_voter_durability_laws.specs.raft_log_engine_laws.specs.Shows.{Shows}
 use Rattle.raft_log_file_settings.specs.declared.config.Config.{Config}
 use Rattle.raft_log_file_settings.specs.Settings.{settings_of}
 use Rattle.raft_voter_outline.specs.State.{State}
-use Rattle.raft_voter_reading.specs.declared.unread.Unread.{Unread}
-use Rattle.raft_voter_reading.specs.declared.unread.Unread.TheVariants.{Memory}
+use Rattle.raft_voter_recovery.specs.declared.unread.Unread.{Unread}
+use Rattle.raft_voter_recovery.specs.declared.unread.Unread.TheVariants.{Memory}
 use Rattle.raft_voter_store.specs.Opening.{FailsToOpenVoters, OpensVoters}
 
 -- A store was opened, with the same settings.

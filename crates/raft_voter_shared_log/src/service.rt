@@ -1,8 +1,8 @@
 //! The store serves rounds, and purges its files between them.
 ghost use Rattle.std.specs.Prelude.{◌≡◌};
 ghost use Rattle.raft_log_engine.specs.raft_log_engine_core.specs.Reads.{shows_of};
-ghost use Rattle.raft_log_open_laws.specs.ByCalls.{home_of};
-ghost use Rattle.raft_voter_outlines.specs.Kept.{outlines_in};
+ghost use Rattle.raft_log_recovery_laws.specs.ByCalls.{home_of};
+ghost use Rattle.raft_voter_outline.specs.Kept.{outlines_in};
 ghost use Rattle.raft_voter_store.specs.Service.{service_in};
 
 use crate::store::LogStore;

@@ -2,14 +2,14 @@
 ghost use Rattle.std.specs.Prelude.{◌≡◌, IfErr, IfOk, OnOk};
 ghost use Rattle.raft_log_file_settings.specs.Settings.{settings_of};
 ghost use Rattle.raft_log_engine.specs.raft_log_engine_core.specs.Reads.{shows_of};
-ghost use Rattle.raft_log_engine.specs.raft_log_file_pair.specs.ClosingCalls.{ClosesSettled};
-ghost use Rattle.raft_voter_outlines.specs.Kept.{outlines_in};
+ghost use Rattle.raft_log_engine.specs.raft_log_dual_pipes.specs.ClosingCalls.{ClosesSettled};
+ghost use Rattle.raft_voter_outline.specs.Kept.{outlines_in};
 ghost use Rattle.raft_voter_log.specs.Instance.{ClosesStore};
 ghost use Rattle.raft_voter_shared_log.specs.Opening.{FailsToOpenStore, OpensStore};
 
 use log::Log;
 use raft_log_engine::{Closed, Config, EnginePipes, FileSystem, Nobody, PipeLog};
-use raft_voter_reading::Unread;
+use raft_voter_recovery::Unread;
 use raft_voter_store::{StoreRefused, VoterStore};
 use std::alloc::{AllocError, Global};
 use std::thread::Threads;

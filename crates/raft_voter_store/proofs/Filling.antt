@@ -13,10 +13,10 @@ use Rattle.raft_voter_messages.specs.declared.reply.VoterState.{VoterState}
 use Rattle.raft_voter_outline.specs.Outlines.{ChangesEach, sent_of}
 use Rattle.raft_voter_outline.specs.State.{State}
 use Rattle.raft_voter_records.specs.Changes.{IsFresh, with_change, with_state, with_write}
-use Rattle.raft_voter_record_laws.proofs.Saying.{changes_are_said}
-use Rattle.raft_voter_record_laws.proofs.Short.{changes_are_short}
-use Rattle.raft_voter_standing_laws.specs.Laws.{IsBare}
-use Rattle.raft_voter_standing_laws.specs.Requests.{SaysChange}
+use Rattle.raft_voter_records.proofs.EncodingSaying.{changes_are_said}
+use Rattle.raft_voter_records.proofs.Short.{changes_are_short}
+use Rattle.raft_voter_durability_laws.specs.Laws.{IsBare}
+use Rattle.raft_voter_durability_laws.specs.Requests.{SaysChange}
 
 pub fresh_of : (b : Batch) (n k : ℕ) → b ≡ empty_batch n k → IsFresh b
 fresh_of b n k is = subst (λ (x : Batch). IsFresh x) (sym is) refl

@@ -1,16 +1,16 @@
 -- A store that isn't opened.
 use Rattle.std.proofs.Common.{◌≡◌, false, List, ℕ, None, refl}
-use Rattle.raft_log_disk.specs.Disk.{Disk}
+use Rattle.raft_log_fs.specs.Disk.{Disk}
 use Rattle.raft_log_engine.specs.raft_log_file_settings.specs.declared.config.Config.{Config}
-use Rattle.raft_log_engine.specs.raft_log_table_all.specs.declared.mem_tables.MemTables.{MemTables}
-use Rattle.raft_log_engine.specs.raft_log_file_blocks.specs.declared.block_cache.BlockCache.{BlockCache}
-use Rattle.raft_log_engine.specs.raft_log_file_pair.specs.ClosingCalls.{ClosesLog}
-use Rattle.raft_log_engine.specs.raft_log_file_pair.specs.Pipes.{LogPipes}
-use Rattle.raft_log_engine.specs.raft_log_open_directory.specs.Opening.{OpensDirectory}
+use Rattle.raft_log_engine.specs.raft_log_memtables.specs.declared.mem_tables.MemTables.{MemTables}
+use Rattle.raft_log_engine.specs.raft_log_block_cache.specs.declared.block_cache.BlockCache.{BlockCache}
+use Rattle.raft_log_engine.specs.raft_log_dual_pipes.specs.ClosingCalls.{ClosesLog}
+use Rattle.raft_log_engine.specs.raft_log_dual_pipes.specs.Pipes.{LogPipes}
+use Rattle.raft_log_engine.specs.raft_log_open.specs.Opening.{OpensDirectory}
 use Rattle.raft_log_engine.specs.raft_log_engine_laws.specs.Fetching.{StaysButBlock}
 use Rattle.raft_log_engine.specs.raft_log_engine_laws.specs.Shows.{Shows, has_failed, shows}
-use Rattle.raft_voter_reading.specs.Reading.{IsUnreadFor}
-use Rattle.raft_voter_reading.specs.declared.unread.Unread.{Unread}
+use Rattle.raft_voter_recovery.specs.Reading.{IsUnreadFor}
+use Rattle.raft_voter_recovery.specs.declared.unread.Unread.{Unread}
 use Rattle.raft_voter_store.specs.Opening.{FailsToOpenVoters}
 use Rattle.raft_voter_store.specs.Opening.FailsToOpenVoters.{unread}
 

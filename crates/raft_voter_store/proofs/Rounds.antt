@@ -1,7 +1,7 @@
 -- A round: each step, and each end, is a call of one law.
 use Rattle.std.proofs.Common.{◌≡◌, ℕ, zero, suc, ◌<◌, ◌≤◌, ◌||◌, Bool, true, false, List, [], ◌∷◌, ◌++◌, length, get_or, Some, refl, sym, ap, subst, inl, inr, ◌∙◌, arith}
 use Rattle.std.specs.Prelude.{◌⊎◌, slice_get, take}
-use Rattle.raft_log_disk.specs.Causes.{IsLater}
+use Rattle.raft_log_fs.specs.Causes.{IsLater}
 use Rattle.raft_log_record_base.specs.declared.errors.Error.{Error}
 use Rattle.raft_log_engine.specs.raft_log_engine_laws.specs.Shows.{Shows, has_failed}
 use Rattle.raft_log_engine.specs.raft_log_engine_laws.specs.Syncing.{NotSynced, SyncsAppend}
@@ -11,11 +11,11 @@ use Rattle.raft_voter_messages.specs.declared.request.Request.{Request}
 use Rattle.raft_voter_messages.specs.Ranges.{in_range}
 use Rattle.raft_voter_outline.specs.State.{State}
 use Rattle.raft_voter.specs.Service.{is_refused, refused_from}
-use Rattle.raft_voter_standing_laws.specs.Ends.{Went}
-use Rattle.raft_voter_standing_laws.specs.Requests.{Broke, Served, TurnedDown}
-use Rattle.raft_voter_standing_laws.proofs.Composing.{later_same, later_twice}
-use Rattle.raft_voter_standing_laws.proofs.Ending.{rounds_end}
-use Rattle.raft_voter_standing_laws.proofs.Going.{rounds_go_on}
+use Rattle.raft_voter_durability_laws.specs.Ends.{Went}
+use Rattle.raft_voter_durability_laws.specs.Requests.{Broke, Served, TurnedDown}
+use Rattle.raft_voter_durability_laws.proofs.Composing.{later_same, later_twice}
+use Rattle.raft_voter_durability_laws.proofs.Ending.{rounds_end}
+use Rattle.raft_voter_durability_laws.proofs.Going.{rounds_go_on}
 use Rattle.raft_voter_store.specs.Rounds.{AreExcused, CutsRoundOff, GoesOn, Passes, RoundIsAnswered, StopsAt, TurnsDown}
 use Rattle.raft_voter_store.specs.Taking.{FailsToTake}
 

@@ -4,11 +4,11 @@ use Rattle.std.specs.Prelude.{All}
 use Rattle.std.proofs.lemmas.List.Elements.{All-get_or}
 use Rattle.raft_log_engine.specs.raft_log_engine_laws.specs.Shows.{Shows}
 use Rattle.raft_voter_messages.specs.declared.request.Request.{Request}
-use Rattle.raft_voter_outlines.specs.declared.outlines.Outlines.{Outlines}
-use Rattle.raft_voter_outlines.specs.Kept.{outlines_in}
+use Rattle.raft_voter_outline.specs.declared.outlines.Outlines.{Outlines}
+use Rattle.raft_voter_outline.specs.Kept.{outlines_in}
 use Rattle.raft_voter.specs.Rounds.{World}
-use Rattle.raft_voter_reading.proofs.Telling.{stays_at_first, stays_on}
-use Rattle.raft_voter_standing_laws.specs.Standing.{AreOutlines}
+use Rattle.raft_voter_recovery.proofs.Telling.{stays_at_first, stays_on}
+use Rattle.raft_voter_durability_laws.specs.Standing.{AreOutlines}
 use Rattle.raft_voter_store.specs.Silence.{AsksForNone, IfVotersStay, IfVoterStays, LeavesVoter, ReadsAlone}
 
 -- nothing was done

@@ -24,17 +24,17 @@ use Rattle.raft_voter_outline.specs.Decisions.{OutlineBecomes}
 use Rattle.raft_voter_outline.specs.Outlines.{ChangesEach, IsReplyOfEach, LeavesEach, Outlined}
 use Rattle.raft_voter_outline.specs.Rules.{next, next_in_range}
 use Rattle.raft_voter_outline.specs.State.{State, fresh}
-use Rattle.raft_voter_outlines.specs.declared.outlines.Outlines.{Outlines}
-use Rattle.raft_voter_outlines.specs.Kept.{kept_of, kept_or_fresh, outlines_in}
-use Rattle.raft_voter_outlines.specs.Lending.{HasOutline}
+use Rattle.raft_voter_outline.specs.declared.outlines.Outlines.{Outlines}
+use Rattle.raft_voter_outline.specs.Kept.{kept_of, kept_or_fresh, outlines_in}
+use Rattle.raft_voter_outline.specs.Lending.{HasOutline}
 use Rattle.raft_voter.specs.Laws.{AreReadAs}
-use Rattle.raft_voter_standing_laws.specs.Laws.{IsBare}
-use Rattle.raft_voter_standing_laws.specs.Reads.{IsCounted, IsRaw}
-use Rattle.raft_voter_standing_laws.specs.Requests.{SaysChange, Served, StepsOutlines, TurnedDown}
-use Rattle.raft_voter_standing_laws.specs.Requests.WasTurnedDown.{no_memory}
-use Rattle.raft_voter_standing_laws.proofs.Fetching.{fetched_entries_are_read, unfetched_entries_are_unread}
-use Rattle.raft_voter_standing_laws.proofs.Serving.{read_requests_are_served, written_requests_are_served}
-use Rattle.raft_voter_standing_laws.proofs.Turning.{unmade_requests_are_turned_down, unread_requests_are_turned_down, unwritten_requests}
+use Rattle.raft_voter_durability_laws.specs.Laws.{IsBare}
+use Rattle.raft_voter_durability_laws.specs.Reads.{IsCounted, IsRaw}
+use Rattle.raft_voter_durability_laws.specs.Requests.{SaysChange, Served, StepsOutlines, TurnedDown}
+use Rattle.raft_voter_durability_laws.specs.Requests.WasTurnedDown.{no_memory}
+use Rattle.raft_voter_durability_laws.proofs.Fetching.{fetched_entries_are_read, unfetched_entries_are_unread}
+use Rattle.raft_voter_durability_laws.proofs.Serving.{read_requests_are_served, written_requests_are_served}
+use Rattle.raft_voter_durability_laws.proofs.Turning.{unmade_requests_are_turned_down, unread_requests_are_turned_down, unwritten_requests}
 use Rattle.raft_voter_store.specs.Taking.{FailsToTake}
 use Rattle.raft_voter_store.specs.Writing.{FailsToWriteChange}
 use Rattle.raft_voter_store.specs.Writing.FailsToWriteChange.{unsaid, unwritten}

@@ -2,11 +2,11 @@
 use Rattle.std.proofs.Common.{inl, inr, sym, subst, Result, Ok, Err, IfOk, OnOk}
 use Rattle.raft_log_record_base.specs.declared.errors.Error.{Error}
 use Rattle.raft_log_engine.specs.raft_log_engine_core.specs.Purging.{StopsPurgingExpired, StopsRewritingAppend}
-use Rattle.raft_voter_standing_laws.specs.raft_log_engine_laws.specs.Fetching.{HadFailed}
-use Rattle.raft_voter_standing_laws.specs.raft_log_engine_laws.specs.Shows.{Shows}
-use Rattle.raft_voter_standing_laws.specs.Calls.{KeepsMap, KeepsOrLeavesMap}
-use Rattle.raft_voter_standing_laws.specs.Standing.{Keeps}
-use Rattle.raft_voter_standing_laws.proofs.Keeping.{purges_keep_voters}
+use Rattle.raft_voter_durability_laws.specs.raft_log_engine_laws.specs.Fetching.{HadFailed}
+use Rattle.raft_voter_durability_laws.specs.raft_log_engine_laws.specs.Shows.{Shows}
+use Rattle.raft_voter_durability_laws.specs.Calls.{KeepsMap, KeepsOrLeavesMap}
+use Rattle.raft_voter_durability_laws.specs.Standing.{Keeps}
+use Rattle.raft_voter_durability_laws.proofs.Keeping.{purges_keep_voters}
 use Rattle.raft_voter_store.specs.Upkeep.{KeepsOrLeavesVoters, KeepsVoters}
 
 pub ok_of : {X E : Type 0} (r : Result X E) (P : X → Type 0) (Q : Type 0) → ((x : X) → P x → Q) → IfOk r P → OnOk r Q

@@ -1,18 +1,18 @@
 -- Opening a store over its log succeeds or fails.
 use Rattle.std.specs.Prelude.{◌≡◌, ℕ, false, List, None}
-use Rattle.raft_log_disk.specs.Disk.{Disk}
+use Rattle.raft_log_fs.specs.Disk.{Disk}
 use Rattle.raft_log_record_base.specs.declared.errors.Error.{Error}
 use Rattle.raft_log_engine.specs.raft_log_file_settings.specs.declared.config.Config.{Config}
-use Rattle.raft_log_engine.specs.raft_log_table_all.specs.declared.mem_tables.MemTables.{MemTables}
-use Rattle.raft_log_engine.specs.raft_log_file_blocks.specs.declared.block_cache.BlockCache.{BlockCache}
-use Rattle.raft_log_engine.specs.raft_log_file_pair.specs.ClosingCalls.{ClosesLog}
-use Rattle.raft_log_engine.specs.raft_log_file_pair.specs.Pipes.{LogPipes}
-use Rattle.raft_log_engine.specs.raft_log_open_directory.specs.Opening.{FailsToOpenDirectory, OpensDirectory}
+use Rattle.raft_log_engine.specs.raft_log_memtables.specs.declared.mem_tables.MemTables.{MemTables}
+use Rattle.raft_log_engine.specs.raft_log_block_cache.specs.declared.block_cache.BlockCache.{BlockCache}
+use Rattle.raft_log_engine.specs.raft_log_dual_pipes.specs.ClosingCalls.{ClosesLog}
+use Rattle.raft_log_engine.specs.raft_log_dual_pipes.specs.Pipes.{LogPipes}
+use Rattle.raft_log_engine.specs.raft_log_open.specs.Opening.{FailsToOpenDirectory, OpensDirectory}
 use Rattle.raft_log_engine.specs.raft_log_engine_laws.specs.Fetching.{StaysButBlock}
 use Rattle.raft_log_engine.specs.raft_log_engine_laws.specs.Shows.{Shows, has_failed, shows}
 use Rattle.raft_voter_outline.specs.State.{State}
-use Rattle.raft_voter_reading.specs.Reading.{IsUnreadFor, ReadsVoters, cause_of}
-use Rattle.raft_voter_reading.specs.declared.unread.Unread.{Unread}
+use Rattle.raft_voter_recovery.specs.Reading.{IsUnreadFor, ReadsVoters, cause_of}
+use Rattle.raft_voter_recovery.specs.declared.unread.Unread.{Unread}
 
 -- the log of these settings was opened as an engine that shows this, and has no block cached
 pub record OpensEngine {F : Type 0} (disk : F → Disk) (tells : F → List ℕ → ℕ → Type 0) (config : Config)

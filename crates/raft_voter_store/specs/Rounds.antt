@@ -1,6 +1,6 @@
 -- A round of requests, as a store's loop serves it, and how it ends.
 use Rattle.std.specs.Prelude.{◌≡◌, ◌⊎◌, ◌≤◌, ℕ, Bool, false, List, length, slice_get, Some, take}
-use Rattle.raft_log_disk.specs.Causes.{IsLater}
+use Rattle.raft_log_fs.specs.Causes.{IsLater}
 use Rattle.raft_log_record_base.specs.declared.errors.Error.{Error}
 use Rattle.raft_log_engine.specs.raft_log_engine_laws.specs.Shows.{Home, Shows}
 use Rattle.raft_voter_messages.specs.declared.reply.Reply.{Reply}
@@ -10,9 +10,9 @@ use Rattle.raft_voter_messages.specs.Ranges.{in_range}
 use Rattle.raft_voter_outline.specs.State.{State}
 use Rattle.raft_voter.specs.Rounds.{World}
 use Rattle.raft_voter.specs.Service.{refused_from}
-use Rattle.raft_voter_standing_laws.specs.Standing.{AreOutlines, Keeps}
-use Rattle.raft_voter_standing_laws.specs.Requests.{Broke, TurnedDown}
-use Rattle.raft_voter_standing_laws.specs.Ends.{Answered, GaveUp, Unsynced, Went}
+use Rattle.raft_voter_durability_laws.specs.Standing.{AreOutlines, Keeps}
+use Rattle.raft_voter_durability_laws.specs.Requests.{Broke, TurnedDown}
+use Rattle.raft_voter_durability_laws.specs.Ends.{Answered, GaveUp, Unsynced, Went}
 
 -- A round came so far, and the next request was turned down with this error. The disk after the call is no earlier than
 -- the one after the request, so a failure of the request is counted in the call.

@@ -1,13 +1,13 @@
 -- The store as a service of rounds, in whichever directories its log is.
 use Rattle.std.specs.Prelude.{◌≡◌, ℕ, true, List}
-use Rattle.raft_log_disk.specs.Causes.{Fails}
+use Rattle.raft_log_fs.specs.Causes.{Fails}
 use Rattle.raft_log_engine.specs.raft_log_engine_laws.specs.Shows.{Home, Shows, has_failed}
 use Rattle.raft_voter_messages.specs.declared.reply.Reply.{Reply}
 use Rattle.raft_voter_messages.specs.declared.request.Request.{Request}
 use Rattle.raft_voter_outline.specs.State.{State}
 use Rattle.raft_voter.specs.Rounds.{World}
 use Rattle.raft_voter.specs.Service.{CutRound, MayFollow, Service, refused_from, uncut}
-use Rattle.raft_voter_standing_laws.specs.Standing.{AreOutlines, IsLeftAmong, Keeps}
+use Rattle.raft_voter_durability_laws.specs.Standing.{AreOutlines, IsLeftAmong, Keeps}
 use Rattle.raft_voter_store.specs.Rounds.{AreExcused}
 
 -- the engine keeps these voters, and these are their outlines

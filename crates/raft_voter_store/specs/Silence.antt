@@ -6,9 +6,9 @@ use Rattle.raft_voter_messages.specs.declared.request.Request.{Request}
 use Rattle.raft_voter_messages.specs.declared.request.Request.TheVariants.{Read}
 use Rattle.raft_voter_outline.specs.Rules.{next}
 use Rattle.raft_voter_outline.specs.State.{State}
-use Rattle.raft_voter_outlines.specs.declared.outlines.Outlines.{Outlines}
+use Rattle.raft_voter_outline.specs.declared.outlines.Outlines.{Outlines}
 use Rattle.raft_voter.specs.Rounds.{World}
-use Rattle.raft_voter_standing_laws.specs.Standing.{AreOutlines}
+use Rattle.raft_voter_durability_laws.specs.Standing.{AreOutlines}
 
 -- a request leaves its group's voter unchanged
 abbrev pub LeavesVoter : World → ℕ × Request → Type 0

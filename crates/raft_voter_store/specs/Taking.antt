@@ -5,7 +5,7 @@ use Rattle.raft_log_record_base.specs.declared.errors.Error.TheVariants as error
 use Rattle.raft_log_engine.specs.raft_log_engine_laws.specs.Shows.{Shows}
 use Rattle.raft_voter_messages.specs.declared.request.Request.{Request}
 use Rattle.raft_voter_outline.specs.State.{State}
-use Rattle.raft_voter_standing_laws.specs.Requests.{Broke, TurnedDown}
+use Rattle.raft_voter_durability_laws.specs.Requests.{Broke, TurnedDown}
 
 -- a request wasn't served, and no outline changed: it was turned down, or the engine failed at it
 abbrev pub FailsToTake : ℕ × Request → Error → Shows → Shows → (ℕ → State) → (ℕ → State) → Type 0

@@ -2,8 +2,8 @@
 use Rattle.raft_log_record_base.specs.declared.errors.Error.{Error}
 use Rattle.raft_log_engine.specs.raft_log_engine_laws.specs.Shows.{Home, Shows}
 use Rattle.raft_voter.specs.Rounds.{World}
-use Rattle.raft_voter_standing_laws.specs.Standing.{Keeps}
-use Rattle.raft_voter_standing_laws.specs.Calls.{KeepsOrLeaves}
+use Rattle.raft_voter_durability_laws.specs.Standing.{Keeps}
+use Rattle.raft_voter_durability_laws.specs.Calls.{KeepsOrLeaves}
 
 -- the engine keeps all voters that it kept before
 abbrev pub KeepsVoters : Shows → Shows → Type 0

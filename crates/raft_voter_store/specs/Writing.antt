@@ -8,7 +8,7 @@ use Rattle.raft_log_engine.specs.raft_log_engine_laws.specs.Shows.{Shows}
 use Rattle.raft_log_engine.specs.raft_log_engine_laws.specs.Writing.{NotWritten, WritesBytes}
 use Rattle.raft_voter_messages.specs.declared.request.Request.{Request}
 use Rattle.raft_voter_outline.specs.declared.outline.decision.Change.{Change}
-use Rattle.raft_voter_standing_laws.specs.Requests.{SaysChange}
+use Rattle.raft_voter_durability_laws.specs.Requests.{SaysChange}
 
 -- what was decided for a request of a group was written in a batch that says it
 pub record WritesChange (q : ℕ × Request) (c : Change) (s t : Shows) : Type 0 where

@@ -3,8 +3,8 @@ ghost use Rattle.std.specs.Prelude.{◌≡◌, ◌^◌, ◌<◌, IfErr, OnOk};
 ghost use Rattle.raft_log_engine.specs.raft_log_record_base.specs.declared.errors.Error.TheVariants as errors;
 ghost use Rattle.raft_log_record_frames.specs.Record.{record_len};
 ghost use Rattle.raft_voter_outline.specs.Outlines.{ChangesEach};
-ghost use Rattle.raft_voter_standing_laws.specs.Laws.{IsBare};
-ghost use Rattle.raft_voter_standing_laws.specs.Requests.{SaysChange};
+ghost use Rattle.raft_voter_durability_laws.specs.Laws.{IsBare};
+ghost use Rattle.raft_voter_durability_laws.specs.Requests.{SaysChange};
 
 use raft_log_engine::{LogBatch, Result};
 use raft_voter_outline::{Change, Outline, Request};

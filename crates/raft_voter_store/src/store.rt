@@ -15,8 +15,7 @@ pub use opening::{StoreRefused, VoterStore};
 use raft_log_engine::{Error, LogBatch, LogEngine, PipeLog, Result};
 use raft_log_record_items::{RawEntries, RawMessage};
 use raft_voter_messages::{Reply, Request};
-use raft_voter_outline::{Answer, Change, Decision, Outline};
-use raft_voter_outlines::Outlines;
+use raft_voter_outline::{Answer, Change, Decision, Outline, Outlines};
 use std::alloc::{AllocError, Global};
 
 /// The voters of many groups: the engine that keeps their log, over any pipes, and the outline of each voter.
@@ -44,9 +43,9 @@ impl<P: PipeLog> LogVoterStore<P> {
     ghost use Rattle.raft_voter_outline.specs.declared.outline.decision.Answer.TheVariants as answers;
     ghost use Rattle.raft_voter_outline.specs.Outlines.{ChangesEach, IsReplyOfEach};
     ghost use Rattle.raft_voter_outline.specs.State.{fresh};
-    ghost use Rattle.raft_voter_standing_laws.specs.Laws.{IsBare};
-    ghost use Rattle.raft_voter_standing_laws.specs.Requests.{Served, StepsOutlines};
-    ghost use Rattle.raft_voter_outlines.specs.Kept.{outlines_in};
+    ghost use Rattle.raft_voter_durability_laws.specs.Laws.{IsBare};
+    ghost use Rattle.raft_voter_durability_laws.specs.Requests.{Served, StepsOutlines};
+    ghost use Rattle.raft_voter_outline.specs.Kept.{outlines_in};
     ghost use Rattle.raft_voter_store.specs.Silence.{AsksForNone, IfVoterStays, ReadsAlone};
     ghost use Rattle.raft_voter_store.specs.Taking.{FailsToTake};
     ghost use Rattle.raft_voter_store.specs.Writing.{FailsToWriteChange, WritesChange};

@@ -4,7 +4,7 @@ ghost use Rattle.raft_log_engine.specs.raft_log_engine_core.specs.Reads.{shows_o
 ghost use Rattle.raft_log_engine.specs.raft_log_engine_laws.specs.Shows.{has_failed};
 ghost use Rattle.raft_voter_outline.specs.Decisions.{OutlineBecomes};
 ghost use Rattle.raft_voter_outline.specs.Outlines.{ChangesEach};
-ghost use Rattle.raft_voter_standing_laws.specs.Laws.{IsBare};
+ghost use Rattle.raft_voter_durability_laws.specs.Laws.{IsBare};
 ghost use Rattle.raft_voter_store.specs.Writing.{FailsToWriteChange, WritesChange};
 
 use crate::saying::say_change;

@@ -1,6 +1,6 @@
 //! What stands in a log's first file.
-use raft_log_disk::{FileSystem, Permission};
-use raft_log_disk_memory::MemoryFileSystem;
+use raft_log_fs::{FileSystem, Permission};
+use raft_log_fs_memory::MemoryFileSystem;
 use std::io::ErrorKind;
 
 /// The first file of Append in the directory `raft`.

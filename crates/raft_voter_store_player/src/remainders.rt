@@ -4,7 +4,7 @@ use crate::settings::SMALL;
 use crate::steps::Stuck;
 use crate::store::Store;
 use log::Log;
-use raft_log_disk_memory::{MemoryFileSystem, Piece, Remainder};
+use raft_log_fs_memory::{MemoryFileSystem, Piece, Remainder};
 use raft_voter_plain::PlainVoters;
 use std::alloc::{AllocError, Global};
 use std::thread::Threads;

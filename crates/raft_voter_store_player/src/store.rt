@@ -4,8 +4,8 @@ ghost use Rattle.std.specs.Thread.{IsSync};
 
 use crate::asks::Ask;
 use log::Log;
-use raft_log_disk::Fault;
-use raft_log_disk_memory::MemoryFileSystem;
+use raft_log_fs::Fault;
+use raft_log_fs_memory::MemoryFileSystem;
 use raft_log_file_settings::Config;
 use raft_log_record_base::Error;
 use raft_voter::{RoundFault, Voter};

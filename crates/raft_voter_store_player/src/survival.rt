@@ -7,7 +7,7 @@ use crate::settings::SMALL;
 use crate::steps::{Step, Stuck};
 use crate::store::Store;
 use log::Log;
-use raft_log_disk_memory::MemoryFileSystem;
+use raft_log_fs_memory::MemoryFileSystem;
 use raft_log_file_settings::Config;
 use raft_voter_messages::Reply;
 use raft_voter_plain::PlainVoters;

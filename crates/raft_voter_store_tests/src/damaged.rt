@@ -1,8 +1,8 @@
 //! Damaged files: what stands behind a good record, and in a file that isn't the last one.
 use super::opens::{CANDIDATE, HEADER, files_with, told, told_by};
 use log::Log;
-use raft_log_disk::FileSystem;
-use raft_log_disk_memory::MemoryFileSystem;
+use raft_log_fs::FileSystem;
+use raft_log_fs_memory::MemoryFileSystem;
 use raft_log_file_settings::RecoveryMode;
 use raft_voter_store_player::files::first_size;
 use raft_voter_store_player::settings::USUAL;

@@ -2,8 +2,8 @@
 use super::records::VOTE;
 use super::store::{MemoryStore, open, open_scoped};
 use log::Log;
-use raft_log_disk::FileSystem;
-use raft_log_disk_memory::{MemoryFileSystem, Remainder};
+use raft_log_fs::FileSystem;
+use raft_log_fs_memory::{MemoryFileSystem, Remainder};
 use raft_log_file_settings::Config;
 use raft_voter_store_player::asks::Ask;
 use raft_voter_store_player::files::{FIRST, first_has, first_size};

@@ -1,8 +1,8 @@
 //! The voter store, as steps use it.
 use log::sink::Discard;
 use log::{LevelFilter, Log, Logged};
-use raft_log_disk::Fault;
-use raft_log_disk_memory::MemoryFileSystem;
+use raft_log_fs::Fault;
+use raft_log_fs_memory::MemoryFileSystem;
 use raft_log_file_listeners::Nobody;
 use raft_log_file_settings::Config;
 use raft_log_record_base::{Error, LogQueue};

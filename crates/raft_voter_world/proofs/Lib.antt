@@ -1,11 +1,19 @@
 pub mod Alike
-mod Marking
-pub mod Leading
+mod Alone
+pub mod Believed
+pub mod Beside
 pub mod Explaining
-pub mod Going
-pub mod Whole
-mod Moving
-pub mod Joining
-pub mod Rounding
 pub mod FromFiles
+pub mod Going
+mod InTurn
+pub mod Joining
+pub mod Leading
+mod Marking
+mod Moving
+pub mod Parted
+pub mod Rest
+pub mod Rounding
+pub mod Serves
+pub mod Told
 pub mod Turning
+pub mod Whole

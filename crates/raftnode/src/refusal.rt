@@ -1,5 +1,5 @@
 //! Why the program ends with status 1.
-use raft_log_disk_directory::DirectoryFault;
+use raft_log_fs_os::DirectoryFault;
 use raft_log_engine::Error as LogError;
 use std::alloc::AllocError;
 use std::io;

@@ -9,8 +9,7 @@
 
 use log::Log;
 use raft_voter_program::raft_voter_log::{LogFiles, LogVoters};
-use raft_voter_program::{Arguments, LogSetup};
-use raft_voter_run::{NoFiles, StoreSetup, write_whole};
+use raft_voter_program::{Arguments, LogSetup, NoFiles, StoreSetup, write_whole};
 use raft_voter_session::{Session, SessionFault, read_session};
 use raft_voter_timeline::draw_run;
 use std::env::Env;

@@ -2,21 +2,21 @@
 
 ghost use Rattle.std.specs.Prelude.{◌≡◌, ◌⊎◌, ◌+◌, ◌^◌, ◌<◌, ◌≤◌, length, take, vec_capacity, vec_len, IfErr, IfOk, OnErr, OnOk};
 ghost use Rattle.raft_log_record_base.specs.declared.errors.Error.TheVariants as errors;
-ghost use Rattle.raft_log_table_one.specs.Reads.{entry_at};
-ghost use Rattle.raft_log_table_one.specs.Table.{shown};
-ghost use Rattle.raft_log_table_all.specs.Tables.{shown_of};
-ghost use Rattle.raft_log_file_blocks.specs.Blocks.{AddsEntries, AreUnread};
+ghost use Rattle.raft_log_memtable.specs.Reads.{entry_at};
+ghost use Rattle.raft_log_memtable.specs.Table.{shown};
+ghost use Rattle.raft_log_memtables.specs.Tables.{shown_of};
+ghost use Rattle.raft_log_block_cache.specs.Blocks.{AddsEntries, AreUnread};
 ghost use Rattle.raft_log_purge.specs.raft_log_engine_laws.specs.Fetching.{FailsToFetch, FailsToTell, FetchesTo, HadFailed, TellsEntry};
 ghost use Rattle.raft_log_engine_core.specs.Reads.{AreNext, HasFirst, IsToldAs, Runs, entries_on, shows_of, Lives};
 ghost use Rattle.raft_log_engine_core.specs.Touching.{StaysPurged};
 
 use super::LogEngine;
-use raft_log_file_blocks::BlockCache;
-use raft_log_file_pair::PipeLog;
+use raft_log_block_cache::BlockCache;
+use raft_log_dual_pipes::PipeLog;
 use raft_log_record_base::{Error, FileBlockHandle, Result};
 use raft_log_record_items::{EntryIndex, Message, MessageExt};
-use raft_log_table_one::MemTable;
-use raft_log_table_runs::Bounds;
+use raft_log_memtable::MemTable;
+use raft_log_extents::Bounds;
 use std::alloc::Global;
 use std::io::ErrorKind;
 

@@ -5,7 +5,7 @@ ghost use Rattle.raft_log_engine_core.specs.Reads.{shows_of, Lives};
 ghost use Rattle.raft_log_engine_core.specs.Whole.{IsMessageUntold, TellsMessage};
 
 use super::LogEngine;
-use raft_log_file_pair::PipeLog;
+use raft_log_dual_pipes::PipeLog;
 use raft_log_record_base::Result;
 use raft_log_record_items::Message;
 

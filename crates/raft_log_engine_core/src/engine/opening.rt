@@ -2,18 +2,18 @@
 
 ghost use Rattle.std.specs.Prelude.{◌≡◌, false, None, IfErr, IfOk};
 ghost use Rattle.raft_log_record_base.specs.declared.errors.Error.TheVariants as errors;
-ghost use Rattle.raft_log_open_directory.specs.Opening.{FailsToOpenDirectory, OpensDirectory};
+ghost use Rattle.raft_log_open.specs.Opening.{FailsToOpenDirectory, OpensDirectory};
 ghost use Rattle.raft_log_engine_core.specs.Purging.{CountsBrought, IsPurgedBy};
 
 use super::LogEngine;
 use log::Log;
-use raft_log_disk::FileSystem;
+use raft_log_fs::FileSystem;
 use raft_log_file_listeners::{EventListener, Nobody, PurgeHook, ToldPipes};
-use raft_log_file_pair::{DualPipes, OpenRefused, PipeLog};
+use raft_log_dual_pipes::{DualPipes, OpenRefused, PipeLog};
 use raft_log_file_settings::Config;
-use raft_log_open_directory::{OpenedLog, open_directory};
-use raft_log_purge_rules::Thresholds;
-use raft_log_table_segments::ReplayThreads;
+use raft_log_open::{OpenedLog, open_directory};
+use raft_log_purge_policy::Thresholds;
+use raft_log_replay::ReplayThreads;
 use std::alloc::Global;
 use std::thread::Threads;
 
@@ -65,7 +65,7 @@ impl<F: FileSystem + Sync> LogEngine<ToldPipes<ToldPipes<DualPipes<F>, Nobody>, 
 impl<F: FileSystem + Sync, E: EventListener> LogEngine<
     ToldPipes<ToldPipes<DualPipes<F>, E>, PurgeHook>,
 > {
-    ghost use Rattle.raft_log_file_pair.specs.Pipes.{main_directory};
+    ghost use Rattle.raft_log_dual_pipes.specs.Pipes.{main_directory};
 
     /// Opens the log as `open_with_file_system` does, with a listener. The listener, and after it the engine's own
     /// hook, hear what happens to the log's files; first of all they hear of the files of both queues. `Listeners`
@@ -182,7 +182,7 @@ impl<F: FileSystem + Sync, E: EventListener> LogEngine<
 
 impl<F: FileSystem + Sync> LogEngine<DualPipes<F>> {
     /// Opens the log as `Engine::open_with_file_system` does, over its pipes alone. There is no listener and no hook,
-    /// so no purge is ever held back (`nobody_holds_back` in `raft_log_file_pair`).
+    /// so no purge is ever held back (`nobody_holds_back` in `raft_log_dual_pipes`).
     ///
     /// Fails as `Engine::open_with_file_system` does.
     pub fn open_alone<R: Threads + Log + Sync>(

@@ -2,9 +2,9 @@
 
 ghost use Rattle.std.specs.Prelude.{◌≡◌, IfErr, IfOk, OnErr, OnOk};
 ghost use Rattle.raft_log_record_base.specs.declared.pipe_log.LogQueue.TheVariants.{Append};
-ghost use Rattle.raft_log_file_pair.specs.HoldingBack.{PipesHoldBack};
-ghost use Rattle.raft_log_purge.specs.raft_log_purge_parts.specs.Owed.{OweNoMore};
-ghost use Rattle.raft_log_purge.specs.raft_log_purge_parts.specs.Stale.{PurgesAllStale};
+ghost use Rattle.raft_log_dual_pipes.specs.HoldingBack.{PipesHoldBack};
+ghost use Rattle.raft_log_purge.specs.raft_log_purge_copy.specs.Owed.{OweNoMore};
+ghost use Rattle.raft_log_purge.specs.raft_log_purge_copy.specs.Stale.{PurgesAllStale};
 ghost use Rattle.raft_log_purge.specs.Append.{RewritesAppend};
 ghost use Rattle.raft_log_purge.specs.Counted.{CountsAndResets, PurgesAndCounts};
 ghost use Rattle.raft_log_purge.specs.Counting.{CountsTwice};
@@ -22,9 +22,8 @@ ghost use Rattle.raft_log_engine_core.specs.Touching.{StaysPurged};
 
 use super::LogEngine;
 use log::Log;
-use raft_log_file_pair::PipeLog;
-use raft_log_purge::raft_log_purge_parts::purge_all_stale;
-use raft_log_purge::{purge_and_count, rewrite_and_count, rewrite_append_and_count};
+use raft_log_dual_pipes::PipeLog;
+use raft_log_purge::{purge_and_count, raft_log_purge_copy::purge_all_stale, rewrite_and_count, rewrite_append_and_count};
 use raft_log_record_base::{Error, FileSeq, Result};
 
 impl<P: PipeLog> LogEngine<P> {

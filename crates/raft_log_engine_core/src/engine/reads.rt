@@ -2,18 +2,18 @@
 
 ghost use Rattle.std.specs.Prelude.{◌≡◌, ◌↔◌, IsTrue, option_map, IfErr, IfOk, OnOk};
 ghost use Rattle.raft_log_record_base.specs.declared.errors.Error.TheVariants as errors;
-ghost use Rattle.raft_log_table_lists.specs.Bridge.{bytes_held};
-ghost use Rattle.raft_log_table_one.specs.Table.{shown};
-ghost use Rattle.raft_log_table_all.specs.Tables.{counts};
-ghost use Rattle.raft_log_table_all.specs.Walking.{ListsGroups};
+ghost use Rattle.raft_log_memtable_index.specs.Bridge.{bytes_held};
+ghost use Rattle.raft_log_memtable.specs.Table.{shown};
+ghost use Rattle.raft_log_memtables.specs.Tables.{counts};
+ghost use Rattle.raft_log_memtables.specs.Walking.{ListsGroups};
 ghost use Rattle.raft_log_purge.specs.raft_log_engine_laws.specs.Reading.{ReadsFirst, ReadsLast, ReadsValue};
 ghost use Rattle.raft_log_engine_core.specs.Reads.{shows_of, IsFailed, IsUncopied, Lives, NoneCounts};
 
 use super::LogEngine;
-use raft_log_file_pair::PipeLog;
+use raft_log_dual_pipes::PipeLog;
 use raft_log_record_base::{Error, Result};
 use raft_log_record_items::Bytes;
-use raft_log_table_one::MemTable;
+use raft_log_memtable::MemTable;
 
 impl<P: PipeLog> LogEngine<P> {
     /// The index of a group's first entry, if it has one. Fails with `Failed` if the engine has failed.

@@ -8,7 +8,7 @@ ghost use Rattle.raft_log_engine_core.specs.Messages.{CalledAtKey, IsNoMessage, 
 ghost use Rattle.raft_log_engine_core.specs.Reads.{shows_of, IsFailed, IsUncopied, Lives, ScansKeys};
 
 use super::LogEngine;
-use raft_log_file_pair::PipeLog;
+use raft_log_dual_pipes::PipeLog;
 use raft_log_record_base::{Error, Result};
 use raft_log_record_items::{Bytes, Message};
 use std::alloc::Global;

@@ -1,14 +1,14 @@
 //! Calls about the log as a whole.
 
 ghost use Rattle.std.specs.Prelude.{◌≡◌, IfErr, IfOk, OnErr, OnOk};
-ghost use Rattle.raft_log_file_pair.specs.Calls.{ArmsNoPipes};
+ghost use Rattle.raft_log_dual_pipes.specs.Calls.{ArmsNoPipes};
 ghost use Rattle.raft_log_engine_core.specs.Reads.{shows_of, IsFailed, Lives};
 ghost use Rattle.raft_log_engine_core.specs.Touching.{StaysPurged};
 ghost use Rattle.raft_log_engine_core.specs.Whole.{used_size, ArmsEngine, TellsSpan};
 
 use super::LogEngine;
-use raft_log_disk::Fault;
-use raft_log_file_pair::PipeLog;
+use raft_log_fs::Fault;
+use raft_log_dual_pipes::PipeLog;
 use raft_log_record_base::{Error, FileSeq, LogQueue, Result};
 
 impl<P: PipeLog> LogEngine<P> {

@@ -1,13 +1,12 @@
 //! Merges two batches.
 ghost use Rattle.std.specs.Prelude.{◌≡◌, ◌≤◌, ◌++◌, vec_capacity, IsOk, OnOk, OnErr};
 ghost use Rattle.raft_log_record_batches.specs.Batch.{FitsInRoom};
-ghost use Rattle.raft_log_record_lists.specs.ItemBatch.{TakesItems};
+ghost use Rattle.raft_log_record_frames.specs.ItemBatch.{TakesItems};
 
 use super::{LogBatch, MAX_ENTRIES_LEN, empty, make_room};
 use raft_log_record_base::codec::or_cut_back;
-use raft_log_record_frames::LOG_BATCH_HEADER_LEN;
+use raft_log_record_frames::{LOG_BATCH_HEADER_LEN, LogItemBatch};
 use raft_log_record_items::{Error, Result};
-use raft_log_record_lists::LogItemBatch;
 use std::alloc::AllocError;
 
 impl LogBatch {

@@ -2,7 +2,7 @@
 ghost use Rattle.std.specs.Prelude.{◌≡◌, [], map, IfErr, IfOk};
 ghost use Rattle.std.specs.String.{string_bytes};
 ghost use Rattle.raft_log_engine.specs.raft_log_file_settings.specs.Settings.{settings_of};
-ghost use Rattle.raft_log_engine.specs.raft_log_closed.specs.Forks.{FailsToFork, Forks};
+ghost use Rattle.raft_log_engine.specs.raft_log_offline.specs.Forks.{FailsToFork, Forks};
 
 use super::LogVoterStore;
 use log::Log;
@@ -12,7 +12,7 @@ use std::alloc::Global;
 impl<F: FileSystem + Sync> LogVoterStore<EnginePipes<F, Nobody>> {
     /// Copies the log of a store that nobody has open, as named by these settings, into a directory, which is created
     /// if it doesn't exist. Returns the paths of the copies, each of which is synced. A store that is opened over the
-    /// copy has the voters of its source (`raft_voter_opening_laws`).
+    /// copy has the voters of its source (`raft_voter_store_laws`).
     ///
     /// If it fails, for any reason, the source is unchanged.
     ///

@@ -2,8 +2,8 @@
 ghost use Rattle.std.specs.Prelude.{◌≡◌, IfErr, IfOk};
 ghost use Rattle.raft_log_engine.specs.raft_log_engine_core.specs.Reads.{shows_of};
 ghost use Rattle.raft_log_engine.specs.raft_log_engine_laws.specs.Fetching.{StaysButBlock};
-ghost use Rattle.raft_voter_outlines.specs.Kept.{outlines_in};
-ghost use Rattle.raft_voter_reading.specs.Reading.{IsUnreadFor, ListsVoters};
+ghost use Rattle.raft_voter_outline.specs.Kept.{outlines_in};
+ghost use Rattle.raft_voter_recovery.specs.Reading.{IsUnreadFor, ListsVoters};
 ghost use Rattle.raft_voter_store.specs.Opening.{FailsToOpenVoters, OpensVoters};
 
 use super::LogVoterStore;
@@ -12,7 +12,7 @@ use raft_log_engine::{
     Config, EnginePipes, EventListener, FileSystem, LogEngine, Nobody, PipeLog, ReplayThreads,
 };
 use raft_voter::Voter;
-use raft_voter_reading::{Unread, read_outlines, read_voters};
+use raft_voter_recovery::{Unread, read_outlines, read_voters};
 use std::alloc::Global;
 use std::thread::Threads;
 

@@ -13,8 +13,8 @@ impl<P: PipeLog> LogVoterStore<P> {
     ghost use Rattle.std.specs.Prelude.{IfSome, OnSome};
     ghost use Rattle.raft_log_engine.specs.raft_log_engine_laws.specs.Shows.{has_failed};
     ghost use Rattle.raft_voter.specs.Service.{FailsAs, IsAlive, TakesNothing};
-    ghost use Rattle.raft_voter_outlines.specs.Kept.{outlines_in};
-    ghost use Rattle.raft_voter_standing_laws.specs.Requests.{Broke};
+    ghost use Rattle.raft_voter_outline.specs.Kept.{outlines_in};
+    ghost use Rattle.raft_voter_durability_laws.specs.Requests.{Broke};
     ghost use Rattle.raft_voter_store.specs.Rounds.{AreExcused, CutsRoundOff, GoesOn, Passes, RoundIsAnswered, StopsAt};
     ghost use Rattle.raft_voter_store.specs.Silence.{AsksForNone, IfVoterStays, IfVotersStay, ReadsAlone};
 

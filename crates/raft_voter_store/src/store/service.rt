@@ -2,7 +2,7 @@
 ghost use Rattle.std.specs.Prelude.{◌≤◌, length, IfErr, IfOk, OnOk};
 ghost use Rattle.raft_log_engine.specs.raft_log_engine_core.specs.Reads.{shows_of};
 ghost use Rattle.raft_voter.specs.Service.{AnswersRound, CutsOff, FailsAs, IsAlive, refused_from};
-ghost use Rattle.raft_voter_outlines.specs.Kept.{outlines_in};
+ghost use Rattle.raft_voter_outline.specs.Kept.{outlines_in};
 ghost use Rattle.raft_voter_store.specs.Service.{voter_service};
 
 use super::LogVoterStore;

@@ -2,7 +2,7 @@
 ghost use Rattle.std.specs.Prelude.{◌≡◌, ◌↔◌, false, true, Err, IsTrue, IfErr, IfOk, OnErr, OnOk};
 ghost use Rattle.raft_log_record_base.specs.declared.errors.Error.TheVariants as errors;
 ghost use Rattle.raft_log_record_base.specs.declared.pipe_log.LogQueue.TheVariants.{Append};
-ghost use Rattle.raft_log_file_pair.specs.HoldingBack.{PipesHoldBack};
+ghost use Rattle.raft_log_dual_pipes.specs.HoldingBack.{PipesHoldBack};
 ghost use Rattle.raft_log_purge.specs.Append.{RewritesAppend};
 ghost use Rattle.raft_log_purge.specs.Counted.{PurgesAndCounts};
 ghost use Rattle.raft_log_purge.specs.ExpiredFiles.{SyncsAndRewrites};
@@ -15,11 +15,11 @@ use log::Log;
 use raft_log_engine::{Closed, Fault, FileSeq, LogQueue, PipeLog, Result};
 
 impl<P: PipeLog> LogVoterStore<P> {
-    ghost use Rattle.raft_log_engine.specs.raft_log_disk.specs.Causes.{IsLater};
+    ghost use Rattle.raft_log_engine.specs.raft_log_fs.specs.Causes.{IsLater};
     ghost use Rattle.raft_log_engine.specs.raft_log_engine_laws.specs.Shows.{has_failed};
-    ghost use Rattle.raft_log_engine.specs.raft_log_file_pair.specs.Calls.{ArmsNoPipes};
-    ghost use Rattle.raft_log_engine.specs.raft_log_file_pair.specs.ClosingCalls.{ClosesAs, ClosesLog, ClosesSettled};
-    ghost use Rattle.raft_voter_standing_laws.specs.raft_log_engine_laws.specs.Syncing.{NotSynced, SyncsAppend};
+    ghost use Rattle.raft_log_engine.specs.raft_log_dual_pipes.specs.Calls.{ArmsNoPipes};
+    ghost use Rattle.raft_log_engine.specs.raft_log_dual_pipes.specs.ClosingCalls.{ClosesAs, ClosesLog, ClosesSettled};
+    ghost use Rattle.raft_voter_durability_laws.specs.raft_log_engine_laws.specs.Syncing.{NotSynced, SyncsAppend};
     ghost use Rattle.raft_voter_store.specs.Upkeep.{KeepsOrLeavesVoters, KeepsVoters};
 
     /// Whether the engine has failed: then no round is served until the log is opened again.

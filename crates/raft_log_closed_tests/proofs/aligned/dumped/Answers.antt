@@ -1,5 +1,5 @@
 use Rattle.std.proofs.Common.{sym, subst}
-use Rattle.raft_log_disk_memory.specs.Memory.{disk_of}
+use Rattle.raft_log_fs_memory.specs.Memory.{disk_of}
 use Rattle.raft_log_file_reader.specs.ItemReader.{IsFileAtWork}
 use Rattle.raft_log_file_reader.specs.declared.item_reader.LogItemReader.{LogItemReader}
 use Rattle.raft_log_closed_tests.proofs.AtWork.{at_work}

@@ -1,5 +1,5 @@
 use Rattle.std.proofs.Common.{subst}
-use Rattle.raft_log_engine.specs.raft_log_disk.specs.Image.{IsImage}
+use Rattle.raft_log_engine.specs.raft_log_fs.specs.Image.{IsImage}
 use Rattle.raft_log_crash_uses.proofs.Both.{writes_both_or_neither}
 use Rattle.raft_log_crash_uses.proofs.batches.read_both.Goals as goal
 

@@ -1,8 +1,8 @@
 use Rattle.std.proofs.Common.{subst}
 use Rattle.std.proofs.lemmas.Result.{IfOk-weaker}
-use Rattle.raft_log_engine.specs.raft_log_disk.specs.Image.{IsImage}
-use Rattle.raft_log_engine.specs.raft_log_disk_memory.specs.declared.memory.MemoryFileSystem.{MemoryFileSystem}
-use Rattle.raft_log_engine.specs.raft_log_disk_memory.specs.Memory.{disk_of}
+use Rattle.raft_log_engine.specs.raft_log_fs.specs.Image.{IsImage}
+use Rattle.raft_log_engine.specs.raft_log_fs_memory.specs.declared.memory.MemoryFileSystem.{MemoryFileSystem}
+use Rattle.raft_log_engine.specs.raft_log_fs_memory.specs.Memory.{disk_of}
 use Rattle.raft_log_crash_uses.proofs.Crashed.{memory_sound, saves_across}
 use Rattle.raft_log_crash_uses.proofs.crashing.save_across_a_crash.Goals as goal
 

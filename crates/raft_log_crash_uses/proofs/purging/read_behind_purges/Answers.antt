@@ -1,6 +1,6 @@
 use Rattle.std.proofs.Common.{subst}
 use Rattle.std.proofs.lemmas.Result.{IfOk-weaker}
-use Rattle.raft_log_engine.specs.raft_log_disk.specs.Image.{IsImage}
+use Rattle.raft_log_engine.specs.raft_log_fs.specs.Image.{IsImage}
 use Rattle.raft_log_crash_uses.proofs.Purged.{reads_behind_purges}
 use Rattle.raft_log_crash_uses.proofs.purging.read_behind_purges.Goals as goal
 

@@ -1,5 +1,5 @@
 use Rattle.std.proofs.Common.{subst}
-use Rattle.raft_log_engine.specs.raft_log_disk.specs.Image.{IsImage}
+use Rattle.raft_log_engine.specs.raft_log_fs.specs.Image.{IsImage}
 use Rattle.raft_log_crash_uses.proofs.Kept.{stays_as_read}
 use Rattle.raft_log_crash_uses.proofs.unsynced.read_unsynced.Goals as goal
 

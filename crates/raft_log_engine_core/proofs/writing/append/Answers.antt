@@ -1,16 +1,16 @@
 use Rattle.std.proofs.Common.{◌≡◌, ap, subst, sym, ◌∙◌}
 use Rattle.std.specs.Prelude.{None, false}
 use Rattle.raft_log_record_batches.specs.Batch.{Batch, signed_as}
-use Rattle.raft_log_file_blocks.specs.Signing.{SaysItself, signed_for}
+use Rattle.raft_log_block_cache.specs.Signing.{SaysItself, signed_for}
 use Rattle.raft_log_record_base.specs.declared.pipe_log.FileBlockHandle.{FileBlockHandle}
-use Rattle.raft_log_file_pair.specs.Pipes.{LogPipes}
+use Rattle.raft_log_dual_pipes.specs.Pipes.{LogPipes}
 use Rattle.raft_log_purge.specs.raft_log_engine_laws.specs.Shows.{shows}
 use Rattle.raft_log_purge.specs.raft_log_engine_laws.specs.Trying.{RefusesAt, WritesAt}
 use Rattle.raft_log_purge.specs.raft_log_engine_laws.specs.Writing.{Writes}
 use Rattle.raft_log_engine_core.specs.Touching.{PipeRefuses, PipeTakes, WritesRecord}
-use Rattle.raft_log_file_pair.specs.Telling.{files_begun}
-use Rattle.raft_log_file_pair.specs.Telling.Told.{RecordApplied, RecordWritten}
-use Rattle.raft_log_file_pair.proofs.Telling.{hears_after}
+use Rattle.raft_log_dual_pipes.specs.Telling.{files_begun}
+use Rattle.raft_log_dual_pipes.specs.Telling.Told.{RecordApplied, RecordWritten}
+use Rattle.raft_log_dual_pipes.proofs.Telling.{hears_after}
 use Rattle.raft_log_record_base.specs.declared.pipe_log.LogQueue.TheVariants.{Append}
 use Rattle.raft_log_engine_core.specs.Hearing.{HearsRecord}
 use Rattle.raft_log_engine_core.proofs.Hearing.{goes_into_last}

@@ -1,6 +1,6 @@
 use Rattle.std.proofs.Common.{inl, sym, ◌∙◌}
 use Rattle.std.proofs.lemmas.Bool.{false≢true}
-use Rattle.raft_log_file_blocks.specs.Signing.{signed_for}
+use Rattle.raft_log_block_cache.specs.Signing.{signed_for}
 use Rattle.raft_log_engine_core.proofs.Hearing.{heard_again, heard_less_again}
 use Rattle.raft_log_engine_core.proofs.Put.{refused_again, taken_again, told_again, written_again}
 use Rattle.raft_log_engine_core.proofs.writing.append_or_again.Goals as goal

@@ -3,10 +3,10 @@ use Rattle.std.specs.Vec.{vec_len}
 use Rattle.std.proofs.lemmas.List.{length-map}
 use Rattle.raft_log_record_items.specs.declared.item.LogItem.{LogItem}
 use Rattle.raft_log_record_items.specs.Placed.{written_item}
-use Rattle.raft_log_record_marks.specs.Meaning.{tagged_items}
+use Rattle.raft_log_record_frames.specs.Meaning.{tagged_items}
 use Rattle.raft_log_record_batches.specs.Batch.{Batch, block_place, emptied}
-use Rattle.raft_log_table_all.specs.Batch.{IsReadyFor}
-use Rattle.raft_log_table_all.proofs.Applied.{ready_written}
+use Rattle.raft_log_memtables.specs.Batch.{IsReadyFor}
+use Rattle.raft_log_memtables.proofs.Applied.{ready_written}
 use Rattle.raft_log_engine_core.proofs.Put.{on_ok}
 use Rattle.raft_log_engine_core.proofs.writing.commit.Goals as goal
 

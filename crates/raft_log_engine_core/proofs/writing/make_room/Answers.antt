@@ -1,6 +1,6 @@
 use Rattle.std.proofs.Common.{ap, ◌∙◌}
 use Rattle.raft_log_record_batches.specs.Batch.{Batch}
-use Rattle.raft_log_table_all.specs.Tables.{shown_of}
+use Rattle.raft_log_memtables.specs.Tables.{shown_of}
 use Rattle.raft_log_engine_core.proofs.Put.{unfit_of}
 use Rattle.raft_log_engine_core.proofs.writing.make_room.Goals as goal
 

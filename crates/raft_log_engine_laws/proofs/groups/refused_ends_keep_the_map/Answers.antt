@@ -1,4 +1,4 @@
-use Rattle.raft_log_record_marks.specs.declared.status.AtomicGroupStatus.TheVariants.{End}
+use Rattle.raft_log_record_frames.specs.declared.status.AtomicGroupStatus.TheVariants.{End}
 use Rattle.raft_log_engine_laws.proofs.Ending.{end_refused}
 use Rattle.raft_log_engine_laws.proofs.Writing.{part_left_out}
 use Rattle.raft_log_engine_laws.proofs.groups.refused_ends_keep_the_map.Goals as goal

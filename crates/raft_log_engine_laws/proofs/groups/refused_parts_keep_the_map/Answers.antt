@@ -1,4 +1,4 @@
-use Rattle.raft_log_record_marks.specs.declared.status.AtomicGroupStatus.TheVariants.{Middle}
+use Rattle.raft_log_record_frames.specs.declared.status.AtomicGroupStatus.TheVariants.{Middle}
 use Rattle.raft_log_engine_laws.proofs.Writing.{begin_refused, middle_refused, part_left_out}
 use Rattle.raft_log_engine_laws.proofs.groups.refused_parts_keep_the_map.Goals as goal
 

@@ -1,6 +1,6 @@
 -- So many files were told as were passed.
 use Rattle.std.proofs.Common.{◌-◌, ◌≤◌}
-use Rattle.raft_log_file_pair.specs.Telling.{Hears, begun}
+use Rattle.raft_log_dual_pipes.specs.Telling.{Hears, begun}
 use Rattle.raft_log_file_listeners.proofs.told_pipes.tell_new_files.Given as goal
 
 abbrev pub invariant-loop-seq : goal.invariant-loop-seq

@@ -1,7 +1,7 @@
 use Rattle.std.proofs.Common.{◌≡◌, ℕ, List, length, ◌∙◌, ap, subst}
 use Rattle.raft_log_file_writer.specs.Writer.{WritesNext}
-use Rattle.raft_log_file_queue.specs.Exits.{AppendMakes}
-use Rattle.raft_log_file_queue.specs.declared.last_file.WriteFault.{WriteFault}
+use Rattle.raft_log_active_file.specs.Exits.{AppendMakes}
+use Rattle.raft_log_active_file.specs.declared.last_file.WriteFault.{WriteFault}
 use Rattle.raft_log_file_pipe.specs.Appending.{AppendsAt, context_of}
 use Rattle.raft_log_file_pipe.specs.Appending.AppendFails.{not_written}
 use Rattle.raft_log_file_pipe.specs.Exits.{Adds, FailsToAdd}

@@ -1,5 +1,5 @@
 use Rattle.std.proofs.Common.{length, reverse}
-use Rattle.raft_log_disk.specs.Causes.{IsLater}
+use Rattle.raft_log_fs.specs.Causes.{IsLater}
 use Rattle.raft_log_file_pipe.specs.Closing.{greatest_reserved}
 use Rattle.raft_log_file_pipe.proofs.SettingAside.{ReservesOn, IsHeldOn}
 use Rattle.raft_log_file_pipe.proofs.closing.reserve_files.Given as goal

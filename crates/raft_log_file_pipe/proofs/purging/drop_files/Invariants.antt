@@ -1,6 +1,6 @@
 use Rattle.std.proofs.Common.{map, take}
 use Rattle.std.specs.String.{string_bytes}
-use Rattle.raft_log_disk.specs.Causes.{IsLater}
+use Rattle.raft_log_fs.specs.Causes.{IsLater}
 use Rattle.raft_log_file_pipe.specs.Calls.{DropsBy}
 use Rattle.raft_log_file_pipe.specs.Purging.{DropsTo}
 use Rattle.raft_log_file_pipe.proofs.purging.drop_files.Given as goal

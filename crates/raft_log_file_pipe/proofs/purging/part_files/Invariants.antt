@@ -1,6 +1,6 @@
 use Rattle.std.proofs.Common.{◌≡◌, ◌++◌, map, take, drop}
 use Rattle.std.specs.String.{string_bytes}
-use Rattle.raft_log_file_queue.specs.Layout.{path_of}
+use Rattle.raft_log_active_file.specs.Layout.{path_of}
 use Rattle.raft_log_file_pipe.specs.Purging.{staying, going}
 use Rattle.raft_log_file_pipe.proofs.purging.part_files.Given as goal
 

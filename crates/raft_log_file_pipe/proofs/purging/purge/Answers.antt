@@ -1,7 +1,7 @@
 use Rattle.std.specs.String.{string_bytes}
 use Rattle.std.proofs.Common.{rules, ◌≡◌, ℕ, ◌-◌, List, map, take, sym, ◌∙◌, ap, subst}
 use Rattle.std.proofs.lemmas.List.{length-map}
-use Rattle.raft_log_file_queue.specs.Layout.{path_of}
+use Rattle.raft_log_active_file.specs.Layout.{path_of}
 use Rattle.raft_log_file_pipe.specs.declared.pipe_files.PipeFiles.{PipeFiles}
 use Rattle.raft_log_file_pipe.specs.Calls.{DropsBy, DropsUntil}
 use Rattle.raft_log_file_pipe.specs.Purging.{IsRaised, DropsTo, going, room_from, paths_going}

@@ -1,7 +1,7 @@
 use Rattle.std.proofs.Common.{rules, ◌∙◌, refl, sym, subst, false}
-use Rattle.raft_log_disk.specs.Calls.{Creates}
+use Rattle.raft_log_fs.specs.Calls.{Creates}
 use Rattle.raft_log_file_writer.specs.declared.writer.LogFileWriter.{LogFileWriter}
-use Rattle.raft_log_file_queue.specs.Rotation.{RotatesBy, RotatesToNew}
+use Rattle.raft_log_active_file.specs.Rotation.{RotatesBy, RotatesToNew}
 use Rattle.raft_log_file_format.specs.Header.{header_bytes}
 use Rattle.raft_log_file_pipe.specs.Files.{Listed}
 use Rattle.raft_log_file_pipe.specs.Placing.{IsChosen}

@@ -1,9 +1,9 @@
 use Rattle.std.proofs.Common.{rules, ◌∙◌, refl, sym, subst, false}
 use Rattle.std.proofs.lemmas.Result.{err_from_is_err_and}
 use Rattle.raft_log_file_format.specs.Header.{header_bytes}
-use Rattle.raft_log_disk.specs.Calls.{Renames}
+use Rattle.raft_log_fs.specs.Calls.{Renames}
 use Rattle.raft_log_file_writer.specs.declared.writer.LogFileWriter.{LogFileWriter}
-use Rattle.raft_log_file_queue.specs.Rotation.{RotatesBy, RotatesOver}
+use Rattle.raft_log_active_file.specs.Rotation.{RotatesBy, RotatesOver}
 use Rattle.raft_log_file_pipe.specs.Files.{Listed}
 use Rattle.raft_log_file_pipe.specs.Exits.{RotationLeaves}
 use Rattle.raft_log_file_pipe.proofs.Turning.{IsNext, IsTurnedTo, closed_leaves, over_refused, over_done}

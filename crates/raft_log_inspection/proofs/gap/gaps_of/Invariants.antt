@@ -1,6 +1,6 @@
 use Rattle.std.proofs.Common.{◌≡◌, []}
 use Rattle.std.specs.List.{AllAdjacentBelow}
-use Rattle.raft_log_open_scan.specs.Runs.{FollowsNumber}
+use Rattle.raft_log_recovery_scan.specs.Runs.{FollowsNumber}
 use Rattle.raft_log_inspection.proofs.gap.gaps_of.Given as goal
 
 -- without a gap so far, the numbers so far are consecutive

@@ -4,9 +4,9 @@ use Rattle.std.specs.String.{string_bytes}
 use Rattle.std.proofs.lemmas.List.{length-map}
 use Rattle.std.proofs.lemmas.List.Elements.{Contains-get_or}
 use Rattle.std.proofs.lemmas.List.Sorted.{All-permutation}
-use Rattle.raft_log_table_segments.specs.Segments.{all_batches}
-use Rattle.raft_log_open_scan.specs.Runs.{IsConsecutive}
-use Rattle.raft_log_open_scan.specs.declared.scanning.found.FoundFile.{FoundFile}
+use Rattle.raft_log_replay.specs.Segments.{all_batches}
+use Rattle.raft_log_recovery_scan.specs.Runs.{IsConsecutive}
+use Rattle.raft_log_recovery_scan.specs.declared.scanning.found.FoundFile.{FoundFile}
 use Rattle.raft_log_inspection.specs.Intact.{IsIntactFile}
 use Rattle.raft_log_inspection.proofs.inspecting.inspect_queue.Goals as goal
 

@@ -2,9 +2,9 @@ use Rattle.std.proofs.Common.{◌≡◌, ◌==◌, ℕ, List, Option, Some, map,
 use Rattle.std.specs.String.{string_bytes}
 use Rattle.raft_log_record_base.specs.declared.errors.Error.{Error}
 use Rattle.raft_log_file_reader.specs.Source.{bytes_in}
-use Rattle.raft_log_open_scan.specs.Found.{found_path}
-use Rattle.raft_log_open_scan.specs.declared.file_kind.FileKind.{FileKind}
-use Rattle.raft_log_open_found.specs.Batches.{HasTaken, said}
+use Rattle.raft_log_recovery_scan.specs.Found.{found_path}
+use Rattle.raft_log_recovery_scan.specs.declared.file_kind.FileKind.{FileKind}
+use Rattle.raft_log_recovery_read.specs.Batches.{HasTaken, said}
 use Rattle.raft_log_inspection.specs.Intact.{IsUndamaged, id_of}
 use Rattle.raft_log_inspection.proofs.FileLemmas.{both_then}
 use Rattle.raft_log_inspection.proofs.one_file.read_one.Goals as goal

@@ -1,5 +1,5 @@
 use Rattle.std.proofs.Common.{List, [], ℕ, subst}
-use Rattle.raft_log_closed.specs.Findings.{Lists, told_by}
+use Rattle.raft_log_offline.specs.Findings.{Lists, told_by}
 use Rattle.raft_log_operator.proofs.SoundLemmas.{no_hole}
 use Rattle.raft_log_operator.proofs.inspection.inspect_one.Goals as goal
 

@@ -1,6 +1,6 @@
 use Rattle.std.proofs.Common.{sym, ◌∙◌}
 use Rattle.std.proofs.lemmas.Result.{err_from_is_err_and}
-use Rattle.raft_log_purge_parts.specs.raft_log_engine_laws.specs.Shows.{shows}
+use Rattle.raft_log_purge_copy.specs.raft_log_engine_laws.specs.Shows.{shows}
 use Rattle.raft_log_purge.proofs.Past.{every}
 use Rattle.raft_log_purge.proofs.Whole.{ends_with_groups, ends_with_marks, stops_rewriting, whole_lost, whole_not_lost}
 use Rattle.raft_log_purge.proofs.append.go_on.Goals as goal

@@ -3,11 +3,11 @@ use Rattle.raft_log_record_base.specs.declared.pipe_log.FileId.{FileId}
 use Rattle.raft_log_record_base.specs.declared.pipe_log.LogQueue.{LogQueue}
 use Rattle.raft_log_record_base.specs.declared.pipe_log.LogQueue.TheVariants.{Append}
 use Rattle.raft_log_directory_laws.specs.Calls.Which.{InAppend}
-use Rattle.raft_log_file_pair.specs.Pipes.{which_of}
-use Rattle.raft_log_file_pair.specs.Calls.{FailsToPurgeQueue, PurgesQueue}
-use Rattle.raft_log_file_pair.specs.Numbers.{EndsNumbersBelow}
-use Rattle.raft_log_purge_rules.specs.Watermarks.{first_at}
-use Rattle.raft_log_table_all.specs.Walking.{IsLeastOf}
+use Rattle.raft_log_dual_pipes.specs.Pipes.{which_of}
+use Rattle.raft_log_dual_pipes.specs.Calls.{FailsToPurgeQueue, PurgesQueue}
+use Rattle.raft_log_dual_pipes.specs.Numbers.{EndsNumbersBelow}
+use Rattle.raft_log_purge_policy.specs.Watermarks.{first_at}
+use Rattle.raft_log_memtables.specs.Walking.{IsLeastOf}
 use Rattle.raft_log_purge.proofs.Past.{lost_to, not_lost_to}
 use Rattle.raft_log_purge.proofs.append.purge_past.Goals as goal
 

@@ -1,7 +1,7 @@
 use Rattle.std.proofs.lemmas.Result.{err_from_is_err_and}
-use Rattle.raft_log_purge_parts.specs.raft_log_engine_laws.specs.Shows.{shows}
-use Rattle.raft_log_purge_parts.proofs.Adding.{part_adds}
-use Rattle.raft_log_purge_parts.proofs.Grouping.{among}
+use Rattle.raft_log_purge_copy.specs.raft_log_engine_laws.specs.Shows.{shows}
+use Rattle.raft_log_purge_copy.proofs.Adding.{part_adds}
+use Rattle.raft_log_purge_copy.proofs.Grouping.{among}
 use Rattle.raft_log_purge.proofs.Past.{whole_synced, whole_unsynced}
 use Rattle.raft_log_purge.proofs.append.rewrite_synced.Goals as goal
 

@@ -1,7 +1,7 @@
 use Rattle.std.proofs.Common.{◌==◌, ℕ, Bool, List, ap, ◌∙◌}
 use Rattle.std.specs.List.{list_any}
-use Rattle.raft_log_purge_rules.specs.Behind.{round_behind}
-use Rattle.raft_log_purge_rules.specs.Picking.{count_of}
+use Rattle.raft_log_purge_policy.specs.Behind.{round_behind}
+use Rattle.raft_log_purge_policy.specs.Picking.{count_of}
 use Rattle.raft_log_purge.proofs.expired.pick_groups.Goals as goal
 
 pub returns : goal.returns

@@ -1,12 +1,12 @@
 use Rattle.std.proofs.Common.{◌≡◌, ℕ, List, subst, sym}
 use Rattle.std.proofs.lemmas.Result.{err_from_is_err_and}
-use Rattle.raft_log_purge_parts.specs.raft_log_engine_laws.specs.Shows.{shows}
-use Rattle.raft_log_table_all.specs.Owing.{AreOwed}
-use Rattle.raft_log_purge_rules.specs.declared.watermarks.Watermarks.{Watermarks}
-use Rattle.raft_log_purge_rules.specs.Watermarks.{watermarks_of}
-use Rattle.raft_log_purge_rules.specs.Picking.{count_of, rewrites_at}
+use Rattle.raft_log_purge_copy.specs.raft_log_engine_laws.specs.Shows.{shows}
+use Rattle.raft_log_memtables.specs.Owing.{AreOwed}
+use Rattle.raft_log_purge_policy.specs.declared.watermarks.Watermarks.{Watermarks}
+use Rattle.raft_log_purge_policy.specs.Watermarks.{watermarks_of}
+use Rattle.raft_log_purge_policy.specs.Picking.{count_of, rewrites_at}
 use Rattle.raft_log_purge.specs.Expired.{PicksGroups, RewritesPicked}
-use Rattle.raft_log_purge_parts.proofs.Grouping.{among}
+use Rattle.raft_log_purge_copy.proofs.Grouping.{among}
 use Rattle.raft_log_purge.proofs.Picked.{listed_picked, nothing_purged}
 use Rattle.raft_log_purge.proofs.expired.purge_by_rules.Goals as goal
 

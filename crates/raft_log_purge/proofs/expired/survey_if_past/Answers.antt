@@ -1,7 +1,7 @@
 use Rattle.std.proofs.Common.{Option, sym, subst}
-use Rattle.raft_log_purge_rules.specs.Picking.{count_of}
-use Rattle.raft_log_purge_rules.specs.Surveying.{SurveysIfTold}
-use Rattle.raft_log_purge_rules.specs.declared.survey.Survey.{Survey}
+use Rattle.raft_log_purge_policy.specs.Picking.{count_of}
+use Rattle.raft_log_purge_policy.specs.Surveying.{SurveysIfTold}
+use Rattle.raft_log_purge_policy.specs.declared.survey.Survey.{Survey}
 use Rattle.raft_log_purge.proofs.Expiring.{seen_told}
 use Rattle.raft_log_purge.proofs.expired.survey_if_past.Goals as goal
 

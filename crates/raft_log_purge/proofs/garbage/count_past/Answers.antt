@@ -1,4 +1,4 @@
-use Rattle.raft_log_table_all.specs.Tables.{shown_of}
+use Rattle.raft_log_memtables.specs.Tables.{shown_of}
 use Rattle.raft_log_purge.proofs.StandingPast.{first_more}
 use Rattle.raft_log_purge.proofs.garbage.count_past.Goals as goal
 

@@ -1,5 +1,5 @@
 use Rattle.std.proofs.Common.{take}
-use Rattle.raft_log_table_all.specs.Tables.{shown_of}
+use Rattle.raft_log_memtables.specs.Tables.{shown_of}
 use Rattle.raft_log_purge.specs.Garbage.{CountsPast}
 use Rattle.raft_log_purge.proofs.garbage.count_past.Given as goal
 

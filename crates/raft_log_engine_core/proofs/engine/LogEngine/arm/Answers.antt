@@ -1,10 +1,10 @@
 use Rattle.std.specs.Prelude.{Result, Ok, Err}
 use Rattle.std.specs.Result.{OnOk, OnErr}
 use Rattle.std.proofs.Common.{refl, ap, ◌≡◌}
-use Rattle.raft_log_disk.specs.declared.handle.Fault.{Fault}
-use Rattle.raft_log_file_pair.specs.Pipes.{ArmsPipes, LogPipes}
-use Rattle.raft_log_table_all.specs.declared.mem_tables.MemTables.{MemTables}
-use Rattle.raft_log_file_blocks.specs.declared.block_cache.BlockCache.{BlockCache}
+use Rattle.raft_log_fs.specs.declared.handle.Fault.{Fault}
+use Rattle.raft_log_dual_pipes.specs.Pipes.{ArmsPipes, LogPipes}
+use Rattle.raft_log_memtables.specs.declared.mem_tables.MemTables.{MemTables}
+use Rattle.raft_log_block_cache.specs.declared.block_cache.BlockCache.{BlockCache}
 use Rattle.raft_log_purge.specs.raft_log_engine_laws.specs.Shows.{shows}
 use Rattle.raft_log_engine_core.specs.Whole.{ArmsEngine}
 use Rattle.raft_log_engine_core.proofs.engine.LogEngine.arm.Goals as goal

@@ -1,6 +1,6 @@
 use Rattle.std.proofs.Common.{sym, ap, ◌∙◌}
-use Rattle.raft_log_table_lists.specs.Shown.{Shown}
-use Rattle.raft_log_table_one.specs.Reads.{entry_at}
+use Rattle.raft_log_memtable_index.specs.Shown.{Shown}
+use Rattle.raft_log_memtable.specs.Reads.{entry_at}
 use Rattle.raft_log_engine_core.proofs.Entries.{none_at}
 use Rattle.raft_log_engine_core.proofs.Tables.{none_shown, raw_shown}
 use Rattle.raft_log_engine_core.proofs.engine.LogEngine.entry_at.Goals as goal

@@ -1,5 +1,5 @@
 use Rattle.std.proofs.Common.{None, refl}
-use Rattle.raft_log_table_lists.specs.Shown.{nothing_shown}
+use Rattle.raft_log_memtable_index.specs.Shown.{nothing_shown}
 use Rattle.raft_log_engine_core.proofs.Tables.{if_ok_then, none_shown, raw_shown, value_read}
 use Rattle.raft_log_engine_core.proofs.engine.LogEngine.get.Goals as goal
 

@@ -1,5 +1,5 @@
 use Rattle.std.proofs.Common.{◌==◌, Bool, sym, ap, subst, ◌∙◌, IsTrue, ◌↔◌, ℕ}
-use Rattle.raft_log_table_all.specs.Tables.{counts}
+use Rattle.raft_log_memtables.specs.Tables.{counts}
 use Rattle.raft_log_engine_core.specs.Reads.{NoneCounts}
 use Rattle.raft_log_engine_core.proofs.Scans.{none_listed}
 use Rattle.raft_log_engine_core.proofs.engine.LogEngine.is_empty.Goals as goal

@@ -1,10 +1,10 @@
 use Rattle.std.proofs.Common.{◌≡◌, ◌++◌, List, Option, [], append-nil, ap, arith, inl, refl, subst, sym, ℕ, ◌∙◌}
 use Rattle.std.proofs.lemmas.Result.{err_from_is_err_and}
-use Rattle.raft_log_table_one.specs.Table.{shown}
-use Rattle.raft_log_table_one.specs.Reads.{FetchRefused, places_between}
-use Rattle.raft_log_table_runs.specs.Counts.{sized}
-use Rattle.raft_log_table_lists.specs.Shown.{Shown}
-use Rattle.raft_log_file_blocks.proofs.Entries.{none_read}
+use Rattle.raft_log_memtable.specs.Table.{shown}
+use Rattle.raft_log_memtable.specs.Reads.{FetchRefused, places_between}
+use Rattle.raft_log_extents.specs.Counts.{sized}
+use Rattle.raft_log_memtable_index.specs.Shown.{Shown}
+use Rattle.raft_log_block_cache.proofs.Entries.{none_read}
 use Rattle.raft_log_purge.specs.raft_log_engine_laws.specs.Fetching.{AreToRead}
 use Rattle.raft_log_purge.specs.raft_log_engine_laws.specs.Shows.{shows}
 use Rattle.raft_log_engine_core.specs.Reads.{entries_on}

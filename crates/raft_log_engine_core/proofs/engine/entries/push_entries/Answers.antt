@@ -1,11 +1,11 @@
 use Rattle.std.proofs.Common.{◌≡◌, ◌+◌, ◌-◌, ℕ, List, [], ◌++◌, ap, ap₂, append-nil, append_assoc, arith, length, refl, subst, sym, ◌∙◌}
 use Rattle.std.proofs.lemmas.Result.{err_from_is_err_and}
 use Rattle.raft_log_record_items.specs.declared.entry.EntryIndex.{EntryIndex}
-use Rattle.raft_log_table_runs.specs.Bounds.{bounds_of}
-use Rattle.raft_log_table_runs.specs.Entries.{entries_between}
-use Rattle.raft_log_table_one.specs.Table.{shown}
-use Rattle.raft_log_file_blocks.specs.Blocks.{AreUnread, ReadsEntries}
-use Rattle.raft_log_file_blocks.proofs.Entries.{front_kept, kept_through, read_both, unread_behind, unread_front}
+use Rattle.raft_log_extents.specs.Bounds.{bounds_of}
+use Rattle.raft_log_extents.specs.Entries.{entries_between}
+use Rattle.raft_log_memtable.specs.Table.{shown}
+use Rattle.raft_log_block_cache.specs.Blocks.{AreUnread, ReadsEntries}
+use Rattle.raft_log_block_cache.proofs.Entries.{front_kept, kept_through, read_both, unread_behind, unread_front}
 use Rattle.raft_log_engine_core.specs.Reads.{AreNext, LieNext, entries_on}
 use Rattle.raft_log_engine_core.proofs.Pieces.{next_lie, on_split}
 use Rattle.raft_log_engine_core.proofs.engine.entries.push_entries.Goals as goal

@@ -1,8 +1,8 @@
 use Rattle.std.proofs.Common.{◌≡◌, ◌+◌, ◌-◌, ◌≤◌, List, ◌++◌, vec_capacity, vec_len}
 use Rattle.raft_log_record_base.specs.declared.errors.Error.{Error}
-use Rattle.raft_log_table_one.specs.Table.{shown}
-use Rattle.raft_log_file_blocks.specs.declared.block_cache.BlockCache.{BlockCache}
-use Rattle.raft_log_file_blocks.specs.Blocks.{AreUnread, ReadsEntries}
+use Rattle.raft_log_memtable.specs.Table.{shown}
+use Rattle.raft_log_block_cache.specs.declared.block_cache.BlockCache.{BlockCache}
+use Rattle.raft_log_block_cache.specs.Blocks.{AreUnread, ReadsEntries}
 use Rattle.raft_log_engine_core.specs.Reads.{AreNext, entries_on}
 use Rattle.raft_log_engine_core.proofs.engine.entries.push_entries.Given as goal
 

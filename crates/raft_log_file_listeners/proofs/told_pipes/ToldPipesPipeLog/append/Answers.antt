@@ -1,10 +1,10 @@
 use Rattle.std.specs.Prelude.{[], ◌∷◌, ◌++◌}
 use Rattle.std.proofs.Common.{◌+◌, arith}
-use Rattle.raft_log_file_pair.specs.LastFile.{last_of}
-use Rattle.raft_log_file_pair.specs.Pipes.{which_of}
-use Rattle.raft_log_file_pair.specs.Telling.{files_begun}
-use Rattle.raft_log_file_pair.specs.Telling.Told.{RecordWritten}
-use Rattle.raft_log_file_pair.proofs.Telling.{both_hear_err, both_hear_ok, hears_all, hears_more, hears_on, hears_one}
+use Rattle.raft_log_dual_pipes.specs.LastFile.{last_of}
+use Rattle.raft_log_dual_pipes.specs.Pipes.{which_of}
+use Rattle.raft_log_dual_pipes.specs.Telling.{files_begun}
+use Rattle.raft_log_dual_pipes.specs.Telling.Told.{RecordWritten}
+use Rattle.raft_log_dual_pipes.proofs.Telling.{both_hear_err, both_hear_ok, hears_all, hears_more, hears_on, hears_one}
 use Rattle.raft_log_file_listeners.proofs.Tellings.{hears_begun}
 use Rattle.raft_log_file_listeners.proofs.told_pipes.ToldPipesPipeLog.append.Goals as goal
 

@@ -1,6 +1,6 @@
 -- Whoever is told changes no pipe, and was told of so many files as were passed.
 use Rattle.std.proofs.Common.{◌≡◌, ◌-◌, ◌≤◌}
-use Rattle.raft_log_file_pair.specs.Telling.{Hears, begun}
+use Rattle.raft_log_dual_pipes.specs.Telling.{Hears, begun}
 use Rattle.raft_log_file_listeners.proofs.told_pipes.ToldPipesPipeLog.append.Given as goal
 
 abbrev pub invariant-loop-seq : goal.invariant-loop-seq

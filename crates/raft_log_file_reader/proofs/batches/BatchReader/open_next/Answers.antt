@@ -1,7 +1,7 @@
 use Rattle.std.proofs.Common.{List, ℕ, subst}
 use Rattle.std.proofs.lemmas.Result.{err_from_is_err_and}
-use Rattle.raft_log_disk.specs.Reading.{IsOpened}
-use Rattle.raft_log_disk.specs.declared.handle.Permission.TheVariants.{ReadOnly}
+use Rattle.raft_log_fs.specs.Reading.{IsOpened}
+use Rattle.raft_log_fs.specs.declared.handle.Permission.TheVariants.{ReadOnly}
 use Rattle.raft_log_file_reader.specs.Answers.{IsReadOpenRefusal}
 use Rattle.raft_log_file_reader.specs.declared.batches.BatchReader.{BatchReader}
 use Rattle.raft_log_file_reader.proofs.Openings.{opens_next, unfound_next, unopened_next}

@@ -1,5 +1,5 @@
 use Rattle.std.proofs.lemmas.Result.{on_ok_weaker}
-use Rattle.raft_log_disk.specs.Arguments.{WrongHandle}
+use Rattle.raft_log_fs.specs.Arguments.{WrongHandle}
 use Rattle.raft_log_file_writer.proofs.WriterLaws.{sync_written, sync_durable, unsynced}
 use Rattle.raft_log_file_writer.proofs.writer.LogFileWriter.sync.Goals as goal
 

@@ -1,9 +1,9 @@
 use Rattle.std.proofs.Common.{List, ℕ, subst, ◌∙◌}
 use Rattle.raft_log_record_items.specs.Items.{put_item}
-use Rattle.raft_log_record_marks.specs.Marking.{mark_key, mark_item}
+use Rattle.raft_log_record_frames.specs.Marking.{mark_key, mark_item}
 use Rattle.raft_log_record_batches.specs.AtomicGroup.{AtomicGroup}
 use Rattle.raft_log_record_batches.specs.Batch.{with_item, Becomes}
-use Rattle.raft_log_record_marks.specs.Meaning.{BecomesPart}
+use Rattle.raft_log_record_frames.specs.Meaning.{BecomesPart}
 use Rattle.raft_log_record_batches.proofs.AtomicGroups.{became_part}
 use Rattle.raft_log_record_batches.proofs.atomic_group.AtomicGroupBuilder.mark.Goals as goal
 

@@ -1,7 +1,7 @@
 use Rattle.std.proofs.Common.{ℕ, ◌<◌, List, length, take, drop, ap, arith}
 use Rattle.raft_log_record_items.specs.declared.item.LogItem.{LogItem}
 use Rattle.raft_log_record_batches.specs.Batch.{roomy, Batch, batch_size}
-use Rattle.raft_log_record_lists.specs.ItemBatch.{items_size}
+use Rattle.raft_log_record_frames.specs.ItemBatch.{items_size}
 use Rattle.raft_log_record_batches.proofs.Items.{some_items}
 use Rattle.raft_log_record_batches.proofs.Moves.{some_size, block_size_at, entries_count}
 use Rattle.raft_log_record_batches.proofs.log_batch.LogBatch.approximate_size.Goals as goal

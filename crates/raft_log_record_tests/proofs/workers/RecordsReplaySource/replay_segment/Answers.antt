@@ -1,5 +1,5 @@
 use Rattle.std.proofs.Common.{[], ◌∷◌}
-use Rattle.raft_log_table_segments.specs.Machines.{batch_in}
+use Rattle.raft_log_replay.specs.Machines.{batch_in}
 use Rattle.raft_log_record_tests.proofs.workers.RecordsReplaySource.replay_segment.Goals as goal
 
 pub returns-clause-ok : goal.returns-clause-ok

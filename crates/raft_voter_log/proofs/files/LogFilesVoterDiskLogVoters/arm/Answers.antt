@@ -1,8 +1,8 @@
 use Rattle.std.proofs.Common.{◌∙◌, ap, inl, refl, subst}
-use Rattle.raft_log_disk.specs.Exits.{Arms}
-use Rattle.raft_log_disk.specs.declared.handle.Fault.{Fault}
-use Rattle.raft_log_disk_memory.specs.Memory.{disk_of}
-use Rattle.raft_log_disk_memory.specs.Turns.{armed, armed_with}
+use Rattle.raft_log_fs.specs.Exits.{Arms}
+use Rattle.raft_log_fs.specs.declared.handle.Fault.{Fault}
+use Rattle.raft_log_fs_memory.specs.Memory.{disk_of}
+use Rattle.raft_log_fs_memory.specs.Turns.{armed, armed_with}
 use Rattle.raft_voter_log.proofs.Crashes.{armed_leaves}
 use Rattle.raft_voter_log.proofs.files.LogFilesVoterDiskLogVoters.arm.Goals as goal
 

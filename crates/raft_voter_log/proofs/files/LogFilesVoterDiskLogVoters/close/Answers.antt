@@ -1,5 +1,5 @@
 use Rattle.std.proofs.Common.{ap}
-use Rattle.raft_log_disk_memory.specs.Memory.{disk_of}
+use Rattle.raft_log_fs_memory.specs.Memory.{disk_of}
 use Rattle.raft_voter_log.proofs.Crashes.{close_leaves}
 use Rattle.raft_voter_log.proofs.files.LogFilesVoterDiskLogVoters.close.Goals as goal
 

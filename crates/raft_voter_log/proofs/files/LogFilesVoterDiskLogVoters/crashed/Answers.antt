@@ -1,4 +1,4 @@
-use Rattle.raft_log_disk_memory.specs.Memory.{disk_of}
+use Rattle.raft_log_fs_memory.specs.Memory.{disk_of}
 use Rattle.raft_voter_log.specs.Instance.{AreSame}
 use Rattle.raft_voter_log.proofs.Crashes.{crash_leaves_for}
 use Rattle.raft_voter_log.proofs.files.LogFilesVoterDiskLogVoters.crashed.Goals as goal

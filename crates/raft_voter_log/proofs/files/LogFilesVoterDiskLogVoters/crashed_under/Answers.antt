@@ -1,9 +1,9 @@
 use Rattle.std.proofs.Common.{ap, refl, subst}
-use Rattle.raft_log_disk.specs.Image.{IsImage}
-use Rattle.raft_log_disk_memory.specs.Answers.{IsLeftOf}
-use Rattle.raft_log_disk_memory.specs.Memory.{disk_of}
-use Rattle.raft_log_disk_memory.specs.declared.memory.MemoryFileSystem.{MemoryFileSystem}
-use Rattle.raft_log_disk_memory.specs.raft_log_disk_storage.specs.declared.remainder.Remainder.{Remainder}
+use Rattle.raft_log_fs.specs.Image.{IsImage}
+use Rattle.raft_log_fs_memory.specs.Answers.{IsLeftOf}
+use Rattle.raft_log_fs_memory.specs.Memory.{disk_of}
+use Rattle.raft_log_fs_memory.specs.declared.memory.MemoryFileSystem.{MemoryFileSystem}
+use Rattle.raft_log_fs_memory.specs.raft_log_fs_state.specs.declared.remainder.Remainder.{Remainder}
 use Rattle.raft_voter_log.specs.Instance.{AreSame}
 use Rattle.raft_voter_log.proofs.Crashes.{crash_leaves_under}
 use Rattle.raft_voter_log.proofs.files.LogFilesVoterDiskLogVoters.crashed_under.Goals as goal

@@ -1,5 +1,5 @@
-use Rattle.raft_log_disk_memory.specs.Memory.{disk_of}
-use Rattle.raft_log_open_laws.specs.ForkLeaving.EndsFork.{answered, refused}
+use Rattle.raft_log_fs_memory.specs.Memory.{disk_of}
+use Rattle.raft_log_recovery_laws.specs.ForkLeaving.EndsFork.{answered, refused}
 use Rattle.raft_voter_log.proofs.Crashes.{copy_leaves}
 use Rattle.raft_voter_log.proofs.Opens.{memory_sound}
 use Rattle.raft_voter_log.proofs.files.LogFilesVoterDiskLogVoters.fork.Goals as goal

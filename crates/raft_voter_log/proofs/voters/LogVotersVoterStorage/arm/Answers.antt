@@ -1,5 +1,5 @@
 use Rattle.std.proofs.Common.{ap, refl}
-use Rattle.raft_voter_outlines.specs.Kept.{outlines_in}
+use Rattle.raft_voter_outline.specs.Kept.{outlines_in}
 use Rattle.raft_voter_log.proofs.Standing.{armed_stays, armed_stopped, arms_as, same_stays}
 use Rattle.raft_voter_log.proofs.voters.LogVotersVoterStorage.arm.Goals as goal
 

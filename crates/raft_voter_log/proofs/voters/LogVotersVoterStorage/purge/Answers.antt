@@ -1,5 +1,5 @@
 use Rattle.std.proofs.Common.{ap, refl}
-use Rattle.raft_voter_outlines.specs.Kept.{outlines_in}
+use Rattle.raft_voter_outline.specs.Kept.{outlines_in}
 use Rattle.raft_voter_world.specs.declared.faults.Purge.TheVariants.{Expired}
 use Rattle.raft_voter_log.proofs.Purging.{purged_as, purged_keeps, refused_keeps}
 use Rattle.raft_voter_log.proofs.voters.LogVotersVoterStorage.purge.Goals as goal

@@ -1,5 +1,5 @@
 use Rattle.std.proofs.Common.{ap, refl}
-use Rattle.raft_voter_outlines.specs.Kept.{outlines_in}
+use Rattle.raft_voter_outline.specs.Kept.{outlines_in}
 use Rattle.raft_voter_log.proofs.Standing.{read_stays, tells_voters}
 use Rattle.raft_voter_log.proofs.voters.LogVotersVoterStorage.voters.Goals as goal
 

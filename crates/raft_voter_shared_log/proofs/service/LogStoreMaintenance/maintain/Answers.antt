@@ -1,5 +1,5 @@
 use Rattle.std.proofs.Common.{ap, refl}
-use Rattle.raft_voter_outlines.specs.Kept.{outlines_in}
+use Rattle.raft_voter_outline.specs.Kept.{outlines_in}
 use Rattle.raft_voter_log.proofs.Purging.{purged_keeps, refused_keeps}
 use Rattle.raft_voter_shared_log.proofs.Keeping.{purged_fails, refused_fails, served_as}
 use Rattle.raft_voter_shared_log.proofs.service.LogStoreMaintenance.maintain.Goals as goal

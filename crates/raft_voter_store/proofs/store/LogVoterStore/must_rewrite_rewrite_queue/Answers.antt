@@ -1,5 +1,5 @@
 use Rattle.std.proofs.lemmas.Result.{IfErr-weaker, on_ok_weaker}
-use Rattle.raft_voter_standing_laws.specs.raft_log_engine_laws.proofs.Settling.{settled_held}
+use Rattle.raft_voter_durability_laws.specs.raft_log_engine_laws.proofs.Settling.{settled_held}
 use Rattle.raft_voter_store.proofs.Upkeep.{map_kept, purge_stopped}
 use Rattle.raft_voter_store.proofs.store.LogVoterStore.must_rewrite_rewrite_queue.Goals as goal
 

@@ -2,8 +2,8 @@ use Rattle.std.proofs.Common.{subst, sym, ◌∙◌}
 use Rattle.std.proofs.lemmas.Result.{on_err_weaker, on_ok_weaker}
 use Rattle.raft_voter_outline.specs.Outlines.{ChangesEach}
 use Rattle.raft_voter_outline.specs.State.{State}
-use Rattle.raft_voter_outlines.specs.Kept.{outlines_in}
-use Rattle.raft_voter_standing_laws.specs.Laws.{IsBare}
+use Rattle.raft_voter_outline.specs.Kept.{outlines_in}
+use Rattle.raft_voter_durability_laws.specs.Laws.{IsBare}
 use Rattle.raft_voter_store.proofs.Taking.{fresh_unkept, has_lent, kept_is, same_lent, steps_lent, steps_over}
 use Rattle.raft_voter_store.proofs.store.LogVoterStore.put_change.Goals as goal
 

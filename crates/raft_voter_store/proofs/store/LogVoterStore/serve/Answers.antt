@@ -1,7 +1,7 @@
 use Rattle.std.proofs.Common.{refl, ap, length, ◌∙◌}
 use Rattle.raft_log_engine.specs.raft_log_engine_core.specs.Reads.{shows_of}
 use Rattle.raft_voter.specs.Service.{refused_from}
-use Rattle.raft_voter_outlines.specs.Kept.{outlines_in}
+use Rattle.raft_voter_outline.specs.Kept.{outlines_in}
 use Rattle.raft_voter_store.proofs.Rounds.{answered_synced, answered_unwritten, cut_at, cut_unsynced, excused_synced}
 use Rattle.raft_voter_store.proofs.Silence.{never}
 use Rattle.raft_voter_store.proofs.store.LogVoterStore.serve.Goals.{then-wrote+in-Ok-sync, else-wrote}

@@ -1,6 +1,6 @@
 use Rattle.std.proofs.Common.{◌≡◌, ◌+◌, ◌-◌, ◌≤◌, All, false, length, vec_capacity, vec_len}
 use Rattle.raft_log_engine.specs.raft_log_engine_core.specs.Reads.{shows_of}
-use Rattle.raft_voter_outlines.specs.Kept.{outlines_in}
+use Rattle.raft_voter_outline.specs.Kept.{outlines_in}
 use Rattle.raft_voter_store.specs.Rounds.{Passes}
 use Rattle.raft_voter_store.specs.Silence.{AsksForNone, IfVotersStay, ReadsAlone}
 use Rattle.raft_voter_store.proofs.store.LogVoterStore.take_all.Given as goal

@@ -1,6 +1,6 @@
 use Rattle.raft_log_engine.specs.raft_log_engine_core.specs.Reads.{shows_of}
 use Rattle.raft_voter.specs.declared.service.RoundFault.{RoundFault}
-use Rattle.raft_voter_outlines.specs.Kept.{outlines_in}
+use Rattle.raft_voter_outline.specs.Kept.{outlines_in}
 use Rattle.raft_voter_store.proofs.Serving.{answers_round, cuts_off, may_refuse, of_answer, of_refusal}
 use Rattle.raft_voter_store.proofs.store.service.LogVoterStoreRoundService.serve.Goals as goal
 

@@ -1,0 +1,5 @@
+use Rattle.raft_log_active_file.specs.LayoutLayoutLaws.{places_are_fresh}
+use Rattle.raft_log_active_file.proofs.layout_laws.places_are_fresh.Goals as goal
+
+pub returns : goal.returns
+returns c = places_are_fresh

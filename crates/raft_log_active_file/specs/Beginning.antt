@@ -1,0 +1,34 @@
+-- How a queue of files begins on a disk on which it has no file.
+use Rattle.std.specs.Prelude.{ℕ, ◌<◌, List, []}
+use Rattle.raft_log_model_laws.specs.Item.{Record}
+use Rattle.raft_log_machine_laws.specs.Files.{fresh_files}
+use Rattle.raft_log_fs.specs.Disk.{Disk}
+use Rattle.raft_log_file_writer.specs.LogFormat.{Format}
+use Rattle.raft_log_file_writer.specs.LogQueue.{Past, LogFiles, IsAbsent}
+use Rattle.raft_log_fs.specs.Touching.{TouchesOnlyNames}
+use Rattle.raft_log_active_file.specs.Queue.{with_room}
+use Rattle.raft_log_active_file.specs.Standing.{IsPlace}
+use Rattle.raft_log_active_file.specs.Bridge.{IsFileQueue}
+
+-- A place for a queue: no number has a file, and a file may be created at each number's paths. Since `base` nothing has
+-- changed but the queue's own paths and files.
+pub record IsFresh {R : Type 0} (F : Format R) (own : List ℕ → Type 0) (base d : Disk) : Type 0 where
+  pub none : (m : ℕ) → m < F.limit → IsAbsent F m d
+  pub places : (m : ℕ) (path : List ℕ) → m < F.limit → F.IsPath m path → IsPlace path d
+  pub others : TouchesOnlyNames own base d
+
+-- A queue whose file 1 has this header and no record. `older` doesn't matter, as there are no older files.
+abbrev pub fresh_queue : {R : Type 0} → (ℕ → Past R) → List ℕ → LogFiles R
+fresh_queue older header = record {
+  older = older;
+  last = 1;
+  header = header;
+  stale = [];
+  durable = [];
+  pending = [];
+}
+
+-- if no file has the number 0, this is the machine's queue without records, in its file 1
+abbrev pub BeginsNumbered : {R E V : Type 0} → (R → Record E V) → Format R → Type 0
+BeginsNumbered {R} says F = (older : ℕ → Past R) (header : List ℕ) (room : ℕ) (d : Disk) → IsAbsent F 0 d
+    → IsFileQueue says F (with_room room (fresh_queue older header)) 1 1 d fresh_files

@@ -1,0 +1,32 @@
+-- What follows for the files of a queue, at any point inside any call.
+use Rattle.std.specs.Prelude.{◌≡◌, ℕ, ◌≤◌, List, length}
+use Rattle.raft_log_fs.specs.Disk.{Disk}
+use Rattle.raft_log_fs.specs.Image.{IsImage, IsSound}
+use Rattle.raft_log_file_writer.specs.LogFormat.{Format, CanTellFormat}
+use Rattle.raft_log_file_writer.specs.LogQueue.{LogFiles, HoldsLast, IsLeftover, kept_to, NoChanceInLast, KeepsQueue, IsReadable, Anything}
+use Rattle.raft_log_fs.specs.Touching.{TouchesOnlyNames}
+use Rattle.raft_log_active_file.specs.Standing.{Names, OwnsPaths, Stands}
+
+-- The queue is kept while its last file holds its records, and as a stop left it. After any stop without a CRC
+-- collision, reading gives all records of its earlier files and the durable ones of the last. Of the pending ones it
+-- gives some first ones.
+pub record FilesAreKept {R : Type 0} (F : Format R) (own : List ℕ → Type 0) : Type 0 where
+  pub holding : (base : Disk) (q : LogFiles R) (path : List ℕ) (id : ℕ) (N : Names) (d : Disk)
+      → Stands F own base q path id (HoldsLast F q) N d → KeepsQueue F q d
+  pub left_over : (base : Disk) (q : LogFiles R) (path : List ℕ) (id : ℕ) (N : Names) (d : Disk)
+      → Stands F own base q path id (IsLeftover F q) N d → KeepsQueue F q d
+
+-- a queue can be read from each number on from which no file is missing, whatever its last file holds
+abbrev pub FilesAreReadable : {R : Type 0} → Format R → (List ℕ → Type 0) → Type 0
+FilesAreReadable {R} F own = CanTellFormat F → (base : Disk) (q : LogFiles R) (path : List ℕ) (id : ℕ)
+    (N : Names) (d : Disk)
+    → IsSound d → Stands F own base q path id Anything N d → IsReadable F q d
+
+-- What a stop without a CRC collision leaves of a queue is the queue again, based on that image, with some first
+-- pending records, all durable.
+abbrev pub FilesRestart : {R : Type 0} → Format R → (List ℕ → Type 0) → Type 0
+FilesRestart {R} F own = CanTellFormat F → (base : Disk) (q : LogFiles R) (path : List ℕ) (id : ℕ)
+    (N : Names) (d image : Disk)
+    → Stands F own base q path id (HoldsLast F q) N d → IsImage d image → NoChanceInLast F q d image
+    → (count : ℕ) × (count ≤ length q.pending)
+    × Stands F own image (kept_to count q) path id (IsLeftover F (kept_to count q)) N image

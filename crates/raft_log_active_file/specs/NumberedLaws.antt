@@ -1,0 +1,49 @@
+-- What follows from a queue's files for the machine's numbered files.
+use Rattle.std.specs.Prelude.{◌≡◌, ℕ, ◌-◌, ◌≤◌, ◌⊎◌, List, [], ◌++◌}
+use Rattle.raft_log_model_laws.specs.Item.{Record}
+use Rattle.raft_log_machine_laws.specs.Files.{LogFile, FileQueue}
+use Rattle.raft_log_machine_laws.specs.Files.FileEvent.{Grow, Sync, Rotate, Raise, Read}
+use Rattle.raft_log_fs.specs.Disk.{Disk}
+use Rattle.raft_log_fs.specs.Image.{IsSound}
+use Rattle.raft_log_file_writer.specs.LawsChains.{Written}
+use Rattle.raft_log_file_writer.specs.KeepsSynced.{kept_records}
+use Rattle.raft_log_file_writer.specs.LogFormat.{Format, CanTellFormat}
+use Rattle.raft_log_file_writer.specs.LogQueue.{LogFiles, HoldsLast, IsLeftover, rotated}
+use Rattle.raft_log_active_file.specs.Queue.{with_more, synced}
+use Rattle.raft_log_active_file.specs.Standing.{Names, Stands}
+use Rattle.raft_log_active_file.specs.Bridge.{said, filed, IsFileQueue, ReadsAsFiles, StepsTo, GapsStay}
+
+-- whatever a stop leaves of a queue whose files are in place reads as its numbered files allow
+abbrev pub ReadsAsNumbered : {R E V : Type 0} → (R → Record E V) → Format R → (List ℕ → Type 0) → Type 0
+ReadsAsNumbered {R} {E} {V} says F own = CanTellFormat F → (base : Disk) (q : LogFiles R) (path : List ℕ)
+    (id : ℕ) (N : Names) (d : Disk)
+    → IsSound d → Stands F own base q path id (HoldsLast F q) N d ⊎ Stands F own base q path id
+    (IsLeftover F q) N d
+    → (low first : ℕ) (files : FileQueue E V) → IsFileQueue says F q low first d files
+    → ReadsAsFiles says F q low first d files
+
+-- Each change of the queue is a step of its numbered files: writing records, a sync, a rotation, a live range that
+-- begins later, and an open. The open reads some earlier files again, and keeps some first pending records. A disk with
+-- the same gaps changes nothing.
+pub record NumberedSteps {R E V : Type 0} (says : R → Record E V) (F : Format R) (q : LogFiles R)
+    (low first : ℕ)
+    (d : Disk) (files : FileQueue E V) : Type 0 where
+  pub elsewhere : (new : Disk) → GapsStay F q d new → IsFileQueue says F q low first new files
+  pub grows : (ws : List (Written R)) → StepsTo says F (Grow (said says ws)) files
+      (with_more ws q) low first d
+  pub syncs : StepsTo says F Sync files (synced q) low first d
+  pub rotates : (header stale : List ℕ) → StepsTo says F Rotate files (rotated header stale q) low first d
+  pub raises : (to : ℕ) → first ≤ to → to ≤ q.last
+      → (out stay : List (LogFile E V)) × (out ≡ filed says q.older first (to - first)) × StepsTo says F
+      (Raise out stay) files q low to d
+  pub reads_again : (to count : ℕ) (next : LogFiles R) → low ≤ to → to ≤ first → next.older ≡ q.older
+      → next.last ≡ q.last
+      → next.durable ≡ kept_records q.durable q.pending count → next.pending ≡ []
+      → (below again : List (LogFile E V)) × (kept lost : List (Record E V)) ×
+      (kept ++ lost ≡ files.pending)
+      × StepsTo says F (Read below again kept) files next low to d
+
+-- the numbered files of each queue take these steps
+abbrev pub TakesNumberedSteps : {R E V : Type 0} → (R → Record E V) → Format R → Type 0
+TakesNumberedSteps {R} {E} {V} says F = (q : LogFiles R) (low first : ℕ) (d : Disk) (files : FileQueue E V)
+    → IsFileQueue says F q low first d files → NumberedSteps says F q low first d files

@@ -1,0 +1,39 @@
+-- At which paths the files of a queue are: in the log's directories, under their names.
+use Rattle.std.specs.Prelude.{◌≡◌, ℕ, ◌-◌, ◌^◌, ◌⊎◌, List, [], ◌∷◌, ◌++◌, codes, min, length, slice_index_or, Contains}
+use Rattle.raft_log_record_base.specs.declared.pipe_log.LogQueue.{LogQueue}
+use Rattle.raft_log_fs.specs.Disk.{IsPlain}
+use Rattle.raft_log_file_format.specs.Name.{IsNamed, number_text, suffix_of}
+use Rattle.raft_log_active_file.specs.Layout.{has_sign, plain_place}
+
+-- a path in one of these directories, with a name with this suffix and this number
+pub record IsPathWith (suffix : List ℕ) (directories : List (List ℕ)) (n : ℕ) (path : List ℕ) : Type 0 where
+  pub directory : List ℕ
+  pub listed : Contains directories directory
+  pub name : List ℕ
+  pub named : IsNamed suffix name n
+  pub plain : IsPlain name
+  pub joined : path ≡ directory ++ 47 ∷ name
+
+-- the suffix of the names of a queue's files that are kept for recycling
+abbrev pub reserved_suffix_of : LogQueue → List ℕ
+reserved_suffix_of queue = suffix_of queue ++ codes ".reserved"
+
+-- a queue's own paths: those of its files, and of the files that it keeps for recycling
+abbrev pub IsOwnPath : LogQueue → List (List ℕ) → List ℕ → Type 0
+IsOwnPath queue directories path = (n : ℕ) × (IsPathWith (suffix_of queue) directories n path
+    ⊎ IsPathWith (reserved_suffix_of queue) directories n path)
+
+-- the directory with this place, or the main one if there is none
+abbrev pub directory_at : List (List ℕ) → ℕ → List ℕ
+directory_at directories place =
+    slice_index_or directories (plain_place (length directories) place) (slice_index_or directories 0 [])
+
+-- the path of a queue's file
+abbrev pub numbered_path : LogQueue → List (List ℕ) → ℕ → ℕ → List ℕ
+numbered_path queue directories place n = directory_at directories place
+    ++ 47 ∷ (number_text (has_sign (length directories) place) n ++ suffix_of queue)
+
+-- the path of a file that a queue keeps for recycling; a number above the greatest one has the path of the greatest one
+abbrev pub reserved_path : LogQueue → List (List ℕ) → ℕ → ℕ → List ℕ
+reserved_path queue directories place n =
+    numbered_path queue directories place (min n (10 ^ 16 - 1)) ++ codes ".reserved"

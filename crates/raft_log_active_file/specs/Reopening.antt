@@ -1,0 +1,18 @@
+-- The last file of a queue as a stop left it: how far it was read, and how the queue continues.
+use Rattle.std.specs.Prelude.{◌≡◌, ℕ, ◌+◌, Option, Some, None, List, [], length}
+use Rattle.raft_log_fs.specs.Disk.{File}
+use Rattle.raft_log_file_writer.specs.LawsChains.{Written, Reads, spelled}
+use Rattle.raft_log_file_writer.specs.LogFormat.{Format, HasHeader}
+use Rattle.raft_log_file_writer.specs.LogQueue.{LogFiles, recent}
+
+-- how far a file was read: its header and its whole records end at this offset, or it has no header
+abbrev pub IsReadTo : {R : Type 0} → Format R → ℕ → Option ℕ → File → Type 0
+IsReadTo {R} F n (Some end) file = (header : List ℕ) × (ws : List (Written R))
+    × HasHeader F header file.content × Reads (F.IsFrame n header) (length header) ws file.content
+    × (end ≡ length header + length (spelled ws))
+IsReadTo F n None file = (header : List ℕ) → HasHeader F header file.content → ⊥
+
+-- the queue after its last file was read: all its records are durable, with this header and these stale bytes
+abbrev pub reread : {R : Type 0} → List ℕ → List ℕ → LogFiles R → LogFiles R
+reread header stale q =
+    record q { header = header; stale = stale; durable = recent q; pending = [] }

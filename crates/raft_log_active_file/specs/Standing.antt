@@ -1,0 +1,50 @@
+-- The files of a queue on a disk, at any point inside any call: one relation, `Stands`, whose parameter `P` is what is
+-- known of the last file.
+use Rattle.std.specs.Prelude.{◌≡◌, ℕ, ◌<◌, ◌≤◌, ◌⊎◌, false, Option, Some, None, List}
+use Rattle.raft_log_fs.specs.Disk.{File, Disk, HasDirectory}
+use Rattle.raft_log_file_writer.specs.LogFormat.{Format}
+use Rattle.raft_log_file_writer.specs.LogQueue.{LogFiles, IsPast}
+use Rattle.raft_log_fs.specs.Touching.{HasFile, TouchesOnlyNames}
+
+-- which file is at which path
+abbrev pub Names : Type 0
+Names = List ℕ → Option ℕ
+
+-- no file has two paths
+abbrev pub HaveOneName : Names → Type 0
+HaveOneName N = (a b : List ℕ) (id : ℕ) → N a ≡ Some id → N b ≡ Some id → a ≡ b
+
+-- no number below this one has two files
+abbrev pub HaveOneFile : {R : Type 0} → Format R → ℕ → Names → Type 0
+HaveOneFile F end N = (m i j : ℕ) (a b : List ℕ) → m < end → F.IsPath m a → F.IsPath m b
+    → N a ≡ Some i → N b ≡ Some j → i ≡ j
+
+-- a file may be created or renamed here: no directory has the path, and its parent directory exists
+pub record IsPlace (path : List ℕ) (d : Disk) : Type 0 where
+  pub apart : d.directories path ≡ false
+  pub home : HasDirectory path d
+
+-- a queue's own paths are those of its files, and possibly others that it keeps for later
+abbrev pub OwnsPaths : {R : Type 0} → Format R → (List ℕ → Type 0) → Type 0
+OwnsPaths F own = (m : ℕ) (path : List ℕ) → m < F.limit → F.IsPath m path → own path
+
+-- The files of a queue, on a disk with these names.
+-- - The last file has this path and this node number, and `P` holds for it.
+-- - No other file has its number, and no number above it has a file.
+-- - A file with a lower number is that file as it was finished, and no other file has that number.
+-- - Since `base`, nothing has changed but the queue's own paths and files.
+pub record Stands {R : Type 0} (F : Format R) (own : List ℕ → Type 0) (base : Disk) (q : LogFiles R)
+    (path : List ℕ) (id : ℕ) (P : File → Type 0) (N : Names) (d : Disk) : Type 0 where
+  pub names : d.names ≡ N
+  pub bound : q.last < F.limit
+  pub at : F.IsPath q.last path
+  pub named : N path ≡ Some id
+  pub alone : (other : List ℕ) (j : ℕ) → F.IsPath q.last other → N other ≡ Some j → j ≡ id
+  pub none : (m : ℕ) (other : List ℕ) → q.last < m → m < F.limit → F.IsPath m other → N other ≡ None
+  pub headed : F.IsHeader q.header
+  pub places : (m : ℕ) (other : List ℕ) → m < F.limit → F.IsPath m other → IsPlace other d
+  pub file : HasFile id P d
+  pub older : (m j : ℕ) (other : List ℕ) → m < q.last → F.IsPath m other → N other ≡ Some j
+      → HasFile j (IsPast F m (q.older m)) d
+  pub single : HaveOneFile F q.last N
+  pub others : TouchesOnlyNames own base d

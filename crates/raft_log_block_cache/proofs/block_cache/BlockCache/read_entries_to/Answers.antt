@@ -1,0 +1,8 @@
+use Rattle.std.proofs.lemmas.Result.{err_from_is_err_and}
+use Rattle.raft_log_block_cache.proofs.Entries.{none_read}
+use Rattle.raft_log_block_cache.proofs.block_cache.BlockCache.read_entries_to.Goals as goal
+
+pub returns-in_err-reserve-clause-err : goal.returns-in_err-reserve-clause-err
+returns-in_err-reserve-clause-err g c =
+    let p = err_from_is_err_and c.from_residual.result c.from_residual.ensures.1 in
+    rw p.1 (none_read g.M.Message.reading (g.P.PipeLog.shown c.args.pipes.now) c.args.entries.now c.args.self.now p.0 p.2)

@@ -1,0 +1,25 @@
+-- What the record of a batch contains, whichever file it is signed for.
+use Rattle.std.specs.Prelude.{◌≡◌, ℕ, List, [], map}
+use Rattle.raft_log_model_laws.specs.Item.{Record}
+use Rattle.raft_log_record_base.specs.Files.{signature_of}
+use Rattle.raft_log_record_base.specs.declared.pipe_log.LogQueue.{LogQueue}
+use Rattle.raft_log_record_base.specs.declared.pipe_log.LogFileContext.{LogFileContext}
+use Rattle.raft_log_record_items.specs.Writing.{plain_item}
+use Rattle.raft_log_record_batches.specs.Batch.{Batch, batch_bytes}
+use Rattle.raft_log_active_file.specs.declared.record.LogRecord.{LogRecord}
+use Rattle.raft_log_dual_pipes.specs.Queues.{SaysRecord}
+use Rattle.raft_log_dual_pipes.specs.Own.{log_layout}
+
+-- the bytes of a batch's record in this file
+abbrev pub signed_for : Batch → LogFileContext → List ℕ
+signed_for b context = batch_bytes (signature_of context) b.items b.entries
+
+-- what a batch's record contains: the items without their places, and the bytes of their entries
+abbrev pub record_said : Batch → LogRecord
+record_said b = record { items = map plain_item b.items; entries = b.entries }
+
+-- Unless the batch is empty, the bytes are its record, whichever file of a queue they are signed for.
+abbrev pub SaysItself : (LogFileContext → List ℕ) → Batch → Type 0
+SaysItself signed b = (b.items ≡ [] → ⊥) → (says : LogRecord → Record (List ℕ) (List ℕ)) (queue : LogQueue)
+    (directories : List (List ℕ))
+    → SaysRecord says (log_layout queue directories) queue signed (says (record_said b))

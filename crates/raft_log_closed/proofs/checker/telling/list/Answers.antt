@@ -1,8 +1,0 @@
-use Rattle.raft_log_closed.proofs.Telling.{list_begins, lists_map}
-use Rattle.raft_log_closed.proofs.checker.telling.list.Goals as goal
-
-pub loop-finding-init : goal.loop-finding-init
-loop-finding-init c = record { all = list_begins _ _ _ c.new-findings.ensures.items c.into_iter-finding-iterator.ensures.into_iter_gives.0; ordered = c.into_iter-finding-iterator.ensures.into_iter_gives.5 }
-
-pub returns : goal.returns
-returns c = lists_map c.args.found c.loop-finding.findings.items _ c.loop-finding.invariant.ordered c.in-None.ensures.steps.0 c.loop-finding.invariant.all

@@ -1,5 +1,0 @@
-use Rattle.raft_log_closed.specs.Checking.FailsToCheck.{unfound}
-use Rattle.raft_log_closed.proofs.checking.find.Goals as goal
-
-pub returns-in-Err-scan-clause-err : goal.returns-in-Err-scan-clause-err
-returns-in-Err-scan-clause-err g c = unfound c.in-Ok.builder c.in-Ok.ensures.ok c.in-Err-scan.ensures.err

@@ -1,5 +1,0 @@
-use Rattle.raft_log_disk.proofs.CauseLaws.{undisturbed_has_no_cause}
-use Rattle.raft_log_disk.proofs.causes.undisturbed_disk_has_no_cause.Goals as goal
-
-pub returns : goal.returns
-returns g c = undisturbed_has_no_cause g.Q.FilesInQuestion.asks_for

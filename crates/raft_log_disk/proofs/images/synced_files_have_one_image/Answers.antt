@@ -1,5 +1,0 @@
-use Rattle.raft_log_disk.proofs.ImageLaws.{synced_is_only_image}
-use Rattle.raft_log_disk.proofs.images.synced_files_have_one_image.Goals as goal
-
-pub returns : goal.returns
-returns c = synced_is_only_image

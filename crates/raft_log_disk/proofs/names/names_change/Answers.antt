@@ -1,5 +1,0 @@
-use Rattle.raft_log_disk.proofs.NamesLaws.{names_change}
-use Rattle.raft_log_disk.proofs.names.names_change.Goals as goal
-
-pub returns : goal.returns
-returns c = names_change

@@ -1,3 +1,0 @@
-mod Made
-mod Files
-pub mod Pieces

@@ -1,5 +1,0 @@
-pub mod Device
-pub mod Following
-pub mod Directory
-pub mod Space
-pub mod WritingBack

@@ -1,3 +1,0 @@
-pub mod Sharing
-pub mod Filling
-pub mod Resting

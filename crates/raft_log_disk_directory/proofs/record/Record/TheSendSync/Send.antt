@@ -1,6 +1,0 @@
-use denote.Param.Send.{IsSend}
-use Rattle.raft_log_disk_directory.proofs.Sharing.{record_send}
-use Rattle.raft_log_disk_directory.specs.contracts.record.Record.{the_row}
-
-pub send : IsSend the_row
-send = record_send

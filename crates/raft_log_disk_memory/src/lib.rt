@@ -1,8 +1,0 @@
-//! A file system in memory, for tests and simulated crashes. Calls can be made to fail, whole or in part; it can stop
-//! at any call; places of its files can be made unreadable. After a stop it gives what a crash leaves.
-#![tactic(auto)]
-
-pub mod memory;
-
-pub use memory::MemoryFileSystem;
-pub use raft_log_disk_storage::{Piece, Remainder};

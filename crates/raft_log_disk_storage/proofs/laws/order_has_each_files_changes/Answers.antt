@@ -1,5 +1,0 @@
-use Rattle.raft_log_disk_storage.proofs.OwnLaws.{order_is_the_files}
-use Rattle.raft_log_disk_storage.proofs.laws.order_has_each_files_changes.Goals as goal
-
-pub returns : goal.returns
-returns c = order_is_the_files

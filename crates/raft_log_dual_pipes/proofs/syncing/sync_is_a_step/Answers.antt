@@ -1,0 +1,5 @@
+use Rattle.raft_log_dual_pipes.proofs.OtherSteps.{sync_is_a_step}
+use Rattle.raft_log_dual_pipes.proofs.syncing.sync_is_a_step.Goals as goal
+
+pub returns : goal.returns
+returns g c log = sync_is_a_step (g.G.LogQueues.queues log)

@@ -1,0 +1,43 @@
+-- How a log begins, and the log that a stop leaves.
+use Rattle.std.specs.Prelude.{◌≡◌, ℕ, ◌<◌, List, []}
+use Rattle.raft_log_machine_laws.specs.Fresh.{nothing_stands}
+use Rattle.raft_log_fs.specs.Disk.{Disk}
+use Rattle.raft_log_file_writer.specs.LogFormat.{Format}
+use Rattle.raft_log_file_writer.specs.LogQueue.{Past, IsAbsent, kept_to}
+use Rattle.raft_log_active_file.specs.Queue.{with_room}
+use Rattle.raft_log_active_file.specs.Beginning.{fresh_queue}
+use Rattle.raft_log_directory_laws.specs.Model.{no_files}
+use Rattle.raft_log_directory_laws.specs.Log.{IsLogOf}
+use Rattle.raft_log_dual_pipes.specs.Queues.{TwoQueues}
+use Rattle.raft_log_dual_pipes.specs.State.{Spanned, LogOnDisk, Ties}
+use Rattle.raft_log_dual_pipes.specs.Crash.{readings_of}
+use Rattle.raft_log_dual_pipes.specs.Turning.{in_span}
+
+-- a queue that has begun in its file 1, with this header; zeros may have been preallocated
+abbrev pub begun_queue : {R : Type 0} → (ℕ → Past R) → List ℕ → ℕ → Spanned R
+begun_queue older header room = record { first = 1; files = with_room room (fresh_queue older header) }
+
+-- if both queues have begun and have no file 0, the numbered files are those in which nothing was written
+abbrev pub BegunLogIsEmpty : {R E V : Type 0} → TwoQueues R E V → Type 0
+BegunLogIsEmpty {R} log = (append rewrite : Spanned R) (d : Disk)
+    → ((older : ℕ → Past R) × (header : List ℕ) × (room : ℕ) × (append ≡ begun_queue older header room))
+    → ((older : ℕ → Past R) × (header : List ℕ) × (room : ℕ) × (rewrite ≡ begun_queue older header room))
+    → IsAbsent log.append.format 0 d → IsAbsent log.rewrite.format 0 d
+    → Ties log (record { append = append; rewrite = rewrite; disk = d }) no_files
+
+-- no number of the queue has a file
+abbrev pub HasNoFile : {R : Type 0} → Format R → Disk → Type 0
+HasNoFile F d = (m : ℕ) → m < F.limit → IsAbsent F m d
+
+-- a disk without log files is the empty log
+abbrev pub NoFilesAreNothing : {R E V : Type 0} → TwoQueues R E V → Type 0
+NoFilesAreNothing {R} log = (s : LogOnDisk R) → HasNoFile log.append.format s.disk
+    → HasNoFile log.rewrite.format s.disk → IsLogOf (readings_of log) s nothing_stands []
+
+-- the log as a stop left it, which kept `append` and `rewrite` pending records of the two queues
+abbrev pub stopped_log : {R : Type 0} → LogOnDisk R → ℕ → ℕ → Disk → LogOnDisk R
+stopped_log s append rewrite image = record {
+  append = in_span s.append (kept_to append s.append.files);
+  rewrite = in_span s.rewrite (kept_to rewrite s.rewrite.files);
+  disk = image;
+}

@@ -1,0 +1,118 @@
+-- Closing the pipes of a log: each active file is finished, then the files kept for recycling get reserved names.
+use Rattle.std.specs.Prelude.{◌≡◌, ◌⊎◌, Some, None, List}
+use Rattle.raft_log_model_laws.specs.Item.{Record}
+use Rattle.raft_log_model_laws.specs.Groups.{Map}
+use Rattle.raft_log_fs.specs.Disk.{Disk}
+use Rattle.raft_log_file_writer.specs.LogQueue.{LogFiles}
+use Rattle.raft_log_active_file.specs.Queue.{settled}
+use Rattle.raft_log_active_file.specs.Rotation.{StandsWithRecords}
+use Rattle.raft_log_file_pipe.specs.Files.{Listed}
+use Rattle.raft_log_file_pipe.specs.Closing.{AreBelow, IsSettledBy, LeavesClosed, StaysLeft}
+use Rattle.raft_log_file_pipe.specs.declared.pipe_files.PipeFiles.{PipeFiles}
+use Rattle.raft_log_directory_laws.specs.Model.{Files}
+use Rattle.raft_log_directory_laws.specs.Moves.{Moved}
+use Rattle.raft_log_directory_laws.specs.Calls.{Which, LeavesOut, Settles, FailsWhole}
+use Rattle.raft_log_directory_laws.specs.Log.{View, IsAt, ViewEndsAt}
+use Rattle.raft_log_dual_pipes.specs.Queues.{TwoQueues, AreTwoQueues, layout_at}
+use Rattle.raft_log_dual_pipes.specs.State.{LogOnDisk, spanned_at, Pipes, Run, Ties}
+use Rattle.raft_log_dual_pipes.specs.Turning.{in_span}
+use Rattle.raft_log_dual_pipes.specs.Steps.{next_log}
+use Rattle.raft_log_dual_pipes.specs.Lying.{OpenPipes, none_open, with_open, RunOrLie, LeavesQueue}
+
+-- the queue's last file holds its records
+abbrev pub LeftAt : {R E V : Type 0} → TwoQueues R E V → Which → Disk → LogFiles R → Type 0
+LeftAt log which d files = StandsWithRecords (layout_at which log).format (layout_at which log).own d files d
+
+-- the queue unchanged, or with all of it synced
+abbrev pub IsOrIsSettled : {R : Type 0} → LogFiles R → LogFiles R → Type 0
+IsOrIsSettled q files = (files ≡ q) ⊎ (files ≡ settled q)
+
+-- Closing one pipe, in any state of the other queue: its records are held, and all of them may be synced. If its active
+-- file was finished, they are synced. Giving reserved names to the files kept for recycling changes nothing.
+pub record ClosesBeside {R E V : Type 0} (log : TwoQueues R E V) (which : Which) (o : OpenPipes)
+    (files : PipeFiles) (s : LogOnDisk R) : Type 0 where
+  pub closes : (new : Disk)
+      → LeavesClosed (layout_at which log).format (layout_at which log).own (layout_at which log).paths files
+      s.disk new
+      → LeavesQueue log which o None s new
+      (λ next. IsOrIsSettled (spanned_at which s).files next × LeftAt log which new next)
+      (LeavesOut (Ties log) which)
+  pub settles : (new : Disk)
+      → IsSettledBy (layout_at which log).format (layout_at which log).own (layout_at which log).paths files
+      s.disk new
+      → LeavesQueue log which o None s new
+      (λ next. (next ≡ settled (spanned_at which s).files) × LeftAt log which new next)
+      (Settles (Ties log) which)
+  pub below : AreBelow (spanned_at which s).files.last files.recycled.items
+  pub below_first : AreBelow (spanned_at which s).first files.recycled.items
+
+-- closing a pipe keeps its records, all of which may be synced, in any state of the other queue
+abbrev pub CloseIsAStep : {R E V : Type 0} → TwoQueues R E V → Type 0
+CloseIsAStep {R} log = AreTwoQueues log → (which : Which) (o : OpenPipes) (files : PipeFiles)
+    (s : LogOnDisk R) → RunOrLie log (with_open which o (Some files)) s → ClosesBeside log which o files s
+
+-- giving reserved names to files kept for recycling removes nothing from a queue whose pipe is closed
+abbrev pub NamesAreReserved : {R E V : Type 0} → TwoQueues R E V → Type 0
+NamesAreReserved {R} log = AreTwoQueues log → (which : Which) (o : OpenPipes) (kept : List Listed)
+    (s : LogOnDisk R) (new : Disk) → RunOrLie log (with_open which o None) s
+    → LeftAt log which s.disk (spanned_at which s).files → AreBelow (spanned_at which s).files.last kept
+    → AreBelow (spanned_at which s).first kept
+    → StaysLeft (layout_at which log).format (layout_at which log).own kept s.disk new
+    → LeftAt log which new (spanned_at which s).files
+    × RunOrLie log (with_open which o None) (next_log which s (spanned_at which s).files new)
+    × FailsWhole (Ties log) (Ties log) s (next_log which s (spanned_at which s).files new)
+
+-- the disks that closing both pipes goes through: both active files are finished first
+pub record ClosesBoth {R E V : Type 0} (log : TwoQueues R E V) (p : Pipes) (old new : Disk) : Type 0 where
+  pub one : Disk
+  pub two : Disk
+  pub three : Disk
+  pub append : LeavesClosed log.append.format log.append.own log.append.paths p.append old one
+  pub rewrite : LeavesClosed log.rewrite.format log.rewrite.own log.rewrite.paths p.rewrite one two
+  pub append_names : StaysLeft log.append.format log.append.own p.append.recycled.items two three
+  pub rewrite_names : StaysLeft log.rewrite.format log.rewrite.own p.rewrite.recycled.items three new
+
+-- the log with these files of the two queues, on this disk
+abbrev pub closed_log : {R : Type 0} → LogOnDisk R → LogFiles R → LogFiles R → Disk → LogOnDisk R
+closed_log s append rewrite d =
+    record { append = in_span s.append append; rewrite = in_span s.rewrite rewrite; disk = d }
+
+-- A closed log on the disk: the files of both queues are unchanged, or all synced, and the numbered files follow. What
+-- an engine's contracts stated of the log is still true, with some first pending batches synced now.
+pub record LiesClosed {R E V : Type 0} (log : TwoQueues R E V) (s : LogOnDisk R) (new : Disk) : Type 0 where
+  pub append : LogFiles R
+  pub rewrite : LogFiles R
+  pub append_is : IsOrIsSettled s.append.files append
+  pub rewrite_is : IsOrIsSettled s.rewrite.files rewrite
+  pub lies : RunOrLie log none_open (closed_log s append rewrite new)
+  pub moves : (f : Files E V) → Ties log s f → (a : Moved f.append_from f.append)
+      × (r : Moved f.rewrite_from f.rewrite) × Ties log (closed_log s append rewrite new)
+      (record { append = a.queue; append_from = a.from; rewrite = r.queue; rewrite_from = r.from })
+  pub ends : (v : View E V) (m : Map E V) (pending : List (Record E V)) → IsAt (Ties log s) v m pending
+      → ViewEndsAt (Ties log (closed_log s append rewrite new)) v m pending
+
+-- a closed log on the disk, with all of both queues synced
+pub record LiesSettled {R E V : Type 0} (log : TwoQueues R E V) (s : LogOnDisk R) (new : Disk) : Type 0 where
+  pub closed : LiesClosed log s new
+  pub append_is : closed.append ≡ settled s.append.files
+  pub rewrite_is : closed.rewrite ≡ settled s.rewrite.files
+
+-- a log whose two pipes were closed is a closed log on the disk, even if calls failed meanwhile
+abbrev pub ClosedLogIsALog : {R E V : Type 0} → TwoQueues R E V → Type 0
+ClosedLogIsALog {R} log = AreTwoQueues log → (p : Pipes) (s : LogOnDisk R) (new : Disk) → Run log p s
+    → ClosesBoth log p s.disk new → LiesClosed log s new
+
+-- the disks that closing both pipes goes through, if both active files are finished
+pub record SettlesBoth {R E V : Type 0} (log : TwoQueues R E V) (p : Pipes) (old new : Disk) : Type 0 where
+  pub one : Disk
+  pub two : Disk
+  pub three : Disk
+  pub append : IsSettledBy log.append.format log.append.own log.append.paths p.append old one
+  pub rewrite : IsSettledBy log.rewrite.format log.rewrite.own log.rewrite.paths p.rewrite one two
+  pub append_names : StaysLeft log.append.format log.append.own p.append.recycled.items two three
+  pub rewrite_names : StaysLeft log.rewrite.format log.rewrite.own p.rewrite.recycled.items three new
+
+-- a log whose two active files were finished is a closed log on the disk, and all of it is synced
+abbrev pub SettledLogIsALog : {R E V : Type 0} → TwoQueues R E V → Type 0
+SettledLogIsALog {R} log = AreTwoQueues log → (p : Pipes) (s : LogOnDisk R) (new : Disk) → Run log p s
+    → SettlesBoth log p s.disk new → LiesSettled log s new

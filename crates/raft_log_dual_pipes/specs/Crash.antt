@@ -1,0 +1,50 @@
+-- What a crash leaves of a log on a disk, and what a recovery may read of it.
+use Rattle.std.specs.Prelude.{◌≡◌, ℕ, ◌≤◌, List, [], ◌∷◌, map}
+use Rattle.raft_log_model_laws.specs.Item.{Record}
+use Rattle.raft_log_machine_laws.specs.Files.{LogFile}
+use Rattle.raft_log_fs.specs.Disk.{Disk}
+use Rattle.raft_log_fs.specs.Image.{IsImage, IsSound}
+use Rattle.raft_log_file_writer.specs.LogFormat.{Format}
+use Rattle.raft_log_file_writer.specs.LogQueue.{Found, NoChanceInLast, ReadsFrom}
+use Rattle.raft_log_active_file.specs.Bridge.{logged}
+use Rattle.raft_log_directory_laws.specs.Model.{Files}
+use Rattle.raft_log_directory_laws.specs.Images.{Readings, Allows, empty_file}
+use Rattle.raft_log_dual_pipes.specs.Queues.{TwoQueues, AreTwoQueues}
+use Rattle.raft_log_dual_pipes.specs.State.{LogOnDisk, HoldsBoth, Ties}
+
+-- A crash may leave the other log: its disk is an image without a CRC collision in the last file of either queue, and
+-- both live ranges begin at the same numbers.
+pub record IsLeftByCrash {R E V : Type 0} (log : TwoQueues R E V) (s image : LogOnDisk R) : Type 0 where
+  pub disk : IsImage s.disk image.disk
+  pub append : NoChanceInLast log.append.format s.append.files s.disk image.disk
+  pub rewrite : NoChanceInLast log.rewrite.format s.rewrite.files s.disk image.disk
+  pub append_first : image.append.first ≡ s.append.first
+  pub rewrite_first : image.rewrite.first ≡ s.rewrite.first
+
+-- what is found of the files from a number on, as numbered files; if none is there, an empty file 1
+abbrev pub IsReadAs : {R E V : Type 0} → (R → Record E V) → ℕ → List (Found R) → List (LogFile E V) → Type 0
+IsReadAs says s [] files = (s ≡ 1) × (files ≡ empty_file ∷ [])
+IsReadAs says s (f ∷ fs) files = files ≡ map (logged says) (f ∷ fs)
+
+-- a recovery may read these files of a queue: from a number on, up to the live range's first file, all to the last
+abbrev pub MayRead : {R E V : Type 0} → (R → Record E V) → Format R → ℕ → Disk → ℕ → List (LogFile E V)
+    → Type 0
+MayRead {R} says F first d s files =
+    (s ≤ first) × (found : List (Found R)) × ReadsFrom F d s found × IsReadAs says s found files
+
+-- how a log is read of a disk
+abbrev pub readings_of : {R E V : Type 0} → TwoQueues R E V → Readings (LogOnDisk R) E V
+readings_of log = record {
+  leaves = λ s image. IsLeftByCrash log s image;
+  rewrite = λ image s files. MayRead log.says log.rewrite.format image.rewrite.first image.disk s files;
+  append = λ image s files. MayRead log.says log.append.format image.append.first image.disk s files;
+}
+
+-- the numbered files allow each image of the log
+abbrev pub AllowsIn : {R E V : Type 0} → TwoQueues R E V → LogOnDisk R → Files E V → Type 0
+AllowsIn log s f = Allows (readings_of log) s f
+
+-- if the records of both queues are held, their numbered files allow each image
+abbrev pub HeldIsAllowed : {R E V : Type 0} → TwoQueues R E V → Type 0
+HeldIsAllowed {R} {E} {V} log = AreTwoQueues log → (s : LogOnDisk R) (f : Files E V)
+    → IsSound s.disk → HoldsBoth log s → Ties log s f → AllowsIn log s f

@@ -1,0 +1,59 @@
+-- A pipe fails while an engine runs over both: the log is on the disk, and may be opened again.
+use Rattle.std.specs.Prelude.{◌≡◌, ℕ, ◌⊎◌, None, List, [], ◌∷◌, ◌++◌}
+use Rattle.raft_log_model_laws.specs.Item.{Record}
+use Rattle.raft_log_model_laws.specs.Groups.{Map, taken}
+use Rattle.raft_log_fs.specs.Disk.{Disk}
+use Rattle.raft_log_record_base.specs.declared.errors.Error.TheVariants as errors
+use Rattle.raft_log_record_base.specs.declared.pipe_log.LogQueue.{LogQueue}
+use Rattle.raft_log_record_base.specs.declared.pipe_log.LogFileContext.{LogFileContext}
+use Rattle.raft_log_file_pipe.specs.Appending.{AppendFails}
+use Rattle.raft_log_file_pipe.specs.Exits.{FailsToRotate, FailsToSyncPipe}
+use Rattle.raft_log_file_pipe.specs.declared.pipe_files.PipeFiles.{PipeFiles}
+use Rattle.raft_log_file_pipe.specs.declared.new_files.NewFiles.{NewFiles}
+use Rattle.raft_log_directory_laws.specs.Calls.{Which}
+use Rattle.raft_log_directory_laws.specs.Calls.Which.{InAppend}
+use Rattle.raft_log_directory_laws.specs.Log.{View}
+use Rattle.raft_log_directory_laws.specs.Tables.{GrowsTo}
+use Rattle.raft_log_dual_pipes.specs.Queues.{TwoQueues, AreTwoQueues, layout_at, SaysRecord}
+use Rattle.raft_log_dual_pipes.specs.State.{Pipes, pipe_at}
+use Rattle.raft_log_dual_pipes.specs.Lying.{OpenPipes, both_open, with_open}
+use Rattle.raft_log_dual_pipes.specs.OnDisk.{LogLiesOn}
+use Rattle.raft_log_dual_pipes.specs.Writing.{IsAtOn}
+
+-- in a log that is on the disk, some first batches are synced, and the others are pending
+pub record LogEndsLying {R E V : Type 0} (log : TwoQueues R E V) (o : OpenPipes) (d : Disk) (m : Map E V)
+    (pending : List (Record E V)) : Type 0 where
+  pub done : List (Record E V)
+  pub rest : List (Record E V)
+  pub splits : done ++ rest ≡ pending
+  pub lies : LogLiesOn log o d (taken m done) rest
+
+-- the pipes after that of one queue has failed
+abbrev pub failed_pipe : Which → Pipes → OpenPipes
+failed_pipe which p = with_open which (both_open p) None
+
+-- What is on the disk after a pipe fails. At a sync, the log is unchanged. At a rotation, it is the same, but some
+-- first batches may be synced now. At a batch, it is the log with the batch, or without it.
+pub record FailedPipeLeavesALog {R E V : Type 0} (log : TwoQueues R E V) (p : Pipes) (old : Disk)
+    (v : View E V) (m : Map E V) (pending : List (Record E V)) : Type 0 where
+  pub sync : (which : Which) (new : Disk)
+      → FailsToSyncPipe (layout_at which log).format (layout_at which log).own (layout_at which log).paths
+      (pipe_at which p) old new
+      → LogLiesOn log (failed_pipe which p) new m pending
+  pub rotation : (which : Which) (header : List ℕ) (new : Disk)
+      → FailsToRotate (layout_at which log).format (layout_at which log).own (layout_at which log).paths header
+      (pipe_at which p) old new
+      → LogEndsLying log (failed_pipe which p) new m pending
+  pub batch : (u : ℕ → View E V) (begin : NewFiles) (queue : LogQueue) (signed : LogFileContext → List ℕ)
+      (y : Record E V) → SaysRecord log.says log.append queue signed y → (after : PipeFiles) (new : Disk)
+      → AppendFails log.append.format log.append.own log.append.paths begin queue signed p.append after
+      errors.Failed old new
+      → after.first_seq ≡ p.append.first_seq → ((n : ℕ) → GrowsTo y n v (u n))
+      → LogEndsLying log (failed_pipe InAppend p) new m pending
+      ⊎ LogEndsLying log (failed_pipe InAppend p) new m (pending ++ y ∷ [])
+
+-- after a pipe of an engine's log fails, that log is on the disk
+abbrev pub FailedPipesLeaveLogs : {R E V : Type 0} → TwoQueues R E V → Type 0
+FailedPipesLeaveLogs {R} {E} {V} log = AreTwoQueues log → (p : Pipes) (old : Disk) (v : View E V)
+    (m : Map E V) (pending : List (Record E V)) → IsAtOn log p old v m pending
+    → FailedPipeLeavesALog log p old v m pending

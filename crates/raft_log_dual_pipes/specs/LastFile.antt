@@ -1,0 +1,31 @@
+-- Which file of a queue is its active one after an append succeeded or failed, and which files are listed after a
+-- purge.
+use Rattle.std.specs.Prelude.{◌≡◌, ◌⊎◌, ℕ, suc}
+use Rattle.raft_log_record_base.specs.declared.errors.Error.{Error}
+use Rattle.raft_log_record_base.specs.declared.errors.Error.TheVariants as errors
+use Rattle.raft_log_file_pipe.specs.Purging.{IsRaised}
+use Rattle.raft_log_directory_laws.specs.Calls.{Which}
+use Rattle.raft_log_dual_pipes.specs.State.{pipe_at}
+use Rattle.raft_log_dual_pipes.specs.Numbers.{IsFull}
+use Rattle.raft_log_dual_pipes.specs.Pipes.{LogPipes, files_of, one_at}
+
+-- the number of a queue's active file
+abbrev pub last_of : Which → LogPipes → ℕ
+last_of which v = (pipe_at which (files_of v)).active.seq
+
+-- the number of the file that a record goes into: the next one if the active file is full, otherwise the active file
+abbrev pub IsNextIfFull : Which → LogPipes → ℕ → Type 0
+IsNextIfFull which v n = (IsFull which v × (n ≡ suc (last_of which v)))
+    ⊎ ((IsFull which v → ⊥) × (n ≡ last_of which v))
+
+-- After `Io` the active file is the one that the record was to go into, and after `TryAgain` the next one.
+abbrev pub TurnsBehind : Which → Error → LogPipes → LogPipes → Type 0
+TurnsBehind which (errors.Io kind) v w = IsNextIfFull which v (last_of which w)
+TurnsBehind which (errors.TryAgain text) v w =
+    (n : ℕ) × IsNextIfFull which v n × (last_of which w ≡ suc n)
+TurnsBehind which _ v w = Unit {0}
+
+-- the files below a number have left the live range, and as many as the capacity allows are kept for recycling
+abbrev pub RaisesPipe : Which → ℕ → LogPipes → LogPipes → Type 0
+RaisesPipe which seq v w = IsRaised (one_at which v).settings.capacity seq (pipe_at which (files_of v))
+    (pipe_at which (files_of w))

@@ -1,0 +1,121 @@
+-- What follows the pipe's records in its active file right after each call, and when that excludes CRC collisions.
+use Rattle.std.specs.Prelude.{◌≡◌, ℕ, ◌<◌, false, Option, Some, List, [], ◌∷◌, drop, length, suc}
+use Rattle.raft_log_fs.specs.Disk.{Disk, File, zeros}
+use Rattle.raft_log_fs.specs.Exits.{Syncs}
+use Rattle.raft_log_fs.specs.Image.{IsImage}
+use Rattle.raft_log_fs.specs.Touching.{HasFile}
+use Rattle.raft_log_record_base.specs.declared.pipe_log.LogQueue.{LogQueue}
+use Rattle.raft_log_record_base.specs.declared.pipe_log.Version.TheVariants.{V2}
+use Rattle.raft_log_file_format.specs.Header.{header_bytes}
+use Rattle.raft_log_file_format.specs.declared.header.LogFileFormat.{LogFileFormat}
+use Rattle.raft_log_file_writer.specs.LawsChains.{Refuses, Written}
+use Rattle.raft_log_file_writer.specs.LogFormat.{Format, HasHeader}
+use Rattle.raft_log_file_writer.specs.LogQueue.{LogFiles, NoChanceInLast}
+use Rattle.raft_log_active_file.specs.LayoutLayout.{log_format, log_paths}
+use Rattle.raft_log_active_file.specs.Paths.{IsOwnPath}
+use Rattle.raft_log_active_file.specs.declared.record.LogRecord.{LogRecord}
+use Rattle.raft_log_file_pipe.specs.Exits.{Adds, Rotates}
+use Rattle.raft_log_file_pipe.specs.Files.{IsPipe, Listed}
+use Rattle.raft_log_file_pipe.specs.Opening.{BeginsPipe, CanBeginWith, IsFound, TakesUpFound}
+use Rattle.raft_log_file_pipe.specs.declared.pipe_files.PipeFiles.{PipeFiles}
+use Rattle.raft_log_dual_pipes.specs.OldRecords.{AreApart}
+
+-- a pipe over the files of a queue in these directories
+abbrev pub IsPipeIn : LogQueue → List (List ℕ) → Disk → PipeFiles → LogFiles LogRecord → Disk → Type 0
+IsPipeIn queue directories = IsPipe (log_format queue directories) (IsOwnPath queue directories)
+    (log_paths queue directories)
+
+-- The bytes as they are now.
+
+-- after all that the pipe wrote to its active file, no record of that file begins
+abbrev pub EndsThere : Format LogRecord → PipeFiles → Disk → Type 0
+EndsThere F files d = (file : File) → d.files files.writer.handle.file ≡ Some file
+    → Refuses (F.IsFrame files.active.seq (header_bytes files.active.format)) (drop files.writer.written file.content)
+
+-- only preallocated zeros follow what the pipe wrote
+abbrev pub IsBlankBehind : PipeFiles → Disk → Type 0
+IsBlankBehind files d = (file : File) → d.files files.writer.handle.file ≡ Some file
+    → (room : ℕ) × (drop files.writer.written file.content ≡ zeros room)
+
+-- an image has the pipe's active file unchanged
+abbrev pub KeepsOwn : PipeFiles → Disk → Disk → Type 0
+KeepsOwn files d image = (file after : File) → d.files files.writer.handle.file ≡ Some file
+    → image.files files.writer.handle.file ≡ Some after → after.content ≡ file.content
+
+-- If no record begins after those of the active file, the unchanged file meets the premise on CRC collisions.
+-- - `blank`: no record begins in preallocated zeros.
+-- - `syncs`: after a sync no record begins there, if none did before.
+-- - `synced`: right after a sync every image has the file unchanged.
+pub record StandingFilesMeetIt : Type 0 where
+  pub kept : (queue : LogQueue) (directories : List (List ℕ)) → 0 < length directories → (base : Disk)
+      (files : PipeFiles) (q : LogFiles LogRecord) (d : Disk) → IsPipeIn queue directories base files q d
+      → EndsThere (log_format queue directories) files d → (image : Disk) → KeepsOwn files d image
+      → NoChanceInLast (log_format queue directories) q d image
+  pub blank : (queue : LogQueue) (directories : List (List ℕ)) (files : PipeFiles) (d : Disk)
+      → IsBlankBehind files d → EndsThere (log_format queue directories) files d
+  pub syncs : (queue : LogQueue) (directories : List (List ℕ)) (files : PipeFiles) (old new : Disk)
+      → Syncs files.writer.handle old new → EndsThere (log_format queue directories) files old
+      → EndsThere (log_format queue directories) files new
+  pub synced : (files : PipeFiles) (old new : Disk) → Syncs files.writer.handle old new → (image : Disk)
+      → IsImage new image → KeepsOwn files new image
+
+-- Right after these calls, only preallocated zeros follow the pipe's records:
+-- - an open, over no file or over the files that were found;
+-- - a rotation, if no file is kept for recycling, so that it makes one;
+-- - a write or a sync, if only such zeros followed them before.
+pub record CallsLeaveRoom : Type 0 where
+  pub begins : (queue : LogQueue) (directories : List (List ℕ)) (base : Disk) (format : LogFileFormat)
+      (kept : List Listed) (files : PipeFiles) (old new : Disk)
+      → CanBeginWith (log_format queue directories) (IsOwnPath queue directories) (log_paths queue directories)
+      base kept old
+      → BeginsPipe (log_format queue directories) (IsOwnPath queue directories) (log_paths queue directories)
+      format kept files old new → IsBlankBehind files new
+  pub takes_up : (queue : LogQueue) (directories : List (List ℕ)) (base : Disk) (earlier : List Listed)
+      (last : Listed) (end : Option ℕ) (kept : List Listed) (q : LogFiles LogRecord) (files : PipeFiles)
+      (old new : Disk)
+      → IsFound (log_format queue directories) (IsOwnPath queue directories) (log_paths queue directories) base
+      earlier last end kept q old
+      → TakesUpFound (log_format queue directories) (IsOwnPath queue directories) (log_paths queue directories)
+      earlier last end kept files old new → IsBlankBehind files new
+  pub writes : (queue : LogQueue) (directories : List (List ℕ)) (base : Disk) (q : LogFiles LogRecord)
+      (before after : PipeFiles) (at : ℕ) (w : Written LogRecord) (old new : Disk)
+      → IsPipeIn queue directories base before q old → IsBlankBehind before old
+      → (log_format queue directories).IsFrame q.last q.header w.bytes w.value
+      → Adds (log_format queue directories) (IsOwnPath queue directories) (log_paths queue directories) w.bytes at
+      before after old new → IsBlankBehind after new
+  pub syncs : (files : PipeFiles) (old new : Disk) → Syncs files.writer.handle old new → IsBlankBehind files old
+      → IsBlankBehind files new
+  pub rotates : (queue : LogQueue) (directories : List (List ℕ)) (base : Disk) (q : LogFiles LogRecord)
+      (header : List ℕ) (before after : PipeFiles) (old new : Disk)
+      → IsPipeIn queue directories base before q old → before.recycled.items ≡ []
+      → Rotates (log_format queue directories) (IsOwnPath queue directories) (log_paths queue directories) header
+      before after old new → IsBlankBehind after new
+
+-- Recycled files.
+
+-- The oldest of the files that a pipe keeps for recycling. It was finished under a number of the queue, not set aside
+-- under a reserved name; it begins with the header of the next files, whose records are signed; the low 32 bits of the
+-- next number and of its own differ.
+pub record NextIsUsed (F : Format LogRecord) (format : LogFileFormat) (files : PipeFiles) (d : Disk) : Type 0 where
+  pub oldest : Listed
+  pub others : List Listed
+  pub kept : files.recycled.items ≡ oldest ∷ others
+  pub numbered : oldest.reserved ≡ false
+  pub signed : format.version ≡ V2
+  pub headed : HasFile oldest.handle.file (λ file. HasHeader F (header_bytes format) file.content) d
+  pub apart : AreApart oldest.seq (suc files.active.seq)
+
+-- Right after a rotation into such a file, no record begins after the new header, whatever bytes the file held. Right
+-- after any rotation, every image has the active file unchanged.
+pub record UsedFilesMeetIt : Type 0 where
+  pub ends : (queue : LogQueue) (directories : List (List ℕ)) → 0 < length directories → (base : Disk)
+      (q : LogFiles LogRecord) (format : LogFileFormat) (before after : PipeFiles) (old new : Disk)
+      → IsPipeIn queue directories base before q old
+      → NextIsUsed (log_format queue directories) format before old
+      → Rotates (log_format queue directories) (IsOwnPath queue directories) (log_paths queue directories)
+      (header_bytes format) before after old new → EndsThere (log_format queue directories) after new
+  pub stands : (queue : LogQueue) (directories : List (List ℕ)) (base : Disk) (q : LogFiles LogRecord)
+      (header : List ℕ) (before after : PipeFiles) (old new : Disk)
+      → IsPipeIn queue directories base before q old
+      → Rotates (log_format queue directories) (IsOwnPath queue directories) (log_paths queue directories) header
+      before after old new → (image : Disk) → IsImage new image → KeepsOwn after new image

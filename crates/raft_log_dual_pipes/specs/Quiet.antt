@@ -1,0 +1,16 @@
+-- What quiet events (syncs and rotations) do to the numbered files of one queue.
+use Rattle.std.specs.Prelude.{ℕ}
+use Rattle.raft_log_model_laws.specs.Item.{Record}
+use Rattle.raft_log_machine_laws.specs.Files.{FileQueue}
+use Rattle.raft_log_fs.specs.Disk.{Disk}
+use Rattle.raft_log_file_writer.specs.LogFormat.{Format}
+use Rattle.raft_log_file_writer.specs.LogQueue.{LogFiles}
+use Rattle.raft_log_active_file.specs.Bridge.{IsFileQueue}
+use Rattle.raft_log_directory_laws.specs.Moves.{Moved}
+
+-- whichever numbered files the queue had, quiet events turn them into those of the other queue
+abbrev pub QuietTo : {R E V : Type 0} → (R → Record E V) → Format R → ℕ → LogFiles R → Disk → LogFiles R
+    → Disk → Type 0
+QuietTo {R} {E} {V} says F first q old p new =
+    (from : ℕ) (f : FileQueue E V) → IsFileQueue says F q from first old f
+    → (a : Moved from f) × IsFileQueue says F p a.from first new a.queue

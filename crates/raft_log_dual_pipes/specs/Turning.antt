@@ -1,0 +1,49 @@
+-- How the files of a queue continue through the calls of its pipe.
+use Rattle.std.specs.Prelude.{◌≡◌, ℕ, ◌⊎◌, List, [], ◌∷◌, ◌++◌, length}
+use Rattle.raft_log_fs.specs.Disk.{Disk}
+use Rattle.raft_log_file_writer.specs.LawsChains.{Written, spelled}
+use Rattle.raft_log_file_writer.specs.LogQueue.{LogFiles, recent, rotated}
+use Rattle.raft_log_record_base.specs.declared.pipe_log.FileBlockHandle.{FileBlockHandle}
+use Rattle.raft_log_record_base.specs.declared.pipe_log.LogFileContext.{LogFileContext}
+use Rattle.raft_log_active_file.specs.Queue.{with_more, with_room, settled}
+use Rattle.raft_log_file_pipe.specs.Files.{Listed}
+use Rattle.raft_log_file_pipe.specs.Exits.{IsStaleOfNext}
+use Rattle.raft_log_dual_pipes.specs.State.{Spanned}
+
+-- a next file with this header, over the content of the oldest file kept for recycling on that disk; zeros may be
+-- preallocated
+abbrev pub GoesOnInNext : {R : Type 0} → List ℕ → List Listed → Disk → LogFiles R → LogFiles R → Type 0
+GoesOnInNext header kept d q p = (room : ℕ) × (stale : List ℕ) × IsStaleOfNext kept d stale
+    × (p ≡ with_room room (rotated header stale q))
+
+-- the queue unchanged, or in its next file
+abbrev pub IsOrGoesOn : {R : Type 0} → List ℕ → List Listed → Disk → LogFiles R → LogFiles R → Type 0
+IsOrGoesOn header kept d q p = (p ≡ q) ⊎ GoesOnInNext header kept d q p
+
+-- a record was written, possibly in the next file
+abbrev pub HasTaken : {R : Type 0} → List ℕ → List Listed → Disk → LogFiles R → LogFiles R → Type 0
+HasTaken {R} header kept d q r = (p : LogFiles R) × IsOrGoesOn header kept d q p × (room : ℕ)
+    × (w : Written R) × (r ≡ with_more (w ∷ []) (with_room room p))
+
+-- the record is the last one of the queue's last file, signed for some file, and is at this location
+pub record HasLast {R : Type 0} (signed : LogFileContext → List ℕ) (said : R) (block : FileBlockHandle)
+    (q : LogFiles R) : Type 0 where
+  pub context : LogFileContext
+  pub front : List (Written R)
+  pub last : Written R
+  pub records : recent q ≡ front ++ last ∷ []
+  pub value : last.value ≡ said
+  pub bytes : last.bytes ≡ signed context
+  pub number : block.id.seq ≡ q.last
+  pub offset : block.offset ≡ length (q.header ++ spelled front)
+  pub len : block.len ≡ length last.bytes
+
+-- a record's write failed, possibly in the next file, and was truncated away: all is synced, and the queue may have
+-- rotated once more
+abbrev pub IsCutBack : {R : Type 0} → List ℕ → List Listed → Disk → LogFiles R → LogFiles R → Type 0
+IsCutBack {R} header kept d q r = (p : LogFiles R) × IsOrGoesOn header kept d q p
+    × (later : List Listed) × (between : Disk) × IsOrGoesOn header later between (settled p) r
+
+-- the queue with other files, in a live range that begins where it began
+abbrev pub in_span : {R : Type 0} → Spanned R → LogFiles R → Spanned R
+in_span q files = record { first = q.first; files = files }

@@ -1,5 +1,0 @@
-use Rattle.raft_log_engine_bound_laws.proofs.Writing.{bounded_batches_are_not_full}
-use Rattle.raft_log_engine_bound_laws.proofs.bounded_batches_are_not_full.Goals as goal
-
-pub returns : goal.returns
-returns c = bounded_batches_are_not_full

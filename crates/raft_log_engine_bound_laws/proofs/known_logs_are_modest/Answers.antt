@@ -1,5 +1,0 @@
-use Rattle.raft_log_engine_bound_laws.proofs.Known.{known_logs_are_modest}
-use Rattle.raft_log_engine_bound_laws.proofs.known_logs_are_modest.Goals as goal
-
-pub returns : goal.returns
-returns c = known_logs_are_modest

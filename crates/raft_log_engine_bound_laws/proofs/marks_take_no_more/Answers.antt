@@ -1,5 +1,0 @@
-use Rattle.raft_log_engine_bound_laws.proofs.Owed.{marks_take_no_more}
-use Rattle.raft_log_engine_bound_laws.proofs.marks_take_no_more.Goals as goal
-
-pub returns : goal.returns
-returns c = marks_take_no_more

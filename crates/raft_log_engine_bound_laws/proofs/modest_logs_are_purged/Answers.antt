@@ -1,5 +1,0 @@
-use Rattle.raft_log_engine_bound_laws.proofs.Purged.{modest_logs_are_purged}
-use Rattle.raft_log_engine_bound_laws.proofs.modest_logs_are_purged.Goals as goal
-
-pub returns : goal.returns
-returns c = modest_logs_are_purged

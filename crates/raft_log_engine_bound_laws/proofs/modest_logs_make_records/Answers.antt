@@ -1,5 +1,0 @@
-use Rattle.raft_log_engine_bound_laws.proofs.Groups.{modest_logs_make_records}
-use Rattle.raft_log_engine_bound_laws.proofs.modest_logs_make_records.Goals as goal
-
-pub returns : goal.returns
-returns c = modest_logs_make_records

@@ -1,5 +1,0 @@
-use Rattle.raft_log_engine_bound_laws.proofs.One.{one_value_is_modest}
-use Rattle.raft_log_engine_bound_laws.proofs.one_value_is_modest.Goals as goal
-
-pub returns : goal.returns
-returns c = one_value_is_modest

@@ -1,0 +1,73 @@
+-- The places of entries.
+use Rattle.std.specs.Prelude.{ℕ, ◌+◌, List, [], ◌∷◌, Option, Some, None, map, if◌then◌else◌, Bool}
+use Rattle.raft_log_record_base.specs.declared.pipe_log.LogQueue.{LogQueue}
+use Rattle.raft_log_record_base.specs.declared.pipe_log.LogQueue.TheVariants.{Append, Rewrite}
+use Rattle.raft_log_record_base.specs.declared.pipe_log.FileBlockHandle.{FileBlockHandle}
+use Rattle.raft_log_record_items.specs.declared.entry.EntryIndex.{EntryIndex}
+use Rattle.raft_log_record_items.specs.declared.compression.CompressionType.TheVariants as kinds
+use Rattle.raft_log_model_laws.specs.Item.{Item}
+use Rattle.raft_log_model_laws.specs.Item.Item.{Run}
+use Rattle.raft_log_extents.specs.declared.place.Place.{Place}
+use Rattle.raft_log_extents.specs.Blocks.{between}
+
+-- the places of a table, and the number of runs that keep them; for how many more places, and for how many
+-- replacements, room is promised
+pub record PlaceList : Type 0 where
+  pub items : List Place
+  pub runs : ℕ
+  pub wanted : ℕ
+  pub moves : ℕ
+
+-- the place of an entry in this block; if it has no block yet, the file and the block's offset and length are 0
+abbrev pub place_in : Option FileBlockHandle → EntryIndex → Place
+place_in None e =
+    record { file = 0; offset = 0; len = 0; entry_offset = e.entry_offset; entry_len = e.entry_len }
+place_in (Some block) e = record {
+  file = block.id.seq;
+  offset = block.offset;
+  len = block.len;
+  entry_offset = e.entry_offset;
+  entry_len = e.entry_len;
+}
+
+-- the place of a written entry
+abbrev pub place_of : EntryIndex → Place
+place_of e = place_in e.entries e
+
+-- the queue of an entry, by whether it is rewritten
+abbrev pub queue_of : Bool → LogQueue
+queue_of rewritten = if rewritten then Rewrite else Append
+
+-- the entry of this index at this place
+abbrev pub entry_of : LogQueue → ℕ → Place → EntryIndex
+entry_of queue index p = record {
+  index = index;
+  entries = Some (record { id = record { queue = queue; seq = p.file }; offset = p.offset; len = p.len });
+  compression_type = kinds.None;
+  entry_offset = p.entry_offset;
+  entry_len = p.entry_len;
+}
+
+-- the entries at these places, the first with this index
+abbrev pub entries_of : LogQueue → ℕ → List Place → List EntryIndex
+entries_of queue index [] = []
+entries_of queue index (p ∷ ps) = entry_of queue index p ∷ entries_of queue (index + 1) ps
+
+-- the entries as an item: a run from the first one's index on
+abbrev pub run_of : List EntryIndex → Item Place (List ℕ)
+run_of [] = Run 0 []
+run_of (e ∷ es) = Run e.index (map place_of (e ∷ es))
+
+-- a block, as a place of no bytes
+abbrev pub place_at : FileBlockHandle → Place
+place_at block = record {
+  file = block.id.seq;
+  offset = block.offset;
+  len = block.len;
+  entry_offset = 0;
+  entry_len = 0;
+}
+
+-- the entries in a block from each of these bounds up to the next, the first with this index
+abbrev pub entries_between : FileBlockHandle → ℕ → List ℕ → List EntryIndex
+entries_between block index bounds = entries_of block.id.queue index (between (place_at block) bounds)

@@ -1,0 +1,15 @@
+-- Where an entry is in a list of runs.
+use Rattle.std.specs.Prelude.{◌≡◌, ℕ, ◌+◌, ◌*◌, ◌<◌, ◌≤◌, ◌^◌, true, List, length, take, slice_index_or}
+use Rattle.raft_log_extents.specs.declared.run.Run.{Run}
+use Rattle.raft_log_extents.specs.declared.spot.Spot.{Spot}
+use Rattle.raft_log_extents.specs.Runs.{counts, width, widths}
+
+-- this is where the entry at this position of runs with these starts is
+pub record IsSpot (rs : List Run) (starts : List ℕ) (position : ℕ) (s : Spot) : Type 0 where
+  pub there : s.at < length rs
+  pub run_is : s.run ≡ slice_index_or rs s.at s.run
+  pub from_is : s.from ≡ widths (take s.at rs)
+  pub within_is : counts (take s.at rs) + s.within ≡ position
+  pub within : s.within < s.run.count
+  pub enough : s.from + width s.run ≤ length starts
+  pub fits : s.run.even ≡ true → (j : ℕ) → j < s.run.count → s.run.start + j * s.run.size < 2 ^ 32

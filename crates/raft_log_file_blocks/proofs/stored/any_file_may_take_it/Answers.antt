@@ -1,5 +1,0 @@
-use Rattle.raft_log_file_blocks.proofs.Anywhere.{any_file_may_take_it}
-use Rattle.raft_log_file_blocks.proofs.stored.any_file_may_take_it.Goals as goal
-
-pub returns : goal.returns
-returns g c = any_file_may_take_it

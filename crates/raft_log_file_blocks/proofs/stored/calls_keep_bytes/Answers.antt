@@ -1,5 +1,0 @@
-use Rattle.raft_log_file_blocks.proofs.Keeping.{calls_keep_bytes}
-use Rattle.raft_log_file_blocks.proofs.stored.calls_keep_bytes.Goals as goal
-
-pub returns : goal.returns
-returns g c = calls_keep_bytes

@@ -1,5 +1,0 @@
-use Rattle.raft_log_file_blocks.proofs.Lasting.{written_entries_are_stored}
-use Rattle.raft_log_file_blocks.proofs.stored.written_entries_are_stored.Goals as goal
-
-pub returns : goal.returns
-returns g c = written_entries_are_stored

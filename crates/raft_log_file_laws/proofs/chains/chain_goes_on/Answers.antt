@@ -1,5 +1,0 @@
-use Rattle.raft_log_file_laws.proofs.KeepsSyncedLaws.{chain_goes_on}
-use Rattle.raft_log_file_laws.proofs.chains.chain_goes_on.Goals as goal
-
-pub returns : goal.returns
-returns g c = chain_goes_on g.G.Framing.is_frame

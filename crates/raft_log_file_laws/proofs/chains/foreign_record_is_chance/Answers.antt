@@ -1,5 +1,0 @@
-use Rattle.raft_log_file_laws.proofs.CrashExampleLaws.{foreign_record_is_chance}
-use Rattle.raft_log_file_laws.proofs.chains.foreign_record_is_chance.Goals as goal
-
-pub returns : goal.returns
-returns g c = foreign_record_is_chance g.G.Framing.is_frame

@@ -1,5 +1,0 @@
-use Rattle.raft_log_file_laws.proofs.CrashExampleLaws.{recycled_file_meets_it}
-use Rattle.raft_log_file_laws.proofs.chains.recycled_file_meets_the_premise.Goals as goal
-
-pub returns : goal.returns
-returns g c = recycled_file_meets_it g.G.Framing.is_frame

@@ -1,5 +1,0 @@
-use Rattle.raft_log_file_laws.proofs.KeepsSyncedLaws.{at_least_keeps}
-use Rattle.raft_log_file_laws.proofs.chains.synced_records_are_kept.Goals as goal
-
-pub returns : goal.returns
-returns g c = λ free start stale durable pending file. at_least_keeps g.G.Framing.is_frame start stale durable pending file free

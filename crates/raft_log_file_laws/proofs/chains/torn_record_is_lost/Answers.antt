@@ -1,5 +1,0 @@
-use Rattle.raft_log_file_laws.proofs.CrashExampleLaws.{torn_record_is_lost}
-use Rattle.raft_log_file_laws.proofs.chains.torn_record_is_lost.Goals as goal
-
-pub returns : goal.returns
-returns g c = torn_record_is_lost g.G.Framing.is_frame

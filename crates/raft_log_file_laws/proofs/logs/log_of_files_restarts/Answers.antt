@@ -1,5 +1,0 @@
-use Rattle.raft_log_file_laws.proofs.LogQueueLaws.{queue_restarts}
-use Rattle.raft_log_file_laws.proofs.logs.log_of_files_restarts.Goals as goal
-
-pub returns : goal.returns
-returns g c = queue_restarts g.G.LogFormat.format

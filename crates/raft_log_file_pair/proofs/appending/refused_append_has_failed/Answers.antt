@@ -1,5 +1,0 @@
-use Rattle.raft_log_file_pair.proofs.RefusedStep.{refused_append_has_failed}
-use Rattle.raft_log_file_pair.proofs.appending.refused_append_has_failed.Goals as goal
-
-pub returns : goal.returns
-returns g c log = refused_append_has_failed (g.G.LogQueues.queues log)

@@ -1,5 +1,0 @@
-use Rattle.raft_log_file_pair.proofs.Wholes.{no_files_are_nothing}
-use Rattle.raft_log_file_pair.proofs.beginning.no_files_are_nothing.Goals as goal
-
-pub returns : goal.returns
-returns g c log = no_files_are_nothing (g.G.LogQueues.queues log)

@@ -1,5 +1,0 @@
-use Rattle.raft_log_file_pair.proofs.BesideSteps.{fails_to_append_beside}
-use Rattle.raft_log_file_pair.proofs.beside.fails_to_append_beside.Goals as goal
-
-pub returns : goal.returns
-returns g c log = fails_to_append_beside (g.G.LogQueues.queues log)

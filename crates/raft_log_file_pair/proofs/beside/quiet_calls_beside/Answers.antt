@@ -1,5 +1,0 @@
-use Rattle.raft_log_file_pair.proofs.BesideSteps.{quiet_calls_beside}
-use Rattle.raft_log_file_pair.proofs.beside.quiet_calls_beside.Goals as goal
-
-pub returns : goal.returns
-returns g c log = quiet_calls_beside (g.G.LogQueues.queues log)

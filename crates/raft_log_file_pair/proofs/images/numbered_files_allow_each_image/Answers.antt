@@ -1,5 +1,0 @@
-use Rattle.raft_log_file_pair.proofs.Reading.{held_is_allowed}
-use Rattle.raft_log_file_pair.proofs.images.numbered_files_allow_each_image.Goals as goal
-
-pub returns : goal.returns
-returns g c log = held_is_allowed (g.G.LogQueues.queues log)

@@ -1,4 +1,0 @@
-use Rattle.raft_log_file_pair.proofs.laws.nobody_holds_back.Goals as goal
-
-pub returns : goal.returns
-returns g c = λ queue v held (pipes, shown, none). none

@@ -1,5 +1,0 @@
-use Rattle.raft_log_file_pair.proofs.OnDiskLaws.{logs_go_on_disks}
-use Rattle.raft_log_file_pair.proofs.on_disk.logs_go_on_disks.Goals as goal
-
-pub returns : goal.returns
-returns g c log = logs_go_on_disks (g.G.LogQueues.queues log)

@@ -1,5 +1,0 @@
-use Rattle.raft_log_file_pair.proofs.OtherSteps.{rotation_is_a_step}
-use Rattle.raft_log_file_pair.proofs.syncing.rotation_is_a_step.Goals as goal
-
-pub returns : goal.returns
-returns g c log = rotation_is_a_step (g.G.LogQueues.queues log)

@@ -1,5 +1,0 @@
-use Rattle.raft_log_file_pair.proofs.Written.{written_is_pending}
-use Rattle.raft_log_file_pair.proofs.writes.written_is_pending.Goals as goal
-
-pub returns : goal.returns
-returns g c log = written_is_pending (g.G.LogQueues.queues log)

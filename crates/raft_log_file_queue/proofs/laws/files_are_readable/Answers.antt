@@ -1,5 +1,0 @@
-use Rattle.raft_log_file_queue.proofs.Keeping.{files_are_readable}
-use Rattle.raft_log_file_queue.proofs.laws.files_are_readable.Goals as goal
-
-pub returns : goal.returns
-returns g c = files_are_readable g.G.QueueFormat.format g.G.QueueFormat.own

@@ -1,0 +1,65 @@
+-- The premise "no CRC collision" is neither empty nor always true. A stop that loses an unsynced record satisfies it; a
+-- stop that leaves another record in its place doesn't. A file in which another record is synced after the chain
+-- doesn't hold the chain.
+use Rattle.std.specs.Prelude.{◌≡◌, ℕ, ◌+◌, ◌<◌, ◌≤◌, List, [], ◌∷◌, ◌++◌, length, take, drop}
+use Rattle.raft_log_fs.specs.Disk.{Wrote, File, at_rest}
+use Rattle.raft_log_fs.specs.Image.{IsLeft}
+use Rattle.raft_log_file_writer.specs.LawsChains.{Written, IsSelfDelimiting, spelled, AreFrames, Refuses, Reads}
+use Rattle.raft_log_file_writer.specs.KeepsSynced.{IsStale, NoChanceMatch, HoldsChain}
+
+-- a file with these bytes synced, and a record written after them since
+abbrev pub one_unsynced : {R : Type 0} → List ℕ → Written R → File
+one_unsynced synced w =
+    record { content = synced ++ w.bytes; synced = synced; changes = Wrote (length synced) w.bytes ∷ [] }
+
+-- Some records are synced, and the last one isn't: a stop may leave only a prefix of that one. Then there is no CRC
+-- collision, and exactly the synced records are read: the last one is lost.
+abbrev pub TornRecordIsLost : {R : Type 0} → (List ℕ → R → Type 0) → Type 0
+TornRecordIsLost {R} IsFrame = IsSelfDelimiting IsFrame
+    → (front stale : List ℕ) (durable : List (Written R)) (w : Written R) (landed : ℕ)
+    → AreFrames IsFrame durable → IsFrame w.bytes w.value → landed < length w.bytes
+    → (let synced = front ++ spelled durable in
+    let file = one_unsynced synced w in
+    let bytes = synced ++ take landed w.bytes in
+    IsLeft file bytes × NoChanceMatch IsFrame (length front) stale (spelled (durable ++ w ∷ [])) file bytes
+    × Reads IsFrame (length front) durable bytes)
+
+-- The last record of a file isn't synced, and another record is no longer than it. A stop may leave the other record in
+-- its place, and the premise excludes that.
+abbrev pub ForeignRecordIsChance : {R : Type 0} → (List ℕ → R → Type 0) → Type 0
+ForeignRecordIsChance {R} IsFrame = IsSelfDelimiting IsFrame
+    → (front stale : List ℕ) (durable : List (Written R)) (w foreign : Written R)
+    → AreFrames IsFrame durable → IsFrame w.bytes w.value → IsFrame foreign.bytes foreign.value
+    → length foreign.bytes ≤ length w.bytes → (foreign.bytes ≡ w.bytes → ⊥)
+    → (let synced = front ++ spelled durable in
+    let file = one_unsynced synced w in
+    let bytes = synced ++ foreign.bytes in
+    IsLeft file bytes
+    × (NoChanceMatch IsFrame (length front) stale (spelled (durable ++ w ∷ [])) file bytes → ⊥))
+
+-- If another record is synced after the durable ones, and it isn't stale, the file doesn't hold the chain.
+abbrev pub ForeignRecordBehindIsRefused : {R : Type 0} → (List ℕ → R → Type 0) → Type 0
+ForeignRecordBehindIsRefused {R} IsFrame = IsSelfDelimiting IsFrame
+    → (front stale behind : List ℕ) (durable pending : List (Written R)) (foreign : Written R)
+    → AreFrames IsFrame durable → IsFrame foreign.bytes foreign.value
+    → (IsStale stale (length front + length (spelled durable)) foreign.bytes → ⊥)
+    → HoldsChain IsFrame (length front) stale durable pending
+    (at_rest ((front ++ spelled durable) ++ (foreign.bytes ++ behind))) → ⊥
+
+-- A recycled file has its new records synced over its stale bytes, and no record begins after them. Then the premise
+-- holds for what a stop leaves, and exactly the new records are read.
+abbrev pub RecycledFileMeetsIt : {R : Type 0} → (List ℕ → R → Type 0) → Type 0
+RecycledFileMeetsIt {R} IsFrame = (front stale : List ℕ) (durable : List (Written R))
+    → IsSelfDelimiting IsFrame → AreFrames IsFrame durable
+    → Refuses IsFrame (drop (length front + length (spelled durable)) stale)
+    → (let bytes = front ++ (spelled durable ++ drop (length front + length (spelled durable)) stale) in
+    HoldsChain IsFrame (length front) stale durable [] (at_rest bytes)
+    × NoChanceMatch IsFrame (length front) stale (spelled durable) (at_rest bytes) bytes
+    × Reads IsFrame (length front) durable bytes)
+
+-- If all bytes of a file are synced, and it was empty when it got its number, the premise holds for whatever a stop
+-- leaves.
+abbrev pub SyncedFileHasNoChance : {R : Type 0} → (List ℕ → R → Type 0) → Type 0
+SyncedFileHasNoChance IsFrame = IsSelfDelimiting IsFrame → (start : ℕ) (file : File) (bytes : List ℕ)
+    → file.changes ≡ [] → IsLeft file bytes
+    → (own : List ℕ) → NoChanceMatch IsFrame start [] own file bytes

@@ -1,0 +1,178 @@
+-- The disk after a call that succeeds or fails.
+use Rattle.std.specs.Prelude.{◌≡◌, ℕ, ◌+◌, ◌<◌, ◌≤◌, ◌⊎◌, Bool, true, false, cond, Option, Some, None, List, [], ◌∷◌, ◌++◌, length, slice_index, suc}
+use Rattle.std.specs.Map.{update}
+use Rattle.std.specs.Str.{bytes_eq}
+use Rattle.std.proofs.Common.{nat_eq, take}
+use Rattle.std.specs.declared.io.ErrorKind.{ErrorKind}
+use Rattle.std.specs.declared.io.ErrorKind.TheVariants.{OutOfMemory, Other, ResourceBusy}
+use Rattle.raft_log_fs.specs.Disk.{Change, Wrote, ShortenedTo, GrewTo, File, Disk, at_rest, zeros, changed, with_file, HasDirectory}
+
+-- the file with this content, and one more change that isn't synced
+abbrev pub with_change : Change → List ℕ → File → File
+with_change change content file =
+    record { content = content; synced = file.synced; changes = file.changes ++ change ∷ [] }
+
+-- the file after a change
+abbrev pub after_change : Change → File → File
+after_change change file = with_change change (changed change file.content) file
+
+-- the file after a sync
+abbrev pub flushed : File → File
+flushed file = at_rest file.content
+
+-- the disk with an empty file under a new name
+abbrev pub created : List ℕ → Disk → Disk
+created path d = record d {
+  names = update bytes_eq d.names path (Some d.unused);
+  files = update nat_eq d.files d.unused (Some (at_rest []));
+  unused = suc d.unused;
+}
+
+-- the disk without a name and its file
+abbrev pub deleted : List ℕ → ℕ → Disk → Disk
+deleted path id d =
+    record d { names = update bytes_eq d.names path None; files = update nat_eq d.files id None }
+
+-- the files without the one that loses its name
+abbrev pub without : Option ℕ → (ℕ → Option File) → ℕ → Option File
+without None files = files
+without (Some id) files = update nat_eq files id None
+
+-- the disk with a file under another name; a file that had that name is gone, and the renamed one is unchanged
+abbrev pub renamed : List ℕ → List ℕ → ℕ → Disk → Disk
+renamed from to id d = record d {
+  names = update bytes_eq (update bytes_eq d.names from None) to (Some id);
+  files = update nat_eq (without (d.names to) d.files) id (d.files id);
+}
+
+-- the disk with one more directory
+abbrev pub with_directory : List ℕ → Disk → Disk
+with_directory path d = record d { directories = λ q. cond (bytes_eq path q) true (d.directories q) }
+
+-- the disk with other marks of unreadable places
+abbrev pub with_marks : (ℕ → ℕ → Bool) → Disk → Disk
+with_marks marks d = record d { unreadable = marks }
+
+-- the marks, and one more at a place of a file, if there is one
+abbrev pub marked : Option ℕ → ℕ → (ℕ → ℕ → Bool) → ℕ → ℕ → Bool
+marked None place marks id at = marks id at
+marked (Some file) place marks id at =
+    cond (nat_eq file id) (cond (nat_eq place at) true (marks id at)) (marks id at)
+
+-- the disk with an unreadable place in the file that has this name; unchanged if no file has it
+abbrev pub denied : List ℕ → ℕ → Disk → Disk
+denied name place d = with_marks (marked (d.names name) place d.unreadable) d
+
+-- the disk with one more failure counted, which returned this kind
+abbrev pub counted : ErrorKind → Disk → Disk
+counted error d = record d { failures = suc d.failures; kinds = error ∷ d.kinds }
+
+-- the disk of a file system that has stopped
+abbrev pub at_stop : Disk → Disk
+at_stop d = record d { stopped = true }
+
+-- What may be left of a content if a write fails after it wrote some bytes: the places outside its range are unchanged,
+-- and inside it there may be any bytes. The file doesn't get shorter, nor longer than the write would make it.
+pub record IsTorn (at : ℕ) (bytes old new : List ℕ) : Type 0 where
+  pub outside : (place : ℕ) → place < length old → (place < at) ⊎ (at + length bytes ≤ place)
+      → slice_index new place ≡ slice_index old place
+  pub longer : length old ≤ length new
+  pub within : (size : ℕ) → length old ≤ size → at + length bytes ≤ size → length new ≤ size
+
+-- what may be left of a content after a failed change: some of a write, a truncation or nothing, some of a growth's
+-- zeros
+abbrev pub InPart : Change → List ℕ → List ℕ → Type 0
+InPart (Wrote at bytes) old new = IsTorn at bytes old new
+InPart (ShortenedTo size) old new = (new ≡ old) ⊎ (new ≡ take size old)
+InPart (GrewTo size) old new =
+    (count : ℕ) × (length old + count ≤ size ⊎ (count ≡ 0)) × (new ≡ old ++ zeros count)
+
+-- a call changed one file, and succeeded before the file system stopped
+pub record Changes (id : ℕ) (next : File → File) (old new : Disk) : Type 0 where
+  pub runs : old.stopped ≡ false
+  pub file : File
+  pub is : old.files id ≡ Some file
+  pub done : new ≡ with_file id (Some (next file)) old
+
+-- an empty file got a name
+pub record Creates (path : List ℕ) (id : ℕ) (old new : Disk) : Type 0 where
+  pub runs : old.stopped ≡ false
+  pub free : old.names path ≡ None
+  pub apart : old.directories path ≡ false
+  pub home : HasDirectory path old
+  pub number : id ≡ old.unused
+  pub done : new ≡ created path old
+
+-- a name and its file were deleted
+pub record Deletes (path : List ℕ) (old new : Disk) : Type 0 where
+  pub runs : old.stopped ≡ false
+  pub id : ℕ
+  pub is : old.names path ≡ Some id
+  pub done : new ≡ deleted path id old
+
+-- a file got another name
+pub record Renames (from to : List ℕ) (old new : Disk) : Type 0 where
+  pub runs : old.stopped ≡ false
+  pub id : ℕ
+  pub is : old.names from ≡ Some id
+  pub apart : old.directories to ≡ false
+  pub home : HasDirectory to old
+  pub done : new ≡ renamed from to id old
+
+-- a directory was made
+pub record MakesDirectory (path : List ℕ) (old new : Disk) : Type 0 where
+  pub runs : old.stopped ≡ false
+  pub free : old.names path ≡ None
+  pub apart : old.directories path ≡ false
+  pub done : new ≡ with_directory path old
+
+-- none of a call's arguments is wrong in the present state
+abbrev pub IsRight : (ErrorKind → Type 0) → Type 0
+IsRight wrong = (error : ErrorKind) → wrong error → ⊥
+
+-- A call at which the file system stops doesn't return `OutOfMemory`: a caller takes that to mean that nothing was
+-- done, and that the same call may succeed.
+abbrev pub IsStopKind : ErrorKind → Type 0
+IsStopKind error = error ≡ OutOfMemory → ⊥
+
+-- the kind that a call returns if the file system stops at it: this kind, or `ResourceBusy` instead of `OutOfMemory`
+pub record IsToldAtStop (kind error : ErrorKind) : Type 0 where
+  pub stops : IsStopKind error
+  pub told : (error ≡ kind) ⊎ ((kind ≡ OutOfMemory) × (error ≡ ResourceBusy))
+
+-- A failed call. There are these cases:
+-- - After a stop nothing changes, and the error is `Other`.
+-- - An argument is wrong in the present state: nothing changes, and no failure is counted. The error says which.
+-- - No argument is wrong: a failure is counted, and the call may have been done in part. The error may be of any kind,
+--   and that kind is kept with the failure.
+-- - The file system stopped at this call: nothing was done or, if the arguments are right, a part or all. The error may
+--   be of any kind but `OutOfMemory`, and none is kept.
+pub data Refused (part done : Disk → Type 0) (wrong : ErrorKind
+    → Type 0) (error : ErrorKind) (old new : Disk) : Type 0 where
+  after_stop : old.stopped ≡ true → new ≡ old → error ≡ Other → Refused part done wrong error old new
+  wrong_argument : old.stopped ≡ false → wrong error → new ≡ old → Refused part done wrong error old new
+  failed : old.stopped ≡ false → IsRight wrong → (left : Disk) → part left → new ≡ counted error left
+      → Refused part done wrong error old new
+  stops : old.stopped ≡ false → IsStopKind error → (left : Disk) → (left ≡ old) ⊎ (IsRight wrong × (part left ⊎ done left))
+      → new ≡ at_stop left
+      → Refused part done wrong error old new
+
+-- what may be left by a failed call that is done whole or not at all: a call on names, or a sync
+abbrev pub Nothing : Disk → Disk → Type 0
+Nothing old left = left ≡ old
+
+-- what may be left by a failed write, truncation or growth: nothing, or a content with some of it, and the change among
+-- those since the last sync
+pub data SomeOf (id : ℕ) (change : Change) (old left : Disk) : Type 0 where
+  none : left ≡ old → SomeOf id change old left
+  some : (file : File) (content : List ℕ) → old.files id ≡ Some file → InPart change file.content content
+      → left ≡ with_file id (Some (with_change change content file)) old → SomeOf id change old left
+
+-- a failed write, truncation or growth
+abbrev pub RefusedChange : ℕ → Change → (ErrorKind → Type 0) → ErrorKind → Disk → Disk → Type 0
+RefusedChange id change wrong error old new =
+    Refused (SomeOf id change old) (Changes id (after_change change) old) wrong error old new
+
+-- a failed call that is done whole or not at all
+abbrev pub RefusedWhole : (Disk → Type 0) → (ErrorKind → Type 0) → ErrorKind → Disk → Disk → Type 0
+RefusedWhole done wrong error old new = Refused (Nothing old) done wrong error old new

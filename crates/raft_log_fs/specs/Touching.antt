@@ -1,0 +1,34 @@
+-- What calls touch, and what they leave unchanged.
+use Rattle.std.specs.Prelude.{◌≡◌, ℕ, Some, List}
+use Rattle.raft_log_fs.specs.Disk.{File, Disk}
+
+-- the file with a number exists, and P is true of it
+pub record HasFile (id : ℕ) (P : File → Type 0) (d : Disk) : Type 0 where
+  pub file : File
+  pub is : d.files id ≡ Some file
+  pub has : P file
+
+-- a path names a file, and P is true of it
+pub record HasNamed (path : List ℕ) (P : File → Type 0) (d : Disk) : Type 0 where
+  pub id : ℕ
+  pub named : d.names path ≡ Some id
+  pub file : HasFile id P d
+
+-- the names, the directories and all other files are unchanged
+pub record TouchesOnly (id : ℕ) (old new : Disk) : Type 0 where
+  pub names : new.names ≡ old.names
+  pub directories : new.directories ≡ old.directories
+  pub others : (other : ℕ) → (other ≡ id → ⊥) → new.files other ≡ old.files other
+
+-- The directories are unchanged. Each name that isn't one of these leads to the same file as before, which is
+-- unchanged.
+pub record TouchesOnlyNames (own : List ℕ → Type 0) (old new : Disk) : Type 0 where
+  pub directories : new.directories ≡ old.directories
+  pub names : (path : List ℕ) → (own path → ⊥) → new.names path ≡ old.names path
+  pub files : (path : List ℕ) (id : ℕ) → (own path → ⊥) → old.names path ≡ Some id
+      → new.files id ≡ old.files id
+
+-- What is known of another name's file stays true: calls on one queue's files don't touch another one's.
+abbrev pub OtherNamesStay : (List ℕ → Type 0) → (File → Type 0) → Type 0
+OtherNamesStay own P = (old new : Disk) (path : List ℕ) → TouchesOnlyNames own old new → (own path → ⊥)
+    → HasNamed path P old → HasNamed path P new

@@ -1,0 +1,18 @@
+-- A record of calls has no bytes, so it may go to other threads, and be lent to them; so may the system's files be
+-- lent, as a device.
+use denote.RattleType.{RattleType}
+use denote.Param.Send.{IsSend, IsSync, owning_send, part_keyless, sendable}
+use Rattle.std.proofs.Crossing.{crosses}
+use Rattle.std.proofs.MapsCrossing.{crosses as maps_cross}
+pub use Rattle.raft_log_fs.proofs.Sharing.{kinds_sync}
+use Rattle.raft_log_fs_os.specs.contracts.file_device.FileDevice as FileDevice
+use Rattle.raft_log_fs_os.specs.contracts.record.Record as Record
+
+pub record_send : IsSend Record.the_row
+record_send = owning_send Record.the_type (search sendable, tt) (λ d. tt) (λ k x w. tt)
+
+pub record_sync : IsSync Record.the_row
+record_sync = record { shared = λ d b o κ q. part_keyless Record.the_row record_send q d b o }
+
+pub device_sync : (R : RattleType) → IsSync R → IsSync (FileDevice.the_row R)
+device_sync R y = search (record_sync, sendable, crosses, maps_cross) depth 40 fits 4000

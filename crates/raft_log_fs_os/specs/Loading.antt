@@ -1,0 +1,42 @@
+-- What holds after directories were opened.
+use Rattle.std.specs.Prelude.{◌≡◌, ℕ, false, Some, List, []}
+use Rattle.std.proofs.Props.{props}
+use Rattle.raft_log_fs.proofs.Props.{File-set}
+use Rattle.raft_log_fs.specs.Disk.{File, Disk, at_rest, with_file}
+use Rattle.raft_log_fs_state.specs.declared.storage.Storage.{Storage}
+use Rattle.raft_log_fs_state.specs.Storage.{contents_of}
+use Rattle.raft_log_fs_os.specs.Device.{Trace, held_by, settled}
+use Rattle.raft_log_fs_state.specs.Steps.{size_of}
+use Rattle.raft_log_fs_os.specs.WritingBack.{LeavesBytes, RestsAt, WritesBack}
+
+-- the file system runs, and no failure was counted or reported
+pub record StartsFresh (d : Disk) : Type 0 where
+  pub runs : d.stopped ≡ false
+  pub uncounted : d.failures ≡ 0
+  pub untold : d.kinds ≡ []
+
+-- the file with this number, if it exists, has these bytes instead, all synced; nothing else changed
+abbrev pub FillsFile : ℕ → List ℕ → Storage → Storage → Type 0
+FillsFile id bytes old new = (file : File) → (contents_of old).files id ≡ Some file
+    → contents_of new ≡ with_file id (Some (at_rest bytes)) (contents_of old)
+
+-- all bytes of all files are synced
+abbrev pub AllRest : Storage → Type 0
+AllRest storage = (id : ℕ) → RestsAt id (contents_of storage)
+
+-- `AllRest` is a proposition, so that a type may keep it as a field
+pub AllRest-prop : (storage : Storage) → IsProp (AllRest storage)
+AllRest-prop storage = hlevel (File-set, props)
+
+-- Whatever calls were made since, calls see what was found, and a crash leaves it too.
+abbrev pub StandsAsFound : Trace → Type 0
+StandsAsFound trace = held_by trace ≡ settled trace.found
+
+-- the file at a path, if there is one, was written back whole, and synced
+abbrev pub IsWrittenBack : List ℕ → Disk → Trace → Trace → Type 0
+IsWrittenBack path d old new =
+    (file : ℕ) → d.names path ≡ Some file → WritesBack file (size_of (d.files file)) old new
+
+-- if no directory had to be synced, then what was found, what calls see and what a crash leaves is unchanged
+abbrev pub StaysSettled : Trace → Trace → Type 0
+StaysSettled old new = (d : Disk) → held_by old ≡ settled d → LeavesBytes old new

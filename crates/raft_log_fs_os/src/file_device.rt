@@ -1,0 +1,236 @@
+//! The operating system's files, as a device.
+ghost use Rattle.raft_log_fs_state.specs.declared.storage.Storage.{Storage};
+
+use super::growing::{grow, write_long, write_pieces};
+use super::open_file::{OpenFile, report};
+use super::record::Record;
+use crate::Device;
+use raft_log_fs_state::Storage;
+use std::alloc::Global;
+use std::collections::BTreeMap;
+use std::fs::{File, OpenOptions};
+use std::io::ErrorKind;
+use std::os::unix::fs::FileExt;
+use std::rt::Files;
+use std::snapshot::Snapshot;
+use std::{fs, io};
+
+const CREATED: u64 = 0;
+
+const DELETED: u64 = 1;
+
+const MADE_DIRECTORY: u64 = 2;
+
+const SYNCED_DIRECTORY: u64 = 3;
+
+const WRITTEN: u64 = 4;
+
+const SHORTENED: u64 = 5;
+
+const GROWN: u64 = 6;
+
+const SYNCED: u64 = 7;
+
+const WRITTEN_BACK: u64 = 8;
+
+/// The most bytes that one system call writes, and the size of the buffer of zeros for growing files. Some systems keep
+/// a longer write as one long piece in memory: each short write into that piece, and each sync after it, goes over the
+/// whole piece.
+pub(crate) const PIECE: usize = 1 << 16;
+
+/// The operating system's files, as a device.
+/// - Each file that has a name is open; the directories stay locked until the device is dropped.
+/// - A method makes one system call, or, for a write or a growth, one for each piece of its bytes. It then notes the
+///   call; only clauses read the notes.
+/// - A growth, and a write of several pieces that makes the file longer, is also synced.
+/// - A call that fails is printed to standard error, with the path.
+#[derive(Drop)]
+pub struct FileDevice<R> {
+    rt: R,
+    files: BTreeMap<usize, OpenFile>,
+    locks: Vec<File>,
+    zeros: Vec<u8>,
+    found: Snapshot<Storage>,
+    record: Record,
+}
+
+impl<R: Files<File = File> + Eprint + AllocGlobal + Drop> FileDevice<R> {
+    ghost use Rattle.raft_log_fs_os.specs.Tracing.{IsFresh};
+
+    /// The device over these files, which are those of the loaded model, by their numbers. It keeps the handles that
+    /// lock the directories, and the zeros for growing files.
+    pub(crate) fn new(
+        rt: R,
+        files: BTreeMap<usize, OpenFile>,
+        locks: Vec<File>,
+        zeros: Vec<u8>,
+        storage: &Storage,
+    ) -> FileDevice<R>
+        ensures { IsFresh storage.now result }
+    {
+        FileDevice {
+            rt,
+            files,
+            locks,
+            zeros,
+            found: Snapshot::of(storage),
+            record: Record::new(),
+        }
+    }
+}
+
+impl<R: Files<File = File> + Eprint + AllocGlobal + Drop> Device for FileDevice<R> {
+    ghost use Rattle.raft_log_fs_os.specs.Tracing.{trace_of};
+
+    ghost trace = { trace_of };
+
+    fn create(&mut self, path: &str, file: usize) -> Result<(), ErrorKind> {
+        let Ok(named) = String::from_str(self.rt.alloc(), path) else {
+            return Err(ErrorKind::OutOfMemory);
+        };
+        let made = OpenOptions::new()
+            .read(true)
+            .write(true)
+            .create_new(true)
+            .open(&self.rt, path);
+        let opened = OpenFile {
+            file: made.map_err(|error| report(&self.rt, path, "create it", error))?,
+            path: named,
+        };
+        let Ok(_) = self.files.insert(file, opened) else {
+            return Err(ErrorKind::OutOfMemory);
+        };
+        self.record
+            .note(&[CREATED, file as u64, 0], path.as_bytes());
+        Ok(())
+    }
+
+    fn delete(&mut self, path: &str) -> Result<(), ErrorKind> {
+        fs::remove_file(&self.rt, path).map_err(|error| report(
+            &self.rt,
+            path,
+            "delete it",
+            error,
+        ))?;
+        self.record.note(&[DELETED, 0, 0], path.as_bytes());
+        Ok(())
+    }
+
+    fn rename(&mut self, from: &str, to: &str) -> Result<(), ErrorKind> {
+        fs::rename(&self.rt, from, to).map_err(|error| report(&self.rt, from, "rename it", error))?;
+        rename_open(self.rt.alloc(), &mut self.files, from, to);
+        self.record.note_rename(from.as_bytes(), to.as_bytes());
+        Ok(())
+    }
+
+    fn create_dir(&mut self, path: &str) -> Result<(), ErrorKind> {
+        fs::create_dir(&self.rt, path).map_err(|error| report(&self.rt, path, "create it", error))?;
+        self.record.note(&[MADE_DIRECTORY, 0, 0], path.as_bytes());
+        Ok(())
+    }
+
+    fn sync_directory(&mut self, path: &str) -> Result<(), ErrorKind> {
+        let named = if path.is_empty() { "." } else { path };
+        File::open(&self.rt, named)
+            .and_then(|opened| opened.sync_all())
+            .map_err(|error| report(&self.rt, named, "sync it", error))?;
+        self.record.note(&[SYNCED_DIRECTORY, 0, 0], path.as_bytes());
+        Ok(())
+    }
+
+    fn write_at(&mut self, file: usize, offset: usize, bytes: &[u8]) -> Result<(), ErrorKind> {
+        let Some(opened) = self.files.get(&file) else {
+            return Err(ErrorKind::NotFound);
+        };
+        let written = if bytes.len() > PIECE {
+            write_long(&opened.file, offset, bytes)
+        } else {
+            opened.file.write_all_at(bytes, offset as u64)
+        };
+        written.map_err(|error| report(&self.rt, opened.path.as_str(), "write", error))?;
+        self.record
+            .note(&[WRITTEN, file as u64, offset as u64], bytes);
+        Ok(())
+    }
+
+    fn truncate(&mut self, file: usize, size: usize) -> Result<(), ErrorKind> {
+        let Some(opened) = self.files.get(&file) else {
+            return Err(ErrorKind::NotFound);
+        };
+        shorten(&opened.file, size as u64).map_err(|error| report(
+            &self.rt,
+            opened.path.as_str(),
+            "truncate it",
+            error,
+        ))?;
+        self.record
+            .note(&[SHORTENED, file as u64, size as u64], &[]);
+        Ok(())
+    }
+
+    fn grow(&mut self, file: usize, size: usize) -> Result<(), ErrorKind> {
+        let Some(opened) = self.files.get(&file) else {
+            return Err(ErrorKind::NotFound);
+        };
+        grow(&opened.file, &self.zeros, size).map_err(|error| report(
+            &self.rt,
+            opened.path.as_str(),
+            "grow it",
+            error,
+        ))?;
+        self.record.note(&[GROWN, file as u64, size as u64], &[]);
+        Ok(())
+    }
+
+    fn write_back(&mut self, file: usize, offset: usize, bytes: &[u8]) -> Result<(), ErrorKind> {
+        let Some(opened) = self.files.get(&file) else {
+            return Err(ErrorKind::NotFound);
+        };
+        write_pieces(&opened.file, offset, bytes).map_err(|error| report(
+            &self.rt,
+            opened.path.as_str(),
+            "write",
+            error,
+        ))?;
+        self.record
+            .note(&[WRITTEN_BACK, file as u64, offset as u64], bytes);
+        Ok(())
+    }
+
+    fn sync(&mut self, file: usize) -> Result<(), ErrorKind> {
+        let Some(opened) = self.files.get(&file) else {
+            return Err(ErrorKind::NotFound);
+        };
+        opened.file.sync_data().map_err(|error| report(
+            &self.rt,
+            opened.path.as_str(),
+            "sync it",
+            error,
+        ))?;
+        self.record.note(&[SYNCED, file as u64, 0], &[]);
+        Ok(())
+    }
+
+    fn close(&mut self, file: usize) {
+        let _closed = self.files.remove(&file);
+    }
+}
+
+/// Truncates a file to a length. A file that isn't longer is unchanged.
+fn shorten(opened: &File, size: u64) -> io::Result<()> {
+    if size < opened.metadata()?.len() {
+        opened.set_len(size)?;
+    }
+    Ok(())
+}
+
+/// Notes the new path of an open file. If memory runs out, it keeps the old one, which only messages show.
+fn rename_open(alloc: Global, files: &mut BTreeMap<usize, OpenFile>, from: &str, to: &str) {
+    for (_, opened) in files.iter_mut() {
+        if opened.path.as_str() == from {
+            if let Ok(path) = String::from_str(alloc, to) {
+                opened.path = path;
+            }
+        }
+    }
+}

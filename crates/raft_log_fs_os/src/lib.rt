@@ -1,0 +1,25 @@
+//! A file system over real directories: each change is also made on the real files, and a sync that succeeds has synced
+//! them. `CALLING.md` says what is trusted about it.
+#![tactic(auto)]
+
+pub mod device;
+pub mod directory;
+mod durable;
+pub mod fault;
+pub mod file_device;
+mod growing;
+mod load;
+mod log_names;
+mod making_durable;
+mod open_file;
+pub mod opening;
+mod record;
+pub mod writing_back;
+
+pub use device::Device;
+pub use directory::DirectoryFileSystem;
+pub use fault::DirectoryFault;
+pub use file_device::FileDevice;
+pub use opening::{make_directory, open_directories, open_directories_for_reading};
+pub use crate::DirectoryFileSystem;
+pub use writing_back::write_back;

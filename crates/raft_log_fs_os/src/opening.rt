@@ -1,0 +1,178 @@
+//! Opens the directories of a log: locks and loads them, and makes them durable if they may be written.
+ghost use Rattle.std.specs.Prelude.{◌≡◌, List, ℕ, None, IfOk};
+ghost use Rattle.raft_log_fs_os.specs.Directory.{calls_of};
+ghost use Rattle.raft_log_fs_os.specs.Space.{spaces_of};
+ghost use Rattle.raft_log_fs_os.specs.Loading.{StandsAsFound, StartsFresh};
+
+use super::fault::DirectoryFault;
+use super::file_device::{FileDevice, PIECE};
+use super::load::{Access, Found};
+use super::log_names::{ListedFile, list_files};
+use super::making_durable::{sync_directories, write_back_last_files};
+use raft_log_fs::FileSystem;
+use crate::{Device, DirectoryFileSystem};
+use std::fs::File;
+use std::io::ErrorKind;
+use std::path::Path;
+use std::rt::Files;
+use std::thread::Threads;
+use std::{fs, io};
+
+/// Opens a log's main directory, and its second one if it has one, and returns the file system over them.
+///
+/// - Both directories must exist. Each is locked until the file system is dropped.
+/// - Each regular file with a log file's name is synced and read, several in parallel. Entries with other names are
+///   ignored.
+/// - The last file of either queue is written back with the same bytes and synced; then the directories are synced.
+///   What the file system shows is therefore durable, even if a sync failed earlier in this boot of the machine.
+/// - Paths are those of the operating system; the log's settings must spell them the same.
+///
+/// If it fails, no byte of a file and no name has changed.
+pub fn open_directories<
+    R: Files<File = File> + Threads + Eprint + AllocGlobal + Clone + Sync + Drop,
+>(
+    rt: &R,
+    directory: &str,
+    spill_directory: Option<&str>,
+) -> Result<DirectoryFileSystem<FileDevice<R>>, DirectoryFault>
+    ensures fresh { IfOk result (λ system. StartsFresh
+        (⟦<DirectoryFileSystem<FileDevice<R>> as FileSystem>⟧.disk system)) }
+    ensures unset { IfOk result (λ system. (directory : List ℕ)
+        → spaces_of ⟦<FileDevice<R> as Device>⟧ system directory ≡ None) }
+    ensures found { IfOk result (λ system.
+        StandsAsFound (calls_of ⟦<FileDevice<R> as Device>⟧ system)) }
+{
+    let mut found = Found::new(rt.alloc(), Access::ReadWrite);
+    let listed = load_all(rt, &mut found, directory, spill_directory)?;
+    let Found {
+        storage,
+        files,
+        locks,
+        ..
+    } = found;
+    let zeros = vec![in rt.alloc(); 0u8; PIECE]?;
+    let mut device = FileDevice::new(rt.clone()?, files, locks, zeros, &storage);
+    write_back_last_files(rt.alloc(), &mut device, &storage, listed.as_slice())?;
+    sync_directories(rt.alloc(), &mut device, directory, spill_directory)?;
+    Ok(DirectoryFileSystem::new(storage, device))
+}
+
+/// Opens the directories of a log only for reading, for a check or a copy: nothing is synced or written. This also
+/// opens a log in a file system that is mounted read-only.
+///
+/// Several readers may have a log open at once, but no writer. A call that changes a file that was found stops the file
+/// system; new files may be made in other directories. This fails as `open_directories` does.
+pub fn open_directories_for_reading<
+    R: Files<File = File> + Threads + Eprint + AllocGlobal + Clone + Sync + Drop,
+>(
+    rt: &R,
+    directory: &str,
+    spill_directory: Option<&str>,
+) -> Result<DirectoryFileSystem<FileDevice<R>>, DirectoryFault>
+    ensures fresh { IfOk result (λ system. StartsFresh
+        (⟦<DirectoryFileSystem<FileDevice<R>> as FileSystem>⟧.disk system)) }
+    ensures unset { IfOk result (λ system. (directory : List ℕ)
+        → spaces_of ⟦<FileDevice<R> as Device>⟧ system directory ≡ None) }
+    ensures found { IfOk result (λ system.
+        StandsAsFound (calls_of ⟦<FileDevice<R> as Device>⟧ system)) }
+{
+    let mut found = Found::new(rt.alloc(), Access::ReadOnly);
+    load_all(rt, &mut found, directory, spill_directory)?;
+    let Found {
+        storage,
+        files,
+        locks,
+        ..
+    } = found;
+    let zeros = vec![in rt.alloc(); 0u8; PIECE]?;
+    let device = FileDevice::new(rt.clone()?, files, locks, zeros, &storage);
+    Ok(DirectoryFileSystem::new(storage, device))
+}
+
+/// Makes a directory if nothing has the path, and syncs its parent directory, so that no crash removes it. The parent
+/// is synced even if the path exists: a process that made it may have been killed before its sync.
+pub fn make_directory<R: Files<File = File> + AllocGlobal>(
+    rt: &R,
+    directory: &str,
+) -> Result<(), DirectoryFault> {
+    make_durable(rt, directory).map_err(|error| DirectoryFault::of_directory(
+        rt.alloc(),
+        directory,
+        error,
+    ))
+}
+
+/// Makes a directory if nothing has the path, and syncs its parent directory.
+fn make_durable<R: Files<File = File>>(rt: &R, directory: &str) -> io::Result<()> {
+    if let Err(error) = fs::create_dir(rt, directory) {
+        if error.kind() != ErrorKind::AlreadyExists {
+            return Err(error);
+        }
+    }
+    let home = match Path::new(directory).parent() {
+        Some(home) if !home.as_str().is_empty() => home.as_str(),
+        _ => ".",
+    };
+    File::open(rt, home)?.sync_all()
+}
+
+/// Locks the directories of a log, then loads their log files. Returns these.
+fn load_all<R: Files<File = File> + Threads + AllocGlobal + Clone + Sync + Drop>(
+    rt: &R,
+    found: &mut Found,
+    directory: &str,
+    spill_directory: Option<&str>,
+) -> Result<Vec<ListedFile>, DirectoryFault> {
+    lock(rt, found, directory)?;
+    let Some(other) = spill_directory else {
+        return load(rt, found, directory);
+    };
+    lock(rt, found, other)?;
+    let mut listed = load(rt, found, directory)?;
+    listed.append(&mut load(rt, found, other)?)?;
+    Ok(listed)
+}
+
+/// Locks a directory.
+fn lock<R: Files<File = File> + AllocGlobal>(
+    rt: &R,
+    found: &mut Found,
+    directory: &str,
+) -> Result<(), DirectoryFault> {
+    found.add_directory(rt, directory).map_err(|error| DirectoryFault::of_directory(
+        rt.alloc(),
+        directory,
+        error,
+    ))
+}
+
+/// Loads the log files in a directory. Returns them.
+fn load<R: Files<File = File> + Threads + AllocGlobal + Clone + Sync + Drop>(
+    rt: &R,
+    found: &mut Found,
+    directory: &str,
+) -> Result<Vec<ListedFile>, DirectoryFault> {
+    let listed = list_files(rt, directory)?;
+    let opened = open_files(rt, found, listed.as_slice())?;
+    match found.load_files(rt, listed.as_slice(), opened) {
+        Ok(()) => Ok(listed),
+        Err(error) => Err(DirectoryFault::of_files(rt.alloc(), directory, error)),
+    }
+}
+
+/// Opens files. If one can't be opened, the error names it.
+fn open_files<R: Files<File = File> + AllocGlobal>(
+    rt: &R,
+    found: &Found,
+    listed: &[ListedFile],
+) -> Result<Vec<File>, DirectoryFault> {
+    let mut opened = Vec::with_capacity(rt.alloc(), listed.len())?;
+    for file in listed {
+        let path = file.path.as_str();
+        let file = found
+            .open(rt, path)
+            .map_err(|error| DirectoryFault::of_files(rt.alloc(), path, error))?;
+        opened.push(file)?;
+    }
+    Ok(opened)
+}

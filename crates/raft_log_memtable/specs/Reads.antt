@@ -1,0 +1,89 @@
+-- Reads of a table.
+use Rattle.std.specs.Prelude.{◌≡◌, ℕ, zero, suc, ◌+◌, ◌-◌, ◌^◌, min, ◌<◌, ◌≤◌, ◌⊎◌, Bool, true, false, List, [], ◌∷◌, ◌++◌, length, take, drop, Option, Some, None, option_map, if◌then◌else◌, nat_lt, nat_le, slice_get}
+use Rattle.std.specs.Ordering.{is_le}
+use Rattle.raft_log_record_base.specs.declared.errors.Error.{Error}
+use Rattle.raft_log_record_base.specs.declared.errors.Error.TheVariants as errors
+use Rattle.raft_log_record_base.specs.declared.pipe_log.FileId.{FileId}
+use Rattle.raft_log_record_base.specs.declared.pipe_log.LogQueue.{LogQueue}
+use Rattle.raft_log_record_base.specs.Files.{file_cmp}
+use Rattle.raft_log_record_items.specs.declared.entry.EntryIndex.{EntryIndex}
+use Rattle.raft_log_extents.specs.declared.place.Place.{Place}
+use Rattle.raft_log_extents.specs.Counts.{passing, sized}
+use Rattle.raft_log_extents.specs.Entries.{entry_of, queue_of}
+use Rattle.raft_log_memtable_index.specs.Shown.{Shown}
+use Rattle.raft_log_memtable_index.specs.Listing.{rewritten_values, ListsAll}
+
+-- the first index, if there are entries
+abbrev pub first_of : Shown → Option ℕ
+first_of v = if nat_lt 0 (length v.places) then Some v.first else None
+
+-- the last index, if there are entries
+abbrev pub last_of : Shown → Option ℕ
+last_of v = if nat_lt 0 (length v.places) then Some (v.first + (length v.places - 1)) else None
+
+-- the entry at an index, if there is one
+abbrev pub entry_at : Shown → ℕ → Option EntryIndex
+entry_at v i =
+    if nat_le v.first i
+    then option_map (entry_of (queue_of (nat_lt (i - v.first) v.rewritten)) i)
+    (slice_get v.places (i - v.first))
+    else None
+
+-- the entries at these places, from a position in the table on
+abbrev pub entries_from : Shown → ℕ → List Place → List EntryIndex
+entries_from v n [] = []
+entries_from v n (p ∷ ps) =
+    entry_of (queue_of (nat_lt n v.rewritten)) (v.first + n) p ∷ entries_from v (n + 1) ps
+
+-- the places of the indexes from begin on, below end
+abbrev pub places_between : Shown → ℕ → ℕ → List Place
+places_between v begin end = take (end - begin) (drop (begin - v.first) v.places)
+
+-- the entries from begin on, below end, up to the greatest size
+abbrev pub fetched : Shown → ℕ → ℕ → Option ℕ → List EntryIndex
+fetched v begin end max =
+    entries_from v (begin - v.first)
+    (take (sized max (places_between v begin end)) (places_between v begin end))
+
+-- the entries in Append from the first on, up to the first in a file past the gate
+abbrev pub appended_entries : Shown → ℕ → List EntryIndex
+appended_entries v gate =
+    entries_from v v.rewritten (take (passing gate (drop v.rewritten v.places)) (drop v.rewritten v.places))
+
+-- the entries in Rewrite
+abbrev pub rewritten_entries : Shown → List EntryIndex
+rewritten_entries v = entries_from v 0 (take v.rewritten v.places)
+
+-- the place is in a file of this queue up to the gate
+abbrev pub is_up_to : FileId → LogQueue → Option Place → Bool
+is_up_to gate queue None = false
+is_up_to gate queue (Some p) = is_le (file_cmp (record { queue = queue; seq = p.file }) gate)
+
+-- there are this many entries, and the last of these is in a file up to the gate
+abbrev pub has_before : Shown → FileId → ℕ → Bool
+has_before v gate zero = true
+has_before v gate (suc n) = is_up_to gate (queue_of (nat_lt n v.rewritten)) (slice_get v.places n)
+
+-- these entries are appended to the old ones, and this is how many
+abbrev pub Fetches : Shown → ℕ → ℕ → Option ℕ → List EntryIndex → List EntryIndex → ℕ → Type 0
+Fetches v begin end max old new count =
+    (new ≡ old ++ fetched v begin end max) × (count ≡ sized max (places_between v begin end))
+
+-- the indexes from begin on, below end, are those of entries that the table has
+abbrev pub AreIn : Shown → ℕ → ℕ → Type 0
+AreIn v begin end = begin < end → (v.first ≤ begin) × (end ≤ v.first + length v.places)
+
+-- why a fetch fails: there are no entries, the first is compacted away, the last isn't there, or memory ran out; it
+-- never fails if the range is empty
+abbrev pub FetchRefused : Shown → ℕ → ℕ → Error → Type 0
+FetchRefused v begin end error =
+    (begin < end)
+    × (((error ≡ errors.EntryNotFound) × (length v.places ≡ 0))
+    ⊎ (((error ≡ errors.EntryCompacted) × (0 < length v.places) × (begin < v.first))
+    ⊎ (((error ≡ errors.EntryNotFound) × (v.first ≤ begin) × (v.first + length v.places < end))
+    ⊎ ((error ≡ errors.Memory) × (v.first ≤ begin) × (end ≤ v.first + length v.places)))))
+
+-- the number of entries and values in Rewrite, at most 2 ^ 64 - 1
+abbrev pub StandIn : Shown → ℕ → Type 0
+StandIn v n = (pairs : List (List ℕ × List ℕ)) × ListsAll (rewritten_values v) pairs
+    × (n ≡ min (v.rewritten + length pairs) (2 ^ 64 - 1))

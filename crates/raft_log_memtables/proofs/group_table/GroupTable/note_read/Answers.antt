@@ -1,0 +1,10 @@
+use Rattle.std.proofs.Common.{ap, subst, sym}
+use Rattle.raft_log_memtables.specs.Bare.{HasNothing}
+use Rattle.raft_log_memtables.proofs.group_table.GroupTable.note_read.Goals as goal
+
+pub invariant_of-self : goal.invariant_of-self
+invariant_of-self c = record {
+  bare = λ h.
+      let bare = c.args.self.now.bare h in
+      subst HasNothing (sym (ap (λ z. z.table) c.note_read_group.ensures.read)) (record { entries = bare.entries; values = bare.values });
+}

@@ -1,0 +1,81 @@
+-- What a check of a log returns, and what it leaves.
+use Rattle.std.specs.Prelude.{◌≡◌, ℕ, true, List, length}
+use Rattle.std.specs.declared.io.ErrorKind.TheVariants.{Other}
+use Rattle.raft_log_record_base.specs.declared.errors.Error.{Error}
+use Rattle.raft_log_record_base.specs.declared.errors.Error.TheVariants as errors
+use Rattle.raft_log_record_base.specs.declared.pipe_log.LogQueue.{LogQueue}
+use Rattle.raft_log_record_base.specs.declared.pipe_log.LogQueue.TheVariants.{Append, Rewrite}
+use Rattle.raft_log_fs.specs.Disk.{Disk}
+use Rattle.raft_log_file_settings.specs.Sanitized.{IsRefusedFor}
+use Rattle.raft_log_file_settings.specs.Settings.{settings_of}
+use Rattle.raft_log_file_settings.specs.declared.config.Config.{Config}
+use Rattle.raft_log_file_settings.specs.declared.recovery_mode.RecoveryMode.{RecoveryMode}
+use Rattle.raft_log_active_file.specs.declared.format.File.{File}
+use Rattle.raft_log_replay.specs.Machines.{Batch}
+use Rattle.raft_log_replay.specs.Segments.{all_batches}
+use Rattle.raft_log_replay.specs.Sources.{HoldEach}
+use Rattle.raft_log_recovery_read.specs.Segments.{HoldsFile}
+use Rattle.raft_log_recovery_read.specs.declared.file_ending.FileEnding.{FileEnding}
+use Rattle.raft_log_recovery.specs.Cutting.{CutsEach}
+use Rattle.raft_log_recovery.specs.ForReading.{FailsToReadLog}
+use Rattle.raft_log_recovery.specs.Recovering.{append_files, rewrite_files}
+use Rattle.raft_log_recovery.specs.Scanning.{FailsToScanLog}
+use Rattle.raft_log_recovery.specs.declared.builder.DualPipesBuilder.{DualPipesBuilder}
+use Rattle.raft_log_recovery.specs.Finding.{FindsLog, IsBegun}
+use Rattle.raft_log_offline.specs.Findings.{Lists, finding_of}
+use Rattle.raft_log_offline.specs.Kept.{KeepsRuns, IsOutOfMemory}
+use Rattle.raft_log_offline.specs.declared.checker.ConsistencyChecker.{ConsistencyChecker}
+
+-- the files of a queue have these batches, file after file, and this is to be done with each
+pub record HoldAll (queue : LogQueue) (mode : RecoveryMode) (files : List File) (d : Disk)
+    (batches : List Batch) (endings : List FileEnding) : Type 0 where
+  pub segments : List (List Batch)
+  pub held : HoldEach (HoldsFile mode queue files d) 0 segments endings
+  pub all : length segments ≡ length files
+  pub joined : batches ≡ all_batches segments
+
+-- The log's files were found, and have these batches of both queues. Then the damaged ones were truncated, Append's
+-- first.
+pub record ReadsLogFiles (config : Config) (append rewrite : List Batch) (old new : Disk) : Type 0 where
+  pub found : DualPipesBuilder
+  pub scanned : Disk
+  pub finds : FindsLog config found old scanned
+  pub append_endings : List FileEnding
+  pub rewrite_endings : List FileEnding
+  pub of_append : HoldAll Append found.config.recovery_mode (append_files found) scanned append append_endings
+  pub of_rewrite : HoldAll Rewrite found.config.recovery_mode (rewrite_files found) scanned rewrite
+      rewrite_endings
+  pub between : Disk
+  pub append_cut : CutsEach (append_files found) append_endings scanned between
+  pub rewrite_cut : CutsEach (rewrite_files found) rewrite_endings between new
+
+-- The log's files were read, and the list has just the findings of their records.
+pub record ChecksLog (config : Config) (findings : List (ℕ × ℕ)) (old new : Disk) : Type 0 where
+  pub append : List Batch
+  pub rewrite : List Batch
+  pub reads : ReadsLogFiles config append rewrite old new
+  pub lists : Lists (finding_of append rewrite) findings
+
+-- The log's files were read, and each checker keeps the runs of its queue's records.
+pub record ReadsRuns (config : Config) (append rewrite : ConsistencyChecker) (old new : Disk) : Type 0 where
+  pub append_batches : List Batch
+  pub rewrite_batches : List Batch
+  pub reads : ReadsLogFiles config append_batches rewrite_batches old new
+  pub append_kept : KeepsRuns Append append_batches append
+  pub rewrite_kept : KeepsRuns Rewrite rewrite_batches rewrite
+
+-- Why a log wasn't checked, and the disk then:
+-- - the file system had stopped, which is reported before all else
+-- - the settings have a fault
+-- - the log's files weren't found
+-- - a queue wasn't read, or not truncated
+-- - memory ran out for the list
+pub data FailsToCheck (config : Config) (error : Error) (old new : Disk) : Type 0 where
+  ended : old.stopped ≡ true → error ≡ errors.Io Other → new ≡ old → FailsToCheck config error old new
+  unsound : IsRefusedFor (settings_of config) error → new ≡ old → FailsToCheck config error old new
+  unfound : (begun : DualPipesBuilder) → IsBegun config begun → FailsToScanLog begun error old new
+      → FailsToCheck config error old new
+  unread : (found : DualPipesBuilder) (scanned : Disk) → FindsLog config found old scanned
+      → FailsToReadLog KeepsRuns IsOutOfMemory found error scanned new → FailsToCheck config error old new
+  unlisted : (append rewrite : List Batch) → ReadsLogFiles config append rewrite old new
+      → error ≡ errors.Memory → FailsToCheck config error old new

@@ -1,0 +1,45 @@
+-- What a check of the log in a directory returns, and what it leaves.
+use Rattle.std.specs.Prelude.{◌≡◌, ℕ, List, ◌++◌, codes}
+use Rattle.std.specs.String.{string_bytes}
+use Rattle.raft_log_record_base.specs.declared.errors.Error.{Error}
+use Rattle.raft_log_record_base.specs.declared.errors.Error.TheVariants as errors
+use Rattle.raft_log_fs.specs.Disk.{Disk}
+use Rattle.raft_log_file_settings.specs.Settings.{Settings, default_settings, settings_of}
+use Rattle.raft_log_file_settings.specs.declared.config.Config.{Config}
+use Rattle.raft_log_file_settings.specs.declared.recovery_mode.RecoveryMode.TheVariants.{TolerateAnyCorruption}
+use Rattle.raft_log_recovery_scan.specs.Directories.{IsFreePath}
+use Rattle.raft_log_offline.specs.Checking.{ChecksLog, FailsToCheck}
+use Rattle.raft_log_recovery_scan.specs.Opened.{FailsToLook}
+
+-- the usual settings of a log in the directory with this path, under which all damage is tolerated
+abbrev pub checked_settings : List ℕ → Settings
+checked_settings path = record default_settings { dir = path; recovery_mode = TolerateAnyCorruption }
+
+-- a directory or a file has the path
+abbrev pub HasPath : List ℕ → Disk → Type 0
+HasPath path d = IsFreePath path d → ⊥
+
+-- the message for a path that nothing has
+abbrev pub told_absent : List ℕ → List ℕ
+told_absent path = codes "No such directory: " ++ path
+
+-- nothing has the path; `Memory` if there was none for the message
+abbrev pub TellsAbsence : List ℕ → Error → Type 0
+TellsAbsence path (errors.InvalidArgument text) = string_bytes text ≡ told_absent path
+TellsAbsence path errors.Memory = Unit {0}
+TellsAbsence path _ = ⊥
+
+-- the log in the directory with this path, which was there, was checked with these settings
+pub record ChecksDirectory (path : List ℕ) (findings : List (ℕ × ℕ)) (old new : Disk) : Type 0 where
+  pub there : HasPath path old
+  pub config : Config
+  pub usual : settings_of config ≡ checked_settings path
+  pub checks : ChecksLog config findings old new
+
+-- Why a log wasn't checked. Nothing has the path, which the message has; it isn't known, or memory ran out for the
+-- settings: then nothing is done. Or the check of the log failed.
+pub data FailsToCheckDirectory (path : List ℕ) (error : Error) (old new : Disk) : Type 0 where
+  absent : IsFreePath path old → TellsAbsence path error → new ≡ old → FailsToCheckDirectory path error old new
+  unknown : FailsToLook old error → new ≡ old → FailsToCheckDirectory path error old new
+  unchecked : HasPath path old → (config : Config) → settings_of config ≡ checked_settings path
+      → FailsToCheck config error old new → FailsToCheckDirectory path error old new

@@ -1,0 +1,44 @@
+-- What checkers find.
+use Rattle.std.specs.BTreeMap.{BTreeMap, get}
+use Rattle.std.specs.List.Sorted.{IsStrictlySortedBy}
+use Rattle.std.specs.Option.{option_and_then, option_or}
+use Rattle.std.specs.Ordering.{nat_cmp}
+use Rattle.std.specs.Prelude.{◌≡◌, ◌↔◌, ℕ, ◌==◌, false, List, map, Contains, Option, Some}
+use Rattle.raft_log_replay.specs.Machines.{Batch}
+use Rattle.raft_log_offline.specs.Runs.{finding, runs_of}
+use Rattle.raft_log_offline.specs.Kept.{kept_of}
+use Rattle.raft_log_offline.specs.declared.checker.ConsistencyChecker.{ConsistencyChecker}
+
+-- the list has just these findings: each group with one, once, from the least group up
+pub record Lists (found : ℕ → Option ℕ) (findings : List (ℕ × ℕ)) : Type 0 where
+  pub rising : IsStrictlySortedBy nat_cmp (map (λ f. f.0) findings)
+  pub exact : (group end : ℕ) → Contains findings (group, end) ↔ (found group ≡ Some end)
+
+-- the finding that a checker keeps of a group
+abbrev pub told_by : ConsistencyChecker → ℕ → Option ℕ
+told_by checker group = option_and_then (λ k. k.hole_after) (kept_of checker group)
+
+-- the first findings, and for the other groups the second ones
+abbrev pub told_over : (ℕ → Option ℕ) → (ℕ → Option ℕ) → ℕ → Option ℕ
+told_over first second group = option_or (first group) (second group)
+
+-- the findings in a map
+abbrev pub found_among : BTreeMap ℕ ℕ → ℕ → Option ℕ
+found_among found group = get nat_cmp found group
+
+-- the finding of a group, if there is one, replaced that in a map
+pub record NotesFinding (group : ℕ) (end : Option ℕ) (old new : BTreeMap ℕ ℕ) : Type 0 where
+  pub one : found_among new group ≡ option_or end (found_among old group)
+  pub others : (other : ℕ) → (group == other) ≡ false → found_among new other ≡ found_among old other
+
+-- these findings replaced those in a map
+abbrev pub TellsOver : (ℕ → Option ℕ) → BTreeMap ℕ ℕ → BTreeMap ℕ ℕ → Type 0
+TellsOver told old new = (group : ℕ) → found_among new group ≡ told_over told (found_among old) group
+
+-- the finding of a group in the batches of a queue
+abbrev pub finding_in : List Batch → ℕ → Option ℕ
+finding_in batches group = finding (runs_of group batches)
+
+-- the finding of a group in a log: the one in Rewrite, else the one in Append
+abbrev pub finding_of : List Batch → List Batch → ℕ → Option ℕ
+finding_of append rewrite = told_over (finding_in rewrite) (finding_in append)

@@ -1,0 +1,78 @@
+-- What a checker keeps of the runs of each group.
+use Rattle.std.specs.BTreeMap.{get}
+use Rattle.std.specs.Option.{option_or}
+use Rattle.std.specs.Ordering.{nat_cmp}
+use Rattle.std.specs.Prelude.{◌≡◌, ℕ, ◌+◌, ◌==◌, false, nat_lt, if◌then◌else◌, List, [], ◌∷◌, ◌++◌, Option, Some, None}
+use Rattle.raft_log_record_base.specs.declared.errors.Error.{Error}
+use Rattle.raft_log_record_base.specs.declared.errors.Error.TheVariants as errors
+use Rattle.raft_log_record_base.specs.declared.pipe_log.LogQueue.{LogQueue}
+use Rattle.raft_log_record_items.specs.declared.item.LogItem.{LogItem}
+use Rattle.raft_log_replay.specs.Machines.{Batch}
+use Rattle.raft_log_offline.specs.Runs.{Run, finding, run_of_item, runs_in, runs_of}
+use Rattle.raft_log_offline.specs.declared.group_runs.GroupRuns.{GroupRuns}
+use Rattle.raft_log_offline.specs.declared.checker.ConsistencyChecker.{ConsistencyChecker}
+
+-- where the last of these runs ends, which follow one
+abbrev pub last_end : Run → List Run → ℕ
+last_end run [] = run.last
+last_end run (next ∷ runs) = last_end next runs
+
+-- what is kept of a group's runs, if there are any: where the first begins, where the last ends, and the finding
+abbrev pub kept : List Run → Option GroupRuns
+kept [] = None
+kept (run ∷ runs) = Some (record {
+  first = run.first;
+  last = last_end run runs;
+  hole_after = finding (run ∷ runs);
+})
+
+-- where the earlier runs end, if the later ones start past that + 1
+abbrev pub hole_between : GroupRuns → GroupRuns → Option ℕ
+hole_between earlier later = if nat_lt (earlier.last + 1) later.first then Some earlier.last else None
+
+-- what is kept of runs and of later ones: the earlier finding takes precedence
+abbrev pub followed : GroupRuns → GroupRuns → GroupRuns
+followed earlier later = record {
+  first = earlier.first;
+  last = later.last;
+  hole_after = option_or earlier.hole_after (option_or (hole_between earlier later) later.hole_after);
+}
+
+-- what is kept of runs and of later ones, if there may be none of either
+abbrev pub both_kept : Option GroupRuns → Option GroupRuns → Option GroupRuns
+both_kept None later = later
+both_kept (Some earlier) None = Some earlier
+both_kept (Some earlier) (Some later) = Some (followed earlier later)
+
+-- what a checker keeps of a group
+abbrev pub kept_of : ConsistencyChecker → ℕ → Option GroupRuns
+kept_of checker group = get nat_cmp checker.groups group
+
+-- the checker keeps, for each group, its runs in these batches, of whichever queue these are
+abbrev pub KeepsRuns : LogQueue → List Batch → ConsistencyChecker → Type 0
+KeepsRuns queue batches checker = (group : ℕ) → kept_of checker group ≡ kept (runs_of group batches)
+
+-- runs of a group were added after those that were kept of it
+pub record FollowsIn (old new : ConsistencyChecker) (group : ℕ) (later : GroupRuns) : Type 0 where
+  pub both : kept_of new group ≡ both_kept (kept_of old group) (Some later)
+  pub others : (other : ℕ) → (group == other) ≡ false → kept_of new other ≡ kept_of old other
+
+-- what one checker keeps of each group was added after what the other did
+abbrev pub FollowsAll : ConsistencyChecker → ConsistencyChecker → ConsistencyChecker → Type 0
+FollowsAll old later new =
+    (group : ℕ) → kept_of new group ≡ both_kept (kept_of old group) (kept_of later group)
+
+-- batches are declined only for lack of memory
+abbrev pub IsOutOfMemory : LogQueue → List Batch → Error → Type 0
+IsOutOfMemory queue batches error = error ≡ errors.Memory
+
+-- the run of an item, if it has any, was added after what was kept of its group
+abbrev pub TakesItem : LogItem → ConsistencyChecker → ConsistencyChecker → Type 0
+TakesItem item old new =
+    (group : ℕ) → kept_of new group ≡ both_kept (kept_of old group) (kept (run_of_item group item))
+
+-- the runs of a batch were added after those that were kept of each group
+abbrev pub TakesRuns : List LogItem → ConsistencyChecker → ConsistencyChecker → Type 0
+TakesRuns items old new =
+    (group : ℕ) (before : List Run) → kept_of old group ≡ kept before
+    → kept_of new group ≡ kept (before ++ runs_in group items)

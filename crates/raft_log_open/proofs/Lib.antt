@@ -1,0 +1,9 @@
+mod Joining
+mod Making
+mod Moving
+mod Padding
+mod PaddingReading
+mod Places
+mod Rereading
+mod Steps
+mod Whole

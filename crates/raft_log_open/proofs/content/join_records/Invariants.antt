@@ -1,0 +1,14 @@
+use Rattle.std.proofs.Common.{◌≡◌, List, ℕ, ◌++◌}
+use Rattle.raft_log_file_reader.specs.Reader.{left_of}
+use Rattle.raft_log_recovery_read.specs.Behind.{IsAtWork}
+use Rattle.raft_log_open.specs.Content.{HasAllBytes, joined}
+use Rattle.raft_log_open.proofs.content.join_records.Given as goal
+
+-- the records so far follow one another up to where the reader is, and came behind what was there
+abbrev pub invariant-loop-start : goal.invariant-loop-start
+invariant-loop-start g l = (records : List (List ℕ))
+    × IsAtWork (λ file content offset end. HasAllBytes file content offset records end) (g.F.FileSystem.disk l.file_system) l.fn.reader l.reader
+    × (l.new.items ≡ l.fn.new.items ++ joined records)
+
+abbrev pub decreases-loop-start : goal.decreases-loop-start
+decreases-loop-start g l = left_of l.reader

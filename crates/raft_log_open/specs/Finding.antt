@@ -1,0 +1,75 @@
+-- Finding a log's files without padding: unchanged, or after the padding was removed.
+use Rattle.std.specs.Prelude.{◌≡◌, List, String}
+use Rattle.std.specs.declared.alloc.Global.{Global}
+use Rattle.raft_log_record_base.specs.declared.errors.Error.{Error}
+use Rattle.raft_log_record_base.specs.declared.errors.Error.TheVariants as errors
+use Rattle.raft_log_record_base.specs.declared.pipe_log.FileId.{FileId}
+use Rattle.raft_log_fs.specs.Disk.{Disk}
+use Rattle.raft_log_file_settings.specs.Settings.{directories_of, settings_of}
+use Rattle.raft_log_file_settings.specs.declared.config.Config.{Config}
+use Rattle.raft_log_replay_context.specs.Batches.{Declines, HasReadBatches}
+use Rattle.raft_log_replay_context.specs.declared.context.MemTableRecoverContext.{MemTableRecoverContext}
+use Rattle.raft_log_recovery_read.specs.declared.file_ending.FileEnding.{FileEnding}
+use Rattle.raft_log_recovery.specs.Finding.{FindsLog}
+use Rattle.raft_log_recovery.specs.Reading.{HasReadFiles}
+use Rattle.raft_log_recovery.specs.Recovering.{FailsToRecoverLog, RecoversLog, append_config, append_files, rewrite_config, rewrite_files}
+use Rattle.raft_log_recovery.specs.Scanning.{FailsToScanLog, ScansLog}
+use Rattle.raft_log_recovery.specs.Unaligned.{AreUnaligned}
+use Rattle.raft_log_recovery.specs.declared.builder.DualPipesBuilder.{DualPipesBuilder}
+use Rattle.raft_log_open.specs.Unpadding.{FailsToUnpad, Unpads}
+
+-- The files that a builder found were read on the disk, and one of them has an alignment. There may be padding between
+-- its records.
+pub record HasPadding (b : DualPipesBuilder) (d : Disk) : Type 0 where
+  pub append : MemTableRecoverContext
+  pub rewrite : MemTableRecoverContext
+  pub append_endings : List FileEnding
+  pub rewrite_endings : List FileEnding
+  pub append_read : HasReadFiles HasReadBatches (append_config b) (append_files b) d append append_endings
+  pub rewrite_read : HasReadFiles HasReadBatches (rewrite_config b) (rewrite_files b) d rewrite rewrite_endings
+  pub aligned : AreUnaligned append_endings × AreUnaligned rewrite_endings → ⊥
+
+-- the log of these settings was found, its files were read, and one of them has an alignment; nothing was truncated
+pub record FindsPadding (config : Config) (b : DualPipesBuilder) (old new : Disk) : Type 0 where
+  pub finds : FindsLog config b old new
+  pub has : HasPadding b new
+
+-- the padding was removed from the files of a builder's log, and then its directories were scanned again
+pub record FindsAnew (was b : DualPipesBuilder) (old new : Disk) : Type 0 where
+  pub written : List FileId
+  pub unpadded : Disk
+  pub unpads : Unpads (directories_of (settings_of was.config)) written old unpadded
+  pub scans : ScansLog was b unpadded new
+
+-- the padding was removed from the files of a builder's log; then these contexts read its queues, and damaged files
+-- were truncated
+pub record ReadsAnew (was : DualPipesBuilder) (append rewrite : MemTableRecoverContext) (b : DualPipesBuilder)
+    (old new : Disk) : Type 0 where
+  pub found : DualPipesBuilder
+  pub scanned : Disk
+  pub anew : FindsAnew was found old scanned
+  pub recovers : RecoversLog HasReadBatches append rewrite found b scanned new
+
+-- The files of the log of these settings were found: with the log unchanged, or after the padding was removed if one of
+-- them had an alignment.
+pub data FindsUnpadded (config : Config) (b : DualPipesBuilder) (old new : Disk) : Type 0 where
+  as_it_stood : FindsLog config b old new → FindsUnpadded config b old new
+  once_unpadded : (was : DualPipesBuilder) (padded : Disk) → FindsPadding config was old padded
+      → FindsAnew was b padded new → FindsUnpadded config b old new
+
+-- the error isn't the one for a file with an alignment
+abbrev pub IsNoPadding : Error → Type 0
+IsNoPadding error = (text : String Global) → error ≡ errors.InvalidArgument text → ⊥
+
+-- Why reading a builder's log without its padding fails:
+-- - `still_padded`: not all of the padding was removed.
+-- - `unfound`: the padding was removed, and finding the files again failed.
+-- - `unread`: the files were found again, and reading or truncating a queue failed.
+pub data FailsToReadAnew (was : DualPipesBuilder) (error : Error) (old new : Disk) : Type 0 where
+  still_padded : FailsToUnpad (directories_of (settings_of was.config)) error old new
+      → FailsToReadAnew was error old new
+  unfound : (written : List FileId) (unpadded : Disk)
+      → Unpads (directories_of (settings_of was.config)) written old unpadded
+      → FailsToScanLog was error unpadded new → FailsToReadAnew was error old new
+  unread : (found : DualPipesBuilder) (scanned : Disk) → FindsAnew was found old scanned
+      → FailsToRecoverLog HasReadBatches Declines found error scanned new → FailsToReadAnew was error old new

@@ -1,0 +1,83 @@
+-- What an open reads of the bytes that are written without padding.
+use Rattle.std.specs.Prelude.{◌≡◌, ℕ, Bool, Some, List, drop, take, is_some}
+use Rattle.std.specs.List.{AllZip}
+use Rattle.std.specs.String.{string_bytes}
+use Rattle.raft_log_record_base.specs.Fault.{Fault}
+use Rattle.raft_log_record_base.specs.declared.pipe_log.FileId.{FileId}
+use Rattle.raft_log_record_base.specs.declared.pipe_log.FileBlockHandle.{FileBlockHandle}
+use Rattle.raft_log_record_items.specs.Placed.{placed}
+use Rattle.raft_log_record_items.specs.declared.item.LogItem.{LogItem}
+use Rattle.raft_log_fs.specs.Disk.{Disk}
+use Rattle.raft_log_fs.specs.declared.handle.Handle.{Handle}
+use Rattle.raft_log_file_reader.specs.Batches.{HasNoMore, IsBroken}
+use Rattle.raft_log_file_reader.specs.Opening.{SaysFormat}
+use Rattle.raft_log_file_reader.specs.declared.open_file.OpenFile.{OpenFile}
+use Rattle.raft_log_recovery_read.specs.Reading.{FileReading, ReadsBytes, ReadsFileAs}
+use Rattle.raft_log_open.specs.Content.{HasAllBytes, IsPadded, IsWithoutPadding, plain_format}
+use Rattle.raft_log_open.specs.PaddingReading.{content_of}
+use Rattle.raft_log_open.specs.Unpadding.{WritesAnew, listed_as}
+use Rattle.raft_log_open.specs.declared.placed_file.PlacedFile.{PlacedFile}
+
+-- The records.
+
+-- The new bytes begin with a header of the old version and no alignment. The records of the old bytes follow, byte for
+-- byte. After the last record, the new bytes end if the old ones do; else a broken record follows.
+pub record KeepsRecords (id : FileId) (content new : List ℕ) (old : IsWithoutPadding id content new) : Type 0 where
+  pub file : OpenFile
+  pub is : file.id ≡ id
+  pub plain : file.format ≡ plain_format old.file.format
+  pub start : ℕ
+  pub says : SaysFormat new file.format start
+  pub end : ℕ
+  pub records : HasAllBytes file new start old.are.records end
+  pub ends : HasNoMore old.file content old.are.end → HasNoMore file new end
+  pub breaks : (fault : Fault) → IsBroken old.file content old.are.end fault
+      → (other : Fault) × IsBroken file new end other
+
+-- Bytes without padding have exactly the records of the file.
+abbrev pub RecordsReadTheSame : Type 0
+RecordsReadTheSame =
+    (id : FileId) (content new : List ℕ) (old : IsWithoutPadding id content new) → KeepsRecords id content new old
+
+-- What an open reads.
+
+-- the bytes of a block
+abbrev pub placed_bytes : FileBlockHandle → List ℕ → List ℕ
+placed_bytes block content = take block.len (drop block.offset content)
+
+-- the same items, with the same bytes in the block of their entries, at another offset of the file
+pub record AreMoved (content new : List ℕ) (items others : List LogItem) : Type 0 where
+  pub plain : List LogItem
+  pub from : FileBlockHandle
+  pub to : FileBlockHandle
+  pub lay : items ≡ placed from plain
+  pub lie : others ≡ placed to plain
+  pub same_file : to.id ≡ from.id
+  pub same_len : to.len ≡ from.len
+  pub same : placed_bytes to new ≡ placed_bytes from content
+
+-- The file reads as before, but without an alignment and with other offsets: the same batches in the same order. There
+-- is a fault after them exactly if there was one.
+pub record ReadsMoved (content new : List ℕ) (old read : FileReading) : Type 0 where
+  pub plain : read.format ≡ plain_format old.format
+  pub batches : AllZip (AreMoved content new) old.batches read.batches
+  pub header : (end : ℕ) × (read.end ≡ Some end)
+  pub damage : is_some read.fault ≡ is_some old.fault
+
+-- Reading the file with padding and reading its bytes without padding give the same result, except for the places of
+-- the entries.
+abbrev pub FilesReadTheSame : Type 0
+FilesReadTheSame = (last : Bool) (id : FileId) (content new : List ℕ) (old read : FileReading)
+    → IsPadded last id content → IsWithoutPadding id content new → ReadsBytes last id content old
+    → ReadsBytes last id new read → ReadsMoved content new old read
+
+-- On the disk.
+
+-- After a step that wrote a file anew, reading its path gives the same result as before, except for the places of the
+-- entries.
+abbrev pub WrittenFilesReadTheSame : Type 0
+WrittenFilesReadTheSame =
+    (file : PlacedFile) (d new : Disk) (handle : Handle) (old read : FileReading) (writes : WritesAnew file d new)
+    → new.names (string_bytes file.path) ≡ Some handle.file
+    → ReadsFileAs file.is_last file.id writes.handle d old → ReadsFileAs file.is_last file.id handle new read
+    → ReadsMoved (content_of (listed_as file writes.handle) d) writes.bytes old read

@@ -1,0 +1,10 @@
+pub mod Content
+pub mod Finding
+pub mod Laws
+pub mod Opening
+pub mod PaddingReading
+pub mod Passing
+pub mod Placing
+pub mod Reading
+pub mod Replacing
+pub mod Unpadding

@@ -1,0 +1,64 @@
+-- What opening a log leaves if it succeeds and if it fails.
+use Rattle.std.specs.Prelude.{◌≡◌, ℕ, true, List}
+use Rattle.std.specs.declared.io.ErrorKind.TheVariants.{Other}
+use Rattle.raft_log_record_base.specs.declared.errors.Error.{Error}
+use Rattle.raft_log_record_base.specs.declared.errors.Error.TheVariants as errors
+use Rattle.raft_log_fs.specs.Disk.{Disk}
+use Rattle.raft_log_file_settings.specs.Sanitized.{IsRefusedFor}
+use Rattle.raft_log_file_settings.specs.Settings.{settings_of}
+use Rattle.raft_log_file_settings.specs.declared.config.Config.{Config}
+use Rattle.raft_log_dual_pipes.specs.Pipes.{LogPipes}
+use Rattle.raft_log_memtables.specs.declared.mem_tables.MemTables.{MemTables}
+use Rattle.raft_log_replay_context.specs.Batches.{Declines, HasReadBatches}
+use Rattle.raft_log_replay_context.specs.declared.context.MemTableRecoverContext.{MemTableRecoverContext}
+use Rattle.raft_log_recovery.specs.Finishing.{FailsToOpenRecovered, OpensRecovered}
+use Rattle.raft_log_recovery.specs.Recovering.{FailsToRecoverLog}
+use Rattle.raft_log_recovery.specs.Reserving.{FailsToReadyLog}
+use Rattle.raft_log_recovery.specs.Scanning.{FailsToScanLog}
+use Rattle.raft_log_recovery.specs.declared.builder.DualPipesBuilder.{DualPipesBuilder}
+use Rattle.raft_log_recovery.specs.Finding.{FindsLog, IsBegun}
+use Rattle.raft_log_open.specs.Finding.{FailsToReadAnew, FindsPadding, IsNoPadding}
+use Rattle.raft_log_open.specs.Reading.{ReadsLog, ReadsQueues}
+
+-- The log of these settings was opened. Files with padding were written anew, and both queues were read into these
+-- tables. All recovered files were synced before the pipes opened over them. The state of a file system is its disk,
+-- and what it may return for a directory's space.
+pub record OpensDirectory {F : Type 0} (disk : F → Disk) (tells : F → List ℕ → ℕ → Type 0) (config : Config)
+    (old : F) (v : LogPipes) (tables : MemTables) : Type 0 where
+  pub builder : DualPipesBuilder
+  pub ready : F
+  pub reads : ReadsLog disk tells config tables builder old ready
+  pub opens : OpensRecovered builder (disk ready) v
+
+-- Why opening a log fails:
+-- - `ended`: the file system had stopped; this comes before all other reasons.
+-- - `unsound`: its settings have a fault.
+-- - `unfound`: its files weren't found.
+-- - `unread`: a queue wasn't read or not truncated; the error isn't the one for an alignment.
+-- - `unread_anew`: one of its files has an alignment, and reading the log without its padding failed.
+-- - `unmerged`: out of memory for the tables.
+-- - `unreadied`: readying the files that are kept for use failed.
+-- - `unfinished`: not all files were synced, or a pipe wasn't opened.
+pub data FailsToOpenDirectory {F : Type 0} (disk : F → Disk) (tells : F → List ℕ → ℕ → Type 0)
+    (config : Config) (error : Error) (old new : F) : Type 0 where
+  ended : (disk old).stopped ≡ true → error ≡ errors.Io Other → disk new ≡ disk old
+      → FailsToOpenDirectory disk tells config error old new
+  unsound : IsRefusedFor (settings_of config) error → disk new ≡ disk old
+      → FailsToOpenDirectory disk tells config error old new
+  unfound : (begun : DualPipesBuilder) → IsBegun config begun
+      → FailsToScanLog begun error (disk old) (disk new) → FailsToOpenDirectory disk tells config error old new
+  unread : (found : DualPipesBuilder) (scanned : Disk) → FindsLog config found (disk old) scanned
+      → FailsToRecoverLog HasReadBatches Declines found error scanned (disk new) → IsNoPadding error
+      → FailsToOpenDirectory disk tells config error old new
+  unread_anew : (was : DualPipesBuilder) (padded : Disk) → FindsPadding config was (disk old) padded
+      → FailsToReadAnew was error padded (disk new) → FailsToOpenDirectory disk tells config error old new
+  unmerged : (append rewrite : MemTableRecoverContext) (b : DualPipesBuilder)
+      → ReadsQueues config append rewrite b (disk old) (disk new) → error ≡ errors.Memory
+      → FailsToOpenDirectory disk tells config error old new
+  unreadied : (append rewrite : MemTableRecoverContext) (b : DualPipesBuilder) (between : F)
+      → ReadsQueues config append rewrite b (disk old) (disk between)
+      → FailsToReadyLog disk tells b error between new → FailsToOpenDirectory disk tells config error old new
+  unfinished : (tables : MemTables) (b : DualPipesBuilder) (ready : F)
+      → ReadsLog disk tells config tables b old ready
+      → FailsToOpenRecovered b error (disk ready) (disk new)
+      → FailsToOpenDirectory disk tells config error old new

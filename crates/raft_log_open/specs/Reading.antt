@@ -1,0 +1,79 @@
+-- Reading the queues of a log into contexts, and making its tables of both.
+use Rattle.std.specs.Prelude.{◌≡◌, ◌-◌, ◌^◌, ℕ, min, List, length}
+use Rattle.raft_log_record_base.specs.declared.pipe_log.LogQueue.{LogQueue}
+use Rattle.raft_log_record_base.specs.declared.pipe_log.LogQueue.TheVariants.{Append, Rewrite}
+use Rattle.raft_log_fs.specs.Disk.{Disk}
+use Rattle.raft_log_file_settings.specs.declared.config.Config.{Config}
+use Rattle.raft_log_file_settings.specs.declared.recovery_mode.RecoveryMode.{RecoveryMode}
+use Rattle.raft_log_active_file.specs.declared.format.File.{File}
+use Rattle.raft_log_memtables.specs.Tables.{IsAtRest}
+use Rattle.raft_log_memtables.specs.declared.mem_tables.MemTables.{MemTables}
+use Rattle.raft_log_replay.specs.Machines.{Batch}
+use Rattle.raft_log_replay.specs.Segments.{all_batches}
+use Rattle.raft_log_replay.specs.Sources.{HoldEach}
+use Rattle.raft_log_recovery_read.specs.Segments.{HoldsFile}
+use Rattle.raft_log_recovery_read.specs.declared.file_ending.FileEnding.{FileEnding}
+use Rattle.raft_log_replay_context.specs.Batches.{HasReadBatches}
+use Rattle.raft_log_replay_context.specs.Context.{ComesOver, HasRead}
+use Rattle.raft_log_replay_context.specs.Records.{ReadRecord}
+use Rattle.raft_log_replay_context.specs.Written.{written_by}
+use Rattle.raft_log_replay_context.specs.declared.context.MemTableRecoverContext.{MemTableRecoverContext}
+use Rattle.raft_log_recovery.specs.Finishing.{IsAllRead}
+use Rattle.raft_log_recovery.specs.Recovering.{append_files, rewrite_files, RecoversLog}
+use Rattle.raft_log_recovery.specs.Reserving.{ReadiesLog}
+use Rattle.raft_log_recovery.specs.declared.builder.DualPipesBuilder.{DualPipesBuilder}
+use Rattle.raft_log_open.specs.Finding.{FindsUnpadded}
+
+-- The context has read all files of a queue on this disk, in order: the batches of each, and how each ended.
+pub record HasReadAll (queue : LogQueue) (mode : RecoveryMode) (files : List File) (d : Disk)
+    (context : MemTableRecoverContext) (endings : List FileEnding) : Type 0 where
+  pub segments : List (List Batch)
+  pub held : HoldEach (HoldsFile mode queue files d) 0 segments endings
+  pub all : length segments ≡ length files
+  pub read : HasReadBatches queue (all_batches segments) context
+
+-- The log's files were found without padding; then one context read all files of Append and another all of Rewrite.
+-- After that the damaged files were truncated.
+pub record ReadsQueues (config : Config) (append rewrite : MemTableRecoverContext) (b : DualPipesBuilder)
+    (old new : Disk) : Type 0 where
+  pub found : DualPipesBuilder
+  pub scanned : Disk
+  pub finds : FindsUnpadded config found old scanned
+  pub recovers : RecoversLog HasReadBatches append rewrite found b scanned new
+  pub append_all : HasReadAll Append found.config.recovery_mode (append_files found) scanned append
+      b.append.endings.items
+  pub rewrite_all : HasReadAll Rewrite found.config.recovery_mode (rewrite_files found) scanned rewrite
+      b.rewrite.endings.items
+
+-- How many entries and values were read from Rewrite's files when the log was found without padding, at most 2^64 - 1.
+-- All that is read counts, live or not.
+pub record BringsInRewrite (config : Config) (d : Disk) (n : ℕ) : Type 0 where
+  pub found : DualPipesBuilder
+  pub scanned : Disk
+  pub finds : FindsUnpadded config found d scanned
+  pub segments : List (List Batch)
+  pub endings : List FileEnding
+  pub held : HoldEach (HoldsFile found.config.recovery_mode Rewrite (rewrite_files found) scanned) 0 segments
+      endings
+  pub all : length segments ≡ length (rewrite_files found)
+  pub count : n ≡ min (written_by (all_batches segments)) (2 ^ 64 - 1)
+
+-- the tables are the context of Append merged over that of Rewrite, and nothing is prepared in them
+pub record AreMergedOf (append rewrite : MemTableRecoverContext) (tables : MemTables) : Type 0 where
+  pub over : (first behind : List ReadRecord) → HasRead Rewrite first rewrite → HasRead Append behind append
+      → ComesOver first behind tables
+  pub rest : IsAtRest tables
+
+-- Both queues were read and merged into these tables; then the files that are kept for use were readied, as the
+-- settings say. The builder has all that opening the pipes needs. The state of a file system is its disk, and what it
+-- may return for a directory's space.
+pub record ReadsLog {F : Type 0} (disk : F → Disk) (tells : F → List ℕ → ℕ → Type 0) (config : Config)
+    (tables : MemTables) (b : DualPipesBuilder) (old new : F) : Type 0 where
+  pub append : MemTableRecoverContext
+  pub rewrite : MemTableRecoverContext
+  pub recovered : DualPipesBuilder
+  pub between : F
+  pub reads : ReadsQueues config append rewrite recovered (disk old) (disk between)
+  pub merged : AreMergedOf append rewrite tables
+  pub readies : ReadiesLog disk tells recovered b between new
+  pub all : IsAllRead b

@@ -1,2 +1,0 @@
-mod Whole
-mod Padding

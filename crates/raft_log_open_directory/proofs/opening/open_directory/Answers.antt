@@ -1,5 +1,0 @@
-use Rattle.raft_log_open_directory.specs.Opening.FailsToOpenDirectory.{unfinished}
-use Rattle.raft_log_open_directory.proofs.opening.open_directory.Goals as goal
-
-pub returns-in-Err-finish-clause-err : goal.returns-in-Err-finish-clause-err
-returns-in-Err-finish-clause-err g c = unfinished c.in-Ok.read.tables c.in-Ok.read.builder _ c.in-Ok.ensures.ok c.in-Err-finish.ensures.err

@@ -1,4 +1,0 @@
-use Rattle.raft_log_open_found.proofs.taking.take_noted.Goals as goal
-
-pub returns-in-Some : goal.returns-in-Some
-returns-in-Some g c = λ start before taken. rw c.in-Some.is (c.take.ensures start before taken)

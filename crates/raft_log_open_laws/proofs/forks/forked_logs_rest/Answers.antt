@@ -1,5 +1,0 @@
-use Rattle.raft_log_open_laws.proofs.Resting.{forked_logs_rest}
-use Rattle.raft_log_open_laws.proofs.forks.forked_logs_rest.Goals as goal
-
-pub returns : goal.returns
-returns c = forked_logs_rest

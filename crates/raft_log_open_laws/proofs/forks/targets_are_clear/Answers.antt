@@ -1,5 +1,0 @@
-use Rattle.raft_log_open_laws.proofs.Resting.{targets_are_clear}
-use Rattle.raft_log_open_laws.proofs.forks.targets_are_clear.Goals as goal
-
-pub returns : goal.returns
-returns c = targets_are_clear

@@ -1,5 +1,0 @@
-use Rattle.raft_log_open_laws.proofs.PastFiles.{finished_file_is_read}
-use Rattle.raft_log_open_laws.proofs.found.finished_files_are_read.Goals as goal
-
-pub returns : goal.returns
-returns c = finished_file_is_read

@@ -1,5 +1,0 @@
-use Rattle.raft_log_open_laws.proofs.AllFiles.{scanned_files_are_all}
-use Rattle.raft_log_open_laws.proofs.found.scanned_files_are_all.Goals as goal
-
-pub returns : goal.returns
-returns c = scanned_files_are_all

@@ -1,5 +1,0 @@
-use Rattle.raft_log_open_laws.proofs.Spans.{scanned_files_are_spanned}
-use Rattle.raft_log_open_laws.proofs.found.scanned_files_are_spanned.Goals as goal
-
-pub returns : goal.returns
-returns c = scanned_files_are_spanned

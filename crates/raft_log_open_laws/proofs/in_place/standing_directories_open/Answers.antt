@@ -1,5 +1,0 @@
-use Rattle.raft_log_open_laws.proofs.InPlaceOutcomes.{standing_directories_open}
-use Rattle.raft_log_open_laws.proofs.in_place.standing_directories_open.Goals as goal
-
-pub returns : goal.returns
-returns g c = standing_directories_open _ _

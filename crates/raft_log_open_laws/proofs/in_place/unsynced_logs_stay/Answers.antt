@@ -1,5 +1,0 @@
-use Rattle.raft_log_open_laws.proofs.Unsynced.{unsynced_logs_stay}
-use Rattle.raft_log_open_laws.proofs.in_place.unsynced_logs_stay.Goals as goal
-
-pub returns : goal.returns
-returns c = unsynced_logs_stay

@@ -1,5 +1,0 @@
-use Rattle.raft_log_open_laws.proofs.Keeping.{kept_logs_stay}
-use Rattle.raft_log_open_laws.proofs.kept.kept_logs_stay.Goals as goal
-
-pub returns : goal.returns
-returns g c log = kept_logs_stay (g.G.LogQueues.queues log)

@@ -1,5 +1,0 @@
-use Rattle.raft_log_open_laws.proofs.Directory.{crashed_directories_open}
-use Rattle.raft_log_open_laws.proofs.opens.crashed_directories_open.Goals as goal
-
-pub returns : goal.returns
-returns g c = crashed_directories_open _ _

@@ -1,5 +1,0 @@
-use Rattle.raft_log_open_laws.proofs.Running.{crashed_engines_open}
-use Rattle.raft_log_open_laws.proofs.opens.crashed_engines_open.Goals as goal
-
-pub returns : goal.returns
-returns g c = crashed_engines_open _ _

@@ -1,5 +1,0 @@
-use Rattle.raft_log_open_laws.proofs.Outcomes.{crashed_logs_open_by_calls}
-use Rattle.raft_log_open_laws.proofs.opens.crashed_logs_open_by_calls.Goals as goal
-
-pub returns : goal.returns
-returns g c = crashed_logs_open_by_calls _ _

@@ -1,5 +1,0 @@
-use Rattle.raft_log_open_laws.proofs.RecoveredLogs.{crashed_logs_open}
-use Rattle.raft_log_open_laws.proofs.recovered.crashed_logs_open.Goals as goal
-
-pub returns : goal.returns
-returns c = crashed_logs_open

@@ -1,0 +1,72 @@
+-- When nothing fails with `Full`.
+use Rattle.std.specs.Prelude.{◌≡◌, ◌≢◌, ◌<◌, ◌≤◌, ◌^◌, ◌++◌, ◌+◌, ℕ, Bool, false, List, [], ◌∷◌, length, None}
+use Rattle.raft_log_model_laws.specs.Item.Item.{Put}
+use Rattle.raft_log_model_laws.specs.Item.Record.{Plain}
+use Rattle.raft_log_model_laws.specs.Groups.{appended, taken}
+use Rattle.raft_log_record_base.specs.declared.errors.Error.{Error}
+use Rattle.raft_log_record_base.specs.declared.errors.Error.TheVariants as errors
+use Rattle.raft_log_record_items.specs.declared.item.LogItem.{LogItem}
+use Rattle.raft_log_record_batches.specs.Batch.{Batch}
+use Rattle.raft_log_record_batches.specs.Bounds.{batch_bound, record_bound}
+use Rattle.raft_log_block_cache.specs.raft_log_dual_pipes.specs.Pipes.{Said}
+use Rattle.raft_log_memtable_index.specs.Shown.{Shown}
+use Rattle.raft_log_engine_laws.specs.Shows.{Home, LogMap, Shows, has_failed}
+use Rattle.raft_log_engine_laws.specs.Writing.{NotWritten, Writes}
+use Rattle.raft_log_purge_copy.specs.Lengths.{HasLongGroup}
+use Rattle.raft_log_purge_copy.specs.Owed.{OweNoMore, SaysMarks}
+use Rattle.raft_log_purge_copy.specs.Reasons.{HasPurgeReason}
+use Rattle.raft_log_purge_copy.specs.Rewriting.{OweNothing}
+use Rattle.raft_log_purge.specs.Lengths.{AreKnown, AreModest, AreShortRuns, HasLog, pairs_bound, puts_of}
+use Rattle.raft_log_purge.specs.Marks.{CameOf}
+
+-- An engine with a log never fails with `Full` for a batch whose bound is below 2 ^ 56.
+abbrev pub BoundedBatchesAreNotFull : Type 0
+BoundedBatchesAreNotFull = (b : Batch) (error : Error) (s t : Shows) → HasLog s → batch_bound b < 2 ^ 56
+    → NotWritten b error s t → error ≢ errors.Full
+
+-- If a log's groups are modest, no record of what one group has is too long.
+abbrev pub ModestLogsMakeRecords : Type 0
+ModestLogsMakeRecords = (m : LogMap) → AreModest m → HasLongGroup m → ⊥
+
+-- A log's groups are modest if the known pairs of each take less than 2 ^ 54 bytes together.
+abbrev pub KnownLogsAreModest : Type 0
+KnownLogsAreModest = (m : LogMap) (known : ℕ → List (List ℕ × List ℕ)) → AreKnown m known
+    → ((g : ℕ) → pairs_bound (known g) < 2 ^ 54) → AreModest m
+
+-- An empty log has no known pairs, and a batch whose runs are short adds those that it puts.
+pub record KnownPairsGrow : Type 0 where
+  pub none : AreKnown (λ g s. None) (λ g. [])
+  pub more : (m : LogMap) (known : ℕ → List (List ℕ × List ℕ)) (said : Said) → AreKnown m known
+      → ((g : ℕ) → AreShortRuns (appended g (said ∷ [])))
+      → AreKnown (taken m (said ∷ [])) (λ g. known g ++ puts_of (appended g (said ∷ [])))
+
+-- A log with one value and nothing else has modest groups, if the value and its key have less than 2 ^ 53 bytes.
+abbrev pub OneValueIsModest : Type 0
+OneValueIsModest = (g : ℕ) (k value : List ℕ) → length k + length value < 2 ^ 53
+    → AreModest (taken (λ h s. None) (Plain (record { group = g; item = Put k value } ∷ []) ∷ []))
+
+-- The record of the owed tombstones takes at most the bound of a record of the items that they came from.
+abbrev pub MarksTakeNoMore : Type 0
+MarksTakeNoMore = (items : List LogItem) (v : ℕ → Shown) (b : Batch) → CameOf items v → SaysMarks v b
+    → batch_bound b ≤ record_bound items []
+
+-- Which items the owed tombstones came from:
+-- - none, if no tombstone is owed
+-- - a batch that is written adds its own items
+-- - a batch that isn't written adds none, unless the engine fails
+-- - a call after which no more is owed, as a purge, adds none
+pub record MarksComeOfBatches : Type 0 where
+  pub none : (v : ℕ → Shown) → OweNothing v → CameOf [] v
+  pub written : (items : List LogItem) (b : Batch) (sync : Bool) (s t : Shows) → CameOf items s.tables
+      → Writes b sync s t → CameOf (items ++ b.items) t.tables
+  pub unwritten : (items : List LogItem) (b : Batch) (error : Error) (s t : Shows) → CameOf items s.tables
+      → NotWritten b error s t → has_failed t ≡ false → CameOf items t.tables
+  pub purged : (items : List LogItem) (v w : ℕ → Shown) → CameOf items v → OweNoMore v w → CameOf items w
+
+-- A purge never fails with `Full` if:
+-- - the log's groups are modest
+-- - the tombstones owed before it came from items whose record has fewer than 2 ^ 56 bytes by its bound
+abbrev pub ModestLogsArePurged : Type 0
+ModestLogsArePurged = (home : Home) (m : LogMap) (items : List LogItem) (error : Error) (s t : Shows)
+    → AreModest m → CameOf items s.tables → record_bound items [] < 2 ^ 56
+    → HasPurgeReason home m error s t → error ≢ errors.Full

@@ -1,0 +1,13 @@
+use Rattle.std.proofs.Common.{take}
+use Rattle.raft_log_engine_laws.specs.Shows.{shows}
+use Rattle.raft_log_memtables.specs.Tables.{IsAtRest}
+use Rattle.raft_log_purge_copy.specs.Groups.{Rewrites}
+use Rattle.raft_log_purge_copy.specs.Promised.{PromisesNoMoves}
+use Rattle.raft_log_purge_copy.specs.Syncing.{HandsCountOn}
+use Rattle.raft_log_purge_copy.proofs.Grouping.{among}
+use Rattle.raft_log_purge_copy.proofs.groups.rewrite_groups.Given as goal
+
+-- the first groups are rewritten
+abbrev pub invariant-loop-group : goal.invariant-loop-group
+invariant-loop-group g l =
+    Rewrites (among (take l.group-index l.groups)) l.gate (shows (g.P.PipeLog.shown l.fn.pipes) l.fn.tables l.fn.cache) (shows (g.P.PipeLog.shown l.pipes) l.tables l.cache) × (IsAtRest l.fn.tables → IsAtRest l.tables) × HandsCountOn 0 l.unsynced (g.P.PipeLog.shown l.fn.pipes) (g.P.PipeLog.shown l.pipes) × (PromisesNoMoves l.fn.tables → PromisesNoMoves l.tables)

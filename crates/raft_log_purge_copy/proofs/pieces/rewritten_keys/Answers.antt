@@ -1,0 +1,10 @@
+use Rattle.raft_log_purge_copy.proofs.Building.{keys_found, keys_none}
+use Rattle.raft_log_purge_copy.proofs.pieces.rewritten_keys.Goals as goal
+use Rattle.raft_log_purge_copy.proofs.pieces.rewritten_keys.Goals.{in-Some+in_ok-fetch_rewritten_kvs, in_default}
+
+pub returns : goal.returns
+returns c = elim c.match-known_table.branch [
+  | in-Some+in_ok-fetch_rewritten_kvs w ↦
+      rw w.pairs-is (keys_found c.args.tables.now c.args.group w.in-Some.table.now c.new-pairs.result.items w.fetch_rewritten_kvs.new.pairs.items w.in-Some.ensures c.new-pairs.ensures.items w.in_ok-fetch_rewritten_kvs.ensures.ok)
+  | in_default w ↦ rw w.pairs-is (keys_none c.args.tables.now c.args.group c.new-pairs.result.items w.in_default.ensures c.new-pairs.ensures.items)
+]

@@ -1,0 +1,65 @@
+-- The parts of an atomic group that restates a group.
+use Rattle.std.specs.Prelude.{◌≡◌, ◌+◌, ◌<◌, ◌≤◌, ℕ, false, List, [], ◌∷◌, ◌++◌, length}
+use Rattle.raft_log_fs.specs.Causes.{IsLater}
+use Rattle.raft_log_record_items.specs.declared.item.LogItem.{LogItem}
+use Rattle.raft_log_record_items.specs.Placed.{written}
+use Rattle.raft_log_record_frames.specs.declared.status.AtomicGroupStatus.{AtomicGroupStatus}
+use Rattle.raft_log_record_frames.specs.declared.marking.Marking.TheVariants.{Part}
+use Rattle.raft_log_record_frames.specs.Marking.{mark_item, marking_of_items}
+use Rattle.raft_log_record_batches.specs.declared.log_batch.BatchState.TheVariants.{Filling}
+use Rattle.raft_log_record_batches.specs.Batch.{Batch, block_place}
+use Rattle.raft_log_engine_laws.specs.Shows.{Home, LogMap, Shows, has_failed}
+use Rattle.raft_log_engine_laws.specs.Holding.{Holds}
+use Rattle.raft_log_engine_laws.specs.Parts.{HoldsInGroup, UnendedGroup, WrittenPart, parts_of}
+use Rattle.raft_log_engine_laws.specs.Restating.{entries_of_pieces}
+use Rattle.raft_log_purge_copy.specs.Entries.{AreEntryBytes}
+use Rattle.raft_log_purge_copy.specs.Lengths.{AreOfGroup}
+use Rattle.raft_log_purge_copy.specs.declared.parts.RestatedPart.{RestatedPart}
+use Rattle.raft_log_purge_copy.specs.Pieces.{IsPiece}
+use Rattle.raft_log_purge_copy.specs.Restated.{last_file}
+
+-- the parts say these entries of a group, piece by piece, from an index on; no piece is empty
+abbrev pub SayPieces : ℕ → ℕ → List (List (List ℕ)) → List WrittenPart → Type 0
+SayPieces g f [] [] = Unit {0}
+SayPieces g f (es ∷ more) (p ∷ ps) =
+    (0 < length es) × IsPiece g f es [] p.batch × SayPieces g (f + length es) more ps
+SayPieces g f pieces ps = ⊥
+
+-- what is kept of the parts: the place of each, and its items there
+abbrev pub ArePartsKept : List RestatedPart → List WrittenPart → Type 0
+ArePartsKept [] [] = Unit {0}
+ArePartsKept (x ∷ xs) (p ∷ ps) =
+    (x.block ≡ p.block) × (x.items.items ≡ written (block_place p.block p.batch.entries) p.batch.items)
+    × ArePartsKept xs ps
+ArePartsKept xs ps = ⊥
+
+-- the items of all parts
+abbrev pub items_of_all : List RestatedPart → List LogItem
+items_of_all [] = []
+items_of_all (x ∷ xs) = x.items.items ++ items_of_all xs
+
+-- the batch is being filled as this part of the atomic group: its items are a group's entries, its keys, and the mark
+pub record IsMarkedPiece (g f number : ℕ) (status : AtomicGroupStatus) (bytes : List (List ℕ))
+    (pairs : List (List ℕ × List ℕ)) (b : Batch) : Type 0 where
+  pub state : b.state ≡ Filling
+  pub piece : IsPiece g f bytes pairs b
+  pub made : AreOfGroup g f bytes pairs (mark_item number status ∷ []) b.items b.entries
+  pub part : marking_of_items b.items ≡ Part number status
+  pub some : b.items ≡ [] → ⊥
+
+-- An atomic group is open, and its parts say the first `done` rewritten entries of a group. Nothing of it counts yet,
+-- and the tables are unchanged.
+pub record HasParts (g number done : ℕ) (parts : List RestatedPart) (s t : Shows) : Type 0 where
+  pub group : UnendedGroup
+  pub numbered : group.number ≡ number
+  pub pieces : List (List (List ℕ))
+  pub are : SayPieces g (s.tables g).first pieces (parts_of group)
+  pub kept : ArePartsKept parts (parts_of group)
+  pub many : length (entries_of_pieces pieces) ≡ done
+  pub same : t ≡ record s { pipes = t.pipes; cache = t.cache }
+  pub alive : has_failed t ≡ false
+  pub later : IsLater s.pipes.disk t.pipes.disk
+  pub stands : (home : Home) (m : LogMap) → Holds home s m [] → HoldsInGroup home t m group
+  pub bytes : (home : Home) (m : LogMap) → Holds home s m []
+      → AreEntryBytes m g (s.tables g).first (entries_of_pieces pieces)
+  pub low : (home : Home) (m : LogMap) → Holds home s m [] → last_file s ≤ group.first.block.id.seq

@@ -1,0 +1,27 @@
+pub mod Pieces
+pub mod Records
+pub mod Restated
+pub mod GroupParts
+pub mod Steps
+pub mod Taking
+pub mod Owed
+pub mod Lengths
+pub mod Refusals
+pub mod Reasons
+pub mod Parts
+pub mod Syncing
+pub mod Promised
+pub mod Marks
+pub mod Files
+pub mod Stale
+pub mod Copies
+pub mod Entries
+pub mod Moving
+pub mod Rewriting
+pub mod Keys
+pub mod Groups
+-- libraries below, passed on to the crates above
+pub use Rattle.raft_log_engine_laws.specs.raft_log_dual_pipes
+pub use Rattle.raft_log_engine_laws.specs.raft_log_block_cache
+pub use Rattle.raft_log_engine_laws
+pub use Rattle.raft_log_engine_laws.specs.raft_log_active_file

@@ -1,0 +1,43 @@
+-- What a part of a purge leaves if it fails, and what is known of a record that it writes.
+use Rattle.std.specs.Prelude.{◌≡◌, ◌↔◌, IsTrue, ℕ, false, []}
+use Rattle.raft_log_fs.specs.Causes.{IsLater}
+use Rattle.raft_log_record_base.specs.declared.errors.Error.{Error}
+use Rattle.raft_log_record_base.specs.declared.errors.Error.TheVariants as errors
+use Rattle.raft_log_record_batches.specs.Batch.{Batch}
+use Rattle.raft_log_block_cache.specs.Signing.{SaysItself, signed_for}
+use Rattle.raft_log_directory_laws.specs.Calls.Which.{InAppend}
+use Rattle.raft_log_dual_pipes.specs.State.{pipe_at}
+use Rattle.raft_log_dual_pipes.specs.Pipes.{LogPipes, RunsOn, State, files_of}
+use Rattle.raft_log_engine_laws.specs.Shows.{Home, IsLaidOut, LogMap, Shows, has_failed, sense}
+use Rattle.raft_log_engine_laws.specs.Holding.{Holds, IsLeftAt}
+use Rattle.raft_log_purge_copy.specs.Reasons.{HasPurgeReason}
+
+-- What is true after a part failed, by the error. The engine's log keeps its map, with nothing pending; or the engine
+-- has failed, and left its log on the disk.
+abbrev pub Remains : Home → LogMap → Shows → Error → Type 0
+Remains home m t errors.Failed = IsLeftAt home t.pipes.disk m []
+Remains home m t _ = Holds home t m []
+
+-- The part that writes the owed tombstones failed, and why. The engine has failed now exactly if the error is
+-- `Failed`. The log keeps its map.
+pub record PartIsRefused (error : Error) (s t : Shows) : Type 0 where
+  pub tells : has_failed s ≡ false → IsTrue (has_failed t) ↔ (error ≡ errors.Failed)
+  pub later : IsLater s.pipes.disk t.pipes.disk
+  pub remains : (home : Home) (m : LogMap) → Holds home s m [] → Remains home m t error
+  pub cause : (home : Home) (m : LogMap) → Holds home s m [] → HasPurgeReason home m error s t
+
+-- the record of this batch was made: whichever file it is signed for, it says the batch
+pub record IsRecordMade (b made : Batch) : Type 0 where
+  pub items : made.items ≡ b.items
+  pub entries : made.entries ≡ b.entries
+  pub says : SaysItself (signed_for b) b
+  pub laid : IsLaidOut b
+
+-- the number of Append's active file
+abbrev pub append_file : LogPipes → ℕ
+append_file v = (pipe_at InAppend (files_of v)).active.seq
+
+-- Append's active file is the same, and pipes that ran over a log still run over one.
+abbrev pub StaysInFile : LogPipes → LogPipes → Type 0
+StaysInFile v w = (home : Home) (s : State) → RunsOn (sense home) v s
+    → ((next : State) × RunsOn (sense home) w next) × (append_file w ≡ append_file v)

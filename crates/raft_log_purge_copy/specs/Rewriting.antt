@@ -1,0 +1,57 @@
+-- A group's entries in Append are copied, as many at once as a batch may have.
+use Rattle.std.specs.Prelude.{◌≡◌, ◌⊎◌, ◌↔◌, IsTrue, ℕ, Bool, true, false, List, [], Some, length}
+use Rattle.raft_log_fs.specs.Causes.{IsLater}
+use Rattle.raft_log_record_base.specs.declared.errors.Error.{Error}
+use Rattle.raft_log_record_base.specs.declared.errors.Error.TheVariants as errors
+use Rattle.raft_log_record_items.specs.declared.entry.EntryIndex.{EntryIndex}
+use Rattle.raft_log_machine_laws.specs.Whereabouts.{OwesNothing}
+use Rattle.raft_log_memtable_index.specs.Shown.{Shown, whereabouts}
+use Rattle.raft_log_record_batches.specs.Batch.{Batch}
+use Rattle.raft_log_record_batches.specs.Entries.{indexes_of}
+use Rattle.raft_log_engine_laws.specs.Shows.{Home, LogMap, Shows, has_failed}
+use Rattle.raft_log_engine_laws.specs.Holding.{Holds, IsLeftAt}
+use Rattle.raft_log_purge_copy.specs.Copies.{MovesCopies}
+use Rattle.raft_log_purge_copy.specs.Entries.{AreNext, IsRunBatch}
+use Rattle.raft_log_purge_copy.specs.Moving.{Advances}
+use Rattle.raft_log_purge_copy.specs.Reasons.{GivesReason}
+
+-- no group owes a tombstone
+abbrev pub OweNothing : (ℕ → Shown) → Type 0
+OweNothing v = (g : ℕ) → OwesNothing (whereabouts (v g))
+
+-- if the log's map was held with nothing pending and no tombstone owed, it still is held
+abbrev pub StaysHeld : Shows → Shows → Type 0
+StaysHeld s t = OweNothing s.tables → (home : Home) (m : LogMap) → Holds home s m [] → Holds home t m []
+
+-- if the log's map was held with nothing pending and no tombstone owed, it still is; or the failed engine left its
+-- log on the disk
+abbrev pub StaysOrIsLeft : Error → Shows → Shows → Type 0
+StaysOrIsLeft error s t = OweNothing s.tables → (home : Home) (m : LogMap) → Holds home s m []
+    → Holds home t m [] ⊎ ((error ≡ errors.Failed) × IsLeftAt home t.pipes.disk m [])
+
+-- The group's first entries in Append, at least one and all in files up to the gate, were copied, and are in Rewrite
+-- now. Nothing else changed in the tables.
+pub record CopiesEntries (group gate : ℕ) (s t : Shows) : Type 0 where
+  pub entries : List EntryIndex
+  pub next : AreNext gate (s.tables group) entries
+  pub some : entries ≡ [] → ⊥
+  pub bytes : List (List ℕ)
+  pub run : Batch
+  pub is : IsRunBatch group (indexes_of entries) bytes run
+  pub moved : MovesCopies (Some gate) run (record s { cache = t.cache }) t
+  pub advances : Advances group (length entries) s.tables t.tables
+  pub holds : StaysHeld s t
+
+-- the group's first entries in Append, all in files up to the gate, were copied; or there were none, and nothing was
+-- done
+abbrev pub CopiesIfAny : ℕ → ℕ → Bool → Shows → Shows → Type 0
+CopiesIfAny group gate true s t = CopiesEntries group gate s t
+CopiesIfAny group gate false s t = (t ≡ s) × AreNext gate (s.tables group) []
+
+-- The group's entries weren't copied, and why: the tables are unchanged.
+pub record FailsToCopyEntries (error : Error) (s t : Shows) : Type 0 where
+  pub same : t ≡ record s { pipes = t.pipes; cache = t.cache }
+  pub tells : has_failed s ≡ false → IsTrue (has_failed t) ↔ (error ≡ errors.Failed)
+  pub later : IsLater s.pipes.disk t.pipes.disk
+  pub remains : StaysOrIsLeft error s t
+  pub cause : GivesReason error s t

@@ -1,0 +1,69 @@
+-- Rewrite is synced when that is due.
+use Rattle.std.specs.Prelude.{◌≡◌, ◌+◌, ◌-◌, ◌^◌, ◌<◌, ◌≤◌, ◌⊎◌, ℕ, List, [], ◌∷◌, false, if◌then◌else◌, min, nat_lt}
+use Rattle.raft_log_directory_laws.specs.Calls.Which.{InRewrite}
+use Rattle.raft_log_record_base.specs.declared.pipe_log.FileBlockHandle.{FileBlockHandle}
+use Rattle.raft_log_block_cache.specs.Signing.{signed_for}
+use Rattle.raft_log_dual_pipes.specs.Pipes.{LogPipes, is_failed}
+use Rattle.raft_log_dual_pipes.specs.Calls.{AppendsTo, SyncsQueue}
+use Rattle.raft_log_record_batches.specs.Batch.{Batch, IsReadyForEach}
+use Rattle.raft_log_purge_copy.specs.Lengths.{HasOnePiece}
+
+-- Rewrite was synced, or nothing was done
+abbrev pub MaySync : LogPipes → LogPipes → Type 0
+MaySync v w = (w ≡ v) ⊎ SyncsQueue InRewrite v w
+
+-- pipes that hadn't failed still haven't
+abbrev pub StaysAlive : LogPipes → LogPipes → Type 0
+StaysAlive v w = is_failed v ≡ false → is_failed w ≡ false
+
+-- after so many bytes of unsynced records, Rewrite is synced before the next record is written
+abbrev pub max_unsynced : ℕ
+max_unsynced = 524288
+
+-- If so many bytes or more were written to Rewrite since its last sync, it was synced, and none is unsynced now. Else
+-- nothing was done.
+abbrev pub SyncsIfDue : ℕ → ℕ → LogPipes → LogPipes → Type 0
+SyncsIfDue old new v w = ((old < max_unsynced) × (new ≡ old) × (w ≡ v))
+    ⊎ ((max_unsynced ≤ old) × (new ≡ 0) × SyncsQueue InRewrite v w)
+
+-- how many bytes of Rewrite are unsynced after a sync that is due
+abbrev pub left_unsynced : ℕ → ℕ
+left_unsynced old = if nat_lt old max_unsynced then old else 0
+
+-- how many bytes of Rewrite are unsynced after the record of a batch, added to those left
+abbrev pub CountsRecord : Batch → ℕ → ℕ → Type 0
+CountsRecord b old new = (len : ℕ) × IsReadyForEach len b.items b.entries
+    × (new ≡ min (left_unsynced old + len) (2 ^ 64 - 1))
+
+-- Rewrite has the record of a batch
+abbrev pub TakesRecord : Batch → LogPipes → LogPipes → Type 0
+TakesRecord b v w = (block : FileBlockHandle) × AppendsTo InRewrite (signed_for b) block v w
+
+-- One record was written to Rewrite. Before it, Rewrite was synced exactly if that was due by the count of bytes
+-- since the last sync. After it, its bytes count too.
+pub record WritesOne (b : Batch) (old new : ℕ) (v w : LogPipes) : Type 0 where
+  pub synced : LogPipes
+  pub syncs : SyncsIfDue old (left_unsynced old) v synced
+  pub took : TakesRecord b synced w
+  pub counted : CountsRecord b old new
+
+-- copies were written to Rewrite as one record, if there are any, and then count
+abbrev pub CountsCopies : Batch → ℕ → ℕ → LogPipes → LogPipes → Type 0
+CountsCopies b old new v w = ((b.items ≡ []) × (new ≡ old) × (w ≡ v))
+    ⊎ ((b.items ≡ [] → ⊥) × WritesOne b old new v w)
+
+-- The records of these batches were written to Rewrite, one after another. Each has at most 131,072 bytes of entries,
+-- or a single entry. Each continues the count of the one before.
+abbrev pub WritesInTurn : List Batch → ℕ → ℕ → LogPipes → LogPipes → Type 0
+WritesInTurn [] old new v w = (new ≡ old) × (w ≡ v)
+WritesInTurn (b ∷ bs) old new v w =
+    HasOnePiece b × (count : ℕ) × (next : LogPipes) × WritesOne b old count v next × WritesInTurn bs count new next w
+
+-- Records were written to Rewrite, one after another, and nothing else was done to the pipes. The count of unsynced
+-- bytes is passed from each to the next, so at most 512 KiB and one record are ever unsynced.
+abbrev pub HandsCountOn : ℕ → ℕ → LogPipes → LogPipes → Type 0
+HandsCountOn old new v w = (bs : List Batch) × WritesInTurn bs old new v w
+
+-- records were written to Rewrite, one after another, and the count starts at 0
+abbrev pub CountsEach : LogPipes → LogPipes → Type 0
+CountsEach v w = (count : ℕ) × HandsCountOn 0 count v w

@@ -1,5 +1,0 @@
-use Rattle.raft_log_purge_parts.proofs.Grouping.{all_are_past}
-use Rattle.raft_log_purge_parts.proofs.laws.rewritten_groups_are_past.Goals as goal
-
-pub returns : goal.returns
-returns c = all_are_past

@@ -1,0 +1,11 @@
+-- The sizes from which on a purge collects a queue.
+use Rattle.raft_log_file_settings.specs.Settings.{Settings}
+use Rattle.raft_log_purge_policy.specs.declared.thresholds.Thresholds.{Thresholds}
+
+-- the thresholds in these settings
+abbrev pub thresholds_of : Settings → Thresholds
+thresholds_of s = record {
+  append = s.purge_threshold;
+  rewrite = s.purge_rewrite_threshold;
+  garbage_ratio = s.purge_rewrite_garbage_ratio;
+}

@@ -1,0 +1,44 @@
+-- Which queues a purge collects, and how far.
+use Rattle.std.specs.Prelude.{◌≡◌, ◌⊎◌, ℕ, ◌*◌, ◌-◌, ◌<◌, min, Some}
+use Rattle.raft_log_directory_laws.specs.Calls.{Which}
+use Rattle.raft_log_directory_laws.specs.Calls.Which.{InAppend, InRewrite}
+use Rattle.raft_log_memtable.specs.declared.global_stats.GlobalStats.{GlobalStats}
+use Rattle.raft_log_dual_pipes.specs.State.{pipe_at}
+use Rattle.raft_log_dual_pipes.specs.Pipes.{LogPipes, files_of}
+use Rattle.raft_log_dual_pipes.specs.Calls.{seq_at, size_at}
+use Rattle.raft_log_purge_policy.specs.declared.thresholds.Thresholds.{Thresholds}
+use Rattle.raft_log_purge_policy.specs.declared.watermarks.Watermarks.{Watermarks}
+use Rattle.raft_log_dual_pipes.specs.LastFile.{last_of}
+
+-- the number of the first file in a queue's live range
+abbrev pub first_at : Which → LogPipes → ℕ
+first_at which v = (pipe_at which (files_of v)).first_seq
+
+-- the file after so many thousandths of Append's live range, at most the last but one
+abbrev pub watermark : ℕ → LogPipes → ℕ
+watermark thousandths v = min (seq_at InAppend v thousandths 1000) (last_of InAppend v - 1)
+
+-- up to which files of Append a purge goes
+abbrev pub watermarks_of : LogPipes → Watermarks
+watermarks_of v = record { rewrite = watermark 700 v; compact = watermark 200 v }
+
+-- a queue has more than one file, and together they are larger than this
+abbrev pub IsQueuePast : Which → ℕ → LogPipes → Type 0
+IsQueuePast which threshold v = (first_at which v < last_of which v) × (threshold < size_at which v)
+
+-- more than so many thousandths of what was written to Rewrite are garbage
+abbrev pub IsGarbage : ℕ → GlobalStats → Type 0
+IsGarbage ratio stats = stats.rewrite_entries * ratio < stats.deleted_rewrite_entries * 1000
+
+-- a purge collects Append
+abbrev pub TakesAppend : Thresholds → LogPipes → Type 0
+TakesAppend t v = IsQueuePast InAppend t.append v
+
+-- a purge may have something to do: a queue is past its threshold
+abbrev pub IsAnyPast : Thresholds → LogPipes → Type 0
+IsAnyPast t v = TakesAppend t v ⊎ ((threshold : ℕ) × (t.rewrite ≡ Some threshold) × IsQueuePast InRewrite threshold v)
+
+-- a purge rewrites Rewrite
+abbrev pub TakesRewrite : Thresholds → GlobalStats → LogPipes → Type 0
+TakesRewrite t stats v = (threshold : ℕ) × (t.rewrite ≡ Some threshold)
+    × IsQueuePast InRewrite threshold v × IsGarbage t.garbage_ratio stats

@@ -1,8 +1,0 @@
-use Rattle.std.proofs.Common.{◌≡◌, take}
-use Rattle.std.specs.List.{filter}
-use Rattle.raft_log_purge_rules.specs.Picking.{answers_at}
-use Rattle.raft_log_purge_rules.proofs.picking.answered_of.Given as goal
-
--- so it is of the first groups
-abbrev pub invariant-loop-group : goal.invariant-loop-group
-invariant-loop-group l = l.picked.items ≡ filter (answers_at l.watermarks l.restated l.tables) (take l.group-index l.groups)

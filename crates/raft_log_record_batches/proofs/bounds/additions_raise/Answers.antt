@@ -1,0 +1,5 @@
+use Rattle.raft_log_record_batches.proofs.Bounds.{additions_raise}
+use Rattle.raft_log_record_batches.proofs.bounds.additions_raise.Goals as goal
+
+pub returns : goal.returns
+returns c = additions_raise

@@ -1,5 +1,0 @@
-use Rattle.raft_log_record_bound_laws.proofs.Bounds.{bounded_records_are_made}
-use Rattle.raft_log_record_bound_laws.proofs.bounded_records_are_made.Goals as goal
-
-pub returns : goal.returns
-returns c = bounded_records_are_made

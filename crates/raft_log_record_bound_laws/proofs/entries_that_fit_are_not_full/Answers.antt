@@ -1,5 +1,0 @@
-use Rattle.raft_log_record_bound_laws.proofs.Bounds.{entries_that_fit_are_not_full}
-use Rattle.raft_log_record_bound_laws.proofs.entries_that_fit_are_not_full.Goals as goal
-
-pub returns : goal.returns
-returns c = entries_that_fit_are_not_full

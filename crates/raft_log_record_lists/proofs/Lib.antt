@@ -1,2 +1,0 @@
-pub mod ItemBatches
-pub mod Placing

@@ -1,5 +1,0 @@
-use Rattle.raft_log_record_marks.proofs.Marks.{tells_mark}
-use Rattle.raft_log_record_marks.proofs.laws.marks_are_told.Goals as goal
-
-pub returns : goal.returns
-returns c = tells_mark

@@ -1,5 +1,0 @@
-use Rattle.raft_log_record_marks.proofs.Meanings.{user_batches_are_plain}
-use Rattle.raft_log_record_marks.proofs.laws.user_batches_are_plain.Goals as goal
-
-pub returns : goal.returns
-returns c = user_batches_are_plain

@@ -1,5 +1,0 @@
-use Rattle.raft_log_record_marks.proofs.Meanings.{keeps_mark}
-use Rattle.raft_log_record_marks.proofs.laws.user_items_keep_the_mark.Goals as goal
-
-pub returns : goal.returns
-returns c = keeps_mark

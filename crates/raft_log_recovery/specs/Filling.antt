@@ -1,0 +1,37 @@
+-- A file is filled with zeros, piece by piece.
+use Rattle.std.specs.Prelude.{◌≡◌, ◌<◌, ◌*◌, ◌↔◌, ◌⊎◌, ℕ, zero, suc, Bool, IsTrue, false, List, length}
+use Rattle.std.specs.Int.{div_ceil}
+use Rattle.std.specs.declared.io.ErrorKind.{ErrorKind}
+use Rattle.std.specs.declared.io.ErrorKind.TheVariants.{StorageFull}
+use Rattle.raft_log_fs.specs.Disk.{Disk}
+use Rattle.raft_log_fs.specs.Exits.{FailsToWrite, Writes}
+use Rattle.raft_log_fs.specs.declared.handle.Handle.{Handle}
+
+-- these bytes were written so many times, one after another from the file's start
+abbrev pub WritesPieces : Handle → List ℕ → ℕ → Disk → Disk → Type 0
+WritesPieces handle bytes zero old new = new ≡ old
+WritesPieces handle bytes (suc count) old new = (mid : Disk) × WritesPieces handle bytes count old mid
+    × Writes handle (count * length bytes) bytes mid new
+
+-- these bytes were written one after another until the file reached a size
+abbrev pub FillsFile : Handle → List ℕ → ℕ → Disk → Disk → Type 0
+FillsFile handle bytes size old new = WritesPieces handle bytes (div_ceil size (length bytes)) old new
+
+-- one of the writes that fill a file failed; those before it are done
+pub record FailsToFill (handle : Handle) (bytes : List ℕ) (size : ℕ) (kind : ErrorKind) (old new : Disk)
+    : Type 0 where
+  pub count : ℕ
+  pub short : count < div_ceil size (length bytes)
+  pub between : Disk
+  pub written : WritesPieces handle bytes count old between
+  pub fails : FailsToWrite handle (count * length bytes) bytes kind between new
+
+-- there was no space for what was to be written
+abbrev pub HasNoSpace : ErrorKind → Type 0
+HasNoSpace StorageFull = Unit {0}
+HasNoSpace _ = ⊥
+
+-- the file was filled, or a write failed before; and whether it failed for lack of space
+abbrev pub FillsOrNot : Handle → List ℕ → ℕ → Bool → Disk → Disk → Type 0
+FillsOrNot handle bytes size full old new = (FillsFile handle bytes size old new × (full ≡ false))
+    ⊎ ((kind : ErrorKind) × FailsToFill handle bytes size kind old new × (IsTrue full ↔ HasNoSpace kind))

@@ -1,0 +1,54 @@
+-- What a recovery of one queue leaves, whether it succeeds or fails.
+use Rattle.std.specs.Prelude.{◌≡◌, List}
+use Rattle.std.specs.declared.io.ErrorKind.{ErrorKind}
+use Rattle.raft_log_record_base.specs.declared.errors.Error.{Error}
+use Rattle.raft_log_record_base.specs.declared.errors.Error.TheVariants as errors
+use Rattle.raft_log_record_base.specs.declared.pipe_log.LogQueue.{LogQueue}
+use Rattle.raft_log_record_base.specs.declared.pipe_log.LogQueue.TheVariants.{Append, Rewrite}
+use Rattle.raft_log_fs.specs.Disk.{Disk}
+use Rattle.raft_log_recovery_scan.specs.declared.recovery_config.RecoveryConfig.{RecoveryConfig}
+use Rattle.raft_log_replay.specs.Machines.{Batch}
+use Rattle.raft_log_recovery_read.specs.declared.file_ending.FileEnding.{FileEnding}
+use Rattle.raft_log_recovery.specs.Reading.{HasReadFiles, FilesAreUnread}
+use Rattle.raft_log_recovery.specs.Cutting.{CutsEach, FailsToCutEach}
+use Rattle.raft_log_recovery.specs.Unaligned.{AreUnaligned, TellsAligned}
+use Rattle.raft_log_recovery.specs.declared.builder.DualPipesBuilder.{DualPipesBuilder}
+use Rattle.raft_log_recovery.specs.declared.recovered_queue.RecoveredQueue.{RecoveredQueue}
+
+-- The machine has read the queue from the disk, and none of its files has an alignment. Then its damaged files were
+-- truncated.
+pub record RecoversFiles {M : Type 0} (reads : LogQueue → List Batch → M → Type 0) (config : RecoveryConfig)
+    (machine : M) (q after : RecoveredQueue) (old new : Disk) : Type 0 where
+  pub read : HasReadFiles reads config q.files.items old machine after.endings.items
+  pub unaligned : AreUnaligned after.endings.items
+  pub cut : CutsEach q.files.items after.endings.items old new
+  pub same : after.files ≡ q.files
+
+-- Why a queue wasn't recovered:
+-- - it wasn't read, and nothing is truncated
+-- - one of the files has an alignment, and nothing is truncated
+-- - a damaged file wasn't truncated
+pub data FailsToRecoverFiles {M : Type 0} (reads : LogQueue → List Batch → M → Type 0)
+    (declines : LogQueue → List Batch → Error → Type 0) (config : RecoveryConfig) (q : RecoveredQueue)
+    (error : Error) (old new : Disk) : Type 0 where
+  unread : new ≡ old → FilesAreUnread declines config q.files.items old error
+      → FailsToRecoverFiles reads declines config q error old new
+  aligned : (machine : M) (endings : List FileEnding)
+      → HasReadFiles reads config q.files.items old machine endings → new ≡ old
+      → (AreUnaligned endings → ⊥) → TellsAligned error
+      → FailsToRecoverFiles reads declines config q error old new
+  uncut : (machine : M) (endings : List FileEnding) (kind : ErrorKind)
+      → HasReadFiles reads config q.files.items old machine endings → AreUnaligned endings
+      → error ≡ errors.Io kind
+      → FailsToCutEach q.files.items endings kind old new
+      → FailsToRecoverFiles reads declines config q error old new
+
+-- the files of a queue
+abbrev pub queue_files : LogQueue → DualPipesBuilder → RecoveredQueue
+queue_files Append b = b.append
+queue_files Rewrite b = b.rewrite
+
+-- only what the builder has of one queue changed
+abbrev pub OtherQueueIsKept : LogQueue → DualPipesBuilder → DualPipesBuilder → Type 0
+OtherQueueIsKept Append b after = after ≡ record b { append = after.append }
+OtherQueueIsKept Rewrite b after = after ≡ record b { rewrite = after.rewrite }

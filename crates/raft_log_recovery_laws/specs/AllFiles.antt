@@ -1,0 +1,42 @@
+-- A scan of a log's directories finds all files of a queue that was left there.
+use Rattle.std.specs.Prelude.{◌≡◌, ℕ, ◌<◌, suc, List, [], ◌∷◌, ◌++◌}
+use Rattle.raft_log_record_base.specs.declared.pipe_log.LogQueue.{LogQueue}
+use Rattle.raft_log_fs.specs.Disk.{Disk}
+use Rattle.raft_log_fs.specs.Image.{IsSound}
+use Rattle.raft_log_file_writer.specs.LogQueue.{LogFiles, IsAbsent, IsLeftover}
+use Rattle.raft_log_active_file.specs.Standing.{Names, Stands}
+use Rattle.raft_log_engine_laws.specs.raft_log_active_file.specs.Layout.{log_format}
+use Rattle.raft_log_engine_laws.specs.raft_log_active_file.specs.Paths.{IsOwnPath}
+use Rattle.raft_log_engine_laws.specs.raft_log_active_file.specs.declared.record.LogRecord.{LogRecord}
+use Rattle.raft_log_file_settings.specs.declared.recovery_mode.RecoveryMode.{RecoveryMode}
+use Rattle.raft_log_file_pipe.specs.Files.{Listed}
+use Rattle.raft_log_file_pipe.specs.Opening.{first_number}
+use Rattle.raft_log_recovery_scan.specs.Found.{AreDistinct}
+use Rattle.raft_log_recovery_scan.specs.Scanned.{IsQueueIn}
+use Rattle.raft_log_recovery_laws.specs.Scanned.{AreSpanned, kind_of}
+
+-- These are all files of a queue up to its last one, which has this number, back to the first gap before it.
+pub record AreAllFound (queue : LogQueue) (directories : List (List ℕ)) (number : ℕ) (d : Disk)
+    (files : List Listed) : Type 0 where
+  pub earlier : List Listed
+  pub last : Listed
+  pub split : files ≡ earlier ++ last ∷ []
+  pub number_is : last.seq ≡ number
+  pub spanned : AreSpanned queue directories earlier last d
+  pub begins : (m : ℕ) → suc m ≡ first_number earlier last → IsAbsent (log_format queue directories) m d
+
+-- If a stop left a queue in distinct directories, a scan of these returns all of its files.
+abbrev pub ScannedFilesAreAll : Type 0
+ScannedFilesAreAll = (queue : LogQueue) (directories : List (List ℕ)) → AreDistinct directories
+    → (mode : RecoveryMode) (d : Disk) → IsSound d
+    → (q : LogFiles LogRecord) (path : List ℕ) (id : ℕ) (N : Names)
+    → Stands (log_format queue directories) (IsOwnPath queue directories) d q path id
+    (IsLeftover (log_format queue directories) q) N d
+    → (files : List Listed) → IsQueueIn (kind_of queue) directories d mode files
+    → AreAllFound queue directories q.last d files
+
+-- If no number has a file, a scan of a queue returns none.
+abbrev pub NoFilesAreScanned : Type 0
+NoFilesAreScanned = (queue : LogQueue) (directories : List (List ℕ)) (mode : RecoveryMode) (d : Disk)
+    → ((m : ℕ) → m < (log_format queue directories).limit → IsAbsent (log_format queue directories) m d)
+    → (files : List Listed) → IsQueueIn (kind_of queue) directories d mode files → files ≡ []

@@ -1,0 +1,38 @@
+-- The first of a queue's files that a scan returns.
+use Rattle.std.specs.Prelude.{◌≡◌, ℕ, ◌⊎◌, suc, List, [], ◌∷◌, ◌++◌}
+use Rattle.raft_log_record_base.specs.declared.pipe_log.LogQueue.{LogQueue}
+use Rattle.raft_log_fs.specs.Disk.{Disk}
+use Rattle.raft_log_file_writer.specs.LogQueue.{IsAbsent}
+use Rattle.raft_log_engine_laws.specs.raft_log_active_file.specs.Layout.{log_format}
+use Rattle.raft_log_file_settings.specs.declared.recovery_mode.RecoveryMode.{RecoveryMode}
+use Rattle.raft_log_file_pipe.specs.Files.{Listed}
+use Rattle.raft_log_file_pipe.specs.Opening.{first_number}
+use Rattle.raft_log_recovery_scan.specs.Found.{FileLiesIn}
+use Rattle.raft_log_recovery_scan.specs.Scanned.{IsQueueIn}
+use Rattle.raft_log_recovery_scan.specs.declared.file_kind.FileKind.{FileKind}
+use Rattle.raft_log_recovery_scan.specs.declared.scanning.found.FoundFile.{FoundFile}
+use Rattle.raft_log_recovery_laws.specs.Scanned.{kind_of}
+
+-- two files in the directories have this number: in two of them, or one has a sign in its name
+pub record IsTwice (kind : FileKind) (directories : List (List ℕ)) (d : Disk) (n : ℕ) : Type 0 where
+  pub here : FoundFile
+  pub there : FoundFile
+  pub here_lies : FileLiesIn kind directories d here
+  pub there_lies : FileLiesIn kind directories d there
+  pub here_number : here.seq ≡ n
+  pub there_number : there.seq ≡ n
+  pub apart : here ≡ there → ⊥
+
+-- files that begin with this number begin after a gap: no file has the number below it; or two files have this number
+abbrev pub BeginsBehindGap : LogQueue → List (List ℕ) → Disk → ℕ → Type 0
+BeginsBehindGap queue directories d first =
+    ((m : ℕ) → suc m ≡ first → IsAbsent (log_format queue directories) m d)
+    ⊎ IsTwice (kind_of queue) directories d first
+
+-- The files of a queue that a scan returns begin after a gap. If two files have a number, the scan keeps the one in the
+-- later directory, or with a sign. It then keeps only that and the later ones, even if the number below exists.
+abbrev pub ScannedFilesBegin : Type 0
+ScannedFilesBegin = (queue : LogQueue) (directories : List (List ℕ)) (mode : RecoveryMode) (d : Disk)
+    (earlier : List Listed) (last : Listed)
+    → IsQueueIn (kind_of queue) directories d mode (earlier ++ last ∷ [])
+    → BeginsBehindGap queue directories d (first_number earlier last)

@@ -1,0 +1,96 @@
+-- Scanning, recovering and opening a log that rests on a disk, call by call, as an engine does it.
+use Rattle.std.specs.Prelude.{◌≡◌, ℕ, List}
+use Rattle.raft_log_record_base.specs.declared.pipe_log.LogQueue.{LogQueue}
+use Rattle.raft_log_record_base.specs.declared.pipe_log.LogQueue.TheVariants.{Append, Rewrite}
+use Rattle.raft_log_fs.specs.Disk.{Disk}
+use Rattle.raft_log_fs.specs.Image.{IsSound}
+use Rattle.raft_log_file_settings.specs.declared.config.Config.{Config}
+use Rattle.raft_log_engine_laws.specs.raft_log_active_file.specs.Layout.{log_format, log_paths}
+use Rattle.raft_log_file_pipe.specs.Files.{AllKept}
+use Rattle.raft_log_engine_laws.specs.raft_log_memtables.specs.declared.mem_tables.MemTables.{MemTables}
+use Rattle.raft_log_replay.specs.Machines.{Batch}
+use Rattle.raft_log_replay_context.specs.Records.{ReadRecord}
+use Rattle.raft_log_replay_context.specs.Context.{ComesOver, HasRead}
+use Rattle.raft_log_replay_context.specs.Batches.{HasReadBatches}
+use Rattle.raft_log_replay_context.specs.declared.context.MemTableRecoverContext.{MemTableRecoverContext}
+use Rattle.raft_log_dual_pipes.specs.OnDisk.{LogRestsOn}
+use Rattle.raft_log_dual_pipes.specs.Pipes.{LogPipes}
+use Rattle.raft_log_engine_laws.specs.Shows.{log_in, Home, LogMap}
+use Rattle.raft_log_recovery.specs.Directories.{paths_of}
+use Rattle.raft_log_recovery.specs.Finishing.{OpensRecovered, SyncsLog}
+use Rattle.raft_log_recovery.specs.Recovering.{RecoversLog, append_files, rewrite_files}
+use Rattle.raft_log_recovery.specs.Reserving.{ReadiesLog}
+use Rattle.raft_log_recovery.specs.declared.builder.DualPipesBuilder.{DualPipesBuilder}
+use Rattle.raft_log_recovery.specs.Finding.{FindsLog}
+use Rattle.raft_log_recovery_laws.specs.Files.{AreQueueFiles}
+
+-- the home of a log in the directories that the settings name
+abbrev pub home_of : Config → Home
+home_of config = record { append = paths_of config; rewrite = paths_of config }
+
+-- this holds for all settings that name these directories, whatever else they have: for any number of workers, too
+abbrev pub ForAllNaming : Home → (Config → Type 0) → Type 0
+ForAllNaming home P = (config : Config) → home_of config ≡ home → P config
+
+-- `HasReadBatches`, as a builder takes it
+abbrev pub reads : LogQueue → List Batch → MemTableRecoverContext → Type 0
+reads queue batches context = HasReadBatches queue batches context
+
+-- The tables are the context of Append merged over that of Rewrite.
+pub record ComeOver (append rewrite : MemTableRecoverContext) (tables : MemTables) : Type 0 where
+  pub over : (first behind : List ReadRecord) → HasRead Rewrite first rewrite → HasRead Append behind append
+      → ComesOver first behind tables
+
+-- Files for later use were readied on a file system with these disks, which may return these values for a directory's
+-- space.
+pub record ReadiesOn {F : Type 0} (disk : F → Disk) (tells : F → List ℕ → ℕ → Type 0)
+    (b ready : DualPipesBuilder) (old new : Disk) : Type 0 where
+  pub from : F
+  pub to : F
+  pub from_is : disk from ≡ old
+  pub to_is : disk to ≡ new
+  pub readies : ReadiesLog disk tells b ready from to
+
+-- The log of these settings was found on a disk, read by any number of workers into these contexts, and truncated; and
+-- files for later use were readied.
+pub record LogIsRecovered {F : Type 0} (disk : F → Disk) (tells : F → List ℕ → ℕ → Type 0) (config : Config)
+    (d : Disk) (append rewrite : MemTableRecoverContext) (ready : DualPipesBuilder) (readied : Disk)
+    : Type 0 where
+  pub found : DualPipesBuilder
+  pub read : DualPipesBuilder
+  pub scanned : Disk
+  pub cut : Disk
+  pub finds : FindsLog config found d scanned
+  pub recovers : RecoversLog reads append rewrite found read scanned cut
+  pub readies : ReadiesOn disk tells read ready cut readied
+
+-- An engine's pipes and tables were made of the log of these settings. The log was recovered from the disk, all files
+-- were synced, and the pipes opened. What was read of Append was merged over what was read of Rewrite.
+pub record OpensByCalls {F : Type 0} (disk : F → Disk) (tells : F → List ℕ → ℕ → Type 0) (config : Config)
+    (d : Disk) (v : LogPipes) (tables : MemTables) : Type 0 where
+  pub ready : DualPipesBuilder
+  pub readied : Disk
+  pub append : MemTableRecoverContext
+  pub rewrite : MemTableRecoverContext
+  pub recovered : LogIsRecovered disk tells config d append rewrite ready readied
+  pub opens : OpensRecovered ready readied v
+  pub comes : ComeOver append rewrite tables
+
+-- If a log rests, a scan of the directories that its settings name finds all files of either queue from the last gap
+-- on.
+abbrev pub ScansFindAllFiles : Type 0
+ScansFindAllFiles = (config : Config) (d : Disk) (m : LogMap) → IsSound d
+    → (rests : LogRestsOn (log_in (home_of config)) d m) → (found : DualPipesBuilder) (scanned : Disk)
+    → FindsLog config found d scanned
+    → AreQueueFiles (log_in (home_of config)).append rests.state.append scanned (append_files found)
+    × AreQueueFiles (log_in (home_of config)).rewrite rests.state.rewrite scanned (rewrite_files found)
+
+-- After all files are synced, an engine that is opened over a log at rest can use all files that are kept for use: none
+-- holds a record, whatever number it gets.
+abbrev pub SyncedSparesCanBeUsed : {F : Type 0} → (F → Disk) → (F → List ℕ → ℕ → Type 0) → Type 0
+SyncedSparesCanBeUsed disk tells = (config : Config) (d : Disk) (m : LogMap) → IsSound d
+    → LogRestsOn (log_in (home_of config)) d m
+    → (append rewrite : MemTableRecoverContext) (ready : DualPipesBuilder) (readied synced : Disk)
+    → LogIsRecovered disk tells config d append rewrite ready readied → SyncsLog ready readied synced
+    → (first : ℕ) → AllKept (log_format Append (paths_of config))
+    (log_paths Append (paths_of config)) first synced ready.reserved.items

@@ -1,0 +1,66 @@
+-- What reading a log file returns, in the definitions of the pipes. It is for files without an alignment only, since
+-- the pipes know no others.
+use Rattle.std.specs.Prelude.{◌≡◌, ℕ, ◌+◌, Bool, Option, Some, None, true, false, List, [], length}
+use Rattle.raft_log_record_base.specs.declared.pipe_log.FileId.{FileId}
+use Rattle.raft_log_record_base.specs.declared.pipe_log.LogFileContext.{LogFileContext}
+use Rattle.raft_log_fs.specs.Disk.{File}
+use Rattle.raft_log_file_writer.specs.LawsChains.{Written, Reads, spelled}
+use Rattle.raft_log_file_writer.specs.LogFormat.{HasHeader}
+use Rattle.raft_log_file_writer.specs.LogQueue.{Past, IsPast}
+use Rattle.raft_log_active_file.specs.Reopening.{IsReadTo}
+use Rattle.raft_log_file_format.specs.Header.{header_bytes}
+use Rattle.raft_log_file_format.specs.declared.header.LogFileFormat.{LogFileFormat}
+use Rattle.raft_log_engine_laws.specs.raft_log_active_file.specs.Layout.{log_format}
+use Rattle.raft_log_engine_laws.specs.raft_log_active_file.specs.declared.record.LogRecord.{LogRecord}
+use Rattle.raft_log_recovery_read.specs.Reading.{FileReading, ReadsBytes}
+use Rattle.raft_log_recovery_laws.specs.Records.{AreBatchesOf}
+
+-- what a file's records need to know of it, if it is written in this format
+abbrev pub context_in : FileId → LogFileFormat → LogFileContext
+context_in id format = record { id = id; version = format.version }
+
+-- A file with a header: what was read are the records after the header. The end is the end of the last one, and no
+-- record begins there.
+pub record ReadsRecords (directories : List (List ℕ)) (id : FileId) (content : List ℕ)
+    (read : FileReading) (end : ℕ) : Type 0 where
+  pub header : List ℕ
+  pub begins : HasHeader (log_format id.queue directories) header content
+  pub records : List (Written LogRecord)
+  pub reads : Reads ((log_format id.queue directories).IsFrame id.seq header) (length header) records content
+  pub ends : end ≡ length header + length (spelled records)
+  pub batches : AreBatchesOf (context_in id read.format) (length header) read.batches records
+
+-- What the last file of a queue reads as: without a header it has no batch and no end; else its batches are its
+-- records.
+abbrev pub ReadsTo : List (List ℕ) → FileId → List ℕ → FileReading → Option ℕ → Type 0
+ReadsTo directories id content read None =
+    ((header : List ℕ) → HasHeader (log_format id.queue directories) header content → ⊥)
+    × (read.batches ≡ [])
+ReadsTo directories id content read (Some end) = ReadsRecords directories id content read end
+
+-- Reading the last file of a queue returns its records, or none without a header, up to the end that its pipe takes for
+-- it.
+abbrev pub LastFileIsRead : Type 0
+LastFileIsRead = (directories : List (List ℕ)) (id : FileId) (file : File) (read : FileReading)
+    → ReadsBytes true id file.content read → read.format.alignment ≡ 0
+    → ReadsTo directories id file.content read read.end
+    × IsReadTo (log_format id.queue directories) id.seq read.end file
+
+-- The header of a file that has one is the header that its format encodes to.
+abbrev pub HeaderIsWritten : Type 0
+HeaderIsWritten = (directories : List (List ℕ)) (last : Bool) (id : FileId) (content : List ℕ)
+    (read : FileReading) (end : ℕ) → ReadsBytes last id content read → read.format.alignment ≡ 0
+    → read.end ≡ Some end → HasHeader (log_format id.queue directories) (header_bytes read.format) content
+
+-- a file that was finished reads whole: all of its records, and no fault
+pub record ReadsWhole (id : FileId) (past : Past LogRecord) (read : FileReading) : Type 0 where
+  pub sound : read.fault ≡ None
+  pub end : read.end ≡ Some (length past.header + length (spelled past.records))
+  pub batches : AreBatchesOf (context_in id read.format) (length past.header)
+      read.batches past.records
+
+-- Each file before the last one reads whole, after a pipe finished it.
+abbrev pub FinishedFileIsRead : Type 0
+FinishedFileIsRead = (directories : List (List ℕ)) (id : FileId) (past : Past LogRecord) (file : File)
+    (read : FileReading) → IsPast (log_format id.queue directories) id.seq past file
+    → ReadsBytes false id file.content read → read.format.alignment ≡ 0 → ReadsWhole id past read

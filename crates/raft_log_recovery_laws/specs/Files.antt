@@ -1,0 +1,50 @@
+-- The files of a queue at rest, as a scan finds them, and after they were read and truncated.
+use Rattle.std.specs.Prelude.{◌≡◌, ℕ, false, Some, List, [], ◌∷◌, ◌++◌, length, suc}
+use Rattle.raft_log_fs.specs.Disk.{Disk}
+use Rattle.raft_log_file_writer.specs.LogQueue.{IsAbsent}
+use Rattle.raft_log_fs.specs.Touching.{HasFile}
+use Rattle.raft_log_fs.specs.declared.handle.Permission.TheVariants.{ReadWrite}
+use Rattle.raft_log_file_format.specs.Header.{header_bytes}
+use Rattle.raft_log_active_file.specs.Reopening.{IsReadTo}
+use Rattle.raft_log_active_file.specs.TakingUp.{HandleBeginsWith}
+use Rattle.raft_log_active_file.specs.declared.format.File.{File}
+use Rattle.raft_log_engine_laws.specs.raft_log_active_file.specs.declared.record.LogRecord.{LogRecord}
+use Rattle.raft_log_file_pipe.specs.Opening.{first_number}
+use Rattle.raft_log_recovery_read.specs.declared.file_ending.FileEnding.{FileEnding}
+use Rattle.raft_log_dual_pipes.specs.Queues.{QueueLayout}
+use Rattle.raft_log_dual_pipes.specs.State.{IsStopped, Spanned}
+use Rattle.raft_log_dual_pipes.specs.Lying.{IsUnbegun}
+use Rattle.raft_log_engine_laws.specs.raft_log_block_cache.specs.Stored.{Each}
+use Rattle.raft_log_recovery_laws.specs.Found.{AreListed}
+
+-- The files of a queue, as a stop left them: up to its last one, which is open for writing, each under its path, and
+-- none below the first.
+pub record AreAll (layout : QueueLayout LogRecord) (q : Spanned LogRecord) (d : Disk) (earlier : List File)
+    (last : File) : Type 0 where
+  pub stops : IsStopped layout q.files d
+  pub listed : AreListed layout earlier last q.files.last d
+  pub permitted : last.handle.permission ≡ ReadWrite
+  pub begins : (m : ℕ) → suc m ≡ first_number earlier last → IsAbsent layout.format m d
+
+-- these are all files of a queue at rest; or it has none, since none was created yet
+pub data AreQueueFiles (layout : QueueLayout LogRecord) (q : Spanned LogRecord) (d : Disk) (files : List File)
+    : Type 0 where
+  some_made : (earlier : List File) (last : File) → files ≡ earlier ++ last ∷ []
+      → AreAll layout q d earlier last → AreQueueFiles layout q d files
+  none_made : files ≡ [] → IsUnbegun layout q d → AreQueueFiles layout q d files
+
+-- The last file reads up to this end. If the end is known, the file begins with the header of this format.
+pub record ReadsAsTold (layout : QueueLayout LogRecord) (q : Spanned LogRecord) (d : Disk) (last : File)
+    (ending : FileEnding) : Type 0 where
+  pub read : HasFile last.handle.file (IsReadTo layout.format q.files.last ending.end) d
+  pub headed : (end : ℕ) → ending.end ≡ Some end
+      → HandleBeginsWith layout.format last.handle (header_bytes ending.format) d
+
+-- All files of a queue at rest, with the ending of each: those before the last one aren't damaged.
+pub data AreToldOf (layout : QueueLayout LogRecord) (q : Spanned LogRecord) (d : Disk) (files : List File)
+    (endings : List FileEnding) : Type 0 where
+  some_told : (earlier : List File) (last : File) (front : List FileEnding) (ending : FileEnding)
+      → files ≡ earlier ++ last ∷ [] → endings ≡ front ++ ending ∷ [] → length front ≡ length earlier
+      → Each (λ (e : FileEnding). e.is_damaged ≡ false) front → AreAll layout q d earlier last
+      → ReadsAsTold layout q d last ending → AreToldOf layout q d files endings
+  none_told : files ≡ [] → endings ≡ [] → IsUnbegun layout q d → AreToldOf layout q d files endings

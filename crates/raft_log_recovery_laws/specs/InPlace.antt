@@ -1,0 +1,130 @@
+-- Opening a log in place after its engine failed. No crash came in between, so the active files may have bytes that
+-- aren't synced, and the open reads them as they are.
+use Rattle.std.specs.Prelude.{◌≡◌, ℕ, ◌<◌, ◌⊎◌, List, [], length}
+use Rattle.std.specs.declared.io.ErrorKind.{ErrorKind}
+use Rattle.raft_log_record_base.specs.declared.errors.Error.{Error}
+use Rattle.raft_log_record_base.specs.declared.pipe_log.LogQueue.TheVariants.{Append, Rewrite}
+use Rattle.raft_log_record_base.specs.declared.pipe_log.LogQueue.{LogQueue}
+use Rattle.raft_log_fs.specs.Calls.{flushed}
+use Rattle.raft_log_fs.specs.Disk.{File, Disk}
+use Rattle.raft_log_file_writer.specs.LawsChains.{spelled}
+use Rattle.raft_log_file_writer.specs.LogFormat.{NoChanceInFile}
+use Rattle.raft_log_file_writer.specs.LogQueue.{HoldsLast, LogFiles, recent}
+use Rattle.raft_log_engine_laws.specs.raft_log_active_file.specs.Layout.{log_format}
+use Rattle.raft_log_engine_laws.specs.raft_log_active_file.specs.declared.record.LogRecord.{LogRecord}
+use Rattle.raft_log_fs.specs.Image.{as_it_stands, IsSound, IsSoundFile}
+use Rattle.raft_log_file_settings.specs.declared.config.Config.{Config}
+use Rattle.raft_log_engine_laws.specs.raft_log_memtables.specs.declared.mem_tables.MemTables.{MemTables}
+use Rattle.raft_log_replay_context.specs.declared.context.MemTableRecoverContext.{MemTableRecoverContext}
+use Rattle.raft_log_dual_pipes.specs.Opening.{FailsToOpenLog}
+use Rattle.raft_log_dual_pipes.specs.declared.opening.FoundPipe.{FoundPipe}
+use Rattle.raft_log_dual_pipes.specs.Pipes.{LogPipes, Said, State}
+use Rattle.raft_log_engine_laws.specs.Shows.{Home, LogMap}
+use Rattle.raft_log_engine_laws.specs.Holding.{IsLeftAt}
+use Rattle.raft_log_recovery.specs.Finishing.{FailsToSyncLog, IsPipeRecovered, IsAllRead, SyncsLog}
+use Rattle.raft_log_recovery.specs.Scanning.{FailsToScanLog}
+use Rattle.raft_log_recovery.specs.declared.builder.DualPipesBuilder.{DualPipesBuilder}
+use Rattle.raft_log_recovery.specs.Finding.{FindsLog, IsBegun}
+use Rattle.raft_log_open.specs.Opening.{FailsToOpenDirectory, OpensDirectory}
+use Rattle.raft_log_recovery_laws.specs.Left.{IsCrashOf, RestsAfterSome}
+use Rattle.raft_log_recovery_laws.specs.Opened.{HoldsFresh}
+use Rattle.raft_log_recovery_laws.specs.RefusedByCalls.{FailsToOpenByCalls}
+use Rattle.raft_log_recovery_laws.specs.ByCalls.{home_of, ForAllNaming, LogIsRecovered, OpensByCalls}
+
+-- There is no CRC collision in either queue's active file, with its bytes as they are. What is read there now is what a
+-- crash may leave that keeps all bytes.
+abbrev pub StandsWithoutChance : Home → State → Disk → Type 0
+StandsWithoutChance home s d = IsCrashOf home s d (as_it_stands d)
+
+-- An open failed after the syncs: the log was recovered, all files were synced, and opening a pipe failed.
+pub record StopsSynced {F : Type 0} (disk : F → Disk) (tells : F → List ℕ → ℕ → Type 0) (config : Config)
+    (d new : Disk) : Type 0 where
+  pub append : MemTableRecoverContext
+  pub rewrite : MemTableRecoverContext
+  pub ready : DualPipesBuilder
+  pub readied : Disk
+  pub recovered : LogIsRecovered disk tells config d append rewrite ready readied
+  pub read : IsAllRead ready
+  pub synced : Disk
+  pub syncs : SyncsLog ready readied synced
+  pub append_pipe : FoundPipe
+  pub rewrite_pipe : FoundPipe
+  pub append_is : IsPipeRecovered Append ready.config ready.append ready.reserved.items append_pipe
+  pub rewrite_is : IsPipeRecovered Rewrite ready.config ready.rewrite [] rewrite_pipe
+  pub error : Error
+  pub fails : FailsToOpenLog append_pipe rewrite_pipe error synced new
+
+-- The log is left unchanged, with the batches that were pending, or some first ones of them synced. Or it is left with
+-- the map that an open returns, and nothing pending.
+abbrev pub IsLeftEither : Home → Disk → LogMap → List Said → LogMap → Type 0
+IsLeftEither home d m pending now = IsLeftAt home d m pending ⊎ IsLeftAt home d now []
+
+-- The log is scanned, read, truncated, synced and opened call by call, without a crash.
+-- - If that succeeds, an engine of what was read holds this map, and nothing is pending.
+-- - If it fails after the syncs, the log is left with that map.
+-- - If it fails or is abandoned anywhere, the log is left with that map or unchanged.
+pub record OpensStandingByCalls {F : Type 0} (disk : F → Disk) (tells : F → List ℕ → ℕ → Type 0) (config : Config)
+    (d : Disk) (m : LogMap) (pending : List Said) (now : LogMap) : Type 0 where
+  pub answered : (v : LogPipes) (tables : MemTables) → OpensByCalls disk tells config d v tables
+      → HoldsFresh (home_of config) v tables now
+  pub synced : (new : Disk) → StopsSynced disk tells config d new → IsLeftAt (home_of config) new now []
+  pub refused : (new : Disk) → FailsToOpenByCalls disk tells config d new
+      → IsLeftEither (home_of config) new m pending now
+
+-- Opening a log that an engine left, call by call, gives its map after some first pending batches. They are those with
+-- which the log would rest if a crash kept all its bytes, the same ones for all settings that name its directories.
+abbrev pub StandingLogsOpenByCalls : {F : Type 0} → (F → Disk) → (F → List ℕ → ℕ → Type 0) → Type 0
+StandingLogsOpenByCalls {F} disk tells = (home : Home) → 0 < length home.append → 0 < length home.rewrite
+    → (d : Disk) (m : LogMap) (pending : List Said) → IsSound d → (left : IsLeftAt home d m pending)
+    → StandsWithoutChance home left.1.lies.state d
+    → RestsAfterSome home (as_it_stands d) m pending
+    (λ now. ForAllNaming home (λ config. OpensStandingByCalls disk tells config d m pending now))
+
+-- If opening the directories without a crash, with the one call, succeeds, the engine holds this map, and nothing is
+-- pending. If it fails, the log is left with the map or unchanged.
+pub record OpensStanding {F : Type 0} (disk : F → Disk) (tells : F → List ℕ → ℕ → Type 0) (config : Config)
+    (old : F) (m : LogMap) (pending : List Said) (now : LogMap) : Type 0 where
+  pub answered : (v : LogPipes) (tables : MemTables) → OpensDirectory disk tells config old v tables
+      → HoldsFresh (home_of config) v tables now
+  pub refused : (error : Error) (new : F) → FailsToOpenDirectory disk tells config error old new
+      → IsLeftEither (home_of config) (disk new) m pending now
+
+-- opening the directories of a log that an engine left gives its map after some first pending batches: the same ones
+-- for all settings that name them
+abbrev pub StandingDirectoriesOpen : {F : Type 0} → (F → Disk) → (F → List ℕ → ℕ → Type 0) → Type 0
+StandingDirectoriesOpen {F} disk tells = (home : Home) → 0 < length home.append → 0 < length home.rewrite
+    → (old : F) (m : LogMap) (pending : List Said) → IsSound (disk old)
+    → (left : IsLeftAt home (disk old) m pending) → StandsWithoutChance home left.1.lies.state (disk old)
+    → RestsAfterSome home (as_it_stands (disk old)) m pending
+    (λ now. ForAllNaming home (λ config. OpensStanding disk tells config old m pending now))
+
+-- How far an open went that truncated nothing of the log: nothing was done; scanning its directories failed; or they
+-- were scanned, and nothing more was done.
+pub data StopsUncut (config : Config) (d new : Disk) : Type 0 where
+  undone : new ≡ d → StopsUncut config d new
+  unscanned : (b : DualPipesBuilder) (error : Error) → IsBegun config b → FailsToScanLog b error d new
+      → StopsUncut config d new
+  unread : (found : DualPipesBuilder) → FindsLog config found d new → StopsUncut config d new
+
+-- An open that truncated nothing leaves the log unchanged, whatever its bytes are, with the batches that were pending.
+abbrev pub UncutLogsStay : Type 0
+UncutLogsStay = (config : Config) (d : Disk) (m : LogMap) (pending : List Said)
+    → IsLeftAt (home_of config) d m pending → (new : Disk) → StopsUncut config d new
+    → IsLeftAt (home_of config) new m pending
+
+-- Syncing a queue's active file, as it is and without a CRC collision, loses no record: the file still holds what was
+-- durable and what was pending, however much of that was read.
+abbrev pub SyncedFilesHoldStill : Type 0
+SyncedFilesHoldStill = (queue : LogQueue) (directories : List (List ℕ)) → 0 < length directories
+    → (q : LogFiles LogRecord) (file : File) → IsSoundFile file
+    → NoChanceInFile (log_format queue directories) q.last q.header q.stale (spelled (recent q)) file file.content
+    → HoldsLast (log_format queue directories) q file
+    → HoldsLast (log_format queue directories) q (flushed file)
+
+-- If one of the syncs of such files fails, with no truncation before it, the log is left with the batches that were
+-- pending.
+abbrev pub UnsyncedLogsStay : Type 0
+UnsyncedLogsStay = (home : Home) → 0 < length home.append → 0 < length home.rewrite → (d : Disk) (m : LogMap)
+    (pending : List Said) → IsSound d → (left : IsLeftAt home d m pending)
+    → StandsWithoutChance home left.1.lies.state d → (b : DualPipesBuilder) (kind : ErrorKind) (new : Disk)
+    → FailsToSyncLog b kind d new → IsLeftAt home new m pending

@@ -1,0 +1,48 @@
+-- An engine that is made of what was read of a log's files.
+use Rattle.std.specs.Prelude.{◌≡◌, List, [], None}
+use Rattle.raft_log_record_base.specs.declared.pipe_log.LogQueue.TheVariants.{Append, Rewrite}
+use Rattle.raft_log_engine_laws.specs.raft_log_memtables.specs.declared.mem_tables.MemTables.{MemTables}
+use Rattle.raft_log_replay.specs.Machines.{Batch}
+use Rattle.raft_log_replay_context.specs.Records.{ReadRecord}
+use Rattle.raft_log_replay_context.specs.Context.{ComesOver, HasRead}
+use Rattle.raft_log_replay_context.specs.Batches.{HasReadBatches}
+use Rattle.raft_log_replay_context.specs.declared.context.MemTableRecoverContext.{MemTableRecoverContext}
+use Rattle.raft_log_directory_laws.specs.Log.{IsLog}
+use Rattle.raft_log_dual_pipes.specs.State.{Ties}
+use Rattle.raft_log_dual_pipes.specs.Reopening.{ReadsBothAgain}
+use Rattle.raft_log_dual_pipes.specs.Pipes.{LogPipes, RunsOn, State}
+use Rattle.raft_log_engine_laws.specs.raft_log_block_cache.specs.declared.block_cache.BlockCache.{BlockCache}
+use Rattle.raft_log_engine_laws.specs.Shows.{Home, LogMap, log_in, sense, shows}
+use Rattle.raft_log_engine_laws.specs.Holding.{Holds}
+use Rattle.raft_log_recovery_laws.specs.Reading.{AreOfQueue}
+
+-- A context that had read these batches of Append was merged over one that had read those of Rewrite; the tables are
+-- the result.
+pub record AreMerged (append_batches rewrite_batches : List Batch) (tables : MemTables) : Type 0 where
+  pub append : MemTableRecoverContext
+  pub rewrite : MemTableRecoverContext
+  pub append_read : HasReadBatches Append append_batches append
+  pub rewrite_read : HasReadBatches Rewrite rewrite_batches rewrite
+  pub over : (first behind : List ReadRecord) → HasRead Rewrite first rewrite → HasRead Append behind append
+      → ComesOver first behind tables
+
+-- The pipes run over a log that was found again, and the tables are merged of all batches of its files.
+pub record IsOpenedOver (home : Home) (was : State) (v : LogPipes) (tables : MemTables) : Type 0 where
+  pub state : State
+  pub runs : RunsOn (sense home) v state
+  pub again : ReadsBothAgain (Ties (log_in home)) was state
+  pub append_batches : List Batch
+  pub rewrite_batches : List Batch
+  pub of_append : AreOfQueue Append state.append append_batches
+  pub of_rewrite : AreOfQueue Rewrite state.rewrite rewrite_batches
+  pub merged : AreMerged append_batches rewrite_batches tables
+
+-- An engine of these pipes and tables that has cached no block yet holds the map, and nothing is pending.
+abbrev pub HoldsFresh : Home → LogPipes → MemTables → LogMap → Type 0
+HoldsFresh home v tables m =
+    (cache : BlockCache) → cache.place ≡ None → Holds home (shows v tables cache) m []
+
+-- An engine of the pipes and tables that a log was opened as holds the map of the log.
+abbrev pub OpenedEnginesHold : Type 0
+OpenedEnginesHold = (home : Home) (was : State) (m : LogMap) (v : LogPipes) (tables : MemTables)
+    → IsLog (Ties (log_in home) was) m [] → IsOpenedOver home was v tables → HoldsFresh home v tables m

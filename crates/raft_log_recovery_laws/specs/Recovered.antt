@@ -1,0 +1,79 @@
+-- A log that rests on a disk, what was read of its files there, and the engine that is made of both.
+use Rattle.std.specs.Prelude.{◌≡◌, ℕ, ◌<◌, ◌≤◌, List, [], ◌∷◌, ◌++◌, length, take}
+use Rattle.raft_log_model_laws.specs.Groups.{taken}
+use Rattle.raft_log_record_base.specs.declared.pipe_log.LogQueue.TheVariants.{Append, Rewrite}
+use Rattle.raft_log_fs.specs.Disk.{Disk}
+use Rattle.raft_log_file_settings.specs.declared.recovery_mode.RecoveryMode.{RecoveryMode}
+use Rattle.raft_log_active_file.specs.declared.format.File.{File}
+use Rattle.raft_log_file_pipe.specs.declared.found_files.FoundFiles.{FoundFiles}
+use Rattle.raft_log_engine_laws.specs.raft_log_memtables.specs.declared.mem_tables.MemTables.{MemTables}
+use Rattle.raft_log_replay.specs.Machines.{Batch}
+use Rattle.raft_log_recovery_read.specs.declared.file_ending.FileEnding.{FileEnding}
+use Rattle.raft_log_dual_pipes.specs.OnDisk.{LogRestsOn}
+use Rattle.raft_log_dual_pipes.specs.Reopening.{IsFoundOf}
+use Rattle.raft_log_dual_pipes.specs.Opening.{IsFoundAs, OpensLog, RestsAsFound}
+use Rattle.raft_log_dual_pipes.specs.Pipes.{LogPipes, Said, State}
+use Rattle.raft_log_dual_pipes.specs.declared.opening.FoundPipe.{FoundPipe}
+use Rattle.raft_log_engine_laws.specs.Shows.{log_in, sense, Home, LogMap}
+use Rattle.raft_log_engine_laws.specs.Holding.{IsLeftAt}
+use Rattle.raft_log_recovery_laws.specs.Found.{ReadsQueue}
+use Rattle.raft_log_recovery_laws.specs.Left.{IsCrashOf}
+use Rattle.raft_log_recovery_laws.specs.Opened.{AreMerged, HoldsFresh}
+
+-- these are the files, each in the format that was read of it
+abbrev pub AreInFormats : List File → List FileEnding → List File → Type 0
+AreInFormats [] [] found = found ≡ []
+AreInFormats [] (ending ∷ endings) found = ⊥
+AreInFormats (file ∷ files) [] found = ⊥
+AreInFormats (file ∷ files) (ending ∷ endings) found = (more : List File)
+    × (found ≡ record file { format = ending.format } ∷ more) × AreInFormats files endings more
+
+-- A pipe gets the files that were read, in the formats that were read, and the end of the last one.
+pub record AreFoundAsRead (files : List File) (endings : List FileEnding) (found : FoundFiles) : Type 0 where
+  pub formats : AreInFormats files endings found.files.items
+  pub end : (front : List FileEnding) (ending : FileEnding) → endings ≡ front ++ ending ∷ []
+      → found.end ≡ ending.end
+
+-- These batches were read of each queue's files, as they rest on the disk, and its pipe gets what was read.
+pub record WereRead (mode : RecoveryMode) (append rewrite : FoundPipe) (d : Disk) (tables : MemTables)
+    : Type 0 where
+  pub append_files : List File
+  pub rewrite_files : List File
+  pub append_endings : List FileEnding
+  pub rewrite_endings : List FileEnding
+  pub append_batches : List Batch
+  pub rewrite_batches : List Batch
+  pub append_read : ReadsQueue mode Append append_files d append_batches append_endings
+  pub rewrite_read : ReadsQueue mode Rewrite rewrite_files d rewrite_batches rewrite_endings
+  pub append_found : AreFoundAsRead append_files append_endings append.found
+  pub rewrite_found : AreFoundAsRead rewrite_files rewrite_endings rewrite.found
+  pub merged : AreMerged append_batches rewrite_batches tables
+
+-- If a log that rests is opened, an engine of what was read of it holds its map, and nothing is pending.
+abbrev pub ReadLogsAreHeld : Type 0
+ReadLogsAreHeld = (home : Home) (m : LogMap) (mode : RecoveryMode) (append rewrite : FoundPipe) (old : Disk)
+    (v : LogPipes) (tables : MemTables) → OpensLog append rewrite old v
+    → RestsAsFound (sense home) m append rewrite old → WereRead mode append rewrite old tables
+    → HoldsFresh home v tables m
+
+-- both queues were found in these directories, as they rest there
+pub record AreFoundAt (home : Home) (s : State) (append rewrite : FoundPipe) (d : Disk) : Type 0 where
+  pub append_as : IsFoundAs Append home.append append
+  pub rewrite_as : IsFoundAs Rewrite home.rewrite rewrite
+  pub append_found : IsFoundOf (log_in home).append append.found s.append d
+  pub rewrite_found : IsFoundOf (log_in home).rewrite rewrite.found s.rewrite d
+
+-- An engine that is made of what a log's files have there holds this map, and nothing is pending.
+abbrev pub OpensAs : Home → Disk → LogMap → State → Type 0
+OpensAs home d m s = (mode : RecoveryMode) (append rewrite : FoundPipe) (v : LogPipes) (tables : MemTables)
+    → AreFoundAt home s append rewrite d → OpensLog append rewrite d v
+    → WereRead mode append rewrite d tables → HoldsFresh home v tables m
+
+-- Opening any crash image of what an engine left gives the map after some first pending batches.
+abbrev pub CrashedLogsOpen : Type 0
+CrashedLogsOpen = (home : Home) → 0 < length home.append → 0 < length home.rewrite → (d image : Disk)
+    (m : LogMap) (pending : List Said) → (left : IsLeftAt home d m pending)
+    → IsCrashOf home left.1.lies.state d image
+    → (k : ℕ) × (k ≤ length pending)
+    × ((rests : LogRestsOn (log_in home) image (taken m (take k pending)))
+    × OpensAs home image (taken m (take k pending)) rests.state)

@@ -1,0 +1,58 @@
+-- Why opening a log that rests on a disk fails, and how far the open went.
+use Rattle.std.specs.Prelude.{◌≡◌, ℕ, List}
+use Rattle.raft_log_record_base.specs.declared.errors.Error.{Error}
+use Rattle.raft_log_record_base.specs.declared.pipe_log.LogQueue.{LogQueue}
+use Rattle.raft_log_fs.specs.Disk.{Disk}
+use Rattle.raft_log_file_settings.specs.declared.config.Config.{Config}
+use Rattle.raft_log_replay.specs.Machines.{Batch}
+use Rattle.raft_log_replay_context.specs.Batches.{Declines}
+use Rattle.raft_log_replay_context.specs.declared.context.MemTableRecoverContext.{MemTableRecoverContext}
+use Rattle.raft_log_recovery.specs.Finishing.{FailsToOpenRecovered}
+use Rattle.raft_log_recovery.specs.Recovering.{FailsToRecoverLog, RecoversLog}
+use Rattle.raft_log_recovery.specs.Reserving.{FailsToReadyLog}
+use Rattle.raft_log_recovery.specs.Scanning.{FailsToScanLog}
+use Rattle.raft_log_recovery.specs.declared.builder.DualPipesBuilder.{DualPipesBuilder}
+use Rattle.raft_log_recovery.specs.Finding.{FindsLog, IsBegun}
+use Rattle.raft_log_recovery_laws.specs.ByCalls.{reads, LogIsRecovered}
+
+-- `Declines`, as a builder takes it
+abbrev pub declines : LogQueue → List Batch → Error → Type 0
+declines queue batches error = Declines queue batches error
+
+-- Readying files for later use failed on a file system with these disks, which may return these values for a
+-- directory's space.
+pub record FailsToReadyOn {F : Type 0} (disk : F → Disk) (tells : F → List ℕ → ℕ → Type 0)
+    (b : DualPipesBuilder) (error : Error) (old new : Disk) : Type 0 where
+  pub from : F
+  pub to : F
+  pub from_is : disk from ≡ old
+  pub to_is : disk to ≡ new
+  pub fails : FailsToReadyLog disk tells b error from to
+
+-- How far the open went:
+-- - `undone`: nothing was done.
+-- - `unscanned`: scanning its directories failed.
+-- - `unrecovered`: recovering or truncating its files failed.
+-- - `unmerged`: it was abandoned after the recovery, for example for lack of memory for the tables.
+-- - `unreadied`: readying the files for later use failed.
+-- - `given_up`: it was abandoned after they were readied.
+-- - `unopened`: syncing its files or opening its pipes failed.
+pub data FailsToOpenByCalls {F : Type 0} (disk : F → Disk) (tells : F → List ℕ → ℕ → Type 0) (config : Config)
+    (d new : Disk) : Type 0 where
+  undone : new ≡ d → FailsToOpenByCalls disk tells config d new
+  unscanned : (b : DualPipesBuilder) (error : Error) → IsBegun config b → FailsToScanLog b error d new
+      → FailsToOpenByCalls disk tells config d new
+  unrecovered : (found : DualPipesBuilder) (scanned : Disk) (error : Error) → FindsLog config found d scanned
+      → FailsToRecoverLog reads declines found error scanned new → FailsToOpenByCalls disk tells config d new
+  unmerged : (found read : DualPipesBuilder) (scanned : Disk) (append rewrite : MemTableRecoverContext)
+      → FindsLog config found d scanned → RecoversLog reads append rewrite found read scanned new
+      → FailsToOpenByCalls disk tells config d new
+  unreadied : (found read : DualPipesBuilder) (scanned cut : Disk) (append rewrite : MemTableRecoverContext)
+      (error : Error) → FindsLog config found d scanned
+      → RecoversLog reads append rewrite found read scanned cut → FailsToReadyOn disk tells read error cut new
+      → FailsToOpenByCalls disk tells config d new
+  given_up : (append rewrite : MemTableRecoverContext) (ready : DualPipesBuilder)
+      → LogIsRecovered disk tells config d append rewrite ready new → FailsToOpenByCalls disk tells config d new
+  unopened : (append rewrite : MemTableRecoverContext) (ready : DualPipesBuilder) (readied : Disk)
+      (error : Error) → LogIsRecovered disk tells config d append rewrite ready readied
+      → FailsToOpenRecovered ready error readied new → FailsToOpenByCalls disk tells config d new

@@ -1,0 +1,57 @@
+-- A crash of a running engine: that what it leaves has no CRC collision depends only on the engine's pipes and the
+-- bytes on the disk.
+use Rattle.std.specs.Prelude.{◌≡◌, ◌⊎◌, ℕ, Some, List, length, take, drop}
+use Rattle.raft_log_fs.specs.Disk.{Disk, File}
+use Rattle.raft_log_fs.specs.Image.{IsImage, IsSound}
+use Rattle.raft_log_file_writer.specs.LawsChains.{LiesIn, Meets, Written}
+use Rattle.raft_log_file_writer.specs.KeepsSynced.{IsHandedIn}
+use Rattle.raft_log_file_writer.specs.LogFormat.{Format, HasHeader}
+use Rattle.raft_log_file_format.specs.Header.{header_bytes}
+use Rattle.raft_log_file_pipe.specs.declared.pipe_files.PipeFiles.{PipeFiles}
+use Rattle.raft_log_dual_pipes.specs.Pipes.{LogPipes, Said}
+use Rattle.raft_log_engine_laws.specs.raft_log_active_file.specs.declared.record.LogRecord.{LogRecord}
+use Rattle.raft_log_engine_laws.specs.Shows.{Home, LogMap, Shows, log_in}
+use Rattle.raft_log_engine_laws.specs.Holding.{Holds}
+use Rattle.raft_log_recovery_laws.specs.ByCalls.{ForAllNaming}
+use Rattle.raft_log_recovery_laws.specs.Directory.{OpensAs}
+use Rattle.raft_log_recovery_laws.specs.Left.{RestsAfterSome}
+
+-- the header of a pipe's active file
+abbrev pub active_header : PipeFiles → List ℕ
+active_header files = header_bytes files.active.format
+
+-- what the pipe wrote to it after the header
+abbrev pub own_bytes : PipeFiles → File → List ℕ
+own_bytes files file = drop (length (active_header files)) (take files.writer.written file.content)
+
+-- There is no CRC collision in what a crash leaves of a pipe's active file:
+-- - The file has no header other than its own.
+-- - It has no record except those that the pipe wrote there, or that a write that isn't synced passed to it.
+-- - It doesn't read as a file with an alignment. If it has no record, the last eight bytes of a torn header may read as
+--   an alignment.
+pub record MeetsOwnAlone (F : Format LogRecord) (files : PipeFiles) (file : File) (bytes : List ℕ) : Type 0 where
+  pub headers : (other : List ℕ) → HasHeader F other bytes → other ≡ active_header files
+  pub records : (at : ℕ) (w : Written LogRecord)
+      → Meets (F.IsFrame files.active.seq (active_header files)) (length (active_header files)) at w bytes
+      → LiesIn (length (active_header files)) (own_bytes files file) at w.bytes
+      ⊎ IsHandedIn file.changes at w.bytes
+  pub plain : F.IsAligned files.active.seq bytes → ⊥
+
+-- there is no CRC collision in a pipe's active file, in what a crash leaves of a disk
+abbrev pub LeavesOwnAlone : Format LogRecord → PipeFiles → Disk → Disk → Type 0
+LeavesOwnAlone F files d image = (file after : File) → d.files files.writer.handle.file ≡ Some file
+    → image.files files.writer.handle.file ≡ Some after → MeetsOwnAlone F files file after.content
+
+-- There is no CRC collision in either queue's active file after a crash of an engine with these pipes.
+pub record LeavesNoChance (home : Home) (v : LogPipes) (image : Disk) : Type 0 where
+  pub append : LeavesOwnAlone (log_in home).append.format v.append.files v.disk image
+  pub rewrite : LeavesOwnAlone (log_in home).rewrite.format v.rewrite.files v.disk image
+
+-- Opening any crash image of a running engine gives the map after some first pending batches, whether it succeeds or
+-- fails: the same ones for all settings that name its directories. If nothing was pending, it gives the engine's map.
+abbrev pub CrashedEnginesOpen : {F : Type 0} → (F → Disk) → (F → List ℕ → ℕ → Type 0) → Type 0
+CrashedEnginesOpen {F} disk tells = (home : Home) (e : Shows) (m : LogMap) (pending : List Said)
+    → Holds home e m pending → (old : F) → IsSound (disk old) → IsImage e.pipes.disk (disk old)
+    → LeavesNoChance home e.pipes (disk old)
+    → RestsAfterSome home (disk old) m pending
+    (λ now. ForAllNaming home (λ config. OpensAs disk tells config old now))

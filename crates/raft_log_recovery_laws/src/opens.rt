@@ -1,0 +1,60 @@
+//! From what an engine left to an engine that is opened.
+
+ghost use Rattle.raft_log_recovery_laws.specs.Bare.{BareDirectoriesOpen};
+ghost use Rattle.raft_log_recovery_laws.specs.Directory.{CrashedDirectoriesOpen, RestingDirectoriesOpen};
+ghost use Rattle.raft_log_recovery_laws.specs.Outcomes.{CrashedLogsOpenByCalls, RestingLogsOpenByCalls};
+ghost use Rattle.raft_log_recovery_laws.specs.ByCalls.{ScansFindAllFiles, SyncedSparesCanBeUsed};
+ghost use Rattle.raft_log_recovery_laws.specs.Running.{CrashedEnginesOpen};
+
+use raft_log_fs::FileSystem;
+
+/// If a log rests on a disk, a scan of the directories in its settings finds all files of either queue from the last
+/// gap on.
+pub fn scans_find_all_files()
+    ensures { ScansFindAllFiles }
+{}
+
+/// An engine that is opened there can use all files that are kept for use, whatever they held: they are synced before.
+pub fn synced_spares_can_be_used<F: FileSystem>()
+    ensures { SyncedSparesCanBeUsed F.disk F.tells_space }
+{}
+
+/// A log that rests on a disk is scanned, read by any number of workers, truncated, synced and opened: an engine of
+/// what was read holds its map. If an open fails anywhere, the log is left on the disk with its map. Nothing is pending
+/// in either case.
+pub fn resting_logs_open_by_calls<F: FileSystem>()
+    ensures { RestingLogsOpenByCalls F.disk F.tells_space }
+{}
+
+/// Opening any crash image of what an engine left so gives the map after some first pending batches, whether it
+/// succeeds or fails. They are the same ones for all settings that name its directories, and for any number of workers.
+pub fn crashed_logs_open_by_calls<F: FileSystem>()
+    ensures { CrashedLogsOpenByCalls F.disk F.tells_space }
+{}
+
+/// If the directories of a log that rests there are opened with `open_directory` of `raft_log_open`, the
+/// engine holds its map, and nothing is pending. If that fails, the log is left with its map.
+pub fn resting_directories_open<F: FileSystem>()
+    ensures { RestingDirectoriesOpen F.disk F.tells_space }
+{}
+
+/// Opening the directories of any crash image of what an engine left so gives the map after some first pending batches,
+/// whether it succeeds or fails. They are the same ones for all settings that name the directories, and for any number
+/// of workers.
+pub fn crashed_directories_open<F: FileSystem>()
+    ensures { CrashedDirectoriesOpen F.disk F.tells_space }
+{}
+
+/// Opening the directories of any crash image of a running engine so gives the map after some first pending batches,
+/// whether it succeeds or fails. They are the same ones for all settings that name the directories. That there is no
+/// CRC collision depends only on its pipes and on the bytes on the disk. Nothing is read that it didn't write, or that
+/// a write that isn't synced didn't pass to it.
+pub fn crashed_engines_open<F: FileSystem>()
+    ensures { CrashedEnginesOpen F.disk F.tells_space }
+{}
+
+/// If nothing of a log is there, and maybe none of its directories, opening these gives an empty map. If it fails,
+/// nothing is there still, or a log with an empty map is left.
+pub fn bare_directories_open<F: FileSystem>()
+    ensures { BareDirectoriesOpen F.disk F.tells_space }
+{}

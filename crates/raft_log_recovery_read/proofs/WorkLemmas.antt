@@ -1,0 +1,45 @@
+-- A reader at work behind a file's header.
+use Rattle.std.proofs.Common.{◌≡◌, ℕ, ◌+◌, ◌<◌, ◌≤◌, inl, inr, Option, Some, None, List, [], ◌∷◌, ◌++◌, length, take, map, ◌-◌, zero, suc, refl, sym, ap, subst, ◌∙◌, arith}
+use Rattle.raft_log_record_base.specs.Fault.{Fault}
+use Rattle.raft_log_record_items.specs.declared.item.LogItem.{LogItem}
+use Rattle.raft_log_fs.specs.Disk.{Disk}
+use Rattle.raft_log_file_reader.specs.Source.{bytes_of}
+use Rattle.raft_log_file_reader.specs.Batches.{HasBatches}
+use Rattle.raft_log_file_reader.specs.Laws.{EndsBehind}
+use Rattle.raft_log_file_reader.proofs.Readings.{batches_go_on_is}
+use Rattle.raft_log_file_reader.specs.Reader.{IsReading, file_of, end_of, size_in, left_of}
+use Rattle.raft_log_file_reader.specs.declared.open_file.OpenFile.{OpenFile}
+use Rattle.raft_log_file_reader.specs.declared.reader.LogItemBatchFileReader.{LogItemBatchFileReader}
+use Rattle.raft_log_recovery_read.specs.Records.{HasRecord, HasRecords, StopsGood}
+use Rattle.raft_log_recovery_read.specs.Behind.{StandsAtLast, with_noted}
+use Rattle.raft_log_recovery_read.specs.declared.behind.LastRecord.{LastRecord}
+
+-- a record behind others makes one more
+pub records_go_on : (file : OpenFile) (content : List ℕ) (offset m n : ℕ) (xs : List (List LogItem)) (items : List LogItem) → HasRecords file content offset xs m → HasRecord file content m items n
+    → HasRecords file content offset (xs ++ items ∷ []) n
+records_go_on file content offset m n [] items a b = (n, subst (λ (k : ℕ). HasRecord file content k items n) a b, refl)
+records_go_on file content offset m n (xs ∷ more) items a b = (a.0, a.1, records_go_on file content a.0 m n more items a.2 b)
+
+-- a list with one more at its end isn't empty
+pub one_at_least : {X : Type 0} (xs : List X) (x : X) → xs ++ x ∷ [] ≡ [] → ⊥
+one_at_least [] x e = absurd cc
+one_at_least (y ∷ xs) x e = absurd cc
+
+-- a reader that went on in its file has less behind it
+pub less_left : (d : Disk) (old new : LogItemBatchFileReader) (file : OpenFile) → file_of old ≡ Some file → file_of new ≡ file_of old → IsReading d new → end_of old < end_of new → left_of new < left_of old
+less_left d old new file opened same reading further =
+    let within = (reading file (same ∙ opened)).within in
+    let size : size_in (file_of old) ≡ file.source.size = ap size_in opened in
+    let kept : size_in (file_of new) ≡ file.source.size = ap size_in (same ∙ opened) in
+    omega (arith, within, size, kept, further)
+
+-- where the batches stop no batch comes
+pub stops_there : (file : OpenFile) (content : List ℕ) (end : ℕ) (fault : Option Fault) → StopsGood file content end fault → EndsBehind file content end
+stops_there file content end None none = inl none
+stops_there file content end (Some f) broken = inr (f, broken)
+
+-- the batches up to the one that is noted, and it, are batches
+pub all_batches : (file : OpenFile) (content : List ℕ) (offset end : ℕ) (before : List (List LogItem)) (last : Option LastRecord) → StandsAtLast file content offset before last end
+    → HasBatches file content offset (with_noted before last) end
+all_batches file content offset end before None h = subst (λ (l : List (List LogItem)). HasBatches file content offset l end) (sym h.0) h.1
+all_batches file content offset end before (Some last) h = batches_go_on_is file content offset last.start end before last.items.items h.0 h.1

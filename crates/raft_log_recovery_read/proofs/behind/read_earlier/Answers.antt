@@ -1,0 +1,76 @@
+use Rattle.std.proofs.Common.{◌≡◌, ℕ, false, IfOk, List, [], Some, None, refl, sym, subst, ◌∙◌}
+use Rattle.raft_log_record_base.specs.declared.pipe_log.FileBlockHandle.{FileBlockHandle}
+use Rattle.raft_log_file_reader.specs.Source.{bytes_of}
+use Rattle.raft_log_file_reader.specs.Batches.{HasBatch, HasBatches, HasBlock, HasNoMore, IsBroken}
+use Rattle.raft_log_file_reader.specs.Reader.{IsInsideFile, end_of}
+use Rattle.raft_log_file_reader.specs.declared.open_file.OpenFile.{OpenFile}
+use Rattle.raft_log_recovery_read.specs.Behind.{StandsAtLast, WasReadBehind, with_noted}
+use Rattle.raft_log_recovery_read.specs.declared.behind.LastRecord.{LastRecord}
+use Rattle.raft_log_recovery_read.proofs.Handing.{takes_none}
+use Rattle.raft_log_recovery_read.proofs.WorkLemmas.{all_batches}
+use Rattle.raft_log_recovery_read.proofs.behind.read_earlier.Goals as goal
+
+pub loop-last-init : goal.loop-last-init
+loop-last-init g c = (
+  [],
+  record { reading = c.requires.reading; same = refl; file = c.requires.open.0; opened = c.requires.open.1; has = (refl, refl) },
+  tt,
+  takes_none (g.M.ReplayMachine.reads c.args.id.queue) c.args.machine.now,
+)
+
+pub loop-last-preserved : goal.loop-last-preserved
+loop-last-preserved g c =
+    let (before, work, inside, handed) = c.loop-last.invariant in
+    let content = bytes_of work.file.source (g.F.FileSystem.disk c.args.file_system.now) in
+    let start = end_of c.args.reader.now in
+    let between = end_of c.loop-last.reader in
+    let end = end_of c.next_batch.new.reader in
+    let items = c.in-Batch.items in
+    let taken = rw c.in-Batch.is at (c.in_ok-items.ensures.ok work.file work.opened) in
+    let all = all_batches work.file content start between before c.loop-last.last work.has in
+    let noted : LastRecord = record { start = c.valid_offset-end.result; block = c.last_block-block.result; items = items } in
+    let block = subst (λ (b : FileBlockHandle). HasBlock work.file content between b) (sym c.last_block-block.ensures) taken.block in
+    let stands : StandsAtLast work.file content start (with_noted before c.loop-last.last) (Some noted) end =
+    subst (λ (n : ℕ). HasBatches work.file content start (with_noted before c.loop-last.last) n × HasBatch work.file content n items.items end × HasBlock work.file content n noted.block)
+    (sym c.valid_offset-end.ensures) (all, taken.batch, block) in (
+      with_noted before c.loop-last.last,
+      record {
+        reading = c.next_batch.ensures.reading;
+        same = c.next_batch.ensures.file ∙ work.same;
+        file = work.file;
+        opened = c.next_batch.ensures.file ∙ work.opened;
+        has = stands;
+      },
+      subst (λ (b : FileBlockHandle). IsInsideFile b c.next_batch.new.reader) (sym c.last_block-block.ensures) taken.inside,
+      c.take_noted-declined.ensures c.args.machine.now before handed,
+    )
+
+pub returns-in-End-clause-ok : goal.returns-in-End-clause-ok
+returns-in-End-clause-ok g c = λ file opened.
+    let d = g.F.FileSystem.disk c.args.file_system.now in
+    let (before, work, inside, handed) = c.loop-last.invariant in
+    let content = bytes_of work.file.source d in
+    let start = end_of c.args.reader.now in
+    let last = c.loop-last.last in
+    let was = work.opened in
+    let kept = work.same in
+    let same : work.file ≡ file = cc in
+    let none = rw c.in-End.is at (c.in_ok-items.ensures.ok work.file work.opened) in
+    let there = subst (λ (n : ℕ). StandsAtLast work.file content start before last n × HasNoMore work.file content n) (sym c.valid_offset-end.ensures) (work.has, none.0) in
+    let stands = c.check_last.ensures.ok work.file start None before c.args.machine.now (c.next_batch.ensures.file ∙ work.opened) there.0 there.1 refl handed in
+    subst (λ (f : OpenFile). IfOk c.check_last.result (WasReadBehind false (g.M.ReplayMachine.reads c.args.id.queue) (g.M.ReplayMachine.declines c.args.id.queue) c.args.id c.args.machine.now c.check_last.new.machine d f start)) same stands
+
+pub returns-in-Fault-clause-ok : goal.returns-in-Fault-clause-ok
+returns-in-Fault-clause-ok g c = λ file opened.
+    let d = g.F.FileSystem.disk c.args.file_system.now in
+    let (before, work, inside, handed) = c.loop-last.invariant in
+    let content = bytes_of work.file.source d in
+    let start = end_of c.args.reader.now in
+    let last = c.loop-last.last in
+    let was = work.opened in
+    let kept = work.same in
+    let same : work.file ≡ file = cc in
+    let found = rw c.in-Fault.is at (c.in_ok-items.ensures.ok work.file work.opened) in
+    let there = subst (λ (n : ℕ). StandsAtLast work.file content start before last n × IsBroken work.file content n found.0) (sym c.valid_offset-end.ensures) (work.has, found.2) in
+    let stands = c.check_last-in-Fault.ensures.ok work.file start (Some found.0) before c.args.machine.now (c.next_batch.ensures.file ∙ work.opened) there.0 there.1 (found.0, refl, found.1) handed in
+    subst (λ (f : OpenFile). IfOk c.check_last-in-Fault.result (WasReadBehind false (g.M.ReplayMachine.reads c.args.id.queue) (g.M.ReplayMachine.declines c.args.id.queue) c.args.id c.args.machine.now c.check_last-in-Fault.new.machine d f start)) same stands

@@ -1,0 +1,17 @@
+use Rattle.std.proofs.Common.{◌≡◌, ◌↔◌, List, [], IsTrue}
+use Rattle.raft_log_record_items.specs.declared.item.LogItem.{LogItem}
+use Rattle.raft_log_file_reader.specs.Reader.{left_of}
+use Rattle.raft_log_recovery_read.specs.Batches.{HasTaken, said}
+use Rattle.raft_log_recovery_read.specs.Behind.{IsAtWork}
+use Rattle.raft_log_recovery_read.specs.Records.{HasRecords}
+use Rattle.raft_log_recovery_read.proofs.behind.read_last.Given as goal
+
+-- the records so far follow one another up to where the reader is, and were handed on
+abbrev pub invariant-loop-declined : goal.invariant-loop-declined
+invariant-loop-declined g l = (batches : List (List LogItem))
+    × IsAtWork (λ file content offset end. HasRecords file content offset batches end) (g.F.FileSystem.disk l.file_system) l.fn.reader l.reader
+    × (IsTrue l.is_bare ↔ (batches ≡ []))
+    × HasTaken (g.M.ReplayMachine.reads l.id.queue) (g.M.ReplayMachine.declines l.id.queue) (said l.id batches) l.fn.machine l.machine l.declined
+
+abbrev pub decreases-loop-declined : goal.decreases-loop-declined
+decreases-loop-declined g l = left_of l.reader

@@ -1,0 +1,16 @@
+-- What was found of a log file whose records a machine was handed.
+use Rattle.std.specs.Prelude.{◌≡◌, List}
+use Rattle.raft_log_record_base.specs.declared.errors.Error.{Error}
+use Rattle.raft_log_record_base.specs.declared.pipe_log.FileId.{FileId}
+use Rattle.raft_log_replay.specs.Machines.{Batch}
+use Rattle.raft_log_recovery_read.specs.Batches.{HasTaken, said}
+use Rattle.raft_log_recovery_read.specs.Reading.{FileReading}
+use Rattle.raft_log_recovery_read.specs.declared.found_file.FoundFile.{FoundFile}
+
+-- this was found of a file that reads as that, and a machine was handed its records
+pub record WasHanded {M : Type 0} (reads : List Batch → M → Type 0) (declines : List Batch → Error → Type 0)
+    (id : FileId) (old new : M) (reading : FileReading) (found : FoundFile) : Type 0 where
+  pub format : found.format ≡ reading.format
+  pub end : found.end ≡ reading.end
+  pub fault : found.fault ≡ reading.fault
+  pub taken : HasTaken reads declines (said id reading.batches) old new found.declined

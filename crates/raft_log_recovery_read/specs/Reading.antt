@@ -1,0 +1,75 @@
+-- What the bytes of a log file that was found read as.
+use Rattle.std.specs.Prelude.{◌≡◌, ℕ, ◌⊎◌, Bool, true, Option, Some, None, List, [], length, take, Result, Err, IsTrue, codes}
+use Rattle.raft_log_record_base.specs.Fault.{Fault}
+use Rattle.raft_log_record_base.specs.Fault.Fault.{corrupt}
+use Rattle.raft_log_record_base.specs.declared.errors.Error.{Error}
+use Rattle.raft_log_record_base.specs.declared.errors.Error.TheVariants as errors
+use Rattle.raft_log_record_base.specs.declared.pipe_log.FileId.{FileId}
+use Rattle.raft_log_record_base.specs.declared.pipe_log.Version.TheVariants.{V1}
+use Rattle.raft_log_record_items.specs.declared.item.LogItem.{LogItem}
+use Rattle.raft_log_fs.specs.Disk.{Disk}
+use Rattle.raft_log_fs.specs.Reading.{IsNotMeasured, IsUnread}
+use Rattle.raft_log_fs.specs.declared.handle.Handle.{Handle}
+use Rattle.raft_log_file_format.specs.Header.{header_at, first_format}
+use Rattle.raft_log_file_format.specs.declared.header.LogFileFormat.{LogFileFormat}
+use Rattle.raft_log_active_file.specs.Layout.{IsUnaligned}
+use Rattle.raft_log_file_reader.specs.Opening.{SaysFormat}
+use Rattle.raft_log_file_reader.specs.Source.{bytes_in}
+use Rattle.raft_log_file_reader.specs.declared.open_file.OpenFile.{OpenFile}
+use Rattle.raft_log_recovery_read.specs.Faults.{TellsIfAny}
+use Rattle.raft_log_recovery_read.specs.Records.{ReadsBehind}
+
+-- what a log file reads as, from its start to its end, or to what is wrong with it
+pub record FileReading : Type 0 where
+  -- the header's format; the format of a file without a header, if it has none
+  pub format : LogFileFormat
+  -- the items of the good records, in order, with the places of their entries
+  pub batches : List (List LogItem)
+  -- where the last good record ends, or the header, if there is one
+  pub end : Option ℕ
+  -- what is wrong after that, or with the header, as an error
+  pub fault : Option Error
+
+-- What reads as a header is a torn one: it has an alignment, which no pipe writes, and no whole record follows. It is
+-- in the last file of a queue: a power failure may have torn its write.
+abbrev pub IsTornHeader : Bool → LogFileFormat → List (List LogItem) → Type 0
+IsTornHeader last format batches = (last ≡ true) × (IsUnaligned format → ⊥) × (batches ≡ [])
+
+-- the same, if it is known whether no record follows the header
+abbrev pub HasTornHeader : Bool → LogFileFormat → Bool → Type 0
+HasTornHeader last format bare = (last ≡ true) × (IsUnaligned format → ⊥) × IsTrue bare
+
+-- the message for such a header
+abbrev pub torn_header : List ℕ
+torn_header = codes "log file header has an alignment, and no record behind it"
+
+-- What the bytes of a file read as, which is the last one of its queue or not. If they don't begin with a header, or
+-- with a torn one, they read as nothing, and that is the fault. Else they read as what follows the header.
+pub data ReadsBytes (last : Bool) (id : FileId) (content : List ℕ) (read : FileReading) : Type 0 where
+  headless : (fault : Fault) → header_at (take 69 content) ≡ Err fault
+      → TellsIfAny read.fault (Some fault) → read.batches ≡ [] → read.end ≡ None
+      → read.format ≡ first_format → ReadsBytes last id content read
+  torn : (file : OpenFile) (start end : ℕ) (fault : Option Fault) → file.id ≡ id
+      → SaysFormat content file.format start
+      → ReadsBehind last file content start read.batches end fault
+      → IsTornHeader last file.format read.batches
+      → TellsIfAny read.fault (Some (corrupt torn_header)) → read.end ≡ None
+      → read.format ≡ first_format → ReadsBytes last id content read
+  headed : (file : OpenFile) (start end : ℕ) (fault : Option Fault) → file.id ≡ id
+      → SaysFormat content file.format start
+      → ReadsBehind last file content start read.batches end fault
+      → (IsTornHeader last file.format read.batches → ⊥)
+      → TellsIfAny read.fault fault → read.end ≡ Some end → read.format ≡ file.format
+      → ReadsBytes last id content read
+
+-- what is read of the file by this handle, from its bytes on the disk
+abbrev pub ReadsFileAs : Bool → FileId → Handle → Disk → FileReading → Type 0
+ReadsFileAs last id handle d read = ReadsBytes last id (bytes_in (d.files handle.file)) read
+
+-- why a file isn't read: its size can't be read, or some of its bytes can't; or memory ran out. Damaged bytes are no
+-- such reason.
+abbrev pub FailsToRead : Handle → Disk → Error → Type 0
+FailsToRead handle d (errors.Io kind) = IsNotMeasured handle d kind
+    ⊎ IsUnread handle 0 (length (bytes_in (d.files handle.file))) d kind
+FailsToRead handle d errors.Memory = Unit {0}
+FailsToRead handle d _ = ⊥

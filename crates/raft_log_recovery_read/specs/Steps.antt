@@ -1,0 +1,53 @@
+-- One more record of a file that a reader has open.
+use Rattle.std.specs.Prelude.{◌≡◌, ℕ, ◌-◌, ◌<◌, Option, Some, None, List}
+use Rattle.raft_log_record_base.specs.Fault.{Fault}
+use Rattle.raft_log_record_base.specs.declared.errors.Error.{Error}
+use Rattle.raft_log_record_items.specs.declared.item.LogItem.{LogItem}
+use Rattle.raft_log_fs.specs.Disk.{Disk}
+use Rattle.raft_log_file_reader.specs.Source.{bytes_of}
+use Rattle.raft_log_file_reader.specs.Batches.{HasBatch, HasBlock, HasNoMore, IsBroken}
+use Rattle.raft_log_file_reader.specs.Reader.{IsReading, IsInsideFile, file_of, end_of, last_block}
+use Rattle.raft_log_file_reader.specs.declared.open_file.OpenFile.{OpenFile}
+use Rattle.raft_log_file_reader.specs.declared.reader.LogItemBatchFileReader.{LogItemBatchFileReader}
+use Rattle.raft_log_recovery_read.specs.Faults.{TellsFault}
+use Rattle.raft_log_recovery_read.specs.Records.{HasRecord, IsRecordTorn, IsWhole}
+use Rattle.raft_log_recovery_read.specs.declared.steps.Next.{Next}
+use Rattle.raft_log_recovery_read.specs.declared.steps.Next.TheVariants as nexts
+
+-- a reader is at the same offset as another one, in the same file
+pub record StandsAs (d : Disk) (old new : LogItemBatchFileReader) : Type 0 where
+  pub reading : IsReading d new
+  pub file : file_of new ≡ file_of old
+  pub end : end_of new ≡ end_of old
+
+-- the reader took a batch after what it had read, with its entry block, and what it took has these items
+pub record TakesBatchOf (d : Disk) (file : OpenFile) (old new : LogItemBatchFileReader) (items : List LogItem)
+    : Type 0 where
+  pub batch : HasBatch file (bytes_of file.source d) (end_of old) items (end_of new)
+  pub block : HasBlock file (bytes_of file.source d) (end_of old) (last_block new)
+  pub inside : IsInsideFile (last_block new) new
+  pub further : end_of old < end_of new
+
+-- What follows what was read: a batch, which was taken; nothing more; or a broken frame with this fault, and nothing
+-- was taken.
+abbrev pub TakesNextBatch : Disk → OpenFile → LogItemBatchFileReader → LogItemBatchFileReader → Next → Type 0
+TakesNextBatch d file old new (nexts.Batch items) = TakesBatchOf d file old new items.items
+TakesNextBatch d file old new nexts.End =
+    HasNoMore file (bytes_of file.source d) (end_of old) × (end_of new ≡ end_of old)
+TakesNextBatch d file old new (nexts.Fault error) = (f : Fault) × TellsFault error f
+    × IsBroken file (bytes_of file.source d) (end_of old) f × (end_of new ≡ end_of old)
+
+-- what is wrong with the record after an offset, whose frame is good, if anything is
+abbrev pub ChecksBlock : OpenFile → List ℕ → ℕ → Option Error → Type 0
+ChecksBlock file content offset None = IsWhole file content offset
+ChecksBlock file content offset (Some error) =
+    (f : Fault) × TellsFault error f × IsRecordTorn file content offset f
+
+-- a whole record was taken after what was read; nothing more follows; or this is what is wrong with it
+abbrev pub TakesWholeRecord : Disk → OpenFile → LogItemBatchFileReader → LogItemBatchFileReader → Next → Type 0
+TakesWholeRecord d file old new (nexts.Batch items) =
+    HasRecord file (bytes_of file.source d) (end_of old) items.items (end_of new)
+    × (end_of old < end_of new)
+TakesWholeRecord d file old new nexts.End = HasNoMore file (bytes_of file.source d) (end_of old)
+TakesWholeRecord d file old new (nexts.Fault error) = (f : Fault) × TellsFault error f
+    × IsRecordTorn file (bytes_of file.source d) (end_of old) f

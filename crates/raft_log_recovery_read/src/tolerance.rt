@@ -1,0 +1,74 @@
+//! Which damage of a log file is tolerated.
+
+ghost use Rattle.std.specs.Prelude.{◌≡◌, false, Some, IfOk, IfErr};
+ghost use Rattle.raft_log_recovery_read.specs.Handed.{WasHanded};
+ghost use Rattle.raft_log_recovery_read.specs.Reading.{FileReading};
+ghost use Rattle.raft_log_recovery_read.specs.Tolerance.{FailsToReadFound, IsTolerated, ReadsFound, tolerates};
+
+use crate::found_file::{FoundFile, ListedFile};
+use crate::reading::read_file;
+use raft_log_fs::FileSystem;
+use raft_log_file_reader::LogItemBatchFileReader;
+use raft_log_file_settings::RecoveryMode;
+use raft_log_record_base::Result;
+use raft_log_replay::ReplayMachine;
+use std::alloc::Global;
+
+/// Whether a recovery continues after a damaged file, which is the last one of its queue or not.
+pub fn tolerates(mode: RecoveryMode, is_last: bool) -> bool
+    ensures { result ≡ tolerates mode is_last }
+{
+    match mode {
+        RecoveryMode::AbsoluteConsistency => false,
+        RecoveryMode::TolerateTailCorruption => is_last,
+        RecoveryMode::TolerateAnyCorruption => true,
+    }
+}
+
+/// Reads a log file, and hands a machine its records up to its end, or to the first damaged one. Changes nothing.
+///
+/// Fails with `Io` if a read fails, which is never reported as damage; with `Corruption` or `Codec` for damage that
+/// isn't tolerated; or with `Memory`. An error of the machine is returned in `declined`.
+pub fn read_found<F: FileSystem, M: ReplayMachine>(
+    alloc: Global,
+    file_system: &F,
+    reader: &mut LogItemBatchFileReader,
+    mode: RecoveryMode,
+    file: ListedFile,
+    machine: &mut M,
+) -> Result<FoundFile>
+    ensures ok { IfOk result (λ found. (reading : FileReading)
+        × ReadsFound mode file.is_last file.id file.handle (F.disk file_system.now) reading
+        × WasHanded (M.reads file.id.queue) (M.declines file.id.queue) file.id machine.old machine.new reading
+        found) }
+    ensures err { IfErr result (FailsToReadFound mode file.is_last file.id file.handle (F.disk file_system.now)) }
+{
+    let found = read_file(alloc, file_system, reader, file, machine)?;
+    accept(mode, file.is_last, found)
+}
+
+/// Returns what was found of a file, if it isn't damaged or that is tolerated; else fails with its damage.
+fn accept(mode: RecoveryMode, is_last: bool, found: FoundFile) -> Result<FoundFile>
+    ensures ok { IfOk result (λ same. (same ≡ found) × IsTolerated mode is_last found.fault) }
+    ensures err { IfErr result
+        (λ error. (found.fault ≡ Some error) × (tolerates mode is_last ≡ false)) }
+{
+    if tolerates(mode, is_last) {
+        return Ok(found);
+    }
+    let FoundFile {
+        format,
+        end,
+        fault,
+        declined,
+    } = found;
+    match fault {
+        Some(error) => Err(error),
+        None => Ok(FoundFile {
+            format,
+            end,
+            fault: None,
+            declined,
+        }),
+    }
+}

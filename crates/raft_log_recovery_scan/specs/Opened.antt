@@ -1,0 +1,68 @@
+-- Files that were found are opened.
+use Rattle.std.specs.Prelude.{◌≡◌, ℕ, ◌⊎◌, Bool, true, false, List, [], ◌∷◌, ◌++◌, length}
+use Rattle.std.specs.List.{AllZip}
+use Rattle.raft_log_record_base.specs.declared.errors.Error.{Error}
+use Rattle.raft_log_record_base.specs.declared.errors.Error.TheVariants as errors
+use Rattle.raft_log_record_base.specs.declared.pipe_log.Version.TheVariants.{V1}
+use Rattle.raft_log_fs.specs.Disk.{Disk}
+use Rattle.raft_log_fs.specs.Arguments.{IsAfterStop}
+use Rattle.raft_log_fs.specs.Reading.{IsOpened}
+use Rattle.raft_log_fs.specs.declared.handle.Permission.{Permission}
+use Rattle.raft_log_fs.specs.declared.handle.Permission.TheVariants.{ReadOnly, ReadWrite}
+use Rattle.raft_log_file_settings.specs.declared.recovery_mode.RecoveryMode.{RecoveryMode}
+use Rattle.raft_log_file_settings.specs.declared.recovery_mode.RecoveryMode.TheVariants.{TolerateAnyCorruption}
+use Rattle.raft_log_active_file.specs.Layout.{place_of}
+use Rattle.raft_log_active_file.specs.declared.format.File.{File}
+use Rattle.raft_log_recovery_scan.specs.Found.{found_path}
+use Rattle.raft_log_recovery_scan.specs.declared.file_kind.FileKind.{FileKind}
+use Rattle.raft_log_recovery_scan.specs.declared.file_kind.FileKind.TheVariants.{Reserved}
+use Rattle.raft_log_recovery_scan.specs.declared.scanning.found.FoundFile.{FoundFile}
+
+-- whether files of this kind have reserved names
+abbrev pub is_reserved : FileKind → Bool
+is_reserved Reserved = true
+is_reserved _ = false
+
+-- The file that was found, open: the handle is of the file with that path. Its format isn't read yet: it is that of a
+-- file without a header.
+pub record IsOpenFile (kind : FileKind) (directories : List (List ℕ)) (d : Disk) (permission : Permission)
+    (found : FoundFile) (file : File) : Type 0 where
+  pub seq : file.seq ≡ found.seq
+  pub path_id : file.path_id ≡ place_of (length directories) found.path_id found.signed
+  pub reserved : file.reserved ≡ is_reserved kind
+  pub format : file.format ≡ record { version = V1; alignment = 0 }
+  pub opened : IsOpened (found_path kind directories found) permission file.handle d
+
+-- each of these is open
+abbrev pub AreOpen : FileKind → List (List ℕ) → Disk → Permission → List FoundFile → List File → Type 0
+AreOpen kind directories d permission found files =
+    AllZip (IsOpenFile kind directories d permission) found files
+
+-- the permission for the files before a queue's last one: to read, and under `TolerateAnyCorruption` to truncate too
+abbrev pub permission_before : RecoveryMode → Permission
+permission_before TolerateAnyCorruption = ReadWrite
+permission_before _ = ReadOnly
+
+-- the last of these is open for writing, and those before it as the mode requires
+pub record IsOpenBehind (kind : FileKind) (directories : List (List ℕ)) (d : Disk) (mode : RecoveryMode)
+    (found : List FoundFile) (files : List File) : Type 0 where
+  pub before : List FoundFile
+  pub last : FoundFile
+  pub found_split : found ≡ before ++ last ∷ []
+  pub opened : List File
+  pub active : File
+  pub split : files ≡ opened ++ active ∷ []
+  pub earlier : AreOpen kind directories d (permission_before mode) before opened
+  pub writable : IsOpenFile kind directories d ReadWrite last active
+
+-- the files of a queue are open, if there are some
+abbrev pub IsOpenQueue :
+    FileKind → List (List ℕ) → Disk → RecoveryMode → List FoundFile → List File → Type 0
+IsOpenQueue kind directories d mode found files =
+    ((found ≡ []) × (files ≡ [])) ⊎ IsOpenBehind kind directories d mode found files
+
+-- why it isn't known what has a path, or the file there wasn't opened: the file system has stopped, or memory ran out
+abbrev pub FailsToLook : Disk → Error → Type 0
+FailsToLook d (errors.Io kind) = IsAfterStop d kind
+FailsToLook d errors.Memory = Unit {0}
+FailsToLook d _ = ⊥

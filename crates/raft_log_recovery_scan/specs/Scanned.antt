@@ -1,0 +1,77 @@
+-- What a scan of the log's directories returns.
+use Rattle.std.specs.Prelude.{◌≡◌, ℕ, ◌⊎◌, List}
+use Rattle.std.specs.String.{string_bytes}
+use Rattle.raft_log_record_base.specs.declared.errors.Error.{Error}
+use Rattle.raft_log_record_base.specs.declared.errors.Error.TheVariants as errors
+use Rattle.raft_log_fs.specs.Disk.{Disk}
+use Rattle.raft_log_fs.specs.Arguments.{IsAfterStop}
+use Rattle.raft_log_fs.specs.declared.handle.Permission.TheVariants.{ReadOnly}
+use Rattle.raft_log_file_settings.specs.declared.recovery_mode.RecoveryMode.{RecoveryMode}
+use Rattle.raft_log_active_file.specs.declared.format.File.{File}
+use Rattle.raft_log_recovery_scan.specs.Names.{IsMisnamed, told_misnamed}
+use Rattle.raft_log_recovery_scan.specs.Directories.{HasDirectories, FailsToHaveAll}
+use Rattle.raft_log_recovery_scan.specs.Found.{AreAmongAll, AreFilesIn, HasName}
+use Rattle.raft_log_recovery_scan.specs.Runs.{IsRunOf}
+use Rattle.raft_log_recovery_scan.specs.Opened.{AreOpen, IsOpenQueue}
+use Rattle.raft_log_recovery_scan.specs.declared.file_kind.FileKind.{FileKind}
+use Rattle.raft_log_recovery_scan.specs.declared.file_kind.FileKind.TheVariants.{Append, Rewrite, Reserved}
+use Rattle.raft_log_recovery_scan.specs.declared.scanning.found.FoundFile.{FoundFile}
+use Rattle.raft_log_recovery_scan.specs.declared.scanning.ScannedFiles.{ScannedFiles}
+
+-- the files of a kind that are kept, among those with these names
+pub record IsRunAmong (kind : FileKind) (listings : List (List (List ℕ))) (kept : List FoundFile)
+    : Type 0 where
+  pub found : List FoundFile
+  pub among : AreAmongAll kind 0 listings found
+  pub run : IsRunOf found kept
+
+-- the files of a kind that are kept, among exactly those in these directories
+pub record IsRunIn (kind : FileKind) (directories : List (List ℕ)) (d : Disk) (kept : List FoundFile)
+    : Type 0 where
+  pub found : List FoundFile
+  pub all : AreFilesIn kind directories d found
+  pub run : IsRunOf found kept
+
+-- the files of a queue that are kept, open
+pub record IsQueueIn (kind : FileKind) (directories : List (List ℕ)) (d : Disk) (mode : RecoveryMode)
+    (files : List File) : Type 0 where
+  pub kept : List FoundFile
+  pub run : IsRunIn kind directories d kept
+  pub opened : IsOpenQueue kind directories d mode kept files
+
+-- the reserved files that are kept, open to be read
+pub record IsReserveIn (directories : List (List ℕ)) (d : Disk) (files : List File) : Type 0 where
+  pub kept : List FoundFile
+  pub run : IsRunIn Reserved directories d kept
+  pub opened : AreOpen Reserved directories d ReadOnly kept files
+
+-- the files of both queues, and the reserved ones
+pub record IsScanned (directories : List (List ℕ)) (d : Disk) (mode : RecoveryMode)
+    (scanned : ScannedFiles) : Type 0 where
+  pub append : IsQueueIn Append directories d mode scanned.append.items
+  pub rewrite : IsQueueIn Rewrite directories d mode scanned.rewrite.items
+  pub reserved : IsReserveIn directories d scanned.reserved.items
+
+-- the message names a misnamed file in these directories
+abbrev pub TellsMisnamedIn : List (List ℕ) → Disk → List ℕ → Type 0
+TellsMisnamedIn directories d text = (kind : FileKind) × (name : List ℕ) × HasName directories d name
+    × IsMisnamed kind name × (text ≡ told_misnamed name)
+
+-- why files that are there weren't found and opened: the file system has stopped, one is misnamed, or memory ran out
+abbrev pub FailsToFindFiles : List (List ℕ) → Disk → Error → Type 0
+FailsToFindFiles directories d (errors.Io kind) = IsAfterStop d kind
+FailsToFindFiles directories d (errors.Corruption text) = TellsMisnamedIn directories d (string_bytes text)
+FailsToFindFiles directories d errors.Memory = Unit {0}
+FailsToFindFiles directories d _ = ⊥
+
+-- the directories are there, and nothing else changed; and their files
+pub record Scans (directories : List (List ℕ)) (mode : RecoveryMode) (scanned : ScannedFiles)
+    (old new : Disk) : Type 0 where
+  pub made : HasDirectories directories old new
+  pub is : IsScanned directories new mode scanned
+
+-- why a scan fails: a directory isn't there; or they are, and their files aren't found or opened; nothing else
+-- changed
+abbrev pub FailsToScan : List (List ℕ) → Error → Disk → Disk → Type 0
+FailsToScan directories error old new = FailsToHaveAll directories error old new
+    ⊎ (HasDirectories directories old new × FailsToFindFiles directories new error)

@@ -1,0 +1,32 @@
+-- Segments of a queue, and machines that read them.
+use Rattle.std.specs.Prelude.{◌≡◌, ℕ, suc, ◌⊎◌, List, [], ◌∷◌, ◌++◌}
+use Rattle.raft_log_record_base.specs.declared.errors.Error.{Error}
+use Rattle.raft_log_record_base.specs.declared.errors.Error.TheVariants.{Memory}
+use Rattle.raft_log_replay.specs.Machines.{Batch}
+
+-- a machine read the batches that a segment holds, after those that it had read, and this is the segment's ending
+pub record ReplaysSegment {M E : Type 0} (holds : List Batch → E → Type 0) (reads : List Batch → M → Type 0)
+    (old new : M) (ending : E) : Type 0 where
+  pub batches : List Batch
+  pub held : holds batches ending
+  pub takes : (before : List Batch) → reads before old → reads (before ++ batches) new
+
+-- a segment begins with batches at which the machine fails, after those that it has read
+pub record StopsIn {M : Type 0} (begins : List Batch → Type 0) (reads : List Batch → M → Type 0)
+    (declines : List Batch → Error → Type 0) (machine : M) (error : Error) : Type 0 where
+  pub batches : List Batch
+  pub begun : begins batches
+  pub declined : (before : List Batch) → reads before machine → declines (before ++ batches) error
+
+-- why a segment isn't replayed: it can't be read, the machine fails at its first batches, or memory ran out
+abbrev pub SegmentRefused : {M : Type 0} → (Error → Type 0) → (List Batch → Type 0)
+    → (List Batch → M → Type 0) → (List Batch → Error → Type 0) → M → Error → Type 0
+SegmentRefused refuses begins reads declines machine error =
+    refuses error ⊎ StopsIn begins reads declines machine error ⊎ (error ≡ Memory)
+
+-- these are the batches of segments from a number on, segment by segment, and the ending of each
+abbrev pub HoldEach : {E : Type 0} → (ℕ → List Batch → E → Type 0) → ℕ → List (List Batch) → List E → Type 0
+HoldEach holds k [] [] = Unit {0}
+HoldEach holds k [] (e ∷ es) = ⊥
+HoldEach holds k (bs ∷ bss) [] = ⊥
+HoldEach holds k (bs ∷ bss) (e ∷ es) = holds k bs e × HoldEach holds (suc k) bss es

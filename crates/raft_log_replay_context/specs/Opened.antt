@@ -1,0 +1,65 @@
+-- The files of a directory that were read, and the tables that were built from them.
+use Rattle.std.specs.Prelude.{◌≡◌, ℕ, List, [], ◌∷◌, ◌++◌, map}
+use Rattle.raft_log_model_laws.specs.Item.{Record, Tagged}
+use Rattle.raft_log_model_laws.specs.Item.Record.{Plain, Part}
+use Rattle.raft_log_model_laws.specs.Groups.{directory_meaning, Map}
+use Rattle.raft_log_model_laws.specs.Tidy.{Tidy}
+use Rattle.raft_log_machine_laws.specs.Files.{span, LogFile}
+use Rattle.raft_log_machine_laws.specs.Directory.{IsRising}
+use Rattle.raft_log_machine_laws.specs.Images.{IsOneRun}
+use Rattle.raft_log_directory_laws.specs.Model.{Files}
+use Rattle.raft_log_memtable_index.specs.Bridge.{Located}
+use Rattle.raft_log_memtable_index.specs.Shown.{KeyValue}
+use Rattle.raft_log_memtable_index.specs.Replayed.{told}
+use Rattle.raft_log_memtables.specs.declared.mem_tables.MemTables.{MemTables}
+use Rattle.raft_log_replay_context.specs.Records.{counted, records_of, AreHealthy, ReadRecord}
+use Rattle.raft_log_replay_context.specs.Noting.{AreWhereRead}
+use Rattle.raft_log_replay_context.specs.Context.{ArePlain, ComesOver}
+
+-- the item with the bytes at its places, and its value
+abbrev pub told_tagged : {E : Type 0} → (Located → E) → Tagged Located KeyValue → Tagged E (List ℕ)
+told_tagged at x = record { group = x.group; item = told at x.item }
+
+-- the record with the bytes at its places, and its values
+abbrev pub told_record : {E : Type 0} → (Located → E) → Record Located KeyValue → Record E (List ℕ)
+told_record at (Plain xs) = Plain (map (told_tagged at) xs)
+told_record at (Part m xs) = Part m (map (told_tagged at) xs)
+
+-- the records that were read, with the bytes at their places, and without their files
+abbrev pub told_records : {E : Type 0} → (Located → E) → List ReadRecord → List (Record E (List ℕ))
+told_records at rs = map (told_record at) (records_of rs)
+
+-- the records were read in this file
+abbrev pub AllReadIn : ℕ → List ReadRecord → Type 0
+AllReadIn n [] = Unit {0}
+AllReadIn n (r ∷ rs) = (r.file ≡ n) × AllReadIn n rs
+
+-- the files hold the records that were read, each in its own file
+abbrev pub FilesHold : {E : Type 0} → (Located → E) → List ReadRecord → List (LogFile E (List ℕ)) → Type 0
+FilesHold at rs [] = rs ≡ []
+FilesHold at rs (f ∷ fs) =
+    (here rest : List ReadRecord) × (rs ≡ here ++ rest) × AllReadIn f.number here
+    × (f.records ≡ told_records at here) × FilesHold at rest fs
+
+-- these records were read of a queue: they are those of its live range, and their entries and values are in their files
+pub record IsWhatWasRead {E : Type 0} (at : Located → E) (rs : List ReadRecord)
+    (fs : List (LogFile E (List ℕ))) : Type 0 where
+  pub files : FilesHold at rs fs
+  pub rising : IsRising fs
+  pub lie : AreWhereRead rs
+  pub tidy : Tidy (records_of rs)
+  pub healthy : (g : ℕ) → AreHealthy (counted g rs)
+
+-- the map of the records that were read
+abbrev pub map_read : {E : Type 0} → (Located → E) → List ReadRecord → List ReadRecord → Map E (List ℕ)
+map_read at rewrite append = directory_meaning (told_records at rewrite) (told_records at append)
+
+-- The tables are those of a directory that was read: its files hold the records, those of Append count at once, and the
+-- entries of each group are one run
+pub record AreTablesOf {E : Type 0} (at : Located → E) (rewrite append : List ReadRecord) (m : MemTables)
+    (f : Files E (List ℕ)) : Type 0 where
+  pub over : ComesOver rewrite append m
+  pub rewrite_read : IsWhatWasRead at rewrite (span f.rewrite f.rewrite.pending)
+  pub append_read : IsWhatWasRead at append (span f.append f.append.pending)
+  pub plain : ArePlain append
+  pub runs : (g : ℕ) → IsOneRun (map_read at rewrite append g)

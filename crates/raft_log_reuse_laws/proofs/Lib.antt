@@ -1,3 +1,0 @@
-pub mod Signatures
-pub mod LastFiles
-pub mod Rotations

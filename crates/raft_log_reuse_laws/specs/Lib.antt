@@ -1,2 +1,0 @@
-pub mod OldRecords
-pub mod LastFiles

@@ -1,5 +1,0 @@
-use Rattle.raft_log_table_all.proofs.Bare.{uncounted_bare}
-use Rattle.raft_log_table_all.proofs.laws.nothing_stands_uncounted.Goals as goal
-
-pub returns : goal.returns
-returns c = uncounted_bare

@@ -1,5 +1,0 @@
-use Rattle.raft_log_table_all.proofs.Applied.{ready_written}
-use Rattle.raft_log_table_all.proofs.laws.ready_wherever_written.Goals as goal
-
-pub returns : goal.returns
-returns c = record { written = ready_written; follows = λ m items r g. (r.groups g).follows }

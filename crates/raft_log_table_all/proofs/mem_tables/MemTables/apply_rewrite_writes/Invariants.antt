@@ -1,9 +1,0 @@
-use Rattle.std.proofs.Common.{take}
-use Rattle.raft_log_record_marks.specs.Meaning.{tagged_items}
-use Rattle.raft_log_table_runs.specs.Entries.{place_of}
-use Rattle.raft_log_table_all.specs.Rewriting.{TakesRewritten}
-use Rattle.raft_log_table_all.proofs.mem_tables.MemTables.apply_rewrite_writes.Given as goal
-
--- the items so far moved
-abbrev pub invariant-loop-item : goal.invariant-loop-item
-invariant-loop-item l = TakesRewritten l.gate l.file l.fn.self l.self (tagged_items place_of (take l.item-index l.items))

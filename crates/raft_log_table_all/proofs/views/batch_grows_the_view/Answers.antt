@@ -1,5 +1,0 @@
-use Rattle.raft_log_table_all.proofs.Growing.{view_grows}
-use Rattle.raft_log_table_all.proofs.views.batch_grows_the_view.Goals as goal
-
-pub returns : goal.returns
-returns g c = view_grows

@@ -1,5 +1,0 @@
-use Rattle.raft_log_table_all.proofs.Carrying.{marks_on}
-use Rattle.raft_log_table_all.proofs.views.marks_carry_the_view.Goals as goal
-
-pub returns : goal.returns
-returns g c = marks_on

@@ -1,5 +1,0 @@
-use Rattle.raft_log_table_all.proofs.Lying.{written_in}
-use Rattle.raft_log_table_all.proofs.views.written_entries_lie_in_their_file.Goals as goal
-
-pub returns : goal.returns
-returns c = written_in

@@ -1,6 +1,0 @@
-use Rattle.std.proofs.Common.{refl}
-use Rattle.raft_log_table_contexts.proofs.Contexts.{plain_counted}
-use Rattle.raft_log_table_contexts.proofs.laws.append_counts_at_once.Goals as goal
-
-pub returns : goal.returns
-returns c = λ g rs context h. plain_counted g rs (h.plain refl)

@@ -1,5 +1,0 @@
-use Rattle.raft_log_table_contexts.proofs.Opening.{made_of}
-use Rattle.raft_log_table_contexts.proofs.laws.opened_view_is_made_of_what_was_read.Goals as goal
-
-pub returns : goal.returns
-returns g c = made_of

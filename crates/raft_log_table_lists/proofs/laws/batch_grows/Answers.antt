@@ -1,6 +1,0 @@
-use Rattle.raft_log_table_lists.proofs.Grow.{batch_grows, orderly_after}
-use Rattle.raft_log_table_lists.proofs.Meant.{batch_meant}
-use Rattle.raft_log_table_lists.proofs.laws.batch_grows.Goals as goal
-
-pub returns : goal.returns
-returns g c = record { grows = batch_grows; orderly = orderly_after; means = batch_meant }

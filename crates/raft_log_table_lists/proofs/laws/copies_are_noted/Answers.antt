@@ -1,5 +1,0 @@
-use Rattle.raft_log_table_lists.proofs.Noting.{appended_shrink, group_carries, rewritten_carry}
-use Rattle.raft_log_table_lists.proofs.laws.copies_are_noted.Goals as goal
-
-pub returns : goal.returns
-returns g c = record { append = appended_shrink; plain = rewritten_carry; group = group_carries }

@@ -1,5 +1,0 @@
-use Rattle.raft_log_table_lists.proofs.Moving.{moves_carry, moves_meant, moves_orderly}
-use Rattle.raft_log_table_lists.proofs.laws.moves_carry.Goals as goal
-
-pub returns : goal.returns
-returns g c = record { carries = moves_carry; orderly = moves_orderly; means = moves_meant }

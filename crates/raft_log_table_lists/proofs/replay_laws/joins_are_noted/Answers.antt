@@ -1,5 +1,0 @@
-use Rattle.raft_log_table_lists.proofs.Covering.{joined_cover, merged_cover}
-use Rattle.raft_log_table_lists.proofs.replay_laws.joins_are_noted.Goals as goal
-
-pub returns : goal.returns
-returns c = record { joined = joined_cover; merged = merged_cover }

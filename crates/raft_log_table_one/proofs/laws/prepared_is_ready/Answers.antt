@@ -1,5 +1,0 @@
-use Rattle.raft_log_table_one.proofs.Ready.{ready_more, ready_none, ready_renamed}
-use Rattle.raft_log_table_one.proofs.laws.prepared_is_ready.Goals as goal
-
-pub returns : goal.returns
-returns g c = record { none = ready_none; more = ready_more; written = ready_renamed }

@@ -1,5 +1,0 @@
-use Rattle.raft_log_table_one.proofs.Leasts.{begins_past, notes_past}
-use Rattle.raft_log_table_one.proofs.laws.rewritten_begins_past.Goals as goal
-
-pub returns : goal.returns
-returns c = record { begins = begins_past; noted = notes_past }

@@ -1,5 +1,0 @@
-use Rattle.std.proofs.Common.{◌+◌}
-use Rattle.raft_log_table_runs.proofs.places.Places.truncate.Goals as goal
-
-pub invariant_of-self : goal.invariant_of-self
-invariant_of-self c = let p = c.self.inside in c.truncate.ensures.room (p.wanted + (p.moves + p.moves)) c.self.invariant

@@ -1,5 +1,0 @@
-use Rattle.raft_log_unpadded.proofs.Reading.{records_read_the_same_is}
-use Rattle.raft_log_unpadded.proofs.laws.records_read_the_same.Goals as goal
-
-pub returns : goal.returns
-returns c = records_read_the_same_is

@@ -1,5 +1,0 @@
-use Rattle.raft_log_unpadded.proofs.Reading.{written_files_read_the_same_is}
-use Rattle.raft_log_unpadded.proofs.laws.written_files_read_the_same.Goals as goal
-
-pub returns : goal.returns
-returns c = written_files_read_the_same_is

@@ -1,0 +1,191 @@
+-- What follows from the definitions: each exit of an engine's calls as a step of its voters, and laws on rounds.
+use Rattle.std.specs.Prelude.{◌≡◌, ◌⊎◌, ◌≤◌, ◌<◌, ◌^◌, ◌||◌, ℕ, Bool, true, false, None, IsTrue, List, [], ◌∷◌, ◌++◌, length, map, slice_get, Option, Some}
+use Rattle.raft_log_fs.specs.Disk.{Disk}
+use Rattle.raft_log_machine_laws.specs.Fresh.{nothing_stands}
+use Rattle.raft_log_record_base.specs.declared.errors.Error.{Error}
+use Rattle.raft_log_record_base.specs.declared.errors.Error.TheVariants as errors
+use Rattle.raft_log_record_frames.specs.Record.{record_len}
+use Rattle.raft_log_record_batches.specs.Batch.{Batch}
+use Rattle.raft_log_engine_laws.specs.raft_log_memtables.specs.declared.mem_tables.MemTables.{MemTables}
+use Rattle.raft_log_engine_laws.specs.raft_log_dual_pipes.specs.Pipes.{LogPipes}
+use Rattle.raft_log_engine_laws.specs.raft_log_block_cache.specs.declared.block_cache.BlockCache.{BlockCache}
+use Rattle.raft_log_engine_laws.specs.Shows.{Home, Shows, has_failed, shows}
+use Rattle.raft_log_engine_laws.specs.Holding.{Holds, IsLeftAt}
+use Rattle.raft_log_engine_laws.specs.Fetching.{FailsToFetch, FetchesTo}
+use Rattle.raft_log_engine_laws.specs.Syncing.{NotSynced, SyncsAppend}
+use Rattle.raft_log_engine_laws.specs.Writing.{NotWritten, WritesBytes}
+use Rattle.raft_voter_messages.specs.declared.reply.Entry.{Entry as VoterEntry}
+use Rattle.raft_voter_messages.specs.declared.reply.Reply.{Reply}
+use Rattle.raft_voter_messages.specs.declared.reply.Reply.TheVariants as replies
+use Rattle.raft_voter_messages.specs.declared.request.Request.{Request}
+use Rattle.raft_voter_outline.specs.declared.outline.decision.Answer.TheVariants as answers
+use Rattle.raft_voter_outline.specs.declared.outline.decision.Change.{Change}
+use Rattle.raft_voter_outline.specs.Outlines.{ChangesEach, IsReplyOfEach, LeavesEach, without_bytes}
+use Rattle.raft_voter_outline.specs.State.{State}
+use Rattle.raft_voter.specs.Laws.{AreReadAs}
+use Rattle.raft_voter.specs.Rounds.{TakesFirst, World, fresh_world, are_rising, replies_from, taken_from}
+use Rattle.raft_voter.specs.Service.{refused_from}
+use Rattle.raft_voter_durability_laws.specs.Standing.{AreOutlines, IsLeftAmong, IsLeftWith, Keeps}
+use Rattle.raft_voter_durability_laws.specs.Rounds.{AreTold, IsPassedOrOneMore, took}
+use Rattle.raft_voter_durability_laws.specs.Requests.{Broke, SaysChange, Served, StepsOutlines, TurnedDown}
+use Rattle.raft_voter_durability_laws.specs.Reads.{IsCounted, IsRaw, ReadsEntries, ReadsNone}
+use Rattle.raft_voter_durability_laws.specs.Ends.{Answered, GaveUp, Unsynced, Went}
+use Rattle.raft_voter_durability_laws.specs.Calls.{KeepsMap, KeepsOrLeaves, KeepsOrLeavesMap, LeavesLeft, LeavesLog, OpensAmong}
+
+-- One request.
+
+-- the outline is that of a voter without entries' bytes: itself
+abbrev pub IsBare : State → Type 0
+IsBare o = without_bytes o ≡ o
+
+-- A request that leaves its voter unchanged is served by the outline: nothing was written.
+abbrev pub ToldRequestsAreServed : Type 0
+ToldRequestsAreServed = (q : ℕ × Request) (a : Reply) (s : Shows) (os : ℕ → State) → has_failed s ≡ false
+    → IsBare (os q.0) → IsReplyOfEach (os q.0) q.1 (answers.Told a) → LeavesEach (os q.0) q.1
+    → Served q a false s s os os
+
+-- A request is served if its change was written, and the outline of its group made the step.
+abbrev pub WrittenRequestsAreServed : Type 0
+WrittenRequestsAreServed = (q : ℕ × Request) (a : Reply) (c : Change) (b : Batch) (len : ℕ) (s t : Shows)
+    (os us : ℕ → State) → IsBare (os q.0) → IsReplyOfEach (os q.0) q.1 (answers.Told a)
+    → ChangesEach (os q.0) q.1 c → SaysChange q.0 q.1 c b → StepsOutlines q os us
+    → WritesBytes b false len s t → Served q a true s t os us
+
+-- A request for entries is served if they were read.
+abbrev pub ReadRequestsAreServed : Type 0
+ReadRequestsAreServed = (q : ℕ × Request) (from to : ℕ) (es : List VoterEntry) (s t : Shows) (os : ℕ → State)
+    → IsReplyOfEach (os q.0) q.1 (answers.Entries from to) → LeavesEach (os q.0) q.1
+    → ReadsEntries q.0 from to s t os es → Served q (replies.Entries es) false s t os os
+
+-- An engine shows no entry of a group that doesn't count.
+abbrev pub EnginesAreCounted : Type 0
+EnginesAreCounted = (v : LogPipes) (tables : MemTables) (cache : BlockCache) → IsCounted (shows v tables cache)
+
+-- Fetched entries are read, if messages are raw bytes, and each parses as an entry at its index.
+abbrev pub FetchedEntriesAreRead : Type 0 → Type 0
+FetchedEntriesAreRead M = (text : M → List ℕ) (reading : List ℕ → Option M) (q : ℕ × Request)
+    (from to count : ℕ) (s t : Shows) (os : ℕ → State) (messages : List M) (es : List VoterEntry)
+    → IsRaw text reading → IsCounted s → IsReplyOfEach (os q.0) q.1 (answers.Entries from to)
+    → FetchesTo reading q.0 from to None s t [] messages count → AreReadAs from (map text messages) es
+    → ReadsEntries q.0 from to s t os es
+
+-- Entries that weren't fetched aren't read, for one of these reasons.
+abbrev pub UnfetchedEntriesAreUnread : Type 0 → Type 0
+UnfetchedEntriesAreUnread M = (text : M → List ℕ) (reading : List ℕ → Option M) (q : ℕ × Request)
+    (from to : ℕ) (error : Error) (s t : Shows) (os : ℕ → State) → IsRaw text reading
+    → IsReplyOfEach (os q.0) q.1 (answers.Entries from to) → FailsToFetch reading q.0 from to s t error
+    → ReadsNone q error s t os
+
+-- If a request's record wasn't written, the request is turned down, or the engine failed at it.
+abbrev pub UnwrittenRequests : Type 0
+UnwrittenRequests = (q : ℕ × Request) (c : Change) (b : Batch) (error : Error) (s t : Shows) (os : ℕ → State)
+    → has_failed s ≡ false → ChangesEach (os q.0) q.1 c → SaysChange q.0 q.1 c b
+    → record_len b.items b.entries < 2 ^ 56 → NotWritten b error s t
+    → TurnedDown q error s t os ⊎ ((error ≡ errors.Failed) × Broke q s t os)
+
+-- If memory ran out before anything was done, the request is turned down.
+abbrev pub UnmadeRequestsAreTurnedDown : Type 0
+UnmadeRequestsAreTurnedDown = (q : ℕ × Request) (s : Shows) (os : ℕ → State) → has_failed s ≡ false
+    → TurnedDown q errors.Memory s s os
+
+-- A request for entries is turned down if they weren't read.
+abbrev pub UnreadRequestsAreTurnedDown : Type 0
+UnreadRequestsAreTurnedDown = (q : ℕ × Request) (error : Error) (s t : Shows) (os : ℕ → State)
+    → ReadsNone q error s t os → TurnedDown q error s t os
+
+-- Rounds.
+
+-- A round begins, and continues with a request that was served, or with one that was turned down.
+pub record RoundsGoOn : Type 0 where
+  pub begins : (qs : List (ℕ × Request)) (s : Shows) (os : ℕ → State) → has_failed s ≡ false
+      → Went qs [] false s s os os
+  pub served : (qs : List (ℕ × Request)) (told : List Reply) (q : ℕ × Request) (a : Reply) (wrote more : Bool)
+      (s t u : Shows) (os us ws : ℕ → State) → Went qs told wrote s t os us
+      → slice_get qs (length told) ≡ Some q → Served q a more t u us ws
+      → Went qs (told ++ a ∷ []) (wrote || more) s u os ws
+  pub turned_down : (qs : List (ℕ × Request)) (told : List Reply) (q : ℕ × Request) (error : Error) (wrote : Bool)
+      (s t u : Shows) (os us : ℕ → State) → Went qs told wrote s t os us
+      → slice_get qs (length told) ≡ Some q → TurnedDown q error t u us
+      → Went qs (told ++ replies.Refused ∷ []) wrote s u os us
+
+-- A round ends in one of these ways:
+-- - nothing was written, and no sync is needed
+-- - its sync succeeds
+-- - the engine fails at a request
+-- - its sync fails
+pub record RoundsEnd : Type 0 where
+  pub unwritten : (home : Home) (V : World) (qs : List (ℕ × Request)) (told : List Reply) (s t : Shows)
+      (os us : ℕ → State) → Keeps home s V → AreOutlines os V → Went qs told false s t os us
+      → Answered home V qs told s t us
+  pub answered : (home : Home) (V : World) (qs : List (ℕ × Request)) (told : List Reply) (wrote : Bool)
+      (s t u : Shows) (os us : ℕ → State) → Keeps home s V → AreOutlines os V → Went qs told wrote s t os us
+      → SyncsAppend t u → Answered home V qs told s u us
+  pub gave_up : (home : Home) (V : World) (qs : List (ℕ × Request)) (told : List Reply) (q : ℕ × Request)
+      (wrote : Bool) (s t u : Shows) (os us : ℕ → State) → Keeps home s V → AreOutlines os V
+      → Went qs told wrote s t os us → slice_get qs (length told) ≡ Some q → Broke q t u us
+      → GaveUp home V qs told s u
+  pub unsynced : (home : Home) (V : World) (qs : List (ℕ × Request)) (told : List Reply) (wrote : Bool)
+      (error : Error) (s t u : Shows) (os us : ℕ → State) → Keeps home s V → AreOutlines os V
+      → Went qs told wrote s t os us → NotSynced error t u → Unsynced home V qs told s u
+
+-- Replies and refused places.
+
+-- the refused places of a round, which its replies show, determine the voters' replies and what was taken
+pub record RepliesTellPlaces (V : World) (qs : List (ℕ × Request)) (told : List Reply) : Type 0 where
+  pub rising : IsTrue (are_rising 0 (length qs) (refused_from 0 told))
+  pub told_is : told ≡ replies_from 0 (refused_from 0 told) V qs
+  pub taken_is : took qs told ≡ taken_from 0 (length qs) (refused_from 0 told) qs
+
+-- if all requests of a round got the voters' replies, its refused places determine the replies and what was taken
+abbrev pub ToldRoundsAreAnswered : Type 0
+ToldRoundsAreAnswered = (V : World) (qs : List (ℕ × Request)) (told : List Reply) → AreTold V qs told
+    → length told ≡ length qs → RepliesTellPlaces V qs told
+
+-- The voters that a cut-off round passed took its requests below one place, except those at refused places.
+abbrev pub PassedVotersTookFirst : Type 0
+PassedVotersTookFirst = (V : World) (qs : List (ℕ × Request)) (told : List Reply) → AreTold V qs told
+    → (X : World) → IsPassedOrOneMore V qs told X → TakesFirst V qs (refused_from 0 told) X
+
+-- The engine's other calls.
+
+-- A purge changes no voter, whether it succeeds or fails.
+pub record PurgesKeepVoters : Type 0 where
+  pub answered : (home : Home) (V : World) (s t : Shows) → Keeps home s V → KeepsMap s t → Keeps home t V
+  pub refused : (home : Home) (V : World) (error : Error) (s t : Shows) → Keeps home s V
+      → KeepsOrLeavesMap error s t → KeepsOrLeaves home error t V
+
+-- An engine that is dropped, as by a crash, leaves its log on its disk.
+abbrev pub EnginesLeaveLogs : Type 0
+EnginesLeaveLogs = (s : Shows) → LeavesLog s s.pipes.disk
+
+-- An engine that is closed or dropped leaves its voters on the disk. A fork leaves what was left as it was.
+pub record VotersAreLeft : Type 0 where
+  pub gone : (home : Home) (V : World) (s : Shows) (d : Disk) → Keeps home s V → LeavesLog s d
+      → IsLeftWith home d V
+  pub forked : (home : Home) (V : World) (qs : List (ℕ × Request)) (refused : List ℕ) (d e : Disk)
+      → IsLeftAmong home d (TakesFirst V qs refused) → LeavesLeft home d e
+      → IsLeftAmong home e (TakesFirst V qs refused)
+
+-- An empty log means fresh voters. An engine that is opened for the first time has them, and such an open leaves them
+-- if it fails.
+pub record FreshLogsHaveFreshVoters : Type 0 where
+  pub answered : (home : Home) (e : Shows) → Holds home e nothing_stands [] → Keeps home e fresh_world
+  pub refused : (home : Home) (d : Disk) → IsLeftAt home d nothing_stands [] → IsLeftWith home d fresh_world
+
+-- A round that was cut off leaves voters that took its requests below one place. Any other call leaves those before
+-- it.
+pub record LeftBehindRounds : Type 0 where
+  pub gave_up : (home : Home) (V : World) (qs : List (ℕ × Request)) (told : List Reply) (s t : Shows)
+      → GaveUp home V qs told s t
+      → IsLeftAmong home t.pipes.disk (TakesFirst V qs (refused_from 0 told))
+  pub unsynced : (home : Home) (V : World) (qs : List (ℕ × Request)) (told : List Reply) (s t : Shows)
+      → Unsynced home V qs told s t
+      → IsLeftAmong home t.pipes.disk (TakesFirst V qs (refused_from 0 told))
+  pub alone : (home : Home) (V : World) (d : Disk) → IsLeftWith home d V
+      → IsLeftAmong home d (TakesFirst V [] [])
+
+-- An open in place, after a crash or of a fork finds voters that a stop may leave, and so do all opens after it.
+abbrev pub OpensFindVoters : Type 0
+OpensFindVoters = (home : Home) (d : Disk) (V : World) (qs : List (ℕ × Request)) (refused : List ℕ)
+    (left : IsLeftAmong home d (TakesFirst V qs refused)) (k : ℕ) → k ≤ length left.pending
+    → OpensAmong home d (TakesFirst V qs refused) left k

@@ -1,0 +1,65 @@
+-- Sessions on a log in which running stores crash, by the bytes that the crashes leave.
+use Rattle.std.specs.Prelude.{◌≡◌, ◌⊎◌, false, List, [], ◌∷◌, ◌++◌}
+use Rattle.raft_log_fs.specs.Disk.{Disk as OnDisk}
+use Rattle.raft_log_fs_memory.specs.Memory.{disk_of}
+use Rattle.raft_log_file_settings.specs.declared.config.Config.{Config}
+use Rattle.raft_voter_durability_laws.specs.raft_log_engine_laws.specs.Shows.{Shows, has_failed, log_in}
+use Rattle.raft_log_recovery_laws.specs.Bare.{IsBare}
+use Rattle.raft_log_recovery_laws.specs.ByCalls.{home_of}
+use Rattle.raft_voter.specs.Rounds.{Explains}
+use Rattle.raft_voter.specs.Service.{CutRound, Service}
+use Rattle.raft_voter_store.specs.Service.{LeavesAt}
+use Rattle.raft_voter_world.specs.declared.event.Event.{Event}
+use Rattle.raft_voter_world.specs.declared.report.WorldReport.{WorldReport}
+use Rattle.raft_voter_world.specs.declared.storage.Storage.{Storage}
+use Rattle.raft_voter_world.specs.declared.storage.Storage.TheVariants.{Closed, Open}
+use Rattle.raft_voter_world.specs.Cuts.{NoneLost, ServeSome}
+use Rattle.raft_voter_world.specs.History.{Moment}
+use Rattle.raft_voter_world.specs.History.Change.{closes, purges, arms}
+use Rattle.raft_voter_world.specs.History.Moment.{opened, crashed, kept, answered, cut_off, idle}
+use Rattle.raft_voter_world.specs.Run.{IsRun, moments_of}
+use Rattle.raft_voter_world.specs.Stores.{Disk, Upkeep}
+use Rattle.raft_voter_log.specs.declared.files.LogFiles.{LogFiles}
+use Rattle.raft_voter_log.specs.Leaving.{SparesStore}
+use Rattle.raft_voter_store_laws.specs.Chance.{LeavesForeign, LosesWrites}
+
+-- A running store crashed, and left in its active files only what it had written there.
+abbrev pub OnlyLoses : Config → Shows → OnDisk → Type 0
+OnlyLoses config s d = (has_failed s ≡ false) × LosesWrites (home_of config) s.pipes d
+
+-- In these moments a store is opened, serves rounds, is purged, has faults armed under it, and crashes; each crash only
+-- loses writes. A round that comes while no store is open is idle. After the last moment the store may be closed.
+abbrev pub CrashesOnlyLose : {S : Type 0} → (S → Config) → (S → Shows) → Storage S LogFiles
+    → List (Moment S LogFiles) → Type 0
+CrashesOnlyLose config shows storage [] = Unit {0}
+CrashesOnlyLose config shows (Closed files) (opened workers store voters place now ∷ ms) =
+    CrashesOnlyLose config shows (Open now) ms
+CrashesOnlyLose config shows (Open store) (answered round now ∷ ms) = CrashesOnlyLose config shows (Open now) ms
+CrashesOnlyLose config shows (Open store) (cut_off round cause now ∷ ms) = CrashesOnlyLose config shows (Open now) ms
+CrashesOnlyLose config shows (Open store) (kept (purges purge refusal) (Open now) ∷ ms) =
+    CrashesOnlyLose config shows (Open now) ms
+CrashesOnlyLose config shows (Open store) (kept (arms fault) (Open now) ∷ ms) =
+    CrashesOnlyLose config shows (Open now) ms
+CrashesOnlyLose config shows (Open store) (kept closes (Closed files) ∷ []) = Unit {0}
+CrashesOnlyLose config shows (Open store) (crashed gone left ∷ ms) =
+    OnlyLoses (config store) (shows store) (disk_of left.files) × CrashesOnlyLose config shows (Closed left) ms
+CrashesOnlyLose config shows (Closed files) (idle round now ∷ ms) = CrashesOnlyLose config shows (Closed now) ms
+CrashesOnlyLose config shows storage ms = ⊥
+
+-- A run with such moments, from files in which no log began: each store that it opens serves voters, nothing is lost,
+-- and voters that never fail explain its transcript.
+abbrev pub RunsAskNothing : {S : Type 0} → Service S → Upkeep S → Disk S LogFiles → (S → Config) → (S → Shows) → Type 0
+RunsAskNothing {S} v u d config shows = (first : LogFiles) (events : List Event) (report : WorldReport LogFiles)
+    → (run : IsRun v u d first events report) → IsBare first.config (disk_of first.files)
+    → CrashesOnlyLose config shows (Closed first) (moments_of run.turns ++ run.closing)
+    → ServeSome v (moments_of run.turns) × NoneLost (moments_of run.turns ++ run.closing)
+    × Explains report.transcript.rounds report.cuts
+
+-- A crash of a running store leaves, after all that was written in either queue, a record that nobody wrote. Then the
+-- premise that there is no CRC collision is false, whatever is known of what the store leaves.
+abbrev pub ForeignRecordsBreakPremise : Type 0
+ForeignRecordsBreakPremise = (config : Config) (s : Shows) (cut : CutRound) → has_failed s ≡ false
+    → (under : LeavesAt (home_of config) s cut) → (d : OnDisk)
+    → LeavesForeign (log_in (home_of config)).append.format s.pipes.append.files s.pipes.disk d
+    ⊎ LeavesForeign (log_in (home_of config)).rewrite.format s.pipes.rewrite.files s.pipes.disk d
+    → SparesStore (home_of config) s cut under d → ⊥

@@ -1,0 +1,21 @@
+-- Two opens of a run's files, with different numbers of workers.
+use Rattle.std.specs.Prelude.{ℕ, List}
+use Rattle.raft_log_fs_memory.specs.Memory.{disk_of}
+use Rattle.raft_log_fs_memory.specs.declared.memory.MemoryFileSystem.{MemoryFileSystem}
+use Rattle.raft_voter_durability_laws.specs.raft_log_engine_laws.specs.Shows.{Shows}
+use Rattle.raft_log_recovery_laws.specs.ByCalls.{home_of}
+use Rattle.raft_voter_outline.specs.State.{State}
+use Rattle.raft_voter.specs.Service.{CutRound}
+use Rattle.raft_voter_log.specs.declared.files.LogFiles.{LogFiles}
+use Rattle.raft_voter_log.specs.Instance.{OpensFiles}
+use Rattle.raft_voter_log.specs.Leaving.{FilesLeave, SparesFiles}
+use Rattle.raft_voter_store_laws.specs.Workers.{AreAlike}
+
+-- If it is known what is left in files, and they have no CRC collision, opens with any two numbers of workers are
+-- alike. The stores serve the same voters with the same outlines, and list them alike.
+abbrev pub AnyWorkersOpenAlike : (MemoryFileSystem → List ℕ → ℕ → Type 0) → Type 0
+AnyWorkersOpenAlike tells = (files : LogFiles) (cut : CutRound)
+    (known : FilesLeave files.config (disk_of files.files) cut)
+    → SparesFiles files.config (disk_of files.files) cut known (disk_of files.files)
+    → (workers others : ℕ) (s t : Shows) (os us : ℕ → State) → OpensFiles tells files workers s os
+    → OpensFiles tells files others t us → AreAlike (home_of files.config) s t os us

@@ -1,4 +1,0 @@
-pub mod Resting
-pub mod Walking
-pub mod Opening
-pub mod Purging

@@ -1,3 +1,0 @@
-pub mod Sessions
-pub mod Workers
-pub mod Purges

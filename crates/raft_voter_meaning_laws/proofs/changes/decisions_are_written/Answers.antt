@@ -1,5 +1,0 @@
-use Rattle.raft_voter_meaning_laws.proofs.Saying.{decisions_are_written}
-use Rattle.raft_voter_meaning_laws.proofs.changes.decisions_are_written.Goals as goal
-
-pub returns : goal.returns
-returns c = decisions_are_written

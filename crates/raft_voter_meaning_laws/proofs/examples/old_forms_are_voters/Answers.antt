@@ -1,5 +1,0 @@
-use Rattle.raft_voter_meaning_laws.proofs.OldForms.{old_forms_are_voters}
-use Rattle.raft_voter_meaning_laws.proofs.examples.old_forms_are_voters.Goals as goal
-
-pub returns : goal.returns
-returns c = old_forms_are_voters

@@ -1,5 +1,0 @@
-use Rattle.raft_voter_meaning_laws.proofs.Owning.{foreign_exactly}
-use Rattle.raft_voter_meaning_laws.proofs.voters.foreign_exactly.Goals as goal
-
-pub returns : goal.returns
-returns c = foreign_exactly

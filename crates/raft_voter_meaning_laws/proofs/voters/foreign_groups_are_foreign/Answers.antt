@@ -1,5 +1,0 @@
-use Rattle.raft_voter_meaning_laws.proofs.Reading.{foreign_groups_are_foreign}
-use Rattle.raft_voter_meaning_laws.proofs.voters.foreign_groups_are_foreign.Goals as goal
-
-pub returns : goal.returns
-returns c = foreign_groups_are_foreign

@@ -1,5 +1,0 @@
-use Rattle.raft_voter_meaning_laws.proofs.Owning.{one_voter}
-use Rattle.raft_voter_meaning_laws.proofs.voters.one_voter.Goals as goal
-
-pub returns : goal.returns
-returns c = one_voter

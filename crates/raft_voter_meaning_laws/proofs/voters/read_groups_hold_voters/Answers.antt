@@ -1,5 +1,0 @@
-use Rattle.raft_voter_meaning_laws.proofs.Reading.{read_groups_hold_voters}
-use Rattle.raft_voter_meaning_laws.proofs.voters.read_groups_hold_voters.Goals as goal
-
-pub returns : goal.returns
-returns c = read_groups_hold_voters

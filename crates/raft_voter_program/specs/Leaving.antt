@@ -1,0 +1,40 @@
+-- Which files remain after a session.
+use Rattle.std.specs.Prelude.{◌≡◌, ℕ, List, Option, None, Some, Result, Ok, Err}
+use Rattle.std.specs.Io.KnownBytes.{Appends}
+use Rattle.raft_voter.specs.Service.{Service}
+use Rattle.raft_voter_world.specs.Stores.{Disk, Upkeep}
+use Rattle.raft_voter_session.specs.Told.{Said}
+use Rattle.raft_voter_session.specs.Session.{session_of}
+use Rattle.raft_voter_session.specs.Text.{unreadable_text}
+use Rattle.raft_voter_program.specs.RunSetup.{Setup}
+use Rattle.raft_voter_program.specs.Run.{WritesRun, settings_refused}
+
+-- what is written for a session: the transcript of a run whose report has these files; or, if no files remain, that the
+-- settings are rejected
+abbrev pub WritesLeaving :
+    {S F : Type 0} → Service S → Upkeep S → Disk S F → Setup F → Option F → Said → List ℕ → ℕ → Type 0
+WritesLeaving v u d s None session text status =
+    s.refuses session.settings × (text ≡ settings_refused) × (status ≡ 1)
+WritesLeaving v u d s (Some files) session text status =
+    (run : WritesRun v u d s session text status) × (run.report.files ≡ files)
+
+-- the same for lines that are a session, or whose first unreadable line is this one; then no files remain
+abbrev pub TellsLinesLeaving :
+    {F : Type 0} → (Option F → Said → List ℕ → ℕ → Type 0)
+    → Option F → Result Said ℕ → List ℕ → ℕ → Type 0
+TellsLinesLeaving Writes left (Ok session) text status = Writes left session text status
+TellsLinesLeaving Writes left (Err line) text status =
+    (left ≡ None) × (text ≡ unreadable_text line) × (status ≡ 2)
+
+-- what may be written for a session of these bytes, and which files remain, given what may be written for the session
+-- that they encode
+abbrev pub MayWriteLeaving :
+    {F : Type 0} → (Option F → Said → List ℕ → ℕ → Type 0) → Option F → List ℕ → List ℕ → ℕ → Type 0
+MayWriteLeaving Writes left input text status = TellsLinesLeaving Writes left (session_of input) text status
+
+-- the session ended: all that may be written for it was written, and these files remain
+abbrev pub EndsLeaving :
+    {F : Type 0} → (Option F → Said → List ℕ → ℕ → Type 0)
+    → Option F → List ℕ → Option (List ℕ) → Option (List ℕ) → ℕ → Type 0
+EndsLeaving Writes left input old new status =
+    (text : List ℕ) × MayWriteLeaving Writes left input text status × Appends old new text

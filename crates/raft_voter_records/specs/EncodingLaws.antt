@@ -1,0 +1,23 @@
+-- What the batch of a change says, and the length of its record.
+use Rattle.std.specs.Prelude.{◌≡◌, ℕ, ◌<◌, ◌^◌, Some}
+use Rattle.raft_log_record_frames.specs.Meaning.{record_of}
+use Rattle.raft_log_record_frames.specs.Record.{record_len}
+use Rattle.raft_log_record_batches.specs.Batch.{Batch, Becomes}
+use Rattle.raft_log_record_batches.specs.Places.{entry_bytes}
+use Rattle.raft_voter_messages.specs.declared.request.Request.{Request}
+use Rattle.raft_voter_outline.specs.declared.outline.decision.Change.{Change}
+use Rattle.raft_voter_outline.specs.Outlines.{IsChangeOf}
+use Rattle.raft_voter_outline.specs.State.{State}
+use Rattle.raft_voter_records.specs.MeaningChanges.{decided_items, record_in}
+use Rattle.raft_voter_records.specs.Changes.{IsFresh, with_change}
+
+-- A batch that was empty, and to which a change of a group's voter was added, says what was decided.
+abbrev pub ChangesAreSaid : Type 0
+ChangesAreSaid = (old new : Batch) (g : ℕ) (c : Change) (q : Request) (v : State) → IsFresh old → IsChangeOf v q c
+    → Becomes (with_change old g c q) new
+    → record_of (entry_bytes new.entries) new.items ≡ Some (record_in g (decided_items c q))
+
+-- The record of a batch that was empty, and to which a change was added, has less than two mebibytes.
+abbrev pub ChangesAreShort : Type 0
+ChangesAreShort = (old new : Batch) (g : ℕ) (c : Change) (q : Request) (v : State) → IsFresh old → IsChangeOf v q c
+    → Becomes (with_change old g c q) new → record_len new.items new.entries < 2 ^ 21

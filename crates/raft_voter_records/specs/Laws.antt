@@ -1,0 +1,60 @@
+-- What follows from the definitions: laws, each the contract of an empty function.
+use Rattle.std.specs.Prelude.{◌≡◌, ◌↔◌, ℕ, [], ◌∷◌, List}
+use Rattle.raft_log_model_laws.specs.Meaning.{Slot}
+use Rattle.raft_log_model_laws.specs.Groups.{taken}
+use Rattle.raft_voter_messages.specs.declared.reply.Entry.{Entry as VoterEntry}
+use Rattle.raft_voter_messages.specs.declared.reply.VoterState.{VoterState}
+use Rattle.raft_voter_messages.specs.declared.request.Request.{Request}
+use Rattle.raft_voter_outline.specs.declared.outline.decision.Change.{Change}
+use Rattle.raft_voter_outline.specs.Outlines.{ChangesEach, stored_state, without_bytes}
+use Rattle.raft_voter_outline.specs.State.{State}
+use Rattle.raft_voter.specs.Laws.{log_entries}
+use Rattle.raft_voter.specs.Rounds.{World, after_one, fresh_world}
+use Rattle.raft_voter_records.specs.Voters.{Group, Groups, HoldsVoter, IsForeign, IsVoid, IsVoter, Means}
+use Rattle.raft_voter_records.specs.MeaningChanges.{change_items, change_record, decided_items}
+use Rattle.raft_voter_records.specs.Readings.{HasForeign, IsReadAs, read_voter}
+
+-- A request's record leads from the voters before the request to those after it, whatever the request is.
+abbrev pub RecordsLead : Type 0
+RecordsLead = (m : Groups) (W : World) (q : ℕ × Request) → Means m W
+    → Means (taken m (change_record W q ∷ [])) (after_one W q)
+
+-- What is written for a change is what an outline decided, the same for each voter with that outline.
+abbrev pub DecisionsAreWritten : Type 0
+DecisionsAreWritten = (o : State) (q : Request) (c : Change) → ChangesEach o q c
+    → (v : State) → without_bytes v ≡ o → change_items v q ≡ decided_items c q
+
+-- A group has one voter at most.
+abbrev pub OneVoter : Type 0
+OneVoter = (grp : Group) (v w : State) → IsVoter grp v → IsVoter grp w → v ≡ w
+
+-- A map means one world at most.
+abbrev pub OneWorld : Type 0
+OneWorld = (m : Groups) (V W : World) → Means m V → Means m W → V ≡ W
+
+-- A group is foreign if and only if it holds something, and no voter.
+abbrev pub ForeignExactly : Type 0
+ForeignExactly = (grp : Group)
+    → (IsForeign grp ↔ ((IsVoid grp → ⊥) × ((v : State) → ¬ HoldsVoter grp v)))
+
+-- An empty map means fresh voters.
+abbrev pub EmptyMapsAreFresh : Type 0
+EmptyMapsAreFresh = (m : Groups) → ((g : ℕ) → IsVoid (m g)) → Means m fresh_world
+
+-- Two maps with the same content mean the same voters, so a purge changes none.
+abbrev pub SameMapsMeanTheSame : Type 0
+SameMapsMeanTheSame = (m n : Groups) → ((g : ℕ) (s : Slot) → m g s ≡ n g s)
+    → (W : World) → Means m W → Means n W
+
+-- A group that is read this way holds that voter.
+abbrev pub ReadGroupsHoldVoters : Type 0
+ReadGroupsHoldVoters = (grp : Group) (s : VoterState) (es : List VoterEntry) → IsReadAs grp s es
+    → HoldsVoter grp (read_voter s es)
+
+-- A group that holds a voter is read as its state and its entries.
+abbrev pub VotersAreRead : Type 0
+VotersAreRead = (grp : Group) (v : State) → HoldsVoter grp v → IsReadAs grp (stored_state v) (log_entries v)
+
+-- A group that has any of this is foreign.
+abbrev pub ForeignGroupsAreForeign : Type 0
+ForeignGroupsAreForeign = (grp : Group) → HasForeign grp → IsForeign grp

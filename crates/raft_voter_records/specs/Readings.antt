@@ -1,0 +1,51 @@
+-- What must be read of a group, and with which result, to know that it holds a voter or is foreign.
+use Rattle.std.specs.Prelude.{◌≡◌, ◌≢◌, ℕ, ◌+◌, ◌-◌, ◌^◌, ◌<◌, ◌≤◌, nat_le, if◌then◌else◌, List, length, map, slice_get, Option, Some, None, option_map}
+use Rattle.raft_log_model_laws.specs.Meaning.{Slot, Content}
+use Rattle.raft_log_model_laws.specs.Meaning.Slot.{Index, Key}
+use Rattle.raft_log_model_laws.specs.Meaning.Content.{Entry, Value}
+use Rattle.raft_voter_messages.specs.declared.reply.Entry.{Entry as VoterEntry}
+use Rattle.raft_voter_messages.specs.declared.reply.VoterState.{VoterState}
+use Rattle.raft_voter_messages.specs.declared.stored.StoredFault.{StoredFault}
+use Rattle.raft_voter_messages.specs.declared.stored.StoredFault.TheVariants.{Memory}
+use Rattle.raft_voter_messages.specs.StoredForms.{EntryFault, IsState, StateFault}
+use Rattle.raft_voter_outline.specs.Restoring.{with_log}
+use Rattle.raft_voter_outline.specs.State.{State}
+use Rattle.raft_voter.specs.Laws.{AreReadAs}
+use Rattle.raft_voter_records.specs.Voters.{Group, voter_key}
+
+-- what is at an index, if these are the bytes of a group's entries and the first is at `first`
+abbrev pub run_content : ℕ → List (List ℕ) → ℕ → Option (Content (List ℕ) (List ℕ))
+run_content first texts i = if nat_le first i then option_map Entry (slice_get texts (i - first)) else None
+
+-- A group is read: it has one key and no other, whose bytes are a state. Its entries follow the base of that state one
+-- by one. Each is read at its index, and the last one is in range.
+pub record IsReadAs (grp : Group) (s : VoterState) (es : List VoterEntry) : Type 0 where
+  pub bytes : List ℕ
+  pub head : grp (Key voter_key) ≡ Some (Value bytes)
+  pub state : IsState bytes s
+  pub keys : (k : List ℕ) → (voter_key ≡ k → ⊥) → grp (Key k) ≡ None
+  pub texts : List (List ℕ)
+  pub entries : (i : ℕ) → grp (Index i) ≡ run_content (s.base_index + 1) texts i
+  pub read : AreReadAs (s.base_index + 1) texts es
+  pub small : s.base_index + length es < 2 ^ 63
+
+-- the voter that is read
+abbrev pub read_voter : VoterState → List VoterEntry → State
+read_voter s es = with_log s (map (λ e. (e.term, e.bytes)) es)
+
+-- Why a group is foreign: it has another key; it has something, but not the one key; the bytes under the key are no
+-- state; an entry is at or below the base of that state, or after an index without one; the bytes of an entry are none;
+-- or its index isn't in range.
+pub data HasForeign (grp : Group) : Type 0 where
+  other_key : (k : List ℕ) → (voter_key ≡ k → ⊥) → (grp (Key k) ≡ None → ⊥) → HasForeign grp
+  no_state : (s : Slot) → (grp s ≡ None → ⊥) → grp (Key voter_key) ≡ None → HasForeign grp
+  broken_state : (bytes : List ℕ) (fault : StoredFault) → grp (Key voter_key) ≡ Some (Value bytes)
+      → StateFault fault bytes → HasForeign grp
+  below_base : (bytes : List ℕ) (s : VoterState) (i : ℕ) → grp (Key voter_key) ≡ Some (Value bytes)
+      → IsState bytes s → i ≤ s.base_index → (grp (Index i) ≡ None → ⊥) → HasForeign grp
+  behind_gap : (bytes : List ℕ) (s : VoterState) (i j : ℕ) → grp (Key voter_key) ≡ Some (Value bytes)
+      → IsState bytes s → s.base_index < i → i < j → grp (Index i) ≡ None → (grp (Index j) ≡ None → ⊥)
+      → HasForeign grp
+  broken_entry : (i : ℕ) (bytes : List ℕ) (fault : StoredFault) → grp (Index i) ≡ Some (Entry bytes)
+      → fault ≢ Memory → EntryFault fault bytes i → HasForeign grp
+  too_far : (i : ℕ) → 2 ^ 63 ≤ i → (grp (Index i) ≡ None → ⊥) → HasForeign grp

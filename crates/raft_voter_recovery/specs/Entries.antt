@@ -1,0 +1,52 @@
+-- Consecutive entries that are read of a group.
+use Rattle.std.specs.Prelude.{◌≡◌, ◌≢◌, ◌+◌, ◌≤◌, ◌<◌, ℕ, List, [], ◌∷◌, length, slice_get, Some}
+use Rattle.raft_log_model_laws.specs.Meaning.Slot.{Index}
+use Rattle.raft_log_model_laws.specs.Meaning.Content.{Entry}
+use Rattle.raft_voter_durability_laws.specs.raft_log_engine_laws.specs.Shows.{Shows}
+use Rattle.raft_voter_messages.specs.declared.reply.Entry.{Entry as VoterEntry}
+use Rattle.raft_voter_messages.specs.declared.stored.StoredFault.{StoredFault}
+use Rattle.raft_voter_messages.specs.declared.stored.StoredFault.TheVariants as faults
+use Rattle.raft_voter_messages.specs.StoredForms.{EntryFault}
+use Rattle.raft_voter.specs.Laws.{AreReadAs}
+use Rattle.raft_voter_records.specs.Voters.{Group}
+use Rattle.raft_voter_recovery.specs.declared.unread.Unread.{Unread}
+use Rattle.raft_voter_recovery.specs.declared.unread.Unread.TheVariants as causes
+use Rattle.raft_voter_recovery.specs.Reading.{Tells}
+
+-- these are the bytes of a group's consecutive entries from an index on
+abbrev pub StandFrom : Group → ℕ → List (List ℕ) → Type 0
+StandFrom grp i [] = Unit {0}
+StandFrom grp i (bytes ∷ others) = (grp (Index i) ≡ Some (Entry bytes)) × StandFrom grp (i + 1) others
+
+-- one of these texts isn't an entry at its own index; the first is at index `first`
+pub record HasBroken (first : ℕ) (texts : List (List ℕ)) : Type 0 where
+  pub place : ℕ
+  pub bytes : List ℕ
+  pub fault : StoredFault
+  pub at : slice_get texts place ≡ Some bytes
+  pub broken : fault ≢ faults.Memory
+  pub why : EntryFault fault bytes (first + place)
+
+-- why bytes don't read as entries: one of them isn't an entry, and the error names the group as foreign; or out of
+-- memory
+abbrev pub AreNoEntries : ℕ → ℕ → List (List ℕ) → Unread → Type 0
+AreNoEntries g first texts (causes.Foreign h) = (h ≡ g) × HasBroken first texts
+AreNoEntries g first texts (causes.Engine error) = ⊥
+AreNoEntries g first texts causes.Memory = Unit {0}
+
+-- consecutive entries of a group were read from an index on
+pub record ReadsRun (e : Shows) (g first : ℕ) (es : List VoterEntry) : Type 0 where
+  pub texts : List (List ℕ)
+  pub read : AreReadAs first texts es
+  pub stand : Tells e (λ m. StandFrom (m g) first texts)
+
+-- some entries of a group were read from an index on, at least one and all below an end
+pub record ReadsPiece (e : Shows) (g first end : ℕ) (es : List VoterEntry) : Type 0 where
+  pub run : ReadsRun e g first es
+  pub some : 0 < length es
+  pub within : first + length es ≤ end
+
+-- all entries of a group after a base and below an index were read
+pub record ReadsBelow (e : Shows) (g base next : ℕ) (es : List VoterEntry) : Type 0 where
+  pub run : ReadsRun e g (base + 1) es
+  pub count : base + 1 + length es ≡ next

@@ -1,0 +1,81 @@
+-- What is read of a group before its entries: its keys, and where its entries begin and end.
+use Rattle.std.specs.Prelude.{◌≡◌, ◌⊎◌, ◌+◌, ◌^◌, ◌<◌, ◌≤◌, ℕ, List, [], ◌∷◌, length, Option, None, Some}
+use Rattle.raft_log_model_laws.specs.Meaning.Slot.{Index, Key}
+use Rattle.raft_log_model_laws.specs.Meaning.Content.{Value}
+use Rattle.raft_voter_durability_laws.specs.raft_log_engine_laws.specs.Reading.{ReadsFirst, ReadsLast}
+use Rattle.raft_voter_durability_laws.specs.raft_log_engine_laws.specs.Shows.{Shows}
+use Rattle.raft_voter_durability_laws.specs.raft_log_engine_laws.specs.raft_log_memtable.specs.Reads.{AreIn}
+use Rattle.raft_voter_messages.specs.declared.reply.VoterState.{VoterState}
+use Rattle.raft_voter_messages.specs.declared.stored.StoredFault.{StoredFault}
+use Rattle.raft_voter_messages.specs.StoredForms.{IsState, StateFault}
+use Rattle.raft_voter_records.specs.Voters.{Group, IsVoid, voter_key}
+use Rattle.raft_voter_recovery.specs.declared.heads.Head.{Head}
+use Rattle.raft_voter_recovery.specs.declared.unread.Unread.{Unread}
+use Rattle.raft_voter_recovery.specs.declared.unread.Unread.TheVariants as causes
+use Rattle.raft_voter_recovery.specs.Reading.{Tells}
+
+-- Keys.
+
+-- there are no keys; or there is the one key, with the bytes of a state
+abbrev pub PairsTell : Option VoterState → List (List ℕ × List ℕ) → Type 0
+PairsTell None es = es ≡ []
+PairsTell (Some s) es = (bytes : List ℕ) × (es ≡ (voter_key, bytes) ∷ []) × IsState bytes s
+
+-- these keys aren't a voter's: another key, the one key with bytes that aren't a state, or more than one key
+abbrev pub ArePairsForeign : List (List ℕ × List ℕ) → Type 0
+ArePairsForeign es =
+    ((k bytes : List ℕ) × (es ≡ (k, bytes) ∷ []) × (voter_key ≡ k → ⊥))
+    ⊎ (((bytes : List ℕ) × (fault : StoredFault) × (es ≡ (voter_key, bytes) ∷ []) × StateFault fault bytes)
+    ⊎ (2 ≤ length es))
+
+-- the error names the group as foreign, since these keys aren't a voter's
+abbrev pub ForeignPairs : ℕ → List (List ℕ × List ℕ) → Unread → Type 0
+ForeignPairs g es cause = (cause ≡ causes.Foreign g) × ArePairsForeign es
+
+-- a group has the one key with these bytes, and no other key
+pub record HasOneKey (grp : Group) (bytes : List ℕ) : Type 0 where
+  pub head : grp (Key voter_key) ≡ Some (Value bytes)
+  pub keys : (k : List ℕ) → (voter_key ≡ k → ⊥) → grp (Key k) ≡ None
+
+-- a group has no key
+abbrev pub HasNoKey : Group → Type 0
+HasNoKey grp = (k : List ℕ) → grp (Key k) ≡ None
+
+-- a group's state was read from the bytes of its one key
+pub record ReadsState (e : Shows) (g : ℕ) (s : VoterState) : Type 0 where
+  pub bytes : List ℕ
+  pub state : IsState bytes s
+  pub tells : Tells e (λ m. HasOneKey (m g) bytes)
+
+-- a group's keys were read: it has none, or this is the state
+abbrev pub ReadsKey : Shows → ℕ → Option VoterState → Type 0
+ReadsKey e g None = Tells e (λ m. HasNoKey (m g))
+ReadsKey e g (Some s) = ReadsState e g s
+
+-- Indexes.
+
+-- a group's first and last index were read; none if it has no entries
+abbrev pub ReadsSpan : Shows → ℕ → Option (ℕ × ℕ) → Type 0
+ReadsSpan e g None = ReadsFirst e g None
+ReadsSpan e g (Some span) = ReadsFirst e g (Some span.0) × ReadsLast e g (Some span.1)
+
+-- no entry is at the base or below, nor at the end or above
+abbrev pub NoneOutside : ℕ → ℕ → Group → Type 0
+NoneOutside base end grp = (i : ℕ) → (i ≤ base) ⊎ (end ≤ i) → grp (Index i) ≡ None
+
+-- The tables have a group's entries after a base and below an end that is in range. The group has no others.
+pub record ReadsEnd (e : Shows) (g base end : ℕ) : Type 0 where
+  pub reaches : base < end
+  pub small : end ≤ 2 ^ 63
+  pub placed : AreIn (e.tables g) (base + 1) end
+  pub outside : Tells e (λ m. NoneOutside base end (m g))
+
+-- what was read of a group before its entries: its state, and the end of its entries
+pub record ReadsHead (e : Shows) (g : ℕ) (head : Head) : Type 0 where
+  pub state : ReadsState e g head.state
+  pub ends : ReadsEnd e g head.state.base_index head.end
+
+-- the group is empty, or this was read
+abbrev pub TellsHead : Shows → ℕ → Option Head → Type 0
+TellsHead e g None = Tells e (λ m. IsVoid (m g))
+TellsHead e g (Some head) = ReadsHead e g head

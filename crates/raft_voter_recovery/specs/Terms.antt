@@ -1,0 +1,84 @@
+-- Terms of a group's entries, read without the entries' own bytes.
+use Rattle.std.specs.Prelude.{◌≡◌, ◌+◌, ◌≤◌, ◌<◌, ℕ, List, [], ◌∷◌, ◌++◌, length, map, slice_get, None, Some}
+use Rattle.raft_log_model_laws.specs.Meaning.Slot.{Index}
+use Rattle.raft_log_model_laws.specs.Meaning.Content.{Entry}
+use Rattle.raft_voter_durability_laws.specs.raft_log_engine_laws.specs.Shows.{Shows}
+use Rattle.raft_voter_messages.specs.declared.reply.Entry.{Entry as VoterEntry}
+use Rattle.raft_voter_messages.specs.declared.reply.VoterState.{VoterState}
+use Rattle.raft_voter_messages.specs.StoredForms.{IsEntry}
+use Rattle.raft_voter_outline.specs.Restoring.{with_log}
+use Rattle.raft_voter_outline.specs.State.{State}
+use Rattle.raft_voter_records.specs.Voters.{Group}
+use Rattle.raft_voter_recovery.specs.declared.entry_head.EntryHead.{EntryHead}
+use Rattle.raft_voter_recovery.specs.declared.unread.Unread.{Unread}
+use Rattle.raft_voter_recovery.specs.declared.unread.Unread.TheVariants as causes
+use Rattle.raft_voter_recovery.specs.Numbers.{term_told}
+use Rattle.raft_voter_recovery.specs.Reading.{Tells}
+
+-- What a group has.
+
+-- the group has an entry of this term at this index
+pub record HasTerm (grp : Group) (i t : ℕ) : Type 0 where
+  pub bytes : List ℕ
+  pub entry : VoterEntry
+  pub stands : grp (Index i) ≡ Some (Entry bytes)
+  pub is : IsEntry bytes i entry
+  pub term : entry.term ≡ t
+
+-- the group has consecutive entries of these terms from this index on
+abbrev pub HaveTerms : Group → ℕ → List ℕ → Type 0
+HaveTerms grp i [] = Unit {0}
+HaveTerms grp i (t ∷ ts) = HasTerm grp i t × HaveTerms grp (i + 1) ts
+
+-- What the heads have.
+
+-- the heads have these terms; the first is the head of the entry at this index
+abbrev pub AreTold : ℕ → List EntryHead → List ℕ → Type 0
+AreTold i [] ts = ts ≡ []
+AreTold i (h ∷ hs) [] = ⊥
+AreTold i (h ∷ hs) (t ∷ ts) = (term_told i h.numbers ≡ Some t) × AreTold (i + 1) hs ts
+
+-- one of the heads has no term of the entry at its own index; the first is at index `first`
+pub record HasUntold (first : ℕ) (hs : List EntryHead) : Type 0 where
+  pub place : ℕ
+  pub head : EntryHead
+  pub at : slice_get hs place ≡ Some head
+  pub untold : term_told (first + place) head.numbers ≡ None
+
+-- why terms aren't read: one of the heads has none, and the error names the group as foreign; or out of memory
+abbrev pub AreNotTold : ℕ → ℕ → List EntryHead → Unread → Type 0
+AreNotTold g first hs (causes.Foreign h) = (h ≡ g) × HasUntold first hs
+AreNotTold g first hs (causes.Engine error) = ⊥
+AreNotTold g first hs causes.Memory = Unit {0}
+
+-- What is known.
+
+-- the entries of a log whose terms alone are known
+abbrev pub alone : List ℕ → List (ℕ × List ℕ)
+alone ts = map (λ t. (t, [])) ts
+
+-- the terms of these heads were appended to the entries of a log; the first is the head of the entry at this index
+pub record AddsTold (first : ℕ) (hs : List EntryHead) (o p : State) : Type 0 where
+  pub terms : List ℕ
+  pub told : AreTold first hs terms
+  pub now : p ≡ record o { log = o.log ++ alone terms }
+
+-- the terms of consecutive entries of a group were read from an index on: at least one, and all below an end
+pub record ReadsTerms (e : Shows) (g first end : ℕ) (ts : List ℕ) : Type 0 where
+  pub have : Tells e (λ m. HaveTerms (m g) first ts)
+  pub some : 0 < length ts
+  pub within : first + length ts ≤ end
+
+-- so many terms of a group's entries were read from an index on, all below an end, and appended to the entries of a log
+pub record AddsTerms (e : Shows) (g first end count : ℕ) (o p : State) : Type 0 where
+  pub terms : List ℕ
+  pub read : ReadsTerms e g first end terms
+  pub number : count ≡ length terms
+  pub now : p ≡ record o { log = o.log ++ alone terms }
+
+-- the terms of the entries below an index were read, and this is the outline of a voter with exactly these
+pub record KnowsTerms (e : Shows) (g : ℕ) (s : VoterState) (next : ℕ) (o : State) : Type 0 where
+  pub terms : List ℕ
+  pub have : Tells e (λ m. HaveTerms (m g) (s.base_index + 1) terms)
+  pub count : s.base_index + 1 + length terms ≡ next
+  pub is : o ≡ with_log s (alone terms)

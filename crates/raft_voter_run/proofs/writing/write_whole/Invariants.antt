@@ -1,5 +1,0 @@
-use Rattle.raft_voter_run.specs.Writing.{TakesFront}
-use Rattle.raft_voter_run.proofs.writing.write_whole.Given as goal
-
-abbrev pub invariant-loop : goal.invariant-loop
-invariant-loop g l = TakesFront (g.W.Write.contents l.initial.writer) (g.W.Write.contents l.writer) l.bytes l.left

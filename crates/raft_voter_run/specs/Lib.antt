@@ -1,4 +1,0 @@
-pub mod Setup
-pub mod Writing
-pub mod Run
-pub mod Leaving

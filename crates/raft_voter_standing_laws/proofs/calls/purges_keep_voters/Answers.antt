@@ -1,5 +1,0 @@
-use Rattle.raft_voter_standing_laws.proofs.Keeping.{purges_keep_voters}
-use Rattle.raft_voter_standing_laws.proofs.calls.purges_keep_voters.Goals as goal
-
-pub returns : goal.returns
-returns c = purges_keep_voters

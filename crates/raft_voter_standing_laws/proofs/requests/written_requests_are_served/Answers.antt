@@ -1,5 +1,0 @@
-use Rattle.raft_voter_standing_laws.proofs.Serving.{written_requests_are_served}
-use Rattle.raft_voter_standing_laws.proofs.requests.written_requests_are_served.Goals as goal
-
-pub returns : goal.returns
-returns c = written_requests_are_served

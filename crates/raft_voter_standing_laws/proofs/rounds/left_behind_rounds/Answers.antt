@@ -1,5 +1,0 @@
-use Rattle.raft_voter_standing_laws.proofs.Ending.{left_behind_rounds}
-use Rattle.raft_voter_standing_laws.proofs.rounds.left_behind_rounds.Goals as goal
-
-pub returns : goal.returns
-returns c = left_behind_rounds

@@ -1,5 +1,0 @@
-use Rattle.raft_voter_standing_laws.proofs.Places.{passed_voters_took_first}
-use Rattle.raft_voter_standing_laws.proofs.rounds.passed_voters_took_first.Goals as goal
-
-pub returns : goal.returns
-returns c = passed_voters_took_first

@@ -1,5 +1,0 @@
-use Rattle.raft_voter_standing_laws.proofs.Ending.{rounds_end}
-use Rattle.raft_voter_standing_laws.proofs.rounds.rounds_end.Goals as goal
-
-pub returns : goal.returns
-returns c = rounds_end

@@ -1,5 +1,0 @@
-use Rattle.raft_voter_standing_laws.proofs.Going.{rounds_go_on}
-use Rattle.raft_voter_standing_laws.proofs.rounds.rounds_go_on.Goals as goal
-
-pub returns : goal.returns
-returns c = rounds_go_on

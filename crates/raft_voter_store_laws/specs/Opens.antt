@@ -1,0 +1,40 @@
+-- Which voters an open of a store finds in its log.
+use Rattle.std.specs.Prelude.{◌⊎◌, ℕ, List}
+use Rattle.raft_log_fs.specs.Disk.{Disk}
+use Rattle.raft_log_file_settings.specs.declared.config.Config.{Config}
+use Rattle.raft_voter_durability_laws.specs.raft_log_engine_laws.specs.Shows.{Shows}
+use Rattle.raft_log_recovery_laws.specs.Bare.{IsBare}
+use Rattle.raft_log_recovery_laws.specs.ByCalls.{home_of}
+use Rattle.raft_voter_outline.specs.State.{State}
+use Rattle.raft_voter.specs.Rounds.{World, fresh_world}
+use Rattle.raft_voter_durability_laws.specs.Standing.{AreOutlines, IsLeftAmong, IsLeftWith, Keeps}
+use Rattle.raft_voter_recovery.specs.declared.unread.Unread.{Unread}
+use Rattle.raft_voter_recovery.specs.declared.unread.Unread.TheVariants as causes
+use Rattle.raft_voter_store.specs.Opening.{FailsToOpenVoters, OpensVoters}
+
+-- if an open succeeds, its engine keeps these voters, and the store's outlines are theirs
+abbrev pub ServesFound : {F : Type 0} → (F → Disk) → (F → List ℕ → ℕ → Type 0) → Config → F → World → Type 0
+ServesFound disk tells config old W = (t : Shows) (os : ℕ → State) → OpensVoters disk tells config old t os
+    → Keeps (home_of config) t W × AreOutlines os W
+
+-- an open never fails for a group whose contents aren't a voter
+abbrev pub FindsNoForeign : {F : Type 0} → (F → Disk) → (F → List ℕ → ℕ → Type 0) → Config → F → Type 0
+FindsNoForeign {F} disk tells config old = (group : ℕ) (back : F)
+    → FailsToOpenVoters disk tells config (causes.Foreign group) old back → ⊥
+
+-- An open finds these voters; if it fails, for any reason, voters that pass the test are left.
+pub record FindsVoters {F : Type 0} (disk : F → Disk) (tells : F → List ℕ → ℕ → Type 0) (config : Config)
+    (old : F) (W : World) (P : World → Type 0) : Type 0 where
+  pub answered : ServesFound disk tells config old W
+  pub refused : (cause : Unread) (back : F) → FailsToOpenVoters disk tells config cause old back
+      → IsLeftAmong (home_of config) (disk back) P
+  pub own : FindsNoForeign disk tells config old
+
+-- An open of directories in which there was no log yet: all voters are fresh. If it fails, the directories are still
+-- bare, or have a log of fresh voters.
+pub record BeginsVoters {F : Type 0} (disk : F → Disk) (tells : F → List ℕ → ℕ → Type 0) (config : Config)
+    (old : F) : Type 0 where
+  pub answered : ServesFound disk tells config old fresh_world
+  pub refused : (cause : Unread) (back : F) → FailsToOpenVoters disk tells config cause old back
+      → IsBare config (disk back) ⊎ IsLeftWith (home_of config) (disk back) fresh_world
+  pub own : FindsNoForeign disk tells config old

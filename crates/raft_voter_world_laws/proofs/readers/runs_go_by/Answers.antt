@@ -1,5 +1,0 @@
-use Rattle.raft_voter_world_laws.proofs.Believed.{runs_go_by}
-use Rattle.raft_voter_world_laws.proofs.readers.runs_go_by.Goals as goal
-
-pub returns : goal.returns
-returns g c = runs_go_by g.S.RoundService.service g.S.VoterStorage.upkeep g.F.VoterDisk.disk

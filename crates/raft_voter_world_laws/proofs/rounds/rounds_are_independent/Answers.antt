@@ -1,5 +1,0 @@
-use Rattle.raft_voter_world_laws.proofs.Parted.{rounds_are_independent}
-use Rattle.raft_voter_world_laws.proofs.rounds.rounds_are_independent.Goals as goal
-
-pub returns : goal.returns
-returns g c = rounds_are_independent g.S.RoundService.service

@@ -1,5 +1,0 @@
-use Rattle.raft_voter_world_laws.proofs.Parted.{whole_rounds_are_independent}
-use Rattle.raft_voter_world_laws.proofs.rounds.whole_rounds_are_independent.Goals as goal
-
-pub returns : goal.returns
-returns c = whole_rounds_are_independent

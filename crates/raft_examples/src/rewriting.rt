@@ -1,7 +1,7 @@
 //! A caller of `raft_log_purge_copy`: moves a group's entries and values from Append to Rewrite.
 
 ghost use Rattle.std.specs.Prelude.{OnOk};
-ghost use Rattle.raft_log_engine_core.specs.raft_log_engine_laws.specs.Shows.{shows};
+ghost use Rattle.raft_log_engine_core.specs.raft_log_engine_laws.specs.EngineState.{shows};
 ghost use Rattle.raft_examples.specs.Rewriting.{MovesGroup};
 
 use log::Log;

@@ -22,6 +22,6 @@ pub use format::{
 };
 pub use last_file::{WriteFault, append_record, begin_file, finish_file, sync_records};
 pub use layout::LogLayout;
-pub use opening::{begin_queue, reopen_file, trim_leftover};
+pub use opening::{begin_queue, reopen_file, truncate_torn_tail};
 pub use record::LogRecord;
 pub use rotation::{drop_file, rotate_over, rotate_to_new};

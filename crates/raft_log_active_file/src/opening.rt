@@ -44,7 +44,7 @@ pub fn begin_queue<G: PipeFormat, F: FileSystem, L: Log>(
 
 /// Truncates the last file of a queue, as a stop left it, after the records that were read of it, and syncs it. If it
 /// has no header, truncates it to nothing. The file is truncated and synced even if this changes nothing.
-pub fn trim_leftover<G: PipeFormat, F: FileSystem>(
+pub fn truncate_torn_tail<G: PipeFormat, F: FileSystem>(
     layout: &G,
     file_system: &mut F,
     handle: Handle,
@@ -91,7 +91,7 @@ pub fn reopen_file<G: PipeFormat, F: FileSystem, L: Log>(
     ensures others { TouchesOnly handle.file (F.disk file_system.old) (F.disk file_system.new) }
     ensures later { IsLater (F.disk file_system.old) (F.disk file_system.new) }
 {
-    trim_leftover(layout, file_system, handle, end)?;
+    truncate_torn_tail(layout, file_system, handle, end)?;
     match end {
         Some(_) => LogFileWriter::open(rt, file_system, handle, &[], false),
         None => begin_file(layout, rt, file_system, handle, header),

@@ -3,13 +3,13 @@ use Rattle.std.specs.Prelude.{◌≡◌, ◌+◌, ℕ, List, [], ◌∷◌, Opti
 use Rattle.raft_log_engine.specs.raft_log_record_batches.specs.Batch.{Batch, empty_batch}
 use Rattle.raft_log_engine.specs.raft_log_record_batches.specs.Entries.{AddsEntries}
 use Rattle.raft_log_engine.specs.raft_log_record_batches.specs.Places.{AddsBytes}
-use Rattle.raft_log_engine.specs.raft_log_engine_laws.specs.Shows.{Shows}
+use Rattle.raft_log_engine.specs.raft_log_engine_laws.specs.EngineState.{EngineState}
 use Rattle.raft_log_engine.specs.raft_log_engine_laws.specs.Reading.{ReadsLast}
 use Rattle.raft_log_engine.specs.raft_log_engine_laws.specs.Writing.{WritesBytes}
 
 -- The last index of group 1 was read. A batch whose one entry is the line, at the index after it, was written and
 -- synced.
-pub record AppendsLine (line : List ℕ) (index : ℕ) (s t : Shows) : Type 0 where
+pub record AppendsLine (line : List ℕ) (index : ℕ) (s t : EngineState) : Type 0 where
   pub last : Option ℕ
   pub told : ReadsLast s 1 last
   pub next : index ≡ unwrap_or last 0 + 1

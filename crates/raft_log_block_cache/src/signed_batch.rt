@@ -58,7 +58,7 @@ impl SignedBatch {
 impl ReactiveBytes for SignedBatch {
     ghost use Rattle.raft_log_block_cache.specs.Signing.{signed_for};
 
-    type Said = LogBatch;
+    type Content = LogBatch;
 
     ghost said = { λ signed. record signed.batch { state = Populated } };
 

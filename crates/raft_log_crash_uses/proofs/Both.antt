@@ -20,10 +20,10 @@ use Rattle.raft_log_engine.specs.raft_log_fs.specs.Image.{IsImage, IsSound}
 use Rattle.raft_log_engine.specs.raft_log_file_settings.specs.declared.config.Config.{Config}
 use Rattle.raft_log_engine.specs.raft_log_memtables.specs.declared.mem_tables.MemTables.{MemTables}
 use Rattle.raft_log_engine.specs.raft_log_block_cache.specs.declared.block_cache.BlockCache.{BlockCache}
-use Rattle.raft_log_engine.specs.raft_log_dual_pipes.specs.Pipes.{LogPipes, Said}
-use Rattle.raft_log_engine.specs.raft_log_engine_laws.specs.Shows.{Home, LogMap, Shows, has_failed, said_of, shows}
+use Rattle.raft_log_engine.specs.raft_log_dual_pipes.specs.Pipes.{LogPipes, LogRecordValue}
+use Rattle.raft_log_engine.specs.raft_log_engine_laws.specs.EngineState.{LogDirectories, LogMap, EngineState, has_failed, said_of, shows}
 use Rattle.raft_log_engine.specs.raft_log_open.specs.Opening.{OpensDirectory}
-use Rattle.raft_log_engine.specs.raft_log_engine_laws.specs.Holding.{EndsAt, Holds, IsLeftAt}
+use Rattle.raft_log_engine.specs.raft_log_engine_laws.specs.Holding.{EndsAt, Represents, IsRecoverableAs}
 use Rattle.raft_log_engine.specs.raft_log_engine_laws.specs.Reading.{StandsUnder}
 use Rattle.raft_log_engine.specs.raft_log_engine_laws.specs.Writing.{Leaves, NotWritten, WritesBytes}
 use Rattle.raft_log_recovery_laws.specs.Bare.{IsBare}
@@ -44,7 +44,7 @@ use Rattle.raft_log_crash_uses.proofs.Written.{item_said, users_item}
 
 -- What the batch says.
 
-two_said : (entry : EntryIndex → List ℕ) (x y : LogItem) → IsUsers x.content → IsUsers y.content → ◌≡◌ {A = Said} (unwrap_or (record_of entry (x ∷ y ∷ [])) (Plain [])) (Plain (tagged entry x ∷ tagged entry y ∷ []))
+two_said : (entry : EntryIndex → List ℕ) (x y : LogItem) → IsUsers x.content → IsUsers y.content → ◌≡◌ {A = LogRecordValue} (unwrap_or (record_of entry (x ∷ y ∷ [])) (Plain [])) (Plain (tagged entry x ∷ tagged entry y ∷ []))
 two_said entry x y one other =
     ap (λ (m : Marking). unwrap_or (marked m (tagged_items entry (x ∷ y ∷ []))) (Plain [])) (keeps_mark (x ∷ []) y other ∙ keeps_mark [] x one)
     ∙ (ap (λ (b : Bool). Plain (unless_mark b (tagged entry x) (tagged_items entry (y ∷ [])))) (no_mark_key x one)
@@ -70,8 +70,8 @@ module _ (one other : KeyChange) (none half b : Batch) (empty : none ≡ empty_b
 
 -- What a write leaves.
 
-module _ (answered : Bool) (home : Home) (s t : Shows) (m : LogMap) (b : Batch) (x : Said) (says : said_of b ≡ x) (some : b.items ≡ [] → ⊥) (holds : Holds home s m []) where
-  has_it : Holds home t (taken m (x ∷ [])) [] → MayHave answered home t m x
+module _ (answered : Bool) (home : LogDirectories) (s t : EngineState) (m : LogMap) (b : Batch) (x : LogRecordValue) (says : said_of b ≡ x) (some : b.items ≡ [] → ⊥) (holds : Represents home s m []) where
+  has_it : Represents home t (taken m (x ∷ [])) [] → MayHave answered home t m x
   has_it h = record { done = x ∷ []; rest = []; whole = inr refl; has = λ is. refl; runs = inl h }
 
   module _ (refused : answered ≡ true → ⊥) where
@@ -84,9 +84,9 @@ module _ (answered : Bool) (home : Home) (s t : Shows) (m : LogMap) (b : Batch) 
     ends : EndsAt home t m [] → MayHave answered home t m x
     ends e = record { done = e.done; rest = e.rest; whole = inl e.splits; has = λ is. absurd (refused is); runs = inl e.holds }
 
-    failed : has_failed t ≡ true → IsLeftAt home t.pipes.disk m [] ⊎ IsLeftAt home t.pipes.disk m (said_of b ∷ []) → MayHave answered home t m x
+    failed : has_failed t ≡ true → IsRecoverableAs home t.pipes.disk m [] ⊎ IsRecoverableAs home t.pipes.disk m (said_of b ∷ []) → MayHave answered home t m x
     failed is (inl left) = without (inr (is, left))
-    failed is (inr left) = perhaps (inr (is, subst (λ (r : Said). IsLeftAt home t.pipes.disk m (r ∷ [])) says left))
+    failed is (inr left) = perhaps (inr (is, subst (λ (r : LogRecordValue). IsRecoverableAs home t.pipes.disk m (r ∷ [])) says left))
 
     left_so : (error : Error) → (error ≡ errors.Failed → has_failed t ≡ true) → Leaves home b m [] s t error → MayHave answered home t m x
     left_so (errors.Io kind) fails l = without (inl l.1)
@@ -97,13 +97,13 @@ module _ (answered : Bool) (home : Home) (s t : Shows) (m : LogMap) (b : Batch) 
     left_so _ fails l = absurd l
 
     not_written : (error : Error) → NotWritten b error s t → MayHave answered home t m x
-    not_written error (inl unfit) = without (inl (subst (λ (e : Shows). Holds home e m []) (sym unfit.1) holds))
+    not_written error (inl unfit) = without (inl (subst (λ (e : EngineState). Represents home e m []) (sym unfit.1) holds))
     not_written error (inr (inl had)) = absurd (false≢true (sym (alive home s m holds) ∙ had.1))
     not_written error (inr (inr refuses)) = left_so error refuses.tells.1 (refuses.leaves home m [] holds)
 
   written : (len : ℕ) → WritesBytes b true len s t → MayHave answered home t m x
   written len (inl nothing) = absurd (some nothing.0)
-  written len (inr wrote) = has_it (subst (λ (r : Said). Holds home t (taken m (r ∷ [])) []) says (wrote.1.synced refl home m [] holds))
+  written len (inr wrote) = has_it (subst (λ (r : LogRecordValue). Represents home t (taken m (r ∷ [])) []) says (wrote.1.synced refl home m [] holds))
 
   pub may_have : (r : Result ℕ Error) → IfOk r (λ len. WritesBytes b true len s t) → IfErr r (λ error. NotWritten b error s t) → ((error : Error) → r ≡ Err error → answered ≡ true → ⊥) → MayHave answered home t m x
   may_have (Ok len) ok err refused = written len ok
@@ -111,20 +111,20 @@ module _ (answered : Bool) (home : Home) (s t : Shows) (m : LogMap) (b : Batch) 
 
 -- Behind a crash.
 
-some_of_all : (m : LogMap) (x : Said) (done rest : List Said) (k : ℕ) → (done ++ rest ≡ []) ⊎ (done ++ rest ≡ x ∷ [])
+some_of_all : (m : LogMap) (x : LogRecordValue) (done rest : List LogRecordValue) (k : ℕ) → (done ++ rest ≡ []) ⊎ (done ++ rest ≡ x ∷ [])
     → (taken (taken m done) (take k rest) ≡ m) ⊎ (taken (taken m done) (take k rest) ≡ taken m (x ∷ []))
 some_of_all m x done rest k (inr one) = with_or_without m x done rest k one
 some_of_all m x done rest k (inl none) =
     let both = no_tail done rest none in
-    inl (ap (λ (l : List Said). taken (taken m done) l) (ap (λ (l : List Said). take k l) both.1 ∙ take-nil k) ∙ ap (λ (l : List Said). taken m l) both.0)
+    inl (ap (λ (l : List LogRecordValue). taken (taken m done) l) (ap (λ (l : List LogRecordValue). take k l) both.1 ∙ take-nil k) ∙ ap (λ (l : List LogRecordValue). taken m l) both.0)
 
-tail_gone : (x : Said) (done rest : List Said) → done ≡ x ∷ [] → (done ++ rest ≡ []) ⊎ (done ++ rest ≡ x ∷ []) → rest ≡ []
-tail_gone x done rest is (inl none) = let clash : x ∷ rest ≡ [] = ap (λ (l : List Said). l ++ rest) (sym is) ∙ none in let never : ⊥ = cc in absurd never
-tail_gone x done rest is (inr one) = let same : x ∷ rest ≡ x ∷ [] = ap (λ (l : List Said). l ++ rest) (sym is) ∙ one in cc
+tail_gone : (x : LogRecordValue) (done rest : List LogRecordValue) → done ≡ x ∷ [] → (done ++ rest ≡ []) ⊎ (done ++ rest ≡ x ∷ []) → rest ≡ []
+tail_gone x done rest is (inl none) = let clash : x ∷ rest ≡ [] = ap (λ (l : List LogRecordValue). l ++ rest) (sym is) ∙ none in let never : ⊥ = cc in absurd never
+tail_gone x done rest is (inr one) = let same : x ∷ rest ≡ x ∷ [] = ap (λ (l : List LogRecordValue). l ++ rest) (sym is) ∙ one in cc
 
-all_of_it : (m : LogMap) (x : Said) (done rest : List Said) (k : ℕ) → done ≡ x ∷ [] → (done ++ rest ≡ []) ⊎ (done ++ rest ≡ x ∷ []) → taken (taken m done) (take k rest) ≡ taken m (x ∷ [])
+all_of_it : (m : LogMap) (x : LogRecordValue) (done rest : List LogRecordValue) (k : ℕ) → done ≡ x ∷ [] → (done ++ rest ≡ []) ⊎ (done ++ rest ≡ x ∷ []) → taken (taken m done) (take k rest) ≡ taken m (x ∷ [])
 all_of_it m x done rest k is whole =
-    ap (λ (l : List Said). taken (taken m done) l) (ap (λ (l : List Said). take k l) (tail_gone x done rest is whole) ∙ take-nil k) ∙ ap (λ (l : List Said). taken m l) is
+    ap (λ (l : List LogRecordValue). taken (taken m done) l) (ap (λ (l : List LogRecordValue). take k l) (tail_gone x done rest is whole) ∙ take-nil k) ∙ ap (λ (l : List LogRecordValue). taken m l) is
 
 module _ (one other : KeyChange) (first second : Option (List ℕ)) where
   -- what is read of a map with both
@@ -144,7 +144,7 @@ module _ (one other : KeyChange) (first second : Option (List ℕ)) where
   )
 
 -- A log was opened, and the batch written, answered or refused.
-pub tries_to_write : {F : Type 0} (disk : F → Disk) (tells : F → List ℕ → ℕ → Type 0) (config : Config) (one other : KeyChange) (old : F) (answered : Bool) (t : Shows) (pipes : LogPipes) (tables : MemTables) (cache : BlockCache) (none half b : Batch) (r : Result ℕ Error)
+pub tries_to_write : {F : Type 0} (disk : F → Disk) (tells : F → List ℕ → ℕ → Type 0) (config : Config) (one other : KeyChange) (old : F) (answered : Bool) (t : EngineState) (pipes : LogPipes) (tables : MemTables) (cache : BlockCache) (none half b : Batch) (r : Result ℕ Error)
     → OpensDirectory disk tells config old pipes tables → cache.place ≡ None → none ≡ empty_batch 0 0 → AddsChange one none half → AddsChange other half b → IfOk r (λ len. WritesBytes b true len (shows pipes tables cache) t)
     → IfErr r (λ error. NotWritten b error (shows pipes tables cache) t) → ((error : Error) → r ≡ Err error → answered ≡ true → ⊥) → TriesToWrite disk tells config one other old answered t
 tries_to_write disk tells config one other old answered t pipes tables cache none half b r opens kept empty first second ok err refused = record {
@@ -155,13 +155,13 @@ tries_to_write disk tells config one other old answered t pipes tables cache non
       may_have answered home (shows pipes tables cache) t m b (said_by_both one other) (both_said one other none half b empty first second) (some_items one other none half b empty first second) (fresh cache kept) r ok err refused;
 }
 
-module _ {F : Type 0} (disk : F → Disk) (tells : F → List ℕ → ℕ → Type 0) (sound : (system : F) → IsSound (disk system)) (config : Config) (one other : KeyChange) (again : Config) (old left : F) (answered : Bool) (engine : Shows)
+module _ {F : Type 0} (disk : F → Disk) (tells : F → List ℕ → ℕ → Type 0) (sound : (system : F) → IsSound (disk system)) (config : Config) (one other : KeyChange) (again : Config) (old left : F) (answered : Bool) (engine : EngineState)
     (first second : Option (List ℕ)) (tries : TriesToWrite disk tells config one other old answered engine) (crashes : IsImage engine.pipes.disk (disk left)) (loads : LoadsBoth disk tells again one other left first second) where
   atomic : IsBare config (disk old) → home_of again ≡ home_of config → (may : MayHave answered (home_of config) engine nothing_stands (said_by_both one other))
       × (CrashesWithoutChance (home_of config) engine (taken nothing_stands may.done) may.rest may.runs (disk left) → (AreBoth one other first second ⊎ IsNeither first second) × (answered ≡ true → AreBoth one other first second))
   atomic bare same =
       let home = home_of config in
-      let x : Said = said_by_both one other in
+      let x : LogRecordValue = said_by_both one other in
       let fresh = opened disk tells sound home config old nothing_stands refl (nothing_yet config (disk old) bare) tries.pipes tries.tables tries.opens in
       let may = tries.tries home nothing_stands fresh in (
         may,

@@ -15,13 +15,13 @@ use Rattle.raft_log_engine.specs.raft_log_fs.proofs.ImageLaws.{stands_is_image}
 use Rattle.raft_log_engine.specs.raft_log_memtables.specs.Views.{view_of}
 use Rattle.raft_log_engine.specs.raft_log_dual_pipes.specs.Closing.{IsOrIsSettled, LiesClosed, closed_log}
 use Rattle.raft_log_engine.specs.raft_log_dual_pipes.specs.ClosingCalls.{ClosesLog}
-use Rattle.raft_log_engine.specs.raft_log_dual_pipes.specs.Lying.{none_open}
+use Rattle.raft_log_engine.specs.raft_log_dual_pipes.specs.OpenOrClosed.{none_open}
 use Rattle.raft_log_engine.specs.raft_log_dual_pipes.specs.Pipes.{queues}
 use Rattle.raft_log_engine.specs.raft_log_dual_pipes.specs.Queues.{QueueLayout}
 use Rattle.raft_log_engine.specs.raft_log_dual_pipes.specs.State.{RunsQueue, Spanned}
 use Rattle.raft_log_engine.specs.raft_log_engine_laws.specs.raft_log_active_file.specs.declared.record.LogRecord.{LogRecord}
-use Rattle.raft_log_engine.specs.raft_log_engine_laws.specs.Shows.{Home, LogMap, Shows, log_in, sense}
-use Rattle.raft_log_engine.specs.raft_log_engine_laws.specs.Holding.{Holds, IsLeftAt}
+use Rattle.raft_log_engine.specs.raft_log_engine_laws.specs.EngineState.{LogDirectories, LogMap, EngineState, log_in, sense}
+use Rattle.raft_log_engine.specs.raft_log_engine_laws.specs.Holding.{Represents, IsRecoverableAs}
 use Rattle.raft_log_recovery_laws.specs.InPlace.{StandsWithoutChance}
 use Rattle.raft_log_recovery_laws.specs.Running.{active_header, own_bytes}
 use Rattle.raft_log_crash_uses.specs.Ending.{ClosesWithoutChance, LeavesWritten, MeetsWritten}
@@ -66,12 +66,12 @@ module _ (layout : QueueLayout LogRecord) (files : PipeFiles) (q : Spanned LogRe
       (λ path id file after at named here there. subst (λ (ws : List (Written LogRecord)). NoChanceInFile layout.format q.files.last q.files.header [] (spelled ws) file after.content) (sym (append-nil (recent q.files)))
       (in_file [] path id file after at named here there))
 
-module _ (home : Home) (e : Shows) (m : LogMap) (d : Disk) (h : Holds home e m []) (closes : ClosesLog e.pipes d) where
+module _ (home : LogDirectories) (e : EngineState) (m : LogMap) (d : Disk) (h : Represents home e m []) (closes : ClosesLog e.pipes d) where
   closed : LiesClosed (queues (sense home)) h.state d
   closed = closes (sense home) h.state h.runs
 
   -- the log lies there as its pipes closed it
-  pub left : IsLeftAt home d m []
+  pub left : IsRecoverableAs home d m []
   left =
       let v = view_of e.tables h.map in
       let ends = closed.ends v m [] h.at in (

@@ -7,10 +7,10 @@ use Rattle.raft_log_engine.specs.raft_log_fs.specs.Disk.{Disk}
 use Rattle.raft_log_engine.specs.raft_log_fs.specs.Image.{IsSound}
 use Rattle.raft_log_engine.specs.raft_log_file_settings.specs.Settings.{settings_of}
 use Rattle.raft_log_engine.specs.raft_log_file_settings.specs.declared.config.Config.{Config}
-use Rattle.raft_log_engine.specs.raft_log_dual_pipes.specs.OnDisk.{LogRestsOn}
-use Rattle.raft_log_engine.specs.raft_log_dual_pipes.specs.Pipes.{Said}
+use Rattle.raft_log_engine.specs.raft_log_dual_pipes.specs.OnDisk.{IsDurableAs}
+use Rattle.raft_log_engine.specs.raft_log_dual_pipes.specs.Pipes.{LogRecordValue}
 use Rattle.raft_log_engine.specs.raft_log_offline.specs.Forks.{Forks}
-use Rattle.raft_log_engine.specs.raft_log_engine_laws.specs.Shows.{LogMap, log_in}
+use Rattle.raft_log_engine.specs.raft_log_engine_laws.specs.EngineState.{LogMap, log_in}
 use Rattle.raft_log_recovery_laws.specs.ByCalls.{home_of}
 use Rattle.raft_log_recovery_laws.specs.ForkResting.{IsClear, NamesOnly}
 use Rattle.raft_log_recovery_laws.proofs.ForkLeft.{left_logs_show_alike}
@@ -32,11 +32,11 @@ loads_copy disk tells config target to g k old after copied found forks loads = 
 
 module _ {F : Type 0} (disk : F → Disk) (tells : F → List ℕ → ℕ → Type 0) (sound : (system : F) → IsSound (disk system)) where
   copied_rests : (config to : Config) (target : List ℕ) (paths : List (List ℕ)) (old after : F) (m : LogMap) → NamesOnly to target → IsClear target (disk old) → Forks (settings_of config) target paths (disk old) (disk after)
-      → LiesAs (home_of config) m (disk old) → LogRestsOn (log_in (home_of to)) (disk after) m
+      → LiesAs (home_of config) m (disk old) → IsDurableAs (log_in (home_of to)) (disk after) m
   copied_rests config to target paths old after m names clear forks (rests is) = (forked_logs_rest config to target paths (disk old) (disk after) m names clear is forks).0
   copied_rests config to target paths old after m names clear forks (left some other is spares) =
       let (count, within, at, alike) = left_logs_show_alike disk tells (home_of config) some other old m [] (sound old) is spares in
-      subst (λ (l : List Said). LogRestsOn (log_in (home_of to)) (disk after) (taken m l)) (take-nil count) (alike.forks config refl to target paths after (sound after) names clear forks).rests
+      subst (λ (l : List LogRecordValue). IsDurableAs (log_in (home_of to)) (disk after) (taken m l)) (take-nil count) (alike.forks config refl to target paths after (sound after) names clear forks).rests
 
   pub copies_read_alike : {C : Type 0} → CopiesReadAlike disk tells C
   copies_read_alike {C} [] some config old new bare named on chance here to target same names apart g k found copied loads copy = absurd (some refl)

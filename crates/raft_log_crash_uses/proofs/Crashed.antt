@@ -7,8 +7,8 @@ use Rattle.raft_log_engine.specs.raft_log_fs.specs.Image.{IsImage, IsSound}
 use Rattle.raft_log_engine.specs.raft_log_fs_memory.specs.declared.memory.MemoryFileSystem.{MemoryFileSystem}
 use Rattle.raft_log_engine.specs.raft_log_fs_memory.specs.Memory.{disk_of}
 use Rattle.raft_log_engine.specs.raft_log_file_settings.specs.declared.config.Config.{Config}
-use Rattle.raft_log_engine.specs.raft_log_dual_pipes.specs.Pipes.{Said}
-use Rattle.raft_log_engine.specs.raft_log_engine_laws.specs.Shows.{LogMap, Shows}
+use Rattle.raft_log_engine.specs.raft_log_dual_pipes.specs.Pipes.{LogRecordValue}
+use Rattle.raft_log_engine.specs.raft_log_engine_laws.specs.EngineState.{LogMap, EngineState}
 use Rattle.raft_log_recovery_laws.specs.Bare.{IsBare}
 use Rattle.raft_log_recovery_laws.specs.ByCalls.{home_of}
 use Rattle.raft_log_recovery_laws.proofs.Bare.{bare_directories_open}
@@ -46,10 +46,10 @@ saved_values_are_loaded disk tells sound config again g k v nothing left engine 
     let (count, within, rests, opens) = crashed_engines_open disk tells (home_of config) engine map [] holds left (sound left) is chance in
     let now = (opens again named).answered loads.pipes loads.tables loads.opens in
     let told = loads.told (home_of again) (taken map (take count [])) now in
-    let same : taken map (take count []) ≡ map = ap (λ (l : List Said). taken map l) (take-nil count) in
+    let same : taken map (take count []) ≡ map = ap (λ (l : List LogRecordValue). taken map l) (take-nil count) in
     told_value map g k v found (stands nothing_stands g k v) (subst (λ (m : LogMap). StandsUnder m g k found) same told)
 
-module _ {F : Type 0} (disk : F → Disk) (tells : F → List ℕ → ℕ → Type 0) (sound : (system : F) → IsSound (disk system)) (config again : Config) (g : ℕ) (k v : List ℕ) (nothing left : F) (engine : Shows) (found : Option (List ℕ))
+module _ {F : Type 0} (disk : F → Disk) (tells : F → List ℕ → ℕ → Type 0) (sound : (system : F) → IsSound (disk system)) (config again : Config) (g : ℕ) (k v : List ℕ) (nothing left : F) (engine : EngineState) (found : Option (List ℕ))
     (empty : disk nothing ≡ empty_disk) (saves : Saves disk tells config g k v nothing engine) (is : IsImage engine.pipes.disk (disk left)) (loads : Loads disk tells again g k left found) where
   pub saves_across : SavesAcrossACrash disk tells config again g k v found
   saves_across = record {

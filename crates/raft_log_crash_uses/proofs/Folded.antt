@@ -10,7 +10,7 @@ use Rattle.raft_log_engine.specs.raft_log_file_settings.specs.declared.config.Co
 use Rattle.raft_log_engine.specs.raft_log_memtables.specs.declared.mem_tables.MemTables.{MemTables}
 use Rattle.raft_log_engine.specs.raft_log_block_cache.specs.declared.block_cache.BlockCache.{BlockCache}
 use Rattle.raft_log_engine.specs.raft_log_dual_pipes.specs.Pipes.{LogPipes}
-use Rattle.raft_log_engine.specs.raft_log_engine_laws.specs.Shows.{Home, LogMap, Shows, shows}
+use Rattle.raft_log_engine.specs.raft_log_engine_laws.specs.EngineState.{LogDirectories, LogMap, EngineState, shows}
 use Rattle.raft_log_engine.specs.raft_log_open.specs.Opening.{OpensDirectory}
 use Rattle.raft_log_recovery_laws.specs.ByCalls.{home_of}
 use Rattle.raft_log_crash_uses.specs.declared.changing.KeyChange.{KeyChange}
@@ -25,7 +25,7 @@ use Rattle.raft_log_crash_uses.proofs.Between.StandsAs.{lies}
 use Rattle.raft_log_crash_uses.proofs.Valued.{behind, one_value}
 
 -- a log was opened, and its keys were changed
-pub opens_and_changes : {F : Type 0} (disk : F → Disk) (tells : F → List ℕ → ℕ → Type 0) (config : Config) (cs : List KeyChange) (old : F) (engine : Shows) (pipes : LogPipes) (tables : MemTables) (cache : BlockCache)
+pub opens_and_changes : {F : Type 0} (disk : F → Disk) (tells : F → List ℕ → ℕ → Type 0) (config : Config) (cs : List KeyChange) (old : F) (engine : EngineState) (pipes : LogPipes) (tables : MemTables) (cache : BlockCache)
     → OpensDirectory disk tells config old pipes tables → cache.place ≡ None → ChangesKeys cs (shows pipes tables cache) engine → OpensAndChanges disk tells config cs old engine
 opens_and_changes disk tells config cs old engine pipes tables cache opens none changes = record {
   pipes = pipes;
@@ -35,7 +35,7 @@ opens_and_changes disk tells config cs old engine pipes tables cache opens none 
 }
 
 -- so it lived once
-pub lives_once : {F C : Type 0} (disk : F → Disk) (tells : F → List ℕ → ℕ → Type 0) (life : Life C) (config : Config) (old new : F) (engine : Shows) (cs : List KeyChange) → cs ≡ life.changes.items → home_of config ≡ home_of life.config
+pub lives_once : {F C : Type 0} (disk : F → Disk) (tells : F → List ℕ → ℕ → Type 0) (life : Life C) (config : Config) (old new : F) (engine : EngineState) (cs : List KeyChange) → cs ≡ life.changes.items → home_of config ≡ home_of life.config
     → OpensAndChanges disk tells config cs old engine → Ends life.ending engine (disk new) → LivesOnce disk tells life old new
 lives_once disk tells life config old new engine cs same names changes ends = record {
   config = config;
@@ -49,7 +49,7 @@ lives_once disk tells life config old new engine cs same names changes ends = re
 twice : (m : LogMap) (xs ys : List KeyChange) → taken (taken m (map said_by xs)) (map said_by ys) ≡ taken m (map said_by (xs ++ ys))
 twice m xs ys = taken_twice m (map said_by xs) (map said_by ys) ∙ ap (λ l. taken m l) (sym (map-append said_by xs ys))
 
-module _ {F C : Type 0} (disk : F → Disk) (tells : F → List ℕ → ℕ → Type 0) (sound : (system : F) → IsSound (disk system)) (home : Home) where
+module _ {F C : Type 0} (disk : F → Disk) (tells : F → List ℕ → ℕ → Type 0) (sound : (system : F) → IsSound (disk system)) (home : LogDirectories) where
   -- behind a life the log lies as the map with its changes
   pub lived_once : (life : Life C) (old new : F) (m : LogMap) → home_of life.config ≡ home → (once : LivesOnce disk tells life old new) → EndsWithoutChance home life.ending once.engine (disk new) → StandsAs home m (disk old)
       → LiesAs home (taken m (map said_by life.changes.items)) (disk new)

@@ -8,8 +8,8 @@ use Rattle.raft_log_engine.specs.raft_log_fs.specs.Image.{IsImage, IsSound}
 use Rattle.raft_log_engine.specs.raft_log_file_settings.specs.declared.config.Config.{Config}
 use Rattle.raft_log_engine.specs.raft_log_memtables.specs.declared.mem_tables.MemTables.{MemTables}
 use Rattle.raft_log_engine.specs.raft_log_block_cache.specs.declared.block_cache.BlockCache.{BlockCache}
-use Rattle.raft_log_engine.specs.raft_log_dual_pipes.specs.Pipes.{LogPipes, Said}
-use Rattle.raft_log_engine.specs.raft_log_engine_laws.specs.Shows.{LogMap, Shows, shows}
+use Rattle.raft_log_engine.specs.raft_log_dual_pipes.specs.Pipes.{LogPipes, LogRecordValue}
+use Rattle.raft_log_engine.specs.raft_log_engine_laws.specs.EngineState.{LogMap, EngineState, shows}
 use Rattle.raft_log_engine.specs.raft_log_engine_laws.specs.Reading.{ReadsValue, StandsUnder}
 use Rattle.raft_log_engine.specs.raft_log_open.specs.Opening.{OpensDirectory}
 use Rattle.raft_log_recovery_laws.specs.Bare.{IsBare}
@@ -32,24 +32,24 @@ use Rattle.raft_log_crash_uses.proofs.Saved.{stands}
 use Rattle.raft_log_crash_uses.proofs.Valued.{behind, one_value}
 
 -- of one batch some first ones are none of it, or it
-first_of_one : (m : LogMap) (x : Said) (k : ℕ) → (taken m (take k (x ∷ [])) ≡ m) ⊎ (taken m (take k (x ∷ [])) ≡ taken m (x ∷ []))
+first_of_one : (m : LogMap) (x : LogRecordValue) (k : ℕ) → (taken m (take k (x ∷ [])) ≡ m) ⊎ (taken m (take k (x ∷ [])) ≡ taken m (x ∷ []))
 first_of_one m x zero = inl refl
-first_of_one m x (suc k) = inr (ap (λ (l : List Said). taken m (x ∷ l)) (take-nil k))
+first_of_one m x (suc k) = inr (ap (λ (l : List LogRecordValue). taken m (x ∷ l)) (take-nil k))
 
-pub no_tail : (ys zs : List Said) → ys ++ zs ≡ [] → (ys ≡ []) × (zs ≡ [])
+pub no_tail : (ys zs : List LogRecordValue) → ys ++ zs ≡ [] → (ys ≡ []) × (zs ≡ [])
 no_tail [] zs is = (refl, is)
 no_tail (y ∷ ys) zs is = (let never : ⊥ = cc in absurd never)
 
 -- so they are where it may have been synced before
-pub with_or_without : (m : LogMap) (x : Said) (done rest : List Said) (k : ℕ) → done ++ rest ≡ x ∷ []
+pub with_or_without : (m : LogMap) (x : LogRecordValue) (done rest : List LogRecordValue) (k : ℕ) → done ++ rest ≡ x ∷ []
     → (taken (taken m done) (take k rest) ≡ m) ⊎ (taken (taken m done) (take k rest) ≡ taken m (x ∷ []))
 with_or_without m x [] rest k is =
-    subst (λ (l : List Said). (taken m (take k l) ≡ m) ⊎ (taken m (take k l) ≡ taken m (x ∷ []))) (sym is) (first_of_one m x k)
+    subst (λ (l : List LogRecordValue). (taken m (take k l) ≡ m) ⊎ (taken m (take k l) ≡ taken m (x ∷ []))) (sym is) (first_of_one m x k)
 with_or_without m x (y ∷ ys) rest k is =
     let head : y ≡ x = cc in
     let none = no_tail ys rest (let tail : ys ++ rest ≡ [] = cc in tail) in
-    inr (ap (λ (l : List Said). taken (taken m (y ∷ ys)) l) (ap (λ (l : List Said). take k l) none.1 ∙ take-nil k)
-    ∙ (ap (λ (l : List Said). taken m (y ∷ l)) none.0 ∙ ap (λ (z : Said). taken m (z ∷ [])) head))
+    inr (ap (λ (l : List LogRecordValue). taken (taken m (y ∷ ys)) l) (ap (λ (l : List LogRecordValue). take k l) none.1 ∙ take-nil k)
+    ∙ (ap (λ (l : List LogRecordValue). taken m (y ∷ l)) none.0 ∙ ap (λ (z : LogRecordValue). taken m (z ∷ [])) head))
 
 -- a key whose put the map may have
 value_or_none : (g : ℕ) (k v : List ℕ) (m : LogMap) (found : Option (List ℕ)) → (m ≡ nothing_stands) ⊎ (m ≡ taken nothing_stands (put_of g k v ∷ [])) → StandsUnder m g k found
@@ -72,7 +72,7 @@ loads_and_ends disk tells config g k ending old new found pipes tables cache ope
 }
 
 module _ {F C : Type 0} (disk : F → Disk) (tells : F → List ℕ → ℕ → Type 0) (sound : (system : F) → IsSound (disk system)) (config : Config) (g : ℕ) (k v : List ℕ)
-    (look : Config) (ending : Ending C) (lives : List (Life C)) (last : Config) (old left seen behind_all : F) (engine : Shows) (first later : Option (List ℕ)) (puts : PutsUnsynced disk tells config g k v old engine)
+    (look : Config) (ending : Ending C) (lives : List (Life C)) (last : Config) (old left seen behind_all : F) (engine : EngineState) (first later : Option (List ℕ)) (puts : PutsUnsynced disk tells config g k v old engine)
     (crashes : IsImage engine.pipes.disk (disk left)) (reads : LoadsAndEnds disk tells look g k ending left first seen) (on : LivesOn disk tells lives seen behind_all) (again : Loads disk tells last g k behind_all later) where
   stays : IsBare config (disk old) → home_of look ≡ home_of config → AllLiveIn (home_of config) lives → home_of last ≡ home_of config → LeavesNoChance (home_of config) engine.pipes (disk left)
       → EndsWithoutChance (home_of config) ending reads.engine (disk seen) → LivesWithoutChance disk tells (home_of config) lives seen behind_all on

@@ -6,7 +6,7 @@ use Rattle.raft_log_engine.specs.raft_log_fs.specs.Disk.{Disk}
 use Rattle.raft_log_engine.specs.raft_log_record_base.specs.declared.pipe_log.LogQueue.TheVariants.{Append}
 use Rattle.raft_log_engine.specs.raft_log_file_settings.specs.declared.config.Config.{Config}
 use Rattle.raft_log_engine.specs.raft_log_engine_laws.specs.raft_log_active_file.specs.Paths.{IsPathWith, reserved_suffix_of}
-use Rattle.raft_log_engine.specs.raft_log_engine_laws.specs.Shows.{Home}
+use Rattle.raft_log_engine.specs.raft_log_engine_laws.specs.EngineState.{LogDirectories}
 use Rattle.raft_log_recovery.specs.Directories.{paths_of}
 use Rattle.raft_log_recovery_laws.specs.Bare.{IsBare}
 use Rattle.raft_log_recovery_laws.specs.ByCalls.{home_of}
@@ -20,7 +20,7 @@ bare_for c e d same b = record {
 }
   where
     back : paths_of e ≡ paths_of c
-    back = ap (λ (h : Home). h.append) (sym same)
+    back = ap (λ (h : LogDirectories). h.append) (sym same)
 
 pub some_append : (config : Config) → 0 < length (home_of config).append
 some_append config = omega arith

@@ -9,9 +9,9 @@ use Rattle.raft_log_engine.specs.raft_log_record_base.specs.declared.errors.Erro
 use Rattle.raft_log_engine.specs.raft_log_fs.specs.Disk.{Disk}
 use Rattle.raft_log_engine.specs.raft_log_fs.specs.Image.{IsImage, IsSound}
 use Rattle.raft_log_engine.specs.raft_log_file_settings.specs.declared.config.Config.{Config}
-use Rattle.raft_log_engine.specs.raft_log_dual_pipes.specs.Pipes.{Said}
-use Rattle.raft_log_engine.specs.raft_log_engine_laws.specs.Shows.{Home, LogMap, Shows, has_failed}
-use Rattle.raft_log_engine.specs.raft_log_engine_laws.specs.Holding.{Holds, IsLeftAt}
+use Rattle.raft_log_engine.specs.raft_log_dual_pipes.specs.Pipes.{LogRecordValue}
+use Rattle.raft_log_engine.specs.raft_log_engine_laws.specs.EngineState.{LogDirectories, LogMap, EngineState, has_failed}
+use Rattle.raft_log_engine.specs.raft_log_engine_laws.specs.Holding.{Represents, IsRecoverableAs}
 use Rattle.raft_log_engine.specs.raft_log_engine_laws.specs.Settled.{HoldsSettled}
 use Rattle.raft_log_engine.specs.raft_log_engine_laws.proofs.Settling.{settled_held}
 use Rattle.raft_log_engine.specs.raft_log_engine_core.specs.Purging.{StopsPurging, StopsPurgingExpired}
@@ -31,53 +31,53 @@ use Rattle.raft_log_crash_uses.proofs.Named.{some_append, some_rewrite}
 use Rattle.raft_log_crash_uses.proofs.Rested.{rested_as}
 use Rattle.raft_log_crash_uses.proofs.Valued.{behind, one_value}
 
-both : (s : Shows) → has_failed s ≡ false → has_failed s ≡ true → ⊥
+both : (s : EngineState) → has_failed s ≡ false → has_failed s ≡ true → ⊥
 both s lives failed = false≢true (sym lives ∙ failed)
 
 -- one that was answered
-pub answered : (s t : Shows) → has_failed s ≡ false → ((home : Home) (m : LogMap) (pending : List Said) → Holds home s m pending → Holds home t (taken m pending) []) → KeepsTheMap s t
+pub answered : (s t : EngineState) → has_failed s ≡ false → ((home : LogDirectories) (m : LogMap) (pending : List LogRecordValue) → Represents home s m pending → Represents home t (taken m pending) []) → KeepsTheMap s t
 answered s t lives holds home m (inl runs) = inl (holds home m [] runs)
 answered s t lives holds home m (inr left) = absurd (both s lives left.0)
 
 -- one behind which nothing is pending in either queue
-pub settles : (s t : Shows) → has_failed s ≡ false → ((home : Home) (m : LogMap) (pending : List Said) → Holds home s m pending → HoldsSettled home t (taken m pending)) → KeepsTheMap s t
+pub settles : (s t : EngineState) → has_failed s ≡ false → ((home : LogDirectories) (m : LogMap) (pending : List LogRecordValue) → Represents home s m pending → HoldsSettled home t (taken m pending)) → KeepsTheMap s t
 settles s t lives settled = answered s t lives (λ home m pending runs. settled_held home t (taken m pending) (settled home m pending runs))
 
 -- One that was refused: what remains.
-abbrev RemainsOrIsLeft : Home → LogMap → Shows → Error → Type 0
-RemainsOrIsLeft home m t error = Holds home t m []
-    ⊎ ((error ≡ errors.Failed) × (IsLeftAt home t.pipes.disk m [] ⊎ IsLeftAt home t.pipes.disk m []))
+abbrev RemainsOrIsLeft : LogDirectories → LogMap → EngineState → Error → Type 0
+RemainsOrIsLeft home m t error = Represents home t m []
+    ⊎ ((error ≡ errors.Failed) × (IsRecoverableAs home t.pipes.disk m [] ⊎ IsRecoverableAs home t.pipes.disk m []))
 
-remained : (home : Home) (m : LogMap) (t : Shows) (error : Error) → (error ≡ errors.Failed → has_failed t ≡ true) → RemainsOrIsLeft home m t error → RunsOrIsLeft home t m []
+remained : (home : LogDirectories) (m : LogMap) (t : EngineState) (error : Error) → (error ≡ errors.Failed → has_failed t ≡ true) → RemainsOrIsLeft home m t error → RunsOrIsLeft home t m []
 remained home m t error fails (inl runs) = inl runs
 remained home m t error fails (inr (is, inl left)) = inr (fails is, left)
 remained home m t error fails (inr (is, inr left)) = inr (fails is, left)
 
-pub stops : (s t : Shows) (error : Error) → StopsPurgingExpired s t error → KeepsTheMap s t
-stops s t error (inl had) home m runs = subst (λ (x : Shows). RunsOrIsLeft home x m []) (sym had.2) runs
+pub stops : (s t : EngineState) (error : Error) → StopsPurgingExpired s t error → KeepsTheMap s t
+stops s t error (inl had) home m runs = subst (λ (x : EngineState). RunsOrIsLeft home x m []) (sym had.2) runs
 stops s t error (inr (lives, fails)) home m (inl runs) = remained home m t error (fails.tells lives).1 (fails.remains home m [] runs)
 stops s t error (inr (lives, fails)) home m (inr left) = absurd (both s lives left.0)
 
-remains_so : (home : Home) (m : LogMap) (t : Shows) (error : Error) → Remains home m t error → RemainsOrIsLeft home m t error
+remains_so : (home : LogDirectories) (m : LogMap) (t : EngineState) (error : Error) → Remains home m t error → RemainsOrIsLeft home m t error
 remains_so home m t errors.Failed left = inr (refl, inl left)
 remains_so home m t _ runs = inl runs
 
-remains_left : (home : Home) (m : LogMap) (t : Shows) (error : Error) → Remains home m t error ⊎ ((error ≡ errors.Failed) × IsLeftAt home t.pipes.disk m []) → RemainsOrIsLeft home m t error
+remains_left : (home : LogDirectories) (m : LogMap) (t : EngineState) (error : Error) → Remains home m t error ⊎ ((error ≡ errors.Failed) × IsRecoverableAs home t.pipes.disk m []) → RemainsOrIsLeft home m t error
 remains_left home m t error (inl remains) = remains_so home m t error remains
 remains_left home m t error (inr (is, left)) = inr (is, inl left)
 
-pub stops_stale : (s t : Shows) (error : Error) → StopsPurging s t error → KeepsTheMap s t
-stops_stale s t error (inl had) home m runs = subst (λ (x : Shows). RunsOrIsLeft home x m []) (sym had.2) runs
+pub stops_stale : (s t : EngineState) (error : Error) → StopsPurging s t error → KeepsTheMap s t
+stops_stale s t error (inl had) home m runs = subst (λ (x : EngineState). RunsOrIsLeft home x m []) (sym had.2) runs
 stops_stale s t error (inr (lives, fails)) home m (inl runs) = remained home m t error (fails.tells lives).1 (remains_left home m t error (fails.remains home m [] runs))
 stops_stale s t error (inr (lives, fails)) home m (inr left) = absurd (both s lives left.0)
 
 -- whichever it was
-pub either : {A : Type 0} (r : Result A Error) (P : A → Type 0) (Q : Error → Type 0) (L : Type 0) (s t : Shows) → IfOk r P → OnOk r L → IfErr r Q → ((a : A) → P a → L → KeepsTheMap s t) → ((error : Error) → Q error → KeepsTheMap s t) → KeepsTheMap s t
+pub either : {A : Type 0} (r : Result A Error) (P : A → Type 0) (Q : Error → Type 0) (L : Type 0) (s t : EngineState) → IfOk r P → OnOk r L → IfErr r Q → ((a : A) → P a → L → KeepsTheMap s t) → ((error : Error) → Q error → KeepsTheMap s t) → KeepsTheMap s t
 either (Ok a) P Q L s t ok lived err good bad = good a ok lived
 either (Err error) P Q L s t ok lived err good bad = bad error err
 
 module _ {F : Type 0} (disk : F → Disk) (tells : F → List ℕ → ℕ → Type 0) (sound : (system : F) → IsSound (disk system)) (config : Config) (changes : List KeyChange) (again : Config) (g : ℕ) (k : List ℕ)
-    (old left : F) (changed engine : Shows) (found : Option (List ℕ)) (opens : OpensAndChanges disk tells config changes old changed) (purges : KeepsTheMap changed engine) (crashes : IsImage engine.pipes.disk (disk left))
+    (old left : F) (changed engine : EngineState) (found : Option (List ℕ)) (opens : OpensAndChanges disk tells config changes old changed) (purges : KeepsTheMap changed engine) (crashes : IsImage engine.pipes.disk (disk left))
     (loads : Loads disk tells again g k left found) where
   kept : IsBare config (disk old) → home_of again ≡ home_of config
       → (runs : RunsOrIsLeft (home_of config) engine (map_of changes) []) × (CrashesWithoutChance (home_of config) engine (map_of changes) [] runs (disk left) → found ≡ value_behind g k changes None)

@@ -21,9 +21,9 @@ use Rattle.raft_log_engine.specs.raft_log_record_batches.specs.Places.{entry_byt
 use Rattle.raft_log_engine.specs.raft_log_file_settings.specs.declared.config.Config.{Config}
 use Rattle.raft_log_engine.specs.raft_log_memtables.specs.declared.mem_tables.MemTables.{MemTables}
 use Rattle.raft_log_engine.specs.raft_log_block_cache.specs.declared.block_cache.BlockCache.{BlockCache}
-use Rattle.raft_log_engine.specs.raft_log_dual_pipes.specs.Pipes.{LogPipes, Said}
-use Rattle.raft_log_engine.specs.raft_log_engine_laws.specs.Shows.{Home, LogMap, Shows, said_of, shows}
-use Rattle.raft_log_engine.specs.raft_log_engine_laws.specs.Holding.{EndsAt, Holds}
+use Rattle.raft_log_engine.specs.raft_log_dual_pipes.specs.Pipes.{LogPipes, LogRecordValue}
+use Rattle.raft_log_engine.specs.raft_log_engine_laws.specs.EngineState.{LogDirectories, LogMap, EngineState, said_of, shows}
+use Rattle.raft_log_engine.specs.raft_log_engine_laws.specs.Holding.{EndsAt, Represents}
 use Rattle.raft_log_engine.specs.raft_log_engine_laws.specs.Reading.{ReadsValue, StandsUnder}
 use Rattle.raft_log_engine.specs.raft_log_engine_laws.specs.Writing.{Writes, WritesBytes}
 use Rattle.raft_log_engine.specs.raft_log_open.specs.Opening.{OpensDirectory}
@@ -40,7 +40,7 @@ users_key k internal = by (is_internal k) internal
     by false h = refl
 
 -- what a batch says that puts it
-put_said : (entry : EntryIndex → List ℕ) (g : ℕ) (k v : List ℕ) → is_internal k ≡ false → ◌≡◌ {A = Said} (unwrap_or (record_of entry (put_item g k v ∷ [])) (Plain [])) (put_of g k v)
+put_said : (entry : EntryIndex → List ℕ) (g : ℕ) (k v : List ℕ) → is_internal k ≡ false → ◌≡◌ {A = LogRecordValue} (unwrap_or (record_of entry (put_item g k v ∷ [])) (Plain [])) (put_of g k v)
 put_said entry g k v own =
     ap (λ (m : Marking). unwrap_or (marked m (tagged_items entry (put_item g k v ∷ []))) (Plain [])) (keeps_mark [] (put_item g k v) own)
     ∙ ap (λ (b : Bool). Plain (unless_mark b (tagged entry (put_item g k v)) [])) (no_mark_key (put_item g k v) own)
@@ -76,14 +76,14 @@ some_items : (b : Batch) (g : ℕ) (k v : List ℕ) → b.items ≡ put_item g k
 some_items b g k v some none = let clash : put_item g k v ∷ [] ≡ [] = sym some ∙ none in let never : ⊥ = cc in never
 
 module _ {F : Type 0} (disk : F → Disk) (tells : F → List ℕ → ℕ → Type 0) (config : Config) (g : ℕ) (k v : List ℕ) (old : F) where
-  saved_in : (pipes : LogPipes) (tables : MemTables) (cache : BlockCache) (b : Batch) (t : Shows) → cache.place ≡ None → is_internal k ≡ false → b.items ≡ put_item g k v ∷ [] → Writes b true (shows pipes tables cache) t
-      → (home : Home) (m : LogMap) → HoldsFresh home pipes tables m → Holds home t (taken m (put_of g k v ∷ [])) []
+  saved_in : (pipes : LogPipes) (tables : MemTables) (cache : BlockCache) (b : Batch) (t : EngineState) → cache.place ≡ None → is_internal k ≡ false → b.items ≡ put_item g k v ∷ [] → Writes b true (shows pipes tables cache) t
+      → (home : LogDirectories) (m : LogMap) → HoldsFresh home pipes tables m → Represents home t (taken m (put_of g k v ∷ [])) []
   saved_in pipes tables cache b t none own items writes home m fresh =
       let says_it : said_of b ≡ put_of g k v = ap (λ l. unwrap_or (record_of (entry_bytes b.entries) l) (Plain [])) items ∙ put_said (entry_bytes b.entries) g k v own in
-      subst (λ (r : Said). Holds home t (taken m (r ∷ [])) []) says_it (writes.synced refl home m [] (fresh cache none))
+      subst (λ (r : LogRecordValue). Represents home t (taken m (r ∷ [])) []) says_it (writes.synced refl home m [] (fresh cache none))
 
   -- opened, and written
-  pub saves_in : (pipes : LogPipes) (tables : MemTables) (cache : BlockCache) (b : Batch) (len : ℕ) (t : Shows) → OpensDirectory disk tells config old pipes tables → cache.place ≡ None → is_internal k ≡ false
+  pub saves_in : (pipes : LogPipes) (tables : MemTables) (cache : BlockCache) (b : Batch) (len : ℕ) (t : EngineState) → OpensDirectory disk tells config old pipes tables → cache.place ≡ None → is_internal k ≡ false
       → b.items ≡ put_item g k v ∷ [] → WritesBytes b true len (shows pipes tables cache) t → Saves disk tells config g k v old t
   saves_in pipes tables cache b len t opens none own items wrote = elim wrote [
     | inl nothing ↦ absurd (some_items b g k v items nothing.0)
@@ -91,7 +91,7 @@ module _ {F : Type 0} (disk : F → Disk) (tells : F → List ℕ → ℕ → Ty
   ]
 
   -- opened, and written without a sync
-  pub puts_in : (pipes : LogPipes) (tables : MemTables) (cache : BlockCache) (b : Batch) (len : ℕ) (t : Shows) → OpensDirectory disk tells config old pipes tables → cache.place ≡ None → is_internal k ≡ false
+  pub puts_in : (pipes : LogPipes) (tables : MemTables) (cache : BlockCache) (b : Batch) (len : ℕ) (t : EngineState) → OpensDirectory disk tells config old pipes tables → cache.place ≡ None → is_internal k ≡ false
       → b.items ≡ put_item g k v ∷ [] → WritesBytes b false len (shows pipes tables cache) t → PutsUnsynced disk tells config g k v old t
   puts_in pipes tables cache b len t opens none own items wrote =
       let says_it : said_of b ≡ put_of g k v = ap (λ l. unwrap_or (record_of (entry_bytes b.entries) l) (Plain [])) items ∙ put_said (entry_bytes b.entries) g k v own in elim wrote [
@@ -100,7 +100,7 @@ module _ {F : Type 0} (disk : F → Disk) (tells : F → List ℕ → ℕ → Ty
           pipes = pipes;
           tables = tables;
           opens = opens;
-          put = λ home m fresh. subst (λ (r : Said). EndsAt home t m (r ∷ [])) says_it (some.1.holds home m [] (fresh cache none));
+          put = λ home m fresh. subst (λ (r : LogRecordValue). EndsAt home t m (r ∷ [])) says_it (some.1.holds home m [] (fresh cache none));
         }
       ]
 

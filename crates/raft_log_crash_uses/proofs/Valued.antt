@@ -7,7 +7,7 @@ use Rattle.raft_log_engine.specs.raft_log_model_laws.specs.Meaning.{Content, say
 use Rattle.raft_log_engine.specs.raft_log_model_laws.specs.Meaning.Slot.{Key}
 use Rattle.raft_log_engine.specs.raft_log_model_laws.specs.Meaning.Content.{Value}
 use Rattle.raft_log_directory_laws.proofs.Follows.{taken_twice}
-use Rattle.raft_log_engine.specs.raft_log_engine_laws.specs.Shows.{LogMap}
+use Rattle.raft_log_engine.specs.raft_log_engine_laws.specs.EngineState.{LogMap}
 use Rattle.raft_log_engine.specs.raft_log_engine_laws.specs.Reading.{StandsUnder}
 use Rattle.raft_log_crash_uses.specs.declared.changing.KeyChange.{KeyChange}
 use Rattle.raft_log_crash_uses.specs.Changing.{said_by, word_of}

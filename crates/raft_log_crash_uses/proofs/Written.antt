@@ -14,9 +14,9 @@ use Rattle.raft_log_engine.specs.raft_log_record_frames.proofs.Meanings.{keeps_m
 use Rattle.raft_log_engine.specs.raft_log_record_batches.specs.Batch.{AddsItem, Batch, empty_batch}
 use Rattle.raft_log_engine.specs.raft_log_record_batches.specs.Places.{entry_bytes}
 use Rattle.raft_log_directory_laws.proofs.Follows.{taken_twice}
-use Rattle.raft_log_engine.specs.raft_log_dual_pipes.specs.Pipes.{Said}
-use Rattle.raft_log_engine.specs.raft_log_engine_laws.specs.Shows.{Home, LogMap, Shows, said_of}
-use Rattle.raft_log_engine.specs.raft_log_engine_laws.specs.Holding.{Holds}
+use Rattle.raft_log_engine.specs.raft_log_dual_pipes.specs.Pipes.{LogRecordValue}
+use Rattle.raft_log_engine.specs.raft_log_engine_laws.specs.EngineState.{LogDirectories, LogMap, EngineState, said_of}
+use Rattle.raft_log_engine.specs.raft_log_engine_laws.specs.Holding.{Represents}
 use Rattle.raft_log_engine.specs.raft_log_engine_laws.specs.Writing.{WritesBytes}
 use Rattle.raft_log_crash_uses.specs.declared.changing.KeyChange.{KeyChange}
 use Rattle.raft_log_crash_uses.specs.Changing.{AddsChange, ChangesKey, item_of, said_by, word_of}
@@ -40,7 +40,7 @@ item_said entry g k None = refl
 item_said entry g k (Some v) = refl
 
 -- what a batch says that has one user's item
-one_said : (entry : EntryIndex → List ℕ) (x : LogItem) → IsUsers x.content → ◌≡◌ {A = Said} (unwrap_or (record_of entry (x ∷ [])) (Plain [])) (Plain (tagged entry x ∷ []))
+one_said : (entry : EntryIndex → List ℕ) (x : LogItem) → IsUsers x.content → ◌≡◌ {A = LogRecordValue} (unwrap_or (record_of entry (x ∷ [])) (Plain [])) (Plain (tagged entry x ∷ []))
 one_said entry x own =
     ap (λ (m : Marking). unwrap_or (marked m (tagged_items entry (x ∷ []))) (Plain [])) (keeps_mark [] x own)
     ∙ ap (λ (b : Bool). Plain (unless_mark b (tagged entry x) [])) (no_mark_key x own)
@@ -60,21 +60,21 @@ pub only_item : (c : KeyChange) (old new : Batch) → old ≡ empty_batch 0 0 �
 only_item c old new empty added = added.adds ∙ ap (λ (b : Batch). b.items ++ item_of c.group c.key.items c.value ∷ []) empty
 
 -- a change was written durably
-pub changes_key : (c : KeyChange) (old b : Batch) (len : ℕ) (s t : Shows) → old ≡ empty_batch 0 0 → AddsChange c old b → WritesBytes b true len s t → ChangesKey c s t
+pub changes_key : (c : KeyChange) (old b : Batch) (len : ℕ) (s t : EngineState) → old ≡ empty_batch 0 0 → AddsChange c old b → WritesBytes b true len s t → ChangesKey c s t
 changes_key c old b len s t empty added wrote home m h = elim wrote [
   | inl nothing ↦ absurd (some_items b (item_of c.group c.key.items c.value) (only_item c old b empty added) nothing.0)
-  | inr some ↦ subst (λ (r : Said). Holds home t (taken m (r ∷ [])) []) (change_said c b (only_item c old b empty added) added.users) (some.1.synced refl home m [] h)
+  | inr some ↦ subst (λ (r : LogRecordValue). Represents home t (taken m (r ∷ [])) []) (change_said c b (only_item c old b empty added) added.users) (some.1.synced refl home m [] h)
 ]
 
 -- Changes in a loop.
 
 -- the log is so now that with the changes that are left it is the map with all changes
-pub record IsOnTheWay (home : Home) (e : Shows) (left : List KeyChange) (goal : LogMap) : Type 0 where
+pub record IsOnTheWay (home : LogDirectories) (e : EngineState) (left : List KeyChange) (goal : LogMap) : Type 0 where
   pub now : LogMap
-  pub holds : Holds home e now []
+  pub holds : Represents home e now []
   pub behind : taken now (map said_by left) ≡ goal
 
-pub one_more : (home : Home) (s t : Shows) (c : KeyChange) (left : List KeyChange) (goal : LogMap) → IsOnTheWay home s (c ∷ left) goal → ChangesKey c s t → IsOnTheWay home t left goal
+pub one_more : (home : LogDirectories) (s t : EngineState) (c : KeyChange) (left : List KeyChange) (goal : LogMap) → IsOnTheWay home s (c ∷ left) goal → ChangesKey c s t → IsOnTheWay home t left goal
 one_more home s t c left goal way changes = record {
   now = taken way.now (said_by c ∷ []);
   holds = changes home way.now way.holds;
@@ -88,9 +88,9 @@ none_left (c ∷ cs) zero all = absurd (omega (arith, all))
 none_left (c ∷ cs) (suc i) all = none_left cs i (omega (arith, all))
 
 -- behind the last one
-pub all_changed : (home : Home) (e : Shows) (left : List KeyChange) (goal : LogMap) → left ≡ [] → IsOnTheWay home e left goal → Holds home e goal []
+pub all_changed : (home : LogDirectories) (e : EngineState) (left : List KeyChange) (goal : LogMap) → left ≡ [] → IsOnTheWay home e left goal → Represents home e goal []
 all_changed home e left goal none way =
-    subst (λ (m : LogMap). Holds home e m []) (ap (λ (l : List KeyChange). taken way.now (map said_by l)) (sym none) ∙ way.behind) way.holds
+    subst (λ (m : LogMap). Represents home e m []) (ap (λ (l : List KeyChange). taken way.now (map said_by l)) (sym none) ∙ way.behind) way.holds
 
 -- the first of what is left of a list, and what is left then
 pub first_left : {X : Type 0} (xs : List X) (i : ℕ) (d x : X) → i < length xs → x ≡ get_or xs i d → drop i xs ≡ x ∷ drop (i + 1) xs

@@ -7,8 +7,8 @@ use Rattle.raft_log_engine.specs.raft_log_fs.specs.Disk.{Disk}
 use Rattle.raft_log_engine.specs.raft_log_fs.specs.Image.{IsImage}
 use Rattle.raft_log_engine.specs.raft_log_file_settings.specs.declared.config.Config.{Config}
 use Rattle.raft_log_engine.specs.raft_log_memtables.specs.declared.mem_tables.MemTables.{MemTables}
-use Rattle.raft_log_engine.specs.raft_log_dual_pipes.specs.Pipes.{LogPipes, Said}
-use Rattle.raft_log_engine.specs.raft_log_engine_laws.specs.Shows.{Home, LogMap, Shows}
+use Rattle.raft_log_engine.specs.raft_log_dual_pipes.specs.Pipes.{LogPipes, LogRecordValue}
+use Rattle.raft_log_engine.specs.raft_log_engine_laws.specs.EngineState.{LogDirectories, LogMap, EngineState}
 use Rattle.raft_log_engine.specs.raft_log_open.specs.Opening.{OpensDirectory}
 use Rattle.raft_log_recovery_laws.specs.Bare.{IsBare}
 use Rattle.raft_log_recovery_laws.specs.ByCalls.{home_of}
@@ -20,14 +20,14 @@ use Rattle.raft_log_crash_uses.specs.Saving.{Loads}
 use Rattle.raft_log_crash_uses.specs.Standing.{CrashesWithoutChance, RunsOrIsLeft}
 
 -- the record of a batch that makes both changes
-abbrev pub said_by_both : KeyChange → KeyChange → Said
+abbrev pub said_by_both : KeyChange → KeyChange → LogRecordValue
 said_by_both one other = Plain (record { group = one.group; item = word_of one.key.items one.value }
     ∷ record { group = other.group; item = word_of other.key.items other.value } ∷ [])
 
 -- The log is that map without the batch, with it, or with it pending; if the write succeeded, it is the map with it.
-pub record MayHave (answered : Bool) (home : Home) (e : Shows) (m : LogMap) (batch : Said) : Type 0 where
-  pub done : List Said
-  pub rest : List Said
+pub record MayHave (answered : Bool) (home : LogDirectories) (e : EngineState) (m : LogMap) (batch : LogRecordValue) : Type 0 where
+  pub done : List LogRecordValue
+  pub rest : List LogRecordValue
   pub whole : (done ++ rest ≡ []) ⊎ (done ++ rest ≡ batch ∷ [])
   pub has : answered ≡ true → done ≡ batch ∷ []
   pub runs : RunsOrIsLeft home e (taken m done) rest
@@ -35,11 +35,11 @@ pub record MayHave (answered : Bool) (home : Home) (e : Shows) (m : LogMap) (bat
 -- The log of these settings was opened, and both changes were written in one batch with a sync, which succeeded or
 -- failed. Whatever map the log had, it may have the batch.
 pub record TriesToWrite {F : Type 0} (disk : F → Disk) (tells : F → List ℕ → ℕ → Type 0) (config : Config)
-    (one other : KeyChange) (old : F) (answered : Bool) (engine : Shows) : Type 0 where
+    (one other : KeyChange) (old : F) (answered : Bool) (engine : EngineState) : Type 0 where
   pub pipes : LogPipes
   pub tables : MemTables
   pub opens : OpensDirectory disk tells config old pipes tables
-  pub tries : (home : Home) (m : LogMap) → HoldsFresh home pipes tables m
+  pub tries : (home : LogDirectories) (m : LogMap) → HoldsFresh home pipes tables m
       → MayHave answered home engine m (said_by_both one other)
 
 -- both keys were read from one log
@@ -63,7 +63,7 @@ IsNeither first second = (first ≡ None) × (second ≡ None)
 pub record WritesBothOrNeither {F : Type 0} (disk : F → Disk) (tells : F → List ℕ → ℕ → Type 0) (config : Config)
     (one other : KeyChange) (again : Config) (old : F) (answered : Bool) (first second : Option (List ℕ))
     : Type 0 where
-  pub engine : Shows
+  pub engine : EngineState
   pub tries : TriesToWrite disk tells config one other old answered engine
   pub left : F
   pub crashes : IsImage engine.pipes.disk (disk left)

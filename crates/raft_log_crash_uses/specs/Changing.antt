@@ -9,9 +9,9 @@ use Rattle.raft_log_engine.specs.raft_log_record_items.specs.Items.{del_item, pu
 use Rattle.raft_log_engine.specs.raft_log_record_items.specs.declared.item.LogItem.{LogItem}
 use Rattle.raft_log_engine.specs.raft_log_record_frames.specs.Key.{is_internal}
 use Rattle.raft_log_engine.specs.raft_log_record_batches.specs.Batch.{Batch}
-use Rattle.raft_log_engine.specs.raft_log_dual_pipes.specs.Pipes.{Said}
-use Rattle.raft_log_engine.specs.raft_log_engine_laws.specs.Shows.{Home, LogMap, Shows}
-use Rattle.raft_log_engine.specs.raft_log_engine_laws.specs.Holding.{Holds}
+use Rattle.raft_log_engine.specs.raft_log_dual_pipes.specs.Pipes.{LogRecordValue}
+use Rattle.raft_log_engine.specs.raft_log_engine_laws.specs.EngineState.{LogDirectories, LogMap, EngineState}
+use Rattle.raft_log_engine.specs.raft_log_engine_laws.specs.Holding.{Represents}
 use Rattle.raft_log_crash_uses.specs.declared.changing.KeyChange.{KeyChange}
 
 -- what a change says of its group: the key gets the value, or is deleted
@@ -20,7 +20,7 @@ word_of key None = Del key
 word_of key (Some value) = Put key value.items
 
 -- the record of a batch with only this change
-abbrev pub said_by : KeyChange → Said
+abbrev pub said_by : KeyChange → LogRecordValue
 said_by c = Plain (record { group = c.group; item = word_of c.key.items c.value } ∷ [])
 
 -- the item of a batch for this change
@@ -35,9 +35,9 @@ pub record AddsChange (c : KeyChange) (old new : Batch) : Type 0 where
   pub users : is_internal c.key.items ≡ false
 
 -- A key was changed durably: any map that the log had, with nothing pending, became that map with the change.
-abbrev pub ChangesKey : KeyChange → Shows → Shows → Type 0
-ChangesKey c s t = (home : Home) (m : LogMap) → Holds home s m [] → Holds home t (taken m (said_by c ∷ [])) []
+abbrev pub ChangesKey : KeyChange → EngineState → EngineState → Type 0
+ChangesKey c s t = (home : LogDirectories) (m : LogMap) → Represents home s m [] → Represents home t (taken m (said_by c ∷ [])) []
 
 -- keys were changed so in order
-abbrev pub ChangesKeys : List KeyChange → Shows → Shows → Type 0
-ChangesKeys cs s t = (home : Home) (m : LogMap) → Holds home s m [] → Holds home t (taken m (map said_by cs)) []
+abbrev pub ChangesKeys : List KeyChange → EngineState → EngineState → Type 0
+ChangesKeys cs s t = (home : LogDirectories) (m : LogMap) → Represents home s m [] → Represents home t (taken m (map said_by cs)) []

@@ -3,7 +3,7 @@ use Rattle.std.specs.Prelude.{◌≡◌, ℕ, List, Option, Some}
 use Rattle.raft_log_engine.specs.raft_log_fs.specs.Disk.{Disk, empty_disk}
 use Rattle.raft_log_engine.specs.raft_log_fs.specs.Image.{IsImage}
 use Rattle.raft_log_engine.specs.raft_log_file_settings.specs.declared.config.Config.{Config}
-use Rattle.raft_log_engine.specs.raft_log_engine_laws.specs.Shows.{Shows}
+use Rattle.raft_log_engine.specs.raft_log_engine_laws.specs.EngineState.{EngineState}
 use Rattle.raft_log_recovery_laws.specs.Bare.{IsBare}
 use Rattle.raft_log_recovery_laws.specs.ByCalls.{home_of}
 use Rattle.raft_log_recovery_laws.specs.Running.{LeavesNoChance}
@@ -16,7 +16,7 @@ pub record SavesAcrossACrash {F : Type 0} (disk : F → Disk) (tells : F → Lis
     (config again : Config) (group : ℕ) (key value : List ℕ) (found : Option (List ℕ)) : Type 0 where
   pub nothing : F
   pub empty : disk nothing ≡ empty_disk
-  pub engine : Shows
+  pub engine : EngineState
   pub saves : Saves disk tells config group key value nothing engine
   pub left : F
   pub crashes : IsImage engine.pipes.disk (disk left)
@@ -28,7 +28,7 @@ pub record SavesAcrossACrash {F : Type 0} (disk : F → Disk) (tells : F → Lis
 -- with any settings that name the same directories.
 abbrev pub SavedValuesAreLoaded : {F : Type 0} → (F → Disk) → (F → List ℕ → ℕ → Type 0) → Type 0
 SavedValuesAreLoaded {F} disk tells = (config again : Config) (group : ℕ) (key value : List ℕ) (old left : F)
-    (engine : Shows) (found : Option (List ℕ)) → IsBare config (disk old)
+    (engine : EngineState) (found : Option (List ℕ)) → IsBare config (disk old)
     → Saves disk tells config group key value old engine → IsImage engine.pipes.disk (disk left)
     → home_of again ≡ home_of config → LeavesNoChance (home_of config) engine.pipes (disk left)
     → Loads disk tells again group key left found → found ≡ Some value

@@ -9,13 +9,13 @@ use Rattle.raft_log_engine.specs.raft_log_fs.specs.Image.{IsImage}
 use Rattle.raft_log_engine.specs.raft_log_dual_pipes.specs.ClosingCalls.{ClosesLog}
 use Rattle.raft_log_engine.specs.raft_log_dual_pipes.specs.Pipes.{LogPipes}
 use Rattle.raft_log_engine.specs.raft_log_engine_laws.specs.raft_log_active_file.specs.declared.record.LogRecord.{LogRecord}
-use Rattle.raft_log_engine.specs.raft_log_engine_laws.specs.Shows.{Home, Shows, has_failed, log_in}
+use Rattle.raft_log_engine.specs.raft_log_engine_laws.specs.EngineState.{LogDirectories, EngineState, has_failed, log_in}
 use Rattle.raft_log_recovery_laws.specs.Running.{LeavesNoChance, active_header, own_bytes}
 use Rattle.raft_log_crash_uses.specs.declared.ending.Ending.{Ending}
 use Rattle.raft_log_crash_uses.specs.declared.ending.Ending.TheVariants.{Close, Crash}
 
 -- what the next open finds: an image of the disk; or what a close leaves of a log whose engine hasn't failed
-abbrev pub Ends : {C : Type 0} → Ending C → Shows → Disk → Type 0
+abbrev pub Ends : {C : Type 0} → Ending C → EngineState → Disk → Type 0
 Ends (Crash what) e d = IsImage e.pipes.disk d
 Ends Close e d = has_failed e ≡ false → ClosesLog e.pipes d
 
@@ -38,11 +38,11 @@ LeavesWritten F files old new = (before file : File) (path : List ℕ) (id : ℕ
     → new.names path ≡ Some id → new.files id ≡ Some file → MeetsWritten F files before file
 
 -- A close of an engine with these pipes left no CRC collision in either queue.
-pub record ClosesWithoutChance (home : Home) (v : LogPipes) (d : Disk) : Type 0 where
+pub record ClosesWithoutChance (home : LogDirectories) (v : LogPipes) (d : Disk) : Type 0 where
   pub append : LeavesWritten (log_in home).append.format v.append.files v.disk d
   pub rewrite : LeavesWritten (log_in home).rewrite.format v.rewrite.files v.disk d
 
 -- an end of an engine left no CRC collision
-abbrev pub EndsWithoutChance : {C : Type 0} → Home → Ending C → Shows → Disk → Type 0
+abbrev pub EndsWithoutChance : {C : Type 0} → LogDirectories → Ending C → EngineState → Disk → Type 0
 EndsWithoutChance home (Crash what) e d = LeavesNoChance home e.pipes d
 EndsWithoutChance home Close e d = ClosesWithoutChance home e.pipes d

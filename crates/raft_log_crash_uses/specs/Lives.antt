@@ -5,8 +5,8 @@ use Rattle.raft_log_engine.specs.raft_log_fs.specs.Disk.{Disk}
 use Rattle.raft_log_engine.specs.raft_log_file_settings.specs.declared.config.Config.{Config}
 use Rattle.raft_log_engine.specs.raft_log_memtables.specs.declared.mem_tables.MemTables.{MemTables}
 use Rattle.raft_log_engine.specs.raft_log_dual_pipes.specs.Pipes.{LogPipes}
-use Rattle.raft_log_engine.specs.raft_log_engine_laws.specs.Shows.{Home, LogMap, Shows}
-use Rattle.raft_log_engine.specs.raft_log_engine_laws.specs.Holding.{Holds}
+use Rattle.raft_log_engine.specs.raft_log_engine_laws.specs.EngineState.{LogDirectories, LogMap, EngineState}
+use Rattle.raft_log_engine.specs.raft_log_engine_laws.specs.Holding.{Represents}
 use Rattle.raft_log_engine.specs.raft_log_open.specs.Opening.{OpensDirectory}
 use Rattle.raft_log_recovery_laws.specs.Bare.{IsBare}
 use Rattle.raft_log_recovery_laws.specs.ByCalls.{home_of}
@@ -21,19 +21,19 @@ use Rattle.raft_log_crash_uses.specs.Saving.{Loads}
 -- The log of these settings was opened, and each of the changes was written durably: any map that the log had became
 -- that map with the changes, and nothing is pending.
 pub record OpensAndChanges {F : Type 0} (disk : F → Disk) (tells : F → List ℕ → ℕ → Type 0) (config : Config)
-    (changes : List KeyChange) (old : F) (engine : Shows) : Type 0 where
+    (changes : List KeyChange) (old : F) (engine : EngineState) : Type 0 where
   pub pipes : LogPipes
   pub tables : MemTables
   pub opens : OpensDirectory disk tells config old pipes tables
-  pub changed : (home : Home) (m : LogMap) → HoldsFresh home pipes tables m
-      → Holds home engine (taken m (map said_by changes)) []
+  pub changed : (home : LogDirectories) (m : LogMap) → HoldsFresh home pipes tables m
+      → Represents home engine (taken m (map said_by changes)) []
 
 -- One life: the log was opened with settings that name its directories, its keys were changed, and it ended.
 pub record LivesOnce {F C : Type 0} (disk : F → Disk) (tells : F → List ℕ → ℕ → Type 0) (life : Life C)
     (old new : F) : Type 0 where
   pub config : Config
   pub names : home_of config ≡ home_of life.config
-  pub engine : Shows
+  pub engine : EngineState
   pub changes : OpensAndChanges disk tells config life.changes.items old engine
   pub ends : Ends life.ending engine (disk new)
 
@@ -44,12 +44,12 @@ LivesOn {F} disk tells (life ∷ lives) old new =
     (between : F) × LivesOnce disk tells life old between × LivesOn disk tells lives between new
 
 -- all lives are in these directories
-abbrev pub AllLiveIn : {C : Type 0} → Home → List (Life C) → Type 0
+abbrev pub AllLiveIn : {C : Type 0} → LogDirectories → List (Life C) → Type 0
 AllLiveIn home [] = Unit {0}
 AllLiveIn home (life ∷ lives) = (home_of life.config ≡ home) × AllLiveIn home lives
 
 -- none of their ends left a CRC collision
-abbrev pub LivesWithoutChance : {F C : Type 0} → (disk : F → Disk) → (tells : F → List ℕ → ℕ → Type 0) → Home
+abbrev pub LivesWithoutChance : {F C : Type 0} → (disk : F → Disk) → (tells : F → List ℕ → ℕ → Type 0) → LogDirectories
     → (lives : List (Life C)) → (old new : F) → LivesOn disk tells lives old new → Type 0
 LivesWithoutChance disk tells home [] old new on = Unit {0}
 LivesWithoutChance disk tells home (life ∷ lives) old new on =

@@ -5,7 +5,7 @@ use Rattle.raft_log_engine.specs.raft_log_model_laws.specs.Groups.{taken}
 use Rattle.raft_log_engine.specs.raft_log_fs.specs.Disk.{Disk}
 use Rattle.raft_log_engine.specs.raft_log_fs.specs.Image.{IsImage}
 use Rattle.raft_log_engine.specs.raft_log_file_settings.specs.declared.config.Config.{Config}
-use Rattle.raft_log_engine.specs.raft_log_engine_laws.specs.Shows.{Home, LogMap, Shows}
+use Rattle.raft_log_engine.specs.raft_log_engine_laws.specs.EngineState.{LogDirectories, LogMap, EngineState}
 use Rattle.raft_log_recovery_laws.specs.Bare.{IsBare}
 use Rattle.raft_log_recovery_laws.specs.ByCalls.{home_of}
 use Rattle.raft_log_crash_uses.specs.declared.changing.KeyChange.{KeyChange}
@@ -16,8 +16,8 @@ use Rattle.raft_log_crash_uses.specs.Saving.{Loads}
 use Rattle.raft_log_crash_uses.specs.Standing.{CrashesWithoutChance, RunsOrIsLeft}
 
 -- any map that the log had, with nothing pending, it still has, though the engine may have failed
-abbrev pub KeepsTheMap : Shows → Shows → Type 0
-KeepsTheMap s t = (home : Home) (m : LogMap) → RunsOrIsLeft home s m [] → RunsOrIsLeft home t m []
+abbrev pub KeepsTheMap : EngineState → EngineState → Type 0
+KeepsTheMap s t = (home : LogDirectories) (m : LogMap) → RunsOrIsLeft home s m [] → RunsOrIsLeft home t m []
 
 -- the map of a log that began with these changes
 abbrev pub map_of : List KeyChange → LogMap
@@ -29,9 +29,9 @@ map_of changes = taken nothing_stands (map said_by changes)
 pub record ReadsBehindPurges {F : Type 0} (disk : F → Disk) (tells : F → List ℕ → ℕ → Type 0) (config : Config)
     (changes : List KeyChange) (again : Config) (group : ℕ) (key : List ℕ) (old : F) (found : Option (List ℕ))
     : Type 0 where
-  pub changed : Shows
+  pub changed : EngineState
   pub opens : OpensAndChanges disk tells config changes old changed
-  pub engine : Shows
+  pub engine : EngineState
   pub purges : KeepsTheMap changed engine
   pub left : F
   pub crashes : IsImage engine.pipes.disk (disk left)

@@ -6,26 +6,26 @@ use Rattle.raft_log_engine.specs.raft_log_model_laws.specs.Item.Record.{Plain}
 use Rattle.raft_log_engine.specs.raft_log_fs.specs.Disk.{Disk}
 use Rattle.raft_log_engine.specs.raft_log_file_settings.specs.declared.config.Config.{Config}
 use Rattle.raft_log_engine.specs.raft_log_memtables.specs.declared.mem_tables.MemTables.{MemTables}
-use Rattle.raft_log_engine.specs.raft_log_dual_pipes.specs.Pipes.{LogPipes, Said}
-use Rattle.raft_log_engine.specs.raft_log_engine_laws.specs.Shows.{Home, LogMap, Shows}
-use Rattle.raft_log_engine.specs.raft_log_engine_laws.specs.Holding.{Holds}
+use Rattle.raft_log_engine.specs.raft_log_dual_pipes.specs.Pipes.{LogPipes, LogRecordValue}
+use Rattle.raft_log_engine.specs.raft_log_engine_laws.specs.EngineState.{LogDirectories, LogMap, EngineState}
+use Rattle.raft_log_engine.specs.raft_log_engine_laws.specs.Holding.{Represents}
 use Rattle.raft_log_engine.specs.raft_log_engine_laws.specs.Reading.{StandsUnder}
 use Rattle.raft_log_engine.specs.raft_log_open.specs.Opening.{OpensDirectory}
 use Rattle.raft_log_recovery_laws.specs.Opened.{HoldsFresh}
 
 -- a batch that puts a value at a group's key
-abbrev pub put_of : ℕ → List ℕ → List ℕ → Said
+abbrev pub put_of : ℕ → List ℕ → List ℕ → LogRecordValue
 put_of group key value = Plain (record { group = group; item = Put key value } ∷ [])
 
 -- The log of these settings was opened, and a key's value was saved in it: any map that the log had became that map
 -- with the value, and nothing is pending.
 pub record Saves {F : Type 0} (disk : F → Disk) (tells : F → List ℕ → ℕ → Type 0) (config : Config) (group : ℕ)
-    (key value : List ℕ) (old : F) (engine : Shows) : Type 0 where
+    (key value : List ℕ) (old : F) (engine : EngineState) : Type 0 where
   pub pipes : LogPipes
   pub tables : MemTables
   pub opens : OpensDirectory disk tells config old pipes tables
-  pub saved : (home : Home) (m : LogMap) → HoldsFresh home pipes tables m
-      → Holds home engine (taken m (put_of group key value ∷ [])) []
+  pub saved : (home : LogDirectories) (m : LogMap) → HoldsFresh home pipes tables m
+      → Represents home engine (taken m (put_of group key value ∷ [])) []
 
 -- The log of these settings was opened, and a key was read from it: in any map that the log had, the key has this
 -- value.
@@ -34,4 +34,4 @@ pub record Loads {F : Type 0} (disk : F → Disk) (tells : F → List ℕ → �
   pub pipes : LogPipes
   pub tables : MemTables
   pub opens : OpensDirectory disk tells config old pipes tables
-  pub told : (home : Home) (m : LogMap) → HoldsFresh home pipes tables m → StandsUnder m group key found
+  pub told : (home : LogDirectories) (m : LogMap) → HoldsFresh home pipes tables m → StandsUnder m group key found

@@ -2,20 +2,20 @@
 use Rattle.std.proofs.Common.{inl, inr}
 use Rattle.std.specs.Prelude.{◌≡◌, ◌⊎◌, List, true}
 use Rattle.raft_log_engine.specs.raft_log_fs.specs.Disk.{Disk}
-use Rattle.raft_log_engine.specs.raft_log_dual_pipes.specs.Pipes.{Said}
-use Rattle.raft_log_engine.specs.raft_log_engine_laws.specs.Shows.{Home, LogMap, Shows, has_failed}
-use Rattle.raft_log_engine.specs.raft_log_engine_laws.specs.Holding.{Holds, IsLeftAt}
+use Rattle.raft_log_engine.specs.raft_log_dual_pipes.specs.Pipes.{LogRecordValue}
+use Rattle.raft_log_engine.specs.raft_log_engine_laws.specs.EngineState.{LogDirectories, LogMap, EngineState, has_failed}
+use Rattle.raft_log_engine.specs.raft_log_engine_laws.specs.Holding.{Represents, IsRecoverableAs}
 use Rattle.raft_log_recovery_laws.specs.Left.{IsCrashOf}
 use Rattle.raft_log_recovery_laws.specs.Running.{LeavesNoChance}
 
 -- the engine runs, and its log is this map with these batches pending; or it has failed, and left the log so
-abbrev pub RunsOrIsLeft : Home → Shows → LogMap → List Said → Type 0
+abbrev pub RunsOrIsLeft : LogDirectories → EngineState → LogMap → List LogRecordValue → Type 0
 RunsOrIsLeft home e m pending =
-    Holds home e m pending ⊎ ((has_failed e ≡ true) × IsLeftAt home e.pipes.disk m pending)
+    Represents home e m pending ⊎ ((has_failed e ≡ true) × IsRecoverableAs home e.pipes.disk m pending)
 
 -- A crash left no CRC collision. If the engine ran, this depends on its pipes; if it had failed, on the records in its
 -- files.
-abbrev pub CrashesWithoutChance : (home : Home) → (e : Shows) → (m : LogMap) → (pending : List Said)
+abbrev pub CrashesWithoutChance : (home : LogDirectories) → (e : EngineState) → (m : LogMap) → (pending : List LogRecordValue)
     → RunsOrIsLeft home e m pending → Disk → Type 0
 CrashesWithoutChance home e m pending (inl holds) image = LeavesNoChance home e.pipes image
 CrashesWithoutChance home e m pending (inr left) image = IsCrashOf home left.1.1.lies.state e.pipes.disk image

@@ -5,8 +5,8 @@ use Rattle.raft_log_engine.specs.raft_log_fs.specs.Image.{IsImage}
 use Rattle.raft_log_engine.specs.raft_log_file_settings.specs.declared.config.Config.{Config}
 use Rattle.raft_log_engine.specs.raft_log_memtables.specs.declared.mem_tables.MemTables.{MemTables}
 use Rattle.raft_log_engine.specs.raft_log_dual_pipes.specs.Pipes.{LogPipes}
-use Rattle.raft_log_engine.specs.raft_log_engine_laws.specs.Shows.{Home, LogMap, Shows}
-use Rattle.raft_log_engine.specs.raft_log_engine_laws.specs.Holding.{EndsAt, Holds}
+use Rattle.raft_log_engine.specs.raft_log_engine_laws.specs.EngineState.{LogDirectories, LogMap, EngineState}
+use Rattle.raft_log_engine.specs.raft_log_engine_laws.specs.Holding.{EndsAt, Represents}
 use Rattle.raft_log_engine.specs.raft_log_engine_laws.specs.Reading.{StandsUnder}
 use Rattle.raft_log_engine.specs.raft_log_open.specs.Opening.{OpensDirectory}
 use Rattle.raft_log_recovery_laws.specs.Bare.{IsBare}
@@ -23,11 +23,11 @@ use Rattle.raft_log_crash_uses.specs.Saving.{Loads, put_of}
 -- The log of these settings was opened, and a key's value was put in it: for any map that the log had, the put is
 -- pending after that map, or the map has it.
 pub record PutsUnsynced {F : Type 0} (disk : F → Disk) (tells : F → List ℕ → ℕ → Type 0) (config : Config) (group : ℕ)
-    (key value : List ℕ) (old : F) (engine : Shows) : Type 0 where
+    (key value : List ℕ) (old : F) (engine : EngineState) : Type 0 where
   pub pipes : LogPipes
   pub tables : MemTables
   pub opens : OpensDirectory disk tells config old pipes tables
-  pub put : (home : Home) (m : LogMap) → HoldsFresh home pipes tables m
+  pub put : (home : LogDirectories) (m : LogMap) → HoldsFresh home pipes tables m
       → EndsAt home engine m (put_of group key value ∷ [])
 
 -- The log of these settings was opened, a key was read from it, and it ended: any map that the log had is unchanged,
@@ -37,9 +37,9 @@ pub record LoadsAndEnds {F C : Type 0} (disk : F → Disk) (tells : F → List �
   pub pipes : LogPipes
   pub tables : MemTables
   pub opens : OpensDirectory disk tells config old pipes tables
-  pub engine : Shows
-  pub holds : (home : Home) (m : LogMap) → HoldsFresh home pipes tables m → Holds home engine m []
-  pub told : (home : Home) (m : LogMap) → HoldsFresh home pipes tables m → StandsUnder m group key found
+  pub engine : EngineState
+  pub holds : (home : LogDirectories) (m : LogMap) → HoldsFresh home pipes tables m → Represents home engine m []
+  pub told : (home : LogDirectories) (m : LogMap) → HoldsFresh home pipes tables m → StandsUnder m group key found
   pub ends : Ends ending engine (disk new)
 
 -- A key was put without a sync, the power went, the key was read, the log lived on, and the key was read once more.
@@ -49,7 +49,7 @@ pub record LoadsAndEnds {F C : Type 0} (disk : F → Disk) (tells : F → List �
 pub record StaysAsRead {F C : Type 0} (disk : F → Disk) (tells : F → List ℕ → ℕ → Type 0) (config : Config)
     (group : ℕ) (key value : List ℕ) (look : Config) (ending : Ending C) (lives : List (Life C)) (last : Config)
     (old : F) (first later : Option (List ℕ)) : Type 0 where
-  pub engine : Shows
+  pub engine : EngineState
   pub puts : PutsUnsynced disk tells config group key value old engine
   pub left : F
   pub crashes : IsImage engine.pipes.disk (disk left)

@@ -31,8 +31,8 @@ use Rattle.raft_log_dual_pipes.specs.State.{Spanned, LogOnDisk, spanned_at, with
 use Rattle.raft_log_dual_pipes.specs.Steps.{next_log}
 use Rattle.raft_log_dual_pipes.specs.Syncing.{raised_log}
 use Rattle.raft_log_dual_pipes.specs.Turning.{HasTaken, IsCutBack, in_span}
-use Rattle.raft_log_dual_pipes.specs.Lying.{OpenPipes, with_open, RunOrLie, LeavesQueue}
-use Rattle.raft_log_dual_pipes.specs.Beside.{AppendsBeside, LeavesRefused, FailsToAppendBeside, SyncsBeside, LeavesUnrotated, RotatesBeside, LeavesUnpurged, PurgesBeside, QuietCallsBeside}
+use Rattle.raft_log_dual_pipes.specs.OpenOrClosed.{OpenPipes, with_open, IsOpenOrClosed, LeavesQueue}
+use Rattle.raft_log_dual_pipes.specs.PerQueue.{AppendsBeside, LeavesRefused, FailsToAppendBeside, SyncsBeside, LeavesUnrotated, RotatesBeside, LeavesUnpurged, PurgesBeside, QuietCallsBeside}
 use Rattle.raft_log_dual_pipes.proofs.Lifts.{told_at, tie_at}
 use Rattle.raft_log_dual_pipes.proofs.Numbers.{quiet_rotates, none_pending, still_settled}
 use Rattle.raft_log_dual_pipes.proofs.OneQueue.{On, append_one}
@@ -40,10 +40,10 @@ use Rattle.raft_log_dual_pipes.proofs.Refused.{RunsCutBack, RunsLeftOut, Refused
 use Rattle.raft_log_dual_pipes.proofs.AppendStep.{runs_from, pipe_rebased}
 use Rattle.raft_log_dual_pipes.proofs.RefusedStep.{left_rebased}
 use Rattle.raft_log_dual_pipes.proofs.OtherSteps.{sync_gaps, unsynced_gaps, sync_one, raise_one, raised_in_span, put_same}
-use Rattle.raft_log_dual_pipes.proofs.LyingQueues.{runs_at, leaves, ties_leave}
+use Rattle.raft_log_dual_pipes.proofs.ClosedQueues.{runs_at, leaves, ties_leave}
 use Rattle.raft_log_dual_pipes.proofs.Spans.{span_is_there}
 
-module _ {R E V : Type 0} (log : TwoQueues R E V) (two : AreTwoQueues log) (which : Which) (o : OpenPipes) (before : PipeFiles) (s : LogOnDisk R) (is : RunOrLie log (with_open which o (Some before)) s) where
+module _ {R E V : Type 0} (log : TwoQueues R E V) (two : AreTwoQueues log) (which : Which) (o : OpenPipes) (before : PipeFiles) (s : LogOnDisk R) (is : IsOpenOrClosed log (with_open which o (Some before)) s) where
   abbrev layout : QueueLayout R
   layout = layout_at which log
 
@@ -57,13 +57,13 @@ module _ {R E V : Type 0} (log : TwoQueues R E V) (two : AreTwoQueues log) (whic
   runs = runs_at log two which o before s is
 
   -- the pipe runs on with other files of its queue
-  runs_on : (after : PipeFiles) (files : LogFiles R) (new : Disk) → after.first_seq ≡ before.first_seq → On layout s.disk after files new → RunOrLie log (with_open which o (Some after)) (next_log which s files new)
+  runs_on : (after : PipeFiles) (files : LogFiles R) (new : Disk) → after.first_seq ≡ before.first_seq → On layout s.disk after files new → IsOpenOrClosed log (with_open which o (Some after)) (next_log which s files new)
   runs_on after files new first pipe =
       let only : TouchesOnlyNames layout.own s.disk new = pipe.active.stands.others in
       leaves log two which o (Some before) (Some after) s (in_span q files) new is only (runs_from layout s.disk before after q files new runs first pipe)
 
   -- it has failed, and its files lie there
-  pub left_there : (next : Spanned R) (new : Disk) → StandsWithRecords layout.format layout.own s.disk next.files new → HasSpan layout.format next new → RunOrLie log (with_open which o None) (with_spanned which s next new)
+  pub left_there : (next : Spanned R) (new : Disk) → StandsWithRecords layout.format layout.own s.disk next.files new → HasSpan layout.format next new → IsOpenOrClosed log (with_open which o None) (with_spanned which s next new)
   left_there next new left there = leaves log two which o (Some before) None s next new is left.stands.others (inl (inl (left_rebased layout s.disk next.files new left), there))
 
   -- each number of the span has its file, which the pipe lists
@@ -166,11 +166,11 @@ module _ {R E V : Type 0} (log : TwoQueues R E V) (two : AreTwoQueues log) (whic
   }
 
   -- nothing was done
-  same_log : (w : Which) (now : Option PipeFiles) → RunOrLie log (with_open w o now) (with_spanned w s (spanned_at w s) s.disk) → RunOrLie log (with_open w o now) s
+  same_log : (w : Which) (now : Option PipeFiles) → IsOpenOrClosed log (with_open w o now) (with_spanned w s (spanned_at w s) s.disk) → IsOpenOrClosed log (with_open w o now) s
   same_log InAppend now there = there
   same_log InRewrite now there = there
 
-  nothing_done : (after : PipeFiles) (new : Disk) → SameFiles before after → new ≡ s.disk → (new ≡ s.disk) × RunOrLie log (with_open which o (Some after)) s
+  nothing_done : (after : PipeFiles) (new : Disk) → SameFiles before after → new ≡ s.disk → (new ≡ s.disk) × IsOpenOrClosed log (with_open which o (Some after)) s
   nothing_done after new same disk =
       let pipe = pipe_same layout.format layout.own layout.paths s.disk before after q.files s.disk same runs.pipe in
       (disk, same_log which (Some after) (leaves log two which o (Some before) (Some after) s q s.disk is pipe.active.stands.others (record { first = same.first ∙ runs.first; pipe = pipe })))

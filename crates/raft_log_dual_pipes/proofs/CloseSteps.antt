@@ -22,7 +22,7 @@ use Rattle.raft_log_dual_pipes.specs.State.{LogOnDisk, Pipes, spanned_at, RunsQu
 use Rattle.raft_log_dual_pipes.specs.Turning.{in_span}
 use Rattle.raft_log_dual_pipes.specs.Quiet.{QuietTo}
 use Rattle.raft_log_dual_pipes.specs.Steps.{next_log}
-use Rattle.raft_log_dual_pipes.specs.Lying.{OpenPipes, none_open, both_open, with_open, RunOrLie, LeavesQueue}
+use Rattle.raft_log_dual_pipes.specs.OpenOrClosed.{OpenPipes, none_open, both_open, with_open, IsOpenOrClosed, LeavesQueue}
 use Rattle.raft_log_dual_pipes.specs.Closing.{LeftAt, IsOrIsSettled, ClosesBeside, CloseIsAStep, NamesAreReserved, LiesClosed, LiesSettled, ClosedLogIsALog, SettledLogIsALog}
 use Rattle.raft_log_dual_pipes.proofs.Aside.{left_stays}
 use Rattle.raft_log_dual_pipes.proofs.Lifts.{told_at, tie_at}
@@ -30,10 +30,10 @@ use Rattle.raft_log_dual_pipes.proofs.Numbers.{quiet_same, quiet_settles, none_p
 use Rattle.raft_log_dual_pipes.proofs.RefusedStep.{left_rebased}
 use Rattle.raft_log_dual_pipes.proofs.OtherSteps.{put_same}
 use Rattle.raft_log_dual_pipes.proofs.BesideSteps.{left_there, listed_there, tied}
-use Rattle.raft_log_dual_pipes.proofs.LyingQueues.{lies_at, lies_span, runs_at, leaves, ties_leave, back}
+use Rattle.raft_log_dual_pipes.proofs.ClosedQueues.{lies_at, lies_span, runs_at, leaves, ties_leave, back}
 use Rattle.raft_log_dual_pipes.proofs.Spans.{there_moved}
 
-module _ {R E V : Type 0} (log : TwoQueues R E V) (two : AreTwoQueues log) (which : Which) (o : OpenPipes) (files : PipeFiles) (s : LogOnDisk R) (is : RunOrLie log (with_open which o (Some files)) s) where
+module _ {R E V : Type 0} (log : TwoQueues R E V) (two : AreTwoQueues log) (which : Which) (o : OpenPipes) (files : PipeFiles) (s : LogOnDisk R) (is : IsOpenOrClosed log (with_open which o (Some files)) s) where
   abbrev layout : QueueLayout R
   layout = layout_at which log
 
@@ -132,7 +132,7 @@ module _ {R E V : Type 0} (log : TwoQueues R E V) (two : AreTwoQueues log) (p : 
   abbrev second_open : OpenPipes
   second_open = record { append = None; rewrite = Some p.rewrite }
 
-  began : RunOrLie log (both_open p) s
+  began : IsOpenOrClosed log (both_open p) s
   began = record { append = run.append; rewrite = run.rewrite }
 
   -- the log once the first queue came to these files, and once both did
@@ -148,8 +148,8 @@ module _ {R E V : Type 0} (log : TwoQueues R E V) (two : AreTwoQueues log) (p : 
 
   -- Both last files were finished or not, which left each queue these files; then the files kept for use were
   -- renamed.
-  closed_from : (a r : LogFiles R) → IsOrIsSettled s.append.files a → LeftAt log InAppend one a → RunOrLie log second_open (s1 a) → LeavesOut (Ties log) InAppend s (s1 a) → LeavesClosed log.rewrite.format log.rewrite.own log.rewrite.paths p.rewrite one mid
-      → IsOrIsSettled s.rewrite.files r → LeftAt log InRewrite mid r → RunOrLie log none_open (s2 a r) → LeavesOut (Ties log) InRewrite (s1 a) (s2 a r) → (lies : LiesClosed log s new) × (lies.append ≡ a) × (lies.rewrite ≡ r)
+  closed_from : (a r : LogFiles R) → IsOrIsSettled s.append.files a → LeftAt log InAppend one a → IsOpenOrClosed log second_open (s1 a) → LeavesOut (Ties log) InAppend s (s1 a) → LeavesClosed log.rewrite.format log.rewrite.own log.rewrite.paths p.rewrite one mid
+      → IsOrIsSettled s.rewrite.files r → LeftAt log InRewrite mid r → IsOpenOrClosed log none_open (s2 a r) → LeavesOut (Ties log) InRewrite (s1 a) (s2 a r) → (lies : LiesClosed log s new) × (lies.append ≡ a) × (lies.rewrite ≡ r)
   closed_from a r a_is a_left one_stands one_ties finished r_is r_left two_stands two_ties =
       let first = close_is_a_step log two InAppend (both_open p) p.append s began in
       let second = close_is_a_step log two InRewrite second_open p.rewrite (s1 a) one_stands in

@@ -13,10 +13,10 @@ use Rattle.raft_log_directory_laws.specs.Calls.{ReadAgain, read_files}
 use Rattle.raft_log_dual_pipes.specs.Queues.{QueueLayout, IsQueueLayout, TwoQueues}
 use Rattle.raft_log_dual_pipes.specs.State.{Spanned}
 use Rattle.raft_log_dual_pipes.specs.Turning.{in_span}
-use Rattle.raft_log_dual_pipes.specs.Lying.{IsUnbegun, LiesQueue}
+use Rattle.raft_log_dual_pipes.specs.OpenOrClosed.{IsUnbegun, LiesQueue}
 use Rattle.raft_log_dual_pipes.specs.Reopening.{RestsQueue, CrashIsAStep}
 use Rattle.raft_log_dual_pipes.proofs.Stopped.{held_stops}
-use Rattle.raft_log_dual_pipes.proofs.LyingQueues.{lies}
+use Rattle.raft_log_dual_pipes.proofs.ClosedQueues.{lies}
 use Rattle.raft_log_dual_pipes.proofs.ReadingAgain.{read_one}
 use Rattle.raft_log_dual_pipes.proofs.Spans.{there_same}
 

@@ -19,15 +19,15 @@ use Rattle.raft_log_dual_pipes.specs.Queues.{QueueLayout}
 use Rattle.raft_log_dual_pipes.specs.State.{spanned_at, pipe_at, with_pipe, Run, Ties}
 use Rattle.raft_log_dual_pipes.specs.Turning.{in_span}
 use Rattle.raft_log_dual_pipes.specs.Steps.{next_log, NotAppended, TellsOfCall}
-use Rattle.raft_log_dual_pipes.specs.Lying.{both_open, RunOrLie}
-use Rattle.raft_log_dual_pipes.specs.Beside.{LeavesRefused}
+use Rattle.raft_log_dual_pipes.specs.OpenOrClosed.{both_open, IsOpenOrClosed}
+use Rattle.raft_log_dual_pipes.specs.PerQueue.{LeavesRefused}
 use Rattle.raft_log_dual_pipes.specs.Failing.{failed_pipe}
 use Rattle.raft_log_dual_pipes.proofs.Lifts.{run_at}
 use Rattle.raft_log_dual_pipes.proofs.AppendStep.{append_is_a_step}
 use Rattle.raft_log_dual_pipes.proofs.RefusedStep.{refused_append_is_a_step, refused_append_has_failed}
 use Rattle.raft_log_dual_pipes.proofs.OtherSteps.{sync_is_a_step}
 use Rattle.raft_log_dual_pipes.proofs.BesideSteps.{fails_to_append_beside, quiet_calls_beside}
-use Rattle.raft_log_dual_pipes.specs.Pipes.{LogPipes, LogSense, OnePipe, RunsOn, Said, State, files_of, header_at, layout_of, one_at, queue_of, queues}
+use Rattle.raft_log_dual_pipes.specs.Pipes.{LogPipes, LogSense, OnePipe, RunsOn, LogRecordValue, State, files_of, header_at, layout_of, one_at, queue_of, queues}
 use Rattle.raft_log_dual_pipes.specs.Calls.{AppendsTo, FailsToAppendTo, FailsToSyncQueue, RefusalLeaves, SyncsQueue}
 use Rattle.raft_log_dual_pipes.specs.PipeCalls.{SameRules}
 use Rattle.raft_log_dual_pipes.proofs.Pairing.{answered, at_log, both_run, err_through, is_failure, mended_at, next_disk, ok_through, runs_again, same_files, told, two_of, with_one}
@@ -53,7 +53,7 @@ module _ (which : Which) (v : LogPipes) (o : OnePipe) (d : Disk) where
       let (files, same, lies, whole) = (quiet_calls_beside (queues log) two which (both_open (files_of v)) (pipe_at which (files_of v)) s (both_run which log v s run)).0.refused d there in
       let runs = run_at (queues log) two which (files_of v) s run.run in (
         subst (λ (x : Disk). Fails x d) run.disk (there s.disk (spanned_at which s).files runs.pipe).0,
-        subst (λ (p : LogFiles LogRecord). RunOrLie (queues log) (failed_pipe which (files_of v)) (next_log which s p d)) same lies,
+        subst (λ (p : LogFiles LogRecord). IsOpenOrClosed (queues log) (failed_pipe which (files_of v)) (next_log which s p d)) same lies,
         subst (λ (p : LogFiles LogRecord). FailsWhole (Ties (queues log)) (Ties (queues log)) s (next_log which s p d)) same whole,
       )
 
@@ -66,7 +66,7 @@ module _ (which : Which) (v : LogPipes) (o : OnePipe) (d : Disk) where
       let (files, taken, last, next, step) = append_is_a_step (queues log) (two_of log v s run) which (files_of v) s run.run begin (queue_of which) signed y says o.files block d there first in
       (ap (λ i. i.queue) there.id, (files, taken, last, again log s files run same alive next, step))
 
-  left : (log : LogSense) (s : State) (y : Said) (error : Error) → RunsOn log v s → SameRules (one_at which v) o → (is_failure error ≡ false → o.failed ≡ false) → NotAppended (queues log) which (files_of v) s (header_at which v) y o.files error d
+  left : (log : LogSense) (s : State) (y : LogRecordValue) (error : Error) → RunsOn log v s → SameRules (one_at which v) o → (is_failure error ≡ false → o.failed ≡ false) → NotAppended (queues log) which (files_of v) s (header_at which v) y o.files error d
       → LeavesRefused (queues log) which (both_open (files_of v)) (pipe_at which (files_of v)) s (header_at which v) y o.files error d → (TellsOfCall error → Fails v.disk d) → RefusalLeaves log which s y v (with_one which v o d) error
   left log s y (errors.Io kind) run same alive (files, cut, next, step) beside counted = (counted tt, (files, cut, again log s files run same (alive refl) next, step))
   left log s y (errors.TryAgain text) run same alive (files, cut, next, step) beside counted = (counted tt, (files, cut, again log s files run same (alive refl) next, step))

@@ -20,7 +20,7 @@ use Rattle.raft_log_dual_pipes.specs.Queues.{TwoQueues, AreTwoQueues, layout_at,
 use Rattle.raft_log_dual_pipes.specs.State.{LogOnDisk, Pipes, pipe_at, Ties}
 use Rattle.raft_log_dual_pipes.specs.Steps.{next_log}
 use Rattle.raft_log_dual_pipes.specs.Writing.{IsAtOn}
-use Rattle.raft_log_dual_pipes.specs.Lying.{both_open, with_open, RunOrLie}
+use Rattle.raft_log_dual_pipes.specs.OpenOrClosed.{both_open, with_open, IsOpenOrClosed}
 use Rattle.raft_log_dual_pipes.specs.OnDisk.{LogLiesOn}
 use Rattle.raft_log_dual_pipes.specs.Failing.{LogEndsLying, failed_pipe, FailedPipeLeavesALog, FailedPipesLeaveLogs}
 use Rattle.raft_log_dual_pipes.proofs.BesideSteps.{fails_to_append_beside, quiet_calls_beside}
@@ -30,7 +30,7 @@ module _ {R E V : Type 0} (log : TwoQueues R E V) (two : AreTwoQueues log) (p : 
   s = h.state
 
   -- both pipes run
-  runs : (which : Which) → RunOrLie log (with_open which (both_open p) (Some (pipe_at which p))) s
+  runs : (which : Which) → IsOpenOrClosed log (with_open which (both_open p) (Some (pipe_at which p))) s
   runs InAppend = record { append = h.run.append; rewrite = h.run.rewrite }
   runs InRewrite = record { append = h.run.append; rewrite = h.run.rewrite }
 
@@ -46,7 +46,7 @@ module _ {R E V : Type 0} (log : TwoQueues R E V) (two : AreTwoQueues log) (p : 
       record { state = next_log which s files new; disk = on_disk which files new; stands = stands; holds = failed_whole (Ties log) (Ties log) s (next_log which s files new) v m pending h.at step }
 
   -- behind quiet events of one queue
-  moved_on : (which : Which) (t : LogOnDisk R) (new : Disk) → t.disk ≡ new → RunOrLie log (failed_pipe which p) t → LeavesOut (Ties log) which s t → LogEndsLying log (failed_pipe which p) new m pending
+  moved_on : (which : Which) (t : LogOnDisk R) (new : Disk) → t.disk ≡ new → IsOpenOrClosed log (failed_pipe which p) t → LeavesOut (Ties log) which s t → LogEndsLying log (failed_pipe which p) new m pending
   moved_on InAppend t new disk stands step =
       let ends = append_left_out (Ties log) (Ties log) s t v m pending h.at step in record {
         done = ends.done;
@@ -70,7 +70,7 @@ module _ {R E V : Type 0} (log : TwoQueues R E V) (two : AreTwoQueues log) (p : 
       let (files, goes, stands, step) = (quiet_calls_beside log two which (both_open p) (pipe_at which p) s (runs which)).1.refused header (pipe_at which p) errors.Failed new there in
       moved_on which (next_log which s files new) new (on_disk which files new) stands step
 
-  ended : (t : LogOnDisk R) (new : Disk) (batches : List (Record E V)) → t.disk ≡ new → RunOrLie log (failed_pipe InAppend p) t → LogEnds (Ties log t) m batches → LogEndsLying log (failed_pipe InAppend p) new m batches
+  ended : (t : LogOnDisk R) (new : Disk) (batches : List (Record E V)) → t.disk ≡ new → IsOpenOrClosed log (failed_pipe InAppend p) t → LogEnds (Ties log t) m batches → LogEndsLying log (failed_pipe InAppend p) new m batches
   ended t new batches disk stands ends = record {
     done = ends.done;
     rest = ends.rest;

@@ -10,7 +10,7 @@ pub mod Gaps
 mod LastFile
 pub mod LastFiles
 pub mod Lifts
-pub mod LyingQueues
+pub mod ClosedQueues
 pub mod Numbers
 pub mod OnDiskLaws
 pub mod OneQueue

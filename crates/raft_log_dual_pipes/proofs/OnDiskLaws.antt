@@ -25,19 +25,19 @@ use Rattle.raft_log_dual_pipes.specs.State.{LogOnDisk, Pipes, Ties}
 use Rattle.raft_log_dual_pipes.specs.Beginning.{begun_queue, stopped_log}
 use Rattle.raft_log_dual_pipes.specs.Steps.{next_log}
 use Rattle.raft_log_dual_pipes.specs.Writing.{IsAtOn}
-use Rattle.raft_log_dual_pipes.specs.Lying.{OpenPipes, none_open, both_open, with_open, RunOrLie}
+use Rattle.raft_log_dual_pipes.specs.OpenOrClosed.{OpenPipes, none_open, both_open, with_open, IsOpenOrClosed}
 use Rattle.raft_log_dual_pipes.specs.Reopening.{GoesOnFound, ReadsAgain, ReadsBothAgain, RestBoth, IsFoundOf, found_log, LeavesUnopened, OpensBeside, FoundLogIsALog}
 use Rattle.raft_log_dual_pipes.specs.Reopening.IsFoundOf.{unbegun}
-use Rattle.raft_log_dual_pipes.specs.OnDisk.{LogLiesOn, LogRestsOn, LogsGoOn, LogsGoOnDisks, LogOpenedOn, OpensBoth, RestingLogsOpen}
+use Rattle.raft_log_dual_pipes.specs.OnDisk.{LogLiesOn, IsDurableAs, LogsGoOn, LogsGoOnDisks, LogOpenedOn, OpensBoth, RestingLogsOpen}
 use Rattle.raft_log_dual_pipes.proofs.Wholes.{begun_log_is_empty}
-use Rattle.raft_log_dual_pipes.proofs.LyingQueues.{back, log_of}
+use Rattle.raft_log_dual_pipes.proofs.ClosedQueues.{back, log_of}
 use Rattle.raft_log_dual_pipes.proofs.ReadingAgain.{found_log_is_a_log}
 use Rattle.raft_log_dual_pipes.proofs.CrashSteps.{rests_lie, crash_is_a_step}
 use Rattle.raft_log_dual_pipes.proofs.OpenSteps.{found_stays, opens_touch, open_is_a_step}
 
 module _ {R E V : Type 0} (log : TwoQueues R E V) (two : AreTwoQueues log) where
   -- what rests lies there
-  rest_lies : (s : LogOnDisk R) → RestBoth log s → RunOrLie log none_open s
+  rest_lies : (s : LogOnDisk R) → RestBoth log s → IsOpenOrClosed log none_open s
   rest_lies s rests = record { append = rests_lie log.append s.append s.disk rests.append; rewrite = rests_lie log.rewrite s.rewrite s.disk rests.rewrite }
 
   -- nothing stands where no file is
@@ -48,7 +48,7 @@ module _ {R E V : Type 0} (log : TwoQueues R E V) (two : AreTwoQueues log) where
   abbrev fresh_log : Disk → LogOnDisk R
   fresh_log d = record { append = begun_queue nothing_before [] 0; rewrite = begun_queue nothing_before [] 0; disk = d }
 
-  nothing : (d : Disk) → IsFresh log.append.format log.append.own d d → IsFresh log.rewrite.format log.rewrite.own d d → LogRestsOn log d nothing_stands
+  nothing : (d : Disk) → IsFresh log.append.format log.append.own d d → IsFresh log.rewrite.format log.rewrite.own d d → IsDurableAs log d nothing_stands
   nothing d append rewrite =
       let a_limit = two.append.lawful.limit in
       let r_limit = two.rewrite.lawful.limit in
@@ -88,11 +88,11 @@ module _ {R E V : Type 0} (log : TwoQueues R E V) (two : AreTwoQueues log) where
     holds = stands_log (Ties log h.state) v h.at.files m pending h.at.stands h.at.there;
   }
 
-  rest : (d : Disk) (m : Map E V) → LogRestsOn log d m → LogLiesOn log none_open d m []
+  rest : (d : Disk) (m : Map E V) → IsDurableAs log d m → LogLiesOn log none_open d m []
   rest d m h = record { state = h.state; disk = h.disk; stands = rest_lies h.state h.rests; holds = h.holds }
 
   crashes : (o : OpenPipes) (d image : Disk) (m : Map E V) (pending : List (Record E V)) → (h : LogLiesOn log o d m pending) → IsImage d image
-      → NoChanceInLast log.append.format h.state.append.files d image → NoChanceInLast log.rewrite.format h.state.rewrite.files d image → (k : ℕ) × (k ≤ length pending) × LogRestsOn log image (taken m (take k pending))
+      → NoChanceInLast log.append.format h.state.append.files d image → NoChanceInLast log.rewrite.format h.state.rewrite.files d image → (k : ℕ) × (k ≤ length pending) × IsDurableAs log image (taken m (take k pending))
   crashes o d image m pending h is append_chance rewrite_chance =
       let s = h.state in
       let (a, r, a_within, r_within, rests, stands, reads, left, again) = crash_is_a_step log two o s image h.stands (subst (λ (x : Disk). IsImage x image) (sym h.disk) is)
@@ -132,7 +132,7 @@ module _ {R E V : Type 0} (log : TwoQueues R E V) (two : AreTwoQueues log) where
       log_then s t m (laws.rewrite_first s t t reads (laws.still InAppend t a)) holds
 
   -- a refused open leaves the log there
-  unopened : (which : Which) (o : OpenPipes) (s : LogOnDisk R) (m : Map E V) (error : Error) (new : Disk) → RunOrLie log (with_open which o None) s → s.append.files.pending ≡ [] → s.rewrite.files.pending ≡ [] → IsLog (Ties log s) m []
+  unopened : (which : Which) (o : OpenPipes) (s : LogOnDisk R) (m : Map E V) (error : Error) (new : Disk) → IsOpenOrClosed log (with_open which o None) s → s.append.files.pending ≡ [] → s.rewrite.files.pending ≡ [] → IsLog (Ties log s) m []
       → LeavesUnopened log which o s error new → LogLiesOn log (with_open which o None) new m []
   unopened which o s m errors.Memory new stands a r holds same = record { state = s; disk = sym same; stands = stands; holds = holds }
   unopened which o s m (errors.InvalidArgument text) new stands a r holds same = record { state = s; disk = sym same; stands = stands; holds = holds }
@@ -150,7 +150,7 @@ module _ {R E V : Type 0} (log : TwoQueues R E V) (two : AreTwoQueues log) where
   }
   unopened which o s m _ new stands a r holds leaves = absurd leaves
 
-module _ {R E V : Type 0} (log : TwoQueues R E V) (two : AreTwoQueues log) (d : Disk) (m : Map E V) (h : LogRestsOn log d m) (sound : IsSound d) (append rewrite : FoundFiles) (begin next : NewFiles)
+module _ {R E V : Type 0} (log : TwoQueues R E V) (two : AreTwoQueues log) (d : Disk) (m : Map E V) (h : IsDurableAs log d m) (sound : IsSound d) (append rewrite : FoundFiles) (begin next : NewFiles)
     (append_found : IsFoundOf log.append append h.state.append d) (rewrite_found : IsFoundOf log.rewrite rewrite h.state.rewrite d) where
   abbrev s : LogOnDisk R
   s = h.state
@@ -181,7 +181,7 @@ module _ {R E V : Type 0} (log : TwoQueues R E V) (two : AreTwoQueues log) (d : 
     t_synced : t.append.files.pending ≡ []
     t_synced = t_goes_on.pending
 
-    t_stands : RunOrLie log one_open t
+    t_stands : IsOpenOrClosed log one_open t
     t_stands = (first_open.answered one mid opens_there).2
 
     t_reads : ReadsAgain (Ties log) InAppend s t

@@ -33,14 +33,14 @@ use Rattle.raft_log_dual_pipes.specs.Queues.{QueueLayout, IsQueueLayout, TwoQueu
 use Rattle.raft_log_dual_pipes.specs.State.{Spanned, LogOnDisk, spanned_at, IsStopped, Ties}
 use Rattle.raft_log_dual_pipes.specs.Steps.{next_log}
 use Rattle.raft_log_dual_pipes.specs.Turning.{in_span}
-use Rattle.raft_log_dual_pipes.specs.Lying.{IsUnbegun, OpenPipes, with_open, RunOrLie}
+use Rattle.raft_log_dual_pipes.specs.OpenOrClosed.{IsUnbegun, OpenPipes, with_open, IsOpenOrClosed}
 use Rattle.raft_log_dual_pipes.specs.Reopening.{ReadsAgain, AreFound, GoesOnFound, IsFoundOf, found_log, LeavesUnopened, OpensBeside, OpenIsAStep}
 use Rattle.raft_log_dual_pipes.specs.Reopening.IsFoundOf.{stopped, unbegun}
 use Rattle.raft_log_dual_pipes.proofs.Lifts.{told_at}
 use Rattle.raft_log_dual_pipes.proofs.AppendStep.{pipe_rebased}
 use Rattle.raft_log_dual_pipes.proofs.RefusedStep.{left_rebased}
 use Rattle.raft_log_dual_pipes.proofs.Aside.{name_stays, kept_stays, stopped_stays}
-use Rattle.raft_log_dual_pipes.proofs.LyingQueues.{unbegun_stays, leaves, lies_at, lies_span}
+use Rattle.raft_log_dual_pipes.proofs.ClosedQueues.{unbegun_stays, leaves, lies_at, lies_span}
 use Rattle.raft_log_dual_pipes.proofs.ReadingAgain.{read_on, all_records}
 use Rattle.raft_log_dual_pipes.proofs.Spans.{gap_before, span_is_there, there_within}
 
@@ -166,7 +166,7 @@ found_stays layout told theirs old new apart only found q is = found_stays_so la
 
 -- Both queues.
 
-module _ {R E V : Type 0} (log : TwoQueues R E V) (two : AreTwoQueues log) (which : Which) (o : OpenPipes) (begin : NewFiles) (found : FoundFiles) (s : LogOnDisk R) (sound : IsSound s.disk) (is : RunOrLie log (with_open which o None) s) where
+module _ {R E V : Type 0} (log : TwoQueues R E V) (two : AreTwoQueues log) (which : Which) (o : OpenPipes) (begin : NewFiles) (found : FoundFiles) (s : LogOnDisk R) (sound : IsSound s.disk) (is : IsOpenOrClosed log (with_open which o None) s) where
   abbrev layout : QueueLayout R
   layout = layout_at which log
 
@@ -177,13 +177,13 @@ module _ {R E V : Type 0} (log : TwoQueues R E V) (two : AreTwoQueues log) (whic
   told = told_at log two which
 
   abbrev Answered : PipeFiles → Disk → Type 0
-  Answered files new = (p : LogFiles R) × GoesOnFound files q.files p × RunOrLie log (with_open which o (Some files)) (found_log which s files.first_seq p new) × ReadsAgain (Ties log) which s (found_log which s files.first_seq p new)
+  Answered files new = (p : LogFiles R) × GoesOnFound files q.files p × IsOpenOrClosed log (with_open which o (Some files)) (found_log which s files.first_seq p new) × ReadsAgain (Ties log) which s (found_log which s files.first_seq p new)
 
   abbrev Refused : Disk → Type 0
-  Refused new = (p : LogFiles R) × (p.pending ≡ []) × RunOrLie log (with_open which o None) (next_log which s p new) × ReadsAgain (Ties log) which s (next_log which s p new)
+  Refused new = (p : LogFiles R) × (p.pending ≡ []) × IsOpenOrClosed log (with_open which o None) (next_log which s p new) × ReadsAgain (Ties log) which s (next_log which s p new)
 
   -- its pipe runs
-  runs_found : (files : PipeFiles) (p : LogFiles R) (new : Disk) → IsPipe layout.format layout.own layout.paths s.disk files p new → RunOrLie log (with_open which o (Some files)) (found_log which s files.first_seq p new)
+  runs_found : (files : PipeFiles) (p : LogFiles R) (new : Disk) → IsPipe layout.format layout.own layout.paths s.disk files p new → IsOpenOrClosed log (with_open which o (Some files)) (found_log which s files.first_seq p new)
   runs_found files p new pipe = leaves log two which o None (Some files) s (record { first = files.first_seq; files = p }) new is pipe.active.stands.others (record { first = refl; pipe = pipe_rebased layout s.disk files p new pipe })
 
   -- no further than the span's first file

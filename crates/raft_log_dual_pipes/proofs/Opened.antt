@@ -14,9 +14,9 @@ use Rattle.raft_log_file_pipe.specs.Opening.{OpensPipe, OpenLeaves}
 use Rattle.raft_log_file_pipe.specs.declared.pipe_files.PipeFiles.{PipeFiles}
 use Rattle.raft_log_dual_pipes.specs.Own.{log_layout}
 use Rattle.raft_log_dual_pipes.specs.Queues.{QueueLayout, AreTwoQueues}
-use Rattle.raft_log_dual_pipes.specs.Lying.{OpenPipes, none_open}
+use Rattle.raft_log_dual_pipes.specs.OpenOrClosed.{OpenPipes, none_open}
 use Rattle.raft_log_dual_pipes.specs.OnDisk.{LogLiesOn, OpensBoth}
-use Rattle.raft_log_dual_pipes.proofs.LyingQueues.{lying_logs_are_logs}
+use Rattle.raft_log_dual_pipes.proofs.ClosedQueues.{lying_logs_are_logs}
 use Rattle.raft_log_dual_pipes.proofs.OnDiskLaws.{resting_logs_open}
 use Rattle.raft_log_dual_pipes.specs.Pipes.{OnePipe, LogPipes, LogSense, IsPipeOf, queues}
 use Rattle.raft_log_dual_pipes.specs.Opening.{layout_found, OpensFound, FailsToOpenFound, IsFoundAs, RestsAsFound, RunsAsFound, IsOpenedOf, OpensLog, FailsToOpenLog}

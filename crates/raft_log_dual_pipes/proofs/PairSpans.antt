@@ -16,8 +16,8 @@ use Rattle.raft_log_dual_pipes.specs.State.{spanned_at, pipe_at, with_pipe, Run}
 use Rattle.raft_log_dual_pipes.specs.Turning.{in_span}
 use Rattle.raft_log_dual_pipes.specs.Steps.{next_log, TellsOfCall}
 use Rattle.raft_log_dual_pipes.specs.Syncing.{NotPurged, NotRotated, raised_log}
-use Rattle.raft_log_dual_pipes.specs.Lying.{both_open}
-use Rattle.raft_log_dual_pipes.specs.Beside.{LeavesUnpurged, LeavesUnrotated}
+use Rattle.raft_log_dual_pipes.specs.OpenOrClosed.{both_open}
+use Rattle.raft_log_dual_pipes.specs.PerQueue.{LeavesUnpurged, LeavesUnrotated}
 use Rattle.raft_log_dual_pipes.proofs.Lifts.{run_at}
 use Rattle.raft_log_dual_pipes.proofs.RefusedStep.{refused_rotation_has_failed}
 use Rattle.raft_log_dual_pipes.proofs.BesideSteps.{quiet_calls_beside}

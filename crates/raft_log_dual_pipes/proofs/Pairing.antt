@@ -14,7 +14,7 @@ use Rattle.raft_log_directory_laws.specs.Calls.{Which}
 use Rattle.raft_log_directory_laws.specs.Calls.Which.{InAppend, InRewrite}
 use Rattle.raft_log_dual_pipes.specs.Queues.{QueueLayout, AreTwoQueues, layout_at}
 use Rattle.raft_log_dual_pipes.specs.State.{Spanned, with_spanned, pipe_at, with_pipe, Run}
-use Rattle.raft_log_dual_pipes.specs.Lying.{both_open, with_open, RunOrLie}
+use Rattle.raft_log_dual_pipes.specs.OpenOrClosed.{both_open, with_open, IsOpenOrClosed}
 use Rattle.raft_log_dual_pipes.specs.Own.{log_layout}
 use Rattle.raft_log_dual_pipes.specs.PipeCalls.{SameRules}
 use Rattle.raft_log_dual_pipes.specs.Pipes.{OnePipe, LogPipes, LogSense, IsPipeOf, RunsOn, State, files_of, is_failed, layout_of, one_at, queue_of, queues}
@@ -48,7 +48,7 @@ two_of log v s run = record {
 }
 
 -- both pipes run, told of one of them
-pub both_run : (which : Which) (log : LogSense) (v : LogPipes) (s : State) → RunsOn log v s → RunOrLie (queues log) (with_open which (both_open (files_of v)) (Some (pipe_at which (files_of v)))) s
+pub both_run : (which : Which) (log : LogSense) (v : LogPipes) (s : State) → RunsOn log v s → IsOpenOrClosed (queues log) (with_open which (both_open (files_of v)) (Some (pipe_at which (files_of v)))) s
 both_run InAppend log v s run = record { append = run.run.append; rewrite = run.run.rewrite }
 both_run InRewrite log v s run = record { append = run.run.append; rewrite = run.run.rewrite }
 

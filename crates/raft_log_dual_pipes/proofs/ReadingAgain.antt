@@ -27,10 +27,10 @@ use Rattle.raft_log_directory_laws.proofs.Sound.{sound_step}
 use Rattle.raft_log_directory_laws.proofs.LogLaws.{kept_first}
 use Rattle.raft_log_dual_pipes.specs.Queues.{TwoQueues, AreTwoQueues, layout_at}
 use Rattle.raft_log_dual_pipes.specs.State.{Spanned, LogOnDisk, spanned_at, Ties}
-use Rattle.raft_log_dual_pipes.specs.Lying.{OpenPipes, with_open, RunOrLie}
+use Rattle.raft_log_dual_pipes.specs.OpenOrClosed.{OpenPipes, with_open, IsOpenOrClosed}
 use Rattle.raft_log_dual_pipes.specs.Reopening.{ReadsAgain, ReadsBothAgain, found_log, FoundLogIsALog}
 use Rattle.raft_log_dual_pipes.proofs.Lifts.{tie_at}
-use Rattle.raft_log_dual_pipes.proofs.LyingQueues.{ties_leave}
+use Rattle.raft_log_dual_pipes.proofs.ClosedQueues.{ties_leave}
 
 -- One queue.
 
@@ -54,7 +54,7 @@ no_records q = sym (append-nil q.durable)
 
 module _ {R E V : Type 0} (log : TwoQueues R E V) (two : AreTwoQueues log) where
   -- a call on one queue found it again so, its span beginning with that number
-  pub read_on : (which : Which) (o : OpenPipes) (was : Option PipeFiles) (s : LogOnDisk R) (p : LogFiles R) (to count : ℕ) (new : Disk) → RunOrLie log (with_open which o was) s → TouchesOnlyNames (layout_at which log).own s.disk new
+  pub read_on : (which : Which) (o : OpenPipes) (was : Option PipeFiles) (s : LogOnDisk R) (p : LogFiles R) (to count : ℕ) (new : Disk) → IsOpenOrClosed log (with_open which o was) s → TouchesOnlyNames (layout_at which log).own s.disk new
       → GapsStay (layout_at which log).format (spanned_at which s).files s.disk new
       → ((low : ℕ) (f : FileQueue E V) → IsFileQueue log.says (layout_at which log).format (spanned_at which s).files low (spanned_at which s).first s.disk f → low ≤ to)
       → to ≤ (spanned_at which s).first → p.older ≡ (spanned_at which s).files.older → p.last ≡ (spanned_at which s).files.last

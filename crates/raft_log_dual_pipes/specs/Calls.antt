@@ -16,15 +16,15 @@ use Rattle.raft_log_dual_pipes.specs.State.{spanned_at, pipe_at, Ties}
 use Rattle.raft_log_dual_pipes.specs.Turning.{GoesOnInNext, HasLast, HasTaken, IsCutBack, IsOrGoesOn}
 use Rattle.raft_log_dual_pipes.specs.Steps.{next_log}
 use Rattle.raft_log_dual_pipes.specs.Syncing.{FailsMoved, raised_log}
-use Rattle.raft_log_dual_pipes.specs.Lying.{both_open, RunOrLie, LeavesQueue}
-use Rattle.raft_log_dual_pipes.specs.Beside.{LeavesRaised}
+use Rattle.raft_log_dual_pipes.specs.OpenOrClosed.{both_open, IsOpenOrClosed, LeavesQueue}
+use Rattle.raft_log_dual_pipes.specs.PerQueue.{LeavesRaised}
 use Rattle.raft_log_dual_pipes.specs.Failing.{failed_pipe}
-use Rattle.raft_log_dual_pipes.specs.Pipes.{LogPipes, LogSense, RunsOn, Said, State, files_of, header_at, is_failed, one_at, queue_of, queues, spares_at}
+use Rattle.raft_log_dual_pipes.specs.Pipes.{LogPipes, LogSense, RunsOn, LogRecordValue, State, files_of, header_at, is_failed, one_at, queue_of, queues, spares_at}
 
 -- A record is written: both pipes still run, and the queue's numbered files get the record, in the file of its
 -- location.
 abbrev pub AppendsTo : Which → (LogFileContext → List ℕ) → FileBlockHandle → LogPipes → LogPipes → Type 0
-AppendsTo which signed block v w = (log : LogSense) (s : State) (y : Said) → RunsOn log v s
+AppendsTo which signed block v w = (log : LogSense) (s : State) (y : LogRecordValue) → RunsOn log v s
     → (said : SaysRecord log.says (layout_at which (queues log)) (queue_of which) signed y)
     → (block.id.queue ≡ queue_of which) × ((files : LogFiles LogRecord)
     × HasTaken (header_at which v) (spares_at which v) s.disk (spanned_at which s).files files
@@ -48,25 +48,25 @@ LeavesOutOn log which s v w = (files : LogFiles LogRecord)
     × LeavesOut (Ties (queues log)) which s (next_log which s files w.disk)
 
 -- the pipe has failed: the log is on the disk, from which it may be opened, and the record may be there or not
-abbrev pub MayTakeOn : LogSense → Which → State → Said → LogPipes → LogPipes → Type 0
-MayTakeOn log which s y v w = LeavesQueue (queues log) which (both_open (files_of v)) None s w.disk
+abbrev pub MayContain : LogSense → Which → State → LogRecordValue → LogPipes → LogPipes → Type 0
+MayContain log which s y v w = LeavesQueue (queues log) which (both_open (files_of v)) None s w.disk
     (λ files. IsOrGoesOn (header_at which v) (spares_at which v) s.disk (spanned_at which s).files files
     ⊎ (IsCutBack (header_at which v) (spares_at which v) s.disk (spanned_at which s).files files
     ⊎ HasTaken (header_at which v) (spares_at which v) s.disk (spanned_at which s).files files))
     (MayAppend (Ties (queues log)) (Ties (queues log)) which y)
 
 -- What a failed append leaves, by its error. After `Io`, `TryAgain` and `Failed` a file call has failed.
-abbrev pub RefusalLeaves : LogSense → Which → State → Said → LogPipes → LogPipes → Error → Type 0
+abbrev pub RefusalLeaves : LogSense → Which → State → LogRecordValue → LogPipes → LogPipes → Error → Type 0
 RefusalLeaves log which s y v w (errors.Io kind) = Fails v.disk w.disk × CutsBackOn log which s v w
 RefusalLeaves log which s y v w (errors.TryAgain text) = Fails v.disk w.disk × CutsBackOn log which s v w
 RefusalLeaves log which s y v w errors.NumberRange = LeavesOutOn log which s v w
 RefusalLeaves log which s y v w errors.Memory = LeavesOutOn log which s v w
-RefusalLeaves log which s y v w errors.Failed = Fails v.disk w.disk × MayTakeOn log which s y v w
+RefusalLeaves log which s y v w errors.Failed = Fails v.disk w.disk × MayContain log which s y v w
 RefusalLeaves log which s y v w _ = ⊥
 
 -- an append fails: any log over which the pipes ran is left as the error says
 abbrev pub FailsToAppendTo : Which → (LogFileContext → List ℕ) → Error → LogPipes → LogPipes → Type 0
-FailsToAppendTo which signed error v w = (log : LogSense) (s : State) (y : Said) → RunsOn log v s
+FailsToAppendTo which signed error v w = (log : LogSense) (s : State) (y : LogRecordValue) → RunsOn log v s
     → SaysRecord log.says (layout_at which (queues log)) (queue_of which) signed y
     → RefusalLeaves log which s y v w error
 
@@ -80,7 +80,7 @@ SyncsQueue which v w = (log : LogSense) (s : State) → RunsOn log v s
 abbrev pub FailsToSyncQueue : Which → LogPipes → LogPipes → Type 0
 FailsToSyncQueue which v w = (log : LogSense) (s : State) → RunsOn log v s
     → Fails v.disk w.disk
-    × RunOrLie (queues log) (failed_pipe which (files_of v))
+    × IsOpenOrClosed (queues log) (failed_pipe which (files_of v))
     (next_log which s (spanned_at which s).files w.disk)
     × FailsWhole (Ties (queues log)) (Ties (queues log)) s
     (next_log which s (spanned_at which s).files w.disk)

@@ -17,7 +17,7 @@ use Rattle.raft_log_dual_pipes.specs.Queues.{TwoQueues, AreTwoQueues, layout_at}
 use Rattle.raft_log_dual_pipes.specs.State.{LogOnDisk, spanned_at, Pipes, Run, Ties}
 use Rattle.raft_log_dual_pipes.specs.Turning.{in_span}
 use Rattle.raft_log_dual_pipes.specs.Steps.{next_log}
-use Rattle.raft_log_dual_pipes.specs.Lying.{OpenPipes, none_open, with_open, RunOrLie, LeavesQueue}
+use Rattle.raft_log_dual_pipes.specs.OpenOrClosed.{OpenPipes, none_open, with_open, IsOpenOrClosed, LeavesQueue}
 
 -- the queue's last file holds its records
 abbrev pub LeftAt : {R E V : Type 0} → TwoQueues R E V → Which → Disk → LogFiles R → Type 0
@@ -49,17 +49,17 @@ pub record ClosesBeside {R E V : Type 0} (log : TwoQueues R E V) (which : Which)
 -- closing a pipe keeps its records, all of which may be synced, in any state of the other queue
 abbrev pub CloseIsAStep : {R E V : Type 0} → TwoQueues R E V → Type 0
 CloseIsAStep {R} log = AreTwoQueues log → (which : Which) (o : OpenPipes) (files : PipeFiles)
-    (s : LogOnDisk R) → RunOrLie log (with_open which o (Some files)) s → ClosesBeside log which o files s
+    (s : LogOnDisk R) → IsOpenOrClosed log (with_open which o (Some files)) s → ClosesBeside log which o files s
 
 -- giving reserved names to files kept for recycling removes nothing from a queue whose pipe is closed
 abbrev pub NamesAreReserved : {R E V : Type 0} → TwoQueues R E V → Type 0
 NamesAreReserved {R} log = AreTwoQueues log → (which : Which) (o : OpenPipes) (kept : List Listed)
-    (s : LogOnDisk R) (new : Disk) → RunOrLie log (with_open which o None) s
+    (s : LogOnDisk R) (new : Disk) → IsOpenOrClosed log (with_open which o None) s
     → LeftAt log which s.disk (spanned_at which s).files → AreBelow (spanned_at which s).files.last kept
     → AreBelow (spanned_at which s).first kept
     → StaysLeft (layout_at which log).format (layout_at which log).own kept s.disk new
     → LeftAt log which new (spanned_at which s).files
-    × RunOrLie log (with_open which o None) (next_log which s (spanned_at which s).files new)
+    × IsOpenOrClosed log (with_open which o None) (next_log which s (spanned_at which s).files new)
     × FailsWhole (Ties log) (Ties log) s (next_log which s (spanned_at which s).files new)
 
 -- the disks that closing both pipes goes through: both active files are finished first
@@ -84,7 +84,7 @@ pub record LiesClosed {R E V : Type 0} (log : TwoQueues R E V) (s : LogOnDisk R)
   pub rewrite : LogFiles R
   pub append_is : IsOrIsSettled s.append.files append
   pub rewrite_is : IsOrIsSettled s.rewrite.files rewrite
-  pub lies : RunOrLie log none_open (closed_log s append rewrite new)
+  pub lies : IsOpenOrClosed log none_open (closed_log s append rewrite new)
   pub moves : (f : Files E V) → Ties log s f → (a : Moved f.append_from f.append)
       × (r : Moved f.rewrite_from f.rewrite) × Ties log (closed_log s append rewrite new)
       (record { append = a.queue; append_from = a.from; rewrite = r.queue; rewrite_from = r.from })

@@ -16,7 +16,7 @@ use Rattle.raft_log_directory_laws.specs.Log.{View}
 use Rattle.raft_log_directory_laws.specs.Tables.{GrowsTo}
 use Rattle.raft_log_dual_pipes.specs.Queues.{TwoQueues, AreTwoQueues, layout_at, SaysRecord}
 use Rattle.raft_log_dual_pipes.specs.State.{Pipes, pipe_at}
-use Rattle.raft_log_dual_pipes.specs.Lying.{OpenPipes, both_open, with_open}
+use Rattle.raft_log_dual_pipes.specs.OpenOrClosed.{OpenPipes, both_open, with_open}
 use Rattle.raft_log_dual_pipes.specs.OnDisk.{LogLiesOn}
 use Rattle.raft_log_dual_pipes.specs.Writing.{IsAtOn}
 

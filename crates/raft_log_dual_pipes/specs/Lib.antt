@@ -1,5 +1,5 @@
 pub mod Beginning
-pub mod Beside
+pub mod PerQueue
 pub mod Calls
 pub mod Closing
 pub mod ClosingCalls
@@ -8,7 +8,7 @@ pub mod Failing
 pub mod HoldingBack
 pub mod LastFile
 pub mod LastFiles
-pub mod Lying
+pub mod OpenOrClosed
 pub mod Numbers
 pub mod OldRecords
 pub mod OnDisk

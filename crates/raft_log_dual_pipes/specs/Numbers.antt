@@ -8,7 +8,7 @@ use Rattle.raft_log_file_pipe.specs.Purging.{HasFarFile}
 use Rattle.raft_log_directory_laws.specs.Calls.{Which}
 use Rattle.raft_log_dual_pipes.specs.Queues.{layout_at, SaysRecord}
 use Rattle.raft_log_dual_pipes.specs.State.{pipe_at}
-use Rattle.raft_log_dual_pipes.specs.Pipes.{LogPipes, LogSense, RunsOn, Said, State, files_of, one_at, queue_of, queues}
+use Rattle.raft_log_dual_pipes.specs.Pipes.{LogPipes, LogSense, RunsOn, LogRecordValue, State, files_of, one_at, queue_of, queues}
 
 -- no file's name has the number after that of a queue's active file
 abbrev pub HasLastNumber : Which → LogPipes → Type 0
@@ -27,7 +27,7 @@ IsFull which v = (one_at which v).settings.new_files.target_size ≤ (pipe_at wh
 -- was full, or for lack of space after a failed file call.
 abbrev pub EndsNumbersAt : Which → (LogFileContext → List ℕ) → Error → LogPipes → LogPipes → Type 0
 EndsNumbersAt which signed error v w = error ≡ errors.NumberRange
-    → (log : LogSense) (s : State) (y : Said) → RunsOn log v s
+    → (log : LogSense) (s : State) (y : LogRecordValue) → RunsOn log v s
     → SaysRecord log.says (layout_at which (queues log)) (queue_of which) signed y
     → HasLastNumber which w × (IsFull which v ⊎ Fails v.disk w.disk)
 

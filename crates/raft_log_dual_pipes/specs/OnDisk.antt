@@ -16,7 +16,7 @@ use Rattle.raft_log_directory_laws.specs.Log.{View, IsLog, IsLogOf}
 use Rattle.raft_log_dual_pipes.specs.Queues.{TwoQueues, AreTwoQueues}
 use Rattle.raft_log_dual_pipes.specs.State.{LogOnDisk, Pipes, Run, Ties}
 use Rattle.raft_log_dual_pipes.specs.Crash.{readings_of}
-use Rattle.raft_log_dual_pipes.specs.Lying.{OpenPipes, none_open, both_open, RunOrLie}
+use Rattle.raft_log_dual_pipes.specs.OpenOrClosed.{OpenPipes, none_open, both_open, IsOpenOrClosed}
 use Rattle.raft_log_dual_pipes.specs.Reopening.{GoesOnFound, ReadsBothAgain, RestBoth, IsFoundOf}
 use Rattle.raft_log_dual_pipes.specs.Writing.{IsAtOn}
 
@@ -25,11 +25,11 @@ pub record LogLiesOn {R E V : Type 0} (log : TwoQueues R E V) (o : OpenPipes) (d
     (pending : List (Record E V)) : Type 0 where
   pub state : LogOnDisk R
   pub disk : state.disk ≡ d
-  pub stands : RunOrLie log o state
+  pub stands : IsOpenOrClosed log o state
   pub holds : IsLog (Ties log state) m pending
 
 -- Some log is on the disk at rest, as a stop leaves it: its contents are this map, and nothing of it is unsynced.
-pub record LogRestsOn {R E V : Type 0} (log : TwoQueues R E V) (d : Disk) (m : Map E V) : Type 0 where
+pub record IsDurableAs {R E V : Type 0} (log : TwoQueues R E V) (d : Disk) (m : Map E V) : Type 0 where
   pub state : LogOnDisk R
   pub disk : state.disk ≡ d
   pub rests : RestBoth log state
@@ -45,7 +45,7 @@ pub record LogRestsOn {R E V : Type 0} (log : TwoQueues R E V) (d : Disk) (m : M
 --   with it.
 pub record LogsGoOn {R E V : Type 0} (log : TwoQueues R E V) : Type 0 where
   pub nothing : (d : Disk) → IsFresh log.append.format log.append.own d d
-      → IsFresh log.rewrite.format log.rewrite.own d d → LogRestsOn log d nothing_stands
+      → IsFresh log.rewrite.format log.rewrite.own d d → IsDurableAs log d nothing_stands
   pub none_found : (d : Disk) (append : IsFresh log.append.format log.append.own d d)
       → (rewrite : IsFresh log.rewrite.format log.rewrite.own d d)
       → (found : FoundFiles) → found.files.items ≡ [] → found.recycled.items ≡ []
@@ -53,14 +53,14 @@ pub record LogsGoOn {R E V : Type 0} (log : TwoQueues R E V) : Type 0 where
       × IsFoundOf log.rewrite found (nothing d append rewrite).state.rewrite d
   pub engine : (p : Pipes) (d : Disk) (v : View E V) (m : Map E V) (pending : List (Record E V))
       → IsAtOn log p d v m pending → LogLiesOn log (both_open p) d m pending
-  pub rest : (d : Disk) (m : Map E V) → LogRestsOn log d m → LogLiesOn log none_open d m []
+  pub rest : (d : Disk) (m : Map E V) → IsDurableAs log d m → LogLiesOn log none_open d m []
   pub means : (o : OpenPipes) (d : Disk) (m : Map E V) (pending : List (Record E V))
       → (h : LogLiesOn log o d m pending) → IsSound d → IsLogOf (readings_of log) h.state m pending
   pub crashes : (o : OpenPipes) (d image : Disk) (m : Map E V) (pending : List (Record E V))
       → (h : LogLiesOn log o d m pending) → IsImage d image
       → NoChanceInLast log.append.format h.state.append.files d image
       → NoChanceInLast log.rewrite.format h.state.rewrite.files d image
-      → (k : ℕ) × (k ≤ length pending) × LogRestsOn log image (taken m (take k pending))
+      → (k : ℕ) × (k ≤ length pending) × IsDurableAs log image (taken m (take k pending))
 
 -- a log of any two queues continues: on the disk while an engine has it open, and at rest after a crash
 abbrev pub LogsGoOnDisks : {R E V : Type 0} → TwoQueues R E V → Type 0
@@ -82,7 +82,7 @@ pub record LogOpenedOn {R E V : Type 0} (log : TwoQueues R E V) (p : Pipes) (was
 -- Both pipes of a log at rest are opened, Append's first, over what was found of the queues. Wherever an open fails,
 -- the log is still on the disk.
 pub record OpensBoth {R E V : Type 0} (log : TwoQueues R E V) (d : Disk) (m : Map E V)
-    (h : LogRestsOn log d m) (append rewrite : FoundFiles) (begin next : NewFiles) : Type 0 where
+    (h : IsDurableAs log d m) (append rewrite : FoundFiles) (begin next : NewFiles) : Type 0 where
   pub first_refused : (error : Error) (mid : Disk)
       → OpenLeaves log.append.format log.append.own log.append.paths begin append error d mid
       → LogLiesOn log none_open mid m []
@@ -98,7 +98,7 @@ pub record OpensBoth {R E V : Type 0} (log : TwoQueues R E V) (d : Disk) (m : Ma
 -- both pipes of a log at rest may be opened, over what was found of its queues; if that fails, the log is still on the
 -- disk
 abbrev pub RestingLogsOpen : {R E V : Type 0} → TwoQueues R E V → Type 0
-RestingLogsOpen {R} {E} {V} log = AreTwoQueues log → (d : Disk) (m : Map E V) (h : LogRestsOn log d m)
+RestingLogsOpen {R} {E} {V} log = AreTwoQueues log → (d : Disk) (m : Map E V) (h : IsDurableAs log d m)
     → IsSound d → (append rewrite : FoundFiles) (begin next : NewFiles)
     → IsFoundOf log.append append h.state.append d → IsFoundOf log.rewrite rewrite h.state.rewrite d
     → OpensBoth log d m h append rewrite begin next

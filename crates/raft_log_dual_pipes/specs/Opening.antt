@@ -13,9 +13,9 @@ use Rattle.raft_log_directory_laws.specs.Log.{IsLog}
 use Rattle.raft_log_dual_pipes.specs.Own.{log_layout}
 use Rattle.raft_log_dual_pipes.specs.Queues.{QueueLayout}
 use Rattle.raft_log_dual_pipes.specs.State.{Ties}
-use Rattle.raft_log_dual_pipes.specs.Lying.{none_open}
+use Rattle.raft_log_dual_pipes.specs.OpenOrClosed.{none_open}
 use Rattle.raft_log_dual_pipes.specs.Reopening.{GoesOnFound, IsFoundOf, ReadsBothAgain}
-use Rattle.raft_log_dual_pipes.specs.OnDisk.{LogLiesOn, LogRestsOn}
+use Rattle.raft_log_dual_pipes.specs.OnDisk.{LogLiesOn, IsDurableAs}
 use Rattle.raft_log_dual_pipes.specs.Pipes.{LogPipes, LogSense, OnePipe, RunsOn, State, queues}
 use Rattle.raft_log_dual_pipes.specs.declared.opening.FoundPipe.{FoundPipe}
 
@@ -44,7 +44,7 @@ pub record RestsAsFound (log : LogSense) (m : Map (List ℕ) (List ℕ)) (append
     (d : Disk) : Type 0 where
   pub append_as : IsFoundAs Append log.append append
   pub rewrite_as : IsFoundAs Rewrite log.rewrite rewrite
-  pub rests : LogRestsOn (queues log) d m
+  pub rests : IsDurableAs (queues log) d m
   pub append_found : IsFoundOf (queues log).append append.found rests.state.append d
   pub rewrite_found : IsFoundOf (queues log).rewrite rewrite.found rests.state.rewrite d
 

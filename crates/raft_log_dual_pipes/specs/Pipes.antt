@@ -77,12 +77,12 @@ pub record ArmsPipes (fault : Fault) (v w : LogPipes) : Type 0 where
   pub others : w ≡ record v { disk = w.disk }
 
 -- what a record says; an entry is represented by its bytes, and a key's value by its own
-abbrev pub Said : Type 0
-Said = Record (List ℕ) (List ℕ)
+abbrev pub LogRecordValue : Type 0
+LogRecordValue = Record (List ℕ) (List ℕ)
 
 -- how a log is read: what its records say, and the directories of each queue's files
 pub record LogSense : Type 0 where
-  pub says : LogRecord → Said
+  pub says : LogRecord → LogRecordValue
   pub append : List (List ℕ)
   pub rewrite : List (List ℕ)
 

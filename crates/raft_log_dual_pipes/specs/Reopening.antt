@@ -27,7 +27,7 @@ use Rattle.raft_log_dual_pipes.specs.State.{Spanned, LogOnDisk, spanned_at, with
 use Rattle.raft_log_dual_pipes.specs.Crash.{IsLeftByCrash}
 use Rattle.raft_log_dual_pipes.specs.Beginning.{stopped_log}
 use Rattle.raft_log_dual_pipes.specs.Steps.{next_log}
-use Rattle.raft_log_dual_pipes.specs.Lying.{IsUnbegun, OpenPipes, none_open, with_open, RunOrLie}
+use Rattle.raft_log_dual_pipes.specs.OpenOrClosed.{IsUnbegun, OpenPipes, none_open, with_open, IsOpenOrClosed}
 
 -- In one queue, some numbered files that had left the live range may be in it again. Some first unsynced records are
 -- kept, and all that was read is synced.
@@ -56,13 +56,13 @@ pub record RestBoth {R E V : Type 0} (log : TwoQueues R E V) (s : LogOnDisk R) :
 -- of each. It is as if they had been read again. What the next crash leaves of that has no CRC collision.
 abbrev pub CrashIsAStep : {R E V : Type 0} → TwoQueues R E V → Type 0
 CrashIsAStep {R} log = AreTwoQueues log → (o : OpenPipes) (s : LogOnDisk R) (image : Disk)
-    → RunOrLie log o s → IsImage s.disk image
+    → IsOpenOrClosed log o s → IsImage s.disk image
     → NoChanceInLast log.append.format s.append.files s.disk image
     → NoChanceInLast log.rewrite.format s.rewrite.files s.disk image
     → (append rewrite : ℕ) × (append ≤ length s.append.files.pending)
     × (rewrite ≤ length s.rewrite.files.pending)
     × RestBoth log (stopped_log s append rewrite image)
-    × RunOrLie log none_open (stopped_log s append rewrite image)
+    × IsOpenOrClosed log none_open (stopped_log s append rewrite image)
     × ReadsBothAgain (Ties log) s (stopped_log s append rewrite image)
     × IsLeftByCrash log s (stopped_log s append rewrite image)
     × ((later : LogOnDisk R) → IsImage image later.disk → later.append.first ≡ s.append.first
@@ -103,7 +103,7 @@ abbrev pub LeavesUnopened : {R E V : Type 0} → TwoQueues R E V → Which → O
 LeavesUnopened log which o s errors.Memory new = new ≡ s.disk
 LeavesUnopened log which o s (errors.InvalidArgument text) new = new ≡ s.disk
 LeavesUnopened {R} log which o s (errors.Io kind) new = (files : LogFiles R) × (files.pending ≡ [])
-    × RunOrLie log (with_open which o None) (next_log which s files new)
+    × IsOpenOrClosed log (with_open which o None) (next_log which s files new)
     × ReadsAgain (Ties log) which s (next_log which s files new)
 LeavesUnopened log which o s _ new = ⊥
 
@@ -124,7 +124,7 @@ pub record OpensBeside {R E V : Type 0} (log : TwoQueues R E V) (which : Which) 
       → OpensPipe (layout_at which log).format (layout_at which log).own (layout_at which log).paths begin found
       files s.disk new
       → (q : LogFiles R) × GoesOnFound files (spanned_at which s).files q
-      × RunOrLie log (with_open which o (Some files)) (found_log which s files.first_seq q new)
+      × IsOpenOrClosed log (with_open which o (Some files)) (found_log which s files.first_seq q new)
       × ReadsAgain (Ties log) which s (found_log which s files.first_seq q new)
   pub refused : (error : Error) (new : Disk)
       → OpenLeaves (layout_at which log).format (layout_at which log).own (layout_at which log).paths begin
@@ -134,7 +134,7 @@ pub record OpensBeside {R E V : Type 0} (log : TwoQueues R E V) (which : Which) 
 -- a pipe is opened over what was found of its queue, or fails to open, in any state of the other queue
 abbrev pub OpenIsAStep : {R E V : Type 0} → TwoQueues R E V → Type 0
 OpenIsAStep {R} log = AreTwoQueues log → (which : Which) (o : OpenPipes) (begin : NewFiles)
-    (found : FoundFiles) (s : LogOnDisk R) → IsSound s.disk → RunOrLie log (with_open which o None) s
+    (found : FoundFiles) (s : LogOnDisk R) → IsSound s.disk → IsOpenOrClosed log (with_open which o None) s
     → IsFoundOf (layout_at which log) found (spanned_at which s) s.disk
     → OpensBeside log which o begin found s
 

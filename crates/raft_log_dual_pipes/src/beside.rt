@@ -1,7 +1,7 @@
 //! Calls on one queue while the other's pipe runs, has failed, or isn't open. Each call leaves both queues in one of
 //! these states again, and its law states the effect on the numbered files.
 
-ghost use Rattle.raft_log_dual_pipes.specs.Beside.{AppendsBeside, FailsToAppendBeside, QuietCallsBeside};
+ghost use Rattle.raft_log_dual_pipes.specs.PerQueue.{AppendsBeside, FailsToAppendBeside, QuietCallsBeside};
 
 use crate::queues::LogQueues;
 

@@ -1,6 +1,6 @@
 //! The queues of a log, each in its own state.
 
-ghost use Rattle.raft_log_dual_pipes.specs.Lying.{LyingLogsAreLogs};
+ghost use Rattle.raft_log_dual_pipes.specs.OpenOrClosed.{LyingLogsAreLogs};
 
 use crate::queues::LogQueues;
 

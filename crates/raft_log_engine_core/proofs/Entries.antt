@@ -22,11 +22,11 @@ use Rattle.raft_log_memtables.specs.declared.group_table.GroupTable.{GroupTable}
 use Rattle.raft_log_memtables.specs.declared.mem_tables.MemTables.{MemTables}
 use Rattle.raft_log_memtables.specs.Tables.{counting, counts, counts_in, shown_in, shown_of, table_of}
 use Rattle.raft_log_block_cache.specs.Stored.{entries_at}
-use Rattle.raft_log_dual_pipes.specs.Pipes.{Said}
+use Rattle.raft_log_dual_pipes.specs.Pipes.{LogRecordValue}
 use Rattle.raft_log_block_cache.specs.declared.block_cache.BlockCache.{BlockCache}
 use Rattle.raft_log_block_cache.specs.Blocks.{AreUnread, IsEntryUnread, IsOfLog, ReadsEntries, ReadsEntry}
-use Rattle.raft_log_purge.specs.raft_log_engine_laws.specs.Shows.{Home, LogMap, Shows, has_failed}
-use Rattle.raft_log_purge.specs.raft_log_engine_laws.specs.Holding.{Holds}
+use Rattle.raft_log_purge.specs.raft_log_engine_laws.specs.EngineState.{LogDirectories, LogMap, EngineState, has_failed}
+use Rattle.raft_log_purge.specs.raft_log_engine_laws.specs.Holding.{Represents}
 use Rattle.raft_log_purge.specs.raft_log_engine_laws.specs.Fetching.{AreEntriesOf, AreToRead, FailsToFetch, FailsToTell, FetchesTo, IsOneUntold, StaysButBlock, TellsEntry}
 use Rattle.raft_log_purge.specs.raft_log_engine_laws.proofs.Fetching.{all_told, all_untold, fetched_from, first_untold, told_of, untold_at_stop, untold_of}
 use Rattle.raft_log_engine_core.specs.Reads.{HasFirst, IsToldAs}
@@ -69,12 +69,12 @@ none_at i = by (nat_le 0 i)
     by false = refl
 
 -- an engine with another block, which is the log's
-with_block : (home : Home) (s t : Shows) (m : LogMap) (pending : List Said) → t ≡ record s { cache = t.cache } → (h : Holds home s m pending) → IsOfLog h.state t.cache → Holds home t m pending
+with_block : (home : LogDirectories) (s t : EngineState) (m : LogMap) (pending : List LogRecordValue) → t ≡ record s { cache = t.cache } → (h : Represents home s m pending) → IsOfLog h.state t.cache → Represents home t m pending
 with_block home s t m pending same h cached =
-    subst (λ u. Holds home u m pending) (sym same)
+    subst (λ u. Represents home u m pending) (sym same)
     (record { state = h.state; map = h.map; runs = h.runs; stored = h.stored; rises = h.rises; noted = h.noted; meant = h.meant; cached = cached; at = h.at })
 
-pub stays_same : (s : Shows) → StaysButBlock s s
+pub stays_same : (s : EngineState) → StaysButBlock s s
 stays_same s = record { same = refl; holds = λ home m pending h. h }
 
 -- no entry is told where the map has none
@@ -87,8 +87,8 @@ unmapped : {A B : Type 0} (f : A → B) (o : Option A) → option_map f o ≡ No
 unmapped f None none = refl
 unmapped f (Some x) none = absurd (let never : ⊥ = cc in never)
 
-module _ (s : Shows) (g i : ℕ) (none : entry_at (s.tables g) i ≡ None) where
-  none_told : (home : Home) (m : LogMap) (pending : List Said) → Holds home s m pending → taken m pending g (Index i) ≡ None
+module _ (s : EngineState) (g i : ℕ) (none : entry_at (s.tables g) i ≡ None) where
+  none_told : (home : LogDirectories) (m : LogMap) (pending : List LogRecordValue) → Represents home s m pending → taken m pending g (Index i) ≡ None
   none_told home m pending h = subst (λ (k : LogMap). k g (Index i) ≡ None) h.at.stands.map (sym (h.meant.meant g (Index i)) ∙ by (nat_le (s.tables g).first i) none)
     where
       by : (b : Bool) → (if b then option_map (entry_of (queue_of (nat_lt (i - (s.tables g).first) (s.tables g).rewritten)) i) (slice_get (s.tables g).places (i - (s.tables g).first)) else None) ≡ None
@@ -100,10 +100,10 @@ module _ (s : Shows) (g i : ℕ) (none : entry_at (s.tables g) i ≡ None) where
           (slice_get_past (located (s.tables g).rewritten (s.tables g).places) (i - (s.tables g).first) (omega (arith, past, long)))
       by false there = refl
 
-pub tells_none : {M : Type 0} (reading : List ℕ → Option M) (s : Shows) (g i : ℕ) → has_failed s ≡ false → entry_at (s.tables g) i ≡ None → TellsEntry reading g i s s None
+pub tells_none : {M : Type 0} (reading : List ℕ → Option M) (s : EngineState) (g i : ℕ) → has_failed s ≡ false → entry_at (s.tables g) i ≡ None → TellsEntry reading g i s s None
 tells_none reading s g i lived none = record { lived = lived; stays = stays_same s; exact = λ home m pending h. none_told s g i none home m pending h }
 
-module _ {M : Type 0} (reading : List ℕ → Option M) (s t : Shows) (g : ℕ) (lived : has_failed s ≡ false) (same : t ≡ record s { cache = t.cache }) where
+module _ {M : Type 0} (reading : List ℕ → Option M) (s t : EngineState) (g : ℕ) (lived : has_failed s ≡ false) (same : t ≡ record s { cache = t.cache }) where
   pub tells_one : (i : ℕ) (e : EntryIndex) (message : M) → entry_at (s.tables g) i ≡ Some e → ReadsEntry reading s.pipes e s.cache t.cache message → TellsEntry reading g i s t (Some message)
   tells_one i e message is read = record {
     lived = lived;
@@ -160,13 +160,13 @@ module _ {M : Type 0} (reading : List ℕ → Option M) (s t : Shows) (g : ℕ) 
     taken_shorter (suc n) [] = omega arith
     taken_shorter (suc n) (x ∷ xs) = let less = taken_shorter n xs in omega (arith, less)
 
-    nothing_told : (home : Home) (m : LogMap) (pending : List Said) (h : Holds home s m pending) (es : List EntryIndex) (messages : List M) → es ≡ [] → ReadsEntries reading s.pipes es s.cache t.cache messages
+    nothing_told : (home : LogDirectories) (m : LogMap) (pending : List LogRecordValue) (h : Represents home s m pending) (es : List EntryIndex) (messages : List M) → es ≡ [] → ReadsEntries reading s.pipes es s.cache t.cache messages
         → IsOfLog h.state t.cache × AreEntriesOf reading (taken m pending) g begin messages
     nothing_told home m pending h es messages none read =
         let (stays, empty) = subst (λ (l : List EntryIndex). ReadsEntries reading s.pipes l s.cache t.cache messages) none read in
         (subst (IsOfLog h.state) (sym stays) h.cached, subst (AreEntriesOf reading (taken m pending) g begin) (sym empty) tt)
 
-    read_told : (home : Home) (m : LogMap) (pending : List Said) (h : Holds home s m pending) (es : List EntryIndex) (messages : List M) → AreToRead s g begin end max es
+    read_told : (home : LogDirectories) (m : LogMap) (pending : List LogRecordValue) (h : Represents home s m pending) (es : List EntryIndex) (messages : List M) → AreToRead s g begin end max es
         → ReadsEntries reading s.pipes es s.cache t.cache messages → IsOfLog h.state t.cache × AreEntriesOf reading (taken m pending) g begin messages
     read_told home m pending h es messages (inl (none, empty)) read = nothing_told home m pending h es messages empty read
     read_told home m pending h es messages (inr (some, within, is)) read = by (nat_lt begin end) refl
@@ -203,13 +203,13 @@ module _ {M : Type 0} (reading : List ℕ → Option M) (s t : Shows) (g : ℕ) 
       exact = λ home m pending h. (read_told home m pending h es messages asked read).1;
     }
 
-    nothing_untold : (home : Home) (m : LogMap) (pending : List Said) (h : Holds home s m pending) (es : List EntryIndex) (error : Error) → es ≡ [] → AreUnread reading s.pipes es s.cache t.cache error
+    nothing_untold : (home : LogDirectories) (m : LogMap) (pending : List LogRecordValue) (h : Represents home s m pending) (es : List EntryIndex) (error : Error) → es ≡ [] → AreUnread reading s.pipes es s.cache t.cache error
         → IsOfLog h.state t.cache × IsOneUntold reading g begin end s (taken m pending) error
     nothing_untold home m pending h es error none unread =
         let (memory, stays) = subst (λ (l : List EntryIndex). AreUnread reading s.pipes l s.cache t.cache error) none unread in
         (subst (IsOfLog h.state) (sym stays) h.cached, inl memory)
 
-    read_untold : (home : Home) (m : LogMap) (pending : List Said) (h : Holds home s m pending) (es : List EntryIndex) (error : Error) → AreToRead s g begin end max es
+    read_untold : (home : LogDirectories) (m : LogMap) (pending : List LogRecordValue) (h : Represents home s m pending) (es : List EntryIndex) (error : Error) → AreToRead s g begin end max es
         → AreUnread reading s.pipes es s.cache t.cache error → IsOfLog h.state t.cache × IsOneUntold reading g begin end s (taken m pending) error
     read_untold home m pending h es error (inl (none, empty)) unread = nothing_untold home m pending h es error empty unread
     read_untold home m pending h es error (inr (some, within, is)) unread = by (nat_lt begin end) refl
@@ -236,7 +236,7 @@ module _ {M : Type 0} (reading : List ℕ → Option M) (s t : Shows) (g : ℕ) 
     }
 
 -- it is told as what it is told as
-pub fetch_told_as : {M : Type 0} (reading : List ℕ → Option M) (s t : Shows) (g begin end : ℕ) (error told : Error) → IsToldAs s.pipes.disk.stopped error told → (error ≡ errors.Memory → HasFirst (s.tables g) begin end)
+pub fetch_told_as : {M : Type 0} (reading : List ℕ → Option M) (s t : EngineState) (g begin end : ℕ) (error told : Error) → IsToldAs s.pipes.disk.stopped error told → (error ≡ errors.Memory → HasFirst (s.tables g) begin end)
     → FailsToFetch reading g begin end s t error → FailsToFetch reading g begin end s t told
 fetch_told_as reading s t g begin end error told (inl (as_it_is, runs)) there f = subst (FailsToFetch reading g begin end s t) (sym as_it_is) f
 fetch_told_as reading s t g begin end error told (inr (memory, ends, other)) there f =
@@ -253,6 +253,6 @@ pub runs_as : (stopped : Bool) (error told : Error) → IsToldAs stopped error t
 runs_as stopped error told (inl (as_it_is, runs)) memory = runs (sym as_it_is ∙ memory)
 runs_as stopped error told (inr (short, ends, other)) memory = absurd (let never : ⊥ = cc in never)
 
-pub fetch_refused : {M : Type 0} (reading : List ℕ → Option M) (s : Shows) (g begin end : ℕ) (error : Error) → has_failed s ≡ false → s.counts g ≡ true → FetchRefused (s.tables g) begin end error
+pub fetch_refused : {M : Type 0} (reading : List ℕ → Option M) (s : EngineState) (g begin end : ℕ) (error : Error) → has_failed s ≡ false → s.counts g ≡ true → FetchRefused (s.tables g) begin end error
     → FailsToFetch reading g begin end s s error
 fetch_refused reading s g begin end error lived some why = record { lived = lived; stays = stays_same s; why = inl (some, why) }

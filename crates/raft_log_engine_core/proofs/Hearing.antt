@@ -19,7 +19,7 @@ use Rattle.raft_log_dual_pipes.proofs.Telling.{hears_further, hears_none, hears_
 use Rattle.raft_log_file_listeners.specs.Active.{ActiveFiles, first_held}
 use Rattle.raft_log_file_listeners.specs.Hearing.{HookHears}
 use Rattle.raft_log_file_listeners.proofs.Hook.{writes_hold_nothing_back}
-use Rattle.raft_log_purge.specs.raft_log_engine_laws.specs.Shows.{Shows}
+use Rattle.raft_log_purge.specs.raft_log_engine_laws.specs.EngineState.{EngineState}
 use Rattle.raft_log_purge.specs.raft_log_engine_laws.specs.Writing.{IsBatchKept}
 use Rattle.raft_log_engine_core.specs.Compacting.{SaysCompact, entries_below}
 use Rattle.raft_log_engine_core.specs.Hearing.{BatchesHoldNothingBack, HearsBatch, HearsCompact, HearsRecord, HearsRefused, HearsTaken}
@@ -82,7 +82,7 @@ heard_not_synced b sync hears error v mid w old between new asked failed lived t
     inr (asked, failed, lived, (mid, subst (λ x. HearsTaken b hears v mid old x) (sym same) taken, call))
 
 -- a group's entries that go
-pub heard_compact : {L : Type 0} (g index count : ℕ) (b : Batch) (hears : Told → L → L → Type 0) (s t : Shows) (old new : L)
+pub heard_compact : {L : Type 0} (g index count : ℕ) (b : Batch) (hears : Told → L → L → Type 0) (s t : EngineState) (old new : L)
     → entries_below (s.tables g) index ≡ Some count → SaysCompact g index b → HearsBatch b false hears s.pipes t.pipes old new
     → HearsCompact g index hears s t old new
 heard_compact g index count b hears s t old new there says (mid, inl (none, still, silent), same) = absurd (says_some g index b says none)

@@ -7,7 +7,7 @@ use Rattle.raft_log_extents.specs.Counts.{sized}
 use Rattle.raft_log_memtable_index.specs.Shown.{Shown}
 use Rattle.raft_log_memtable.specs.Reads.{AreIn, entries_from, fetched, places_between}
 use Rattle.raft_log_purge.specs.raft_log_engine_laws.specs.Fetching.{AreToRead}
-use Rattle.raft_log_purge.specs.raft_log_engine_laws.specs.Shows.{Shows}
+use Rattle.raft_log_purge.specs.raft_log_engine_laws.specs.EngineState.{EngineState}
 use Rattle.raft_log_engine_core.specs.Reads.{AreNext, HasFirst, LieNext, entries_on}
 
 none_left : (v : Shown) (n k : ℕ) → entries_from v n (take k []) ≡ []
@@ -71,7 +71,7 @@ first_there v w begin end count same some few within =
     let (low, high) = within less in
     subst (λ u. HasFirst u begin end) (sym same) (record { some = less; low = low; high = omega (arith, less, high) })
 
-pub are_to_read : (s : Shows) (g : ℕ) (v : Shown) (begin end : ℕ) (max : Option ℕ) (count : ℕ) → s.tables g ≡ v → s.counts g ≡ true → AreIn v begin end → count ≡ sized max (places_between v begin end)
+pub are_to_read : (s : EngineState) (g : ℕ) (v : Shown) (begin end : ℕ) (max : Option ℕ) (count : ℕ) → s.tables g ≡ v → s.counts g ≡ true → AreIn v begin end → count ≡ sized max (places_between v begin end)
     → count ≤ end - begin → AreToRead s g begin end max (entries_on v begin count)
 are_to_read s g v begin end max count same some within is few =
     inr (some, subst (λ w. AreIn w begin end) (sym same) within, all_asked v begin end max count is few ∙ ap (λ w. fetched w begin end max) (sym same))

@@ -25,7 +25,7 @@ use Rattle.raft_log_dual_pipes.specs.Numbers.{EndsNumbersAt}
 use Rattle.raft_log_dual_pipes.specs.PipeCalls.{PipeAppends, PipeFailsToAppend}
 use Rattle.raft_log_record_base.specs.declared.pipe_log.LogFileContext.{LogFileContext}
 use Rattle.raft_log_block_cache.specs.declared.block_cache.BlockCache.{BlockCache}
-use Rattle.raft_log_purge.specs.raft_log_engine_laws.specs.Shows.{IsLaidOut, IsWellMarked, Shows, shows}
+use Rattle.raft_log_purge.specs.raft_log_engine_laws.specs.EngineState.{IsLaidOut, IsWellMarked, EngineState, shows}
 use Rattle.raft_log_purge.specs.raft_log_engine_laws.specs.Trying.{RefusesAt, WritesAt}
 use Rattle.raft_log_block_cache.specs.raft_log_file_pipe.specs.Appending.{SaysTryAgain}
 use Rattle.raft_log_purge.specs.raft_log_engine_laws.specs.Writing.{IsBatchKept, IsUnfit, NotWritten, PipesRefused, Writes, WritesBytes, items_at}
@@ -81,7 +81,7 @@ same_shows : (v : LogPipes) (old new : MemTables) (cache : BlockCache) → Shows
 same_shows v old new cache same = ap₂ (λ t c. record { tables = t; counts = c; pipes = v; cache = cache }) (fun_ext same.shown) (fun_ext same.counts)
 
 -- what is said of a batch whose record was made is said of the batch, and of tables that show what they showed
-written_kept : (b kept : Batch) (s t : Shows) → IsBatchKept b kept → Writes kept false s t → Writes b false s t
+written_kept : (b kept : Batch) (s t : EngineState) → IsBatchKept b kept → Writes kept false s t → Writes b false s t
 written_kept b kept s t is w =
     let k = subst (λ x. Writes x false s t) is w in record {
       block = k.block;
@@ -97,7 +97,7 @@ written_kept b kept s t is w =
       synced = k.synced;
     }
 
-refused_kept : (b kept : Batch) (error : Error) (s t : Shows) → IsBatchKept b kept → PipesRefused kept error s t → PipesRefused b error s t
+refused_kept : (b kept : Batch) (error : Error) (s t : EngineState) → IsBatchKept b kept → PipesRefused kept error s t → PipesRefused b error s t
 refused_kept b kept error s t is r =
     let k = subst (λ x. PipesRefused x error s t) is r in record { lived = k.lived; tells = k.tells; same = k.same; forgets = k.forgets; tries = k.tries; range = k.range; later = k.later; leaves = k.leaves }
 
@@ -123,11 +123,11 @@ put_unfit b error v old mid cache same why = inl (why, same_shows v old mid cach
 pub unfit_made : (b new : Batch) (error : Error) (v : LogPipes) (old mid : MemTables) (cache : BlockCache) → ShowsSame old mid → IsUnfit b (shown_of old) error → IsMadeIfTried error b new (shows v old cache) (shows v mid cache)
 unfit_made b new error v old mid cache same why = inl (why, same_shows v old mid cache same)
 
-pub refused_made : {A : Type 0} (r : Result A Error) (b mid new : Batch) (s t : Shows) → mid.state ≡ Populated → OnErr r (new ≡ mid) → IfErr r (λ error. IsMadeIfTried error b new s t)
+pub refused_made : {A : Type 0} (r : Result A Error) (b mid new : Batch) (s t : EngineState) → mid.state ≡ Populated → OnErr r (new ≡ mid) → IfErr r (λ error. IsMadeIfTried error b new s t)
 refused_made (Ok x) b mid new s t made kept = tt
 refused_made (Err e) b mid new s t made kept = inr (ap (λ (x : Batch). x.state) kept ∙ made)
 
-pub unsynced_made : (b new : Batch) (error : Error) (s mid t : Shows) → NotSynced error mid t → IsMadeUnlessFailed error b new s t
+pub unsynced_made : (b new : Batch) (error : Error) (s mid t : EngineState) → NotSynced error mid t → IsMadeUnlessFailed error b new s t
 unsynced_made b new error s mid t (is, why) = inr is
 
 pub kept_on : (b mid new : Batch) → IsBatchKept b mid → new ≡ mid → IsBatchKept b new
@@ -137,22 +137,22 @@ pub emptied_on : (b mid new : Batch) → IsBatchKept b mid → new ≡ emptied m
 emptied_on b mid new is e = subst (λ x. IsButBuffer (emptied b) x) (sym (e ∙ ap emptied is)) refl
 
 -- a write, of what was put and synced
-pub not_written : (b : Batch) (error : Error) (s t : Shows) → PutFails b error s t → NotWritten b error s t
+pub not_written : (b : Batch) (error : Error) (s t : EngineState) → PutFails b error s t → NotWritten b error s t
 not_written b error s t why = elim why [ inl unfit ↦ inl unfit | inr refused ↦ inr (inr refused) ]
 
-pub put_unsynced : (b : Batch) (error : Error) (s mid t : Shows) → Writes b false s mid → NotSynced error mid t → NotWritten b error s t
+pub put_unsynced : (b : Batch) (error : Error) (s mid t : EngineState) → Writes b false s mid → NotSynced error mid t → NotWritten b error s t
 put_unsynced b error s mid t w (is, why) = elim why [
   | inl before ↦ absurd (false≢true (sym w.alive ∙ before.0))
   | inr now ↦ inr (inr (subst (λ e. PipesRefused b e s t) (sym is) (write_unsynced b s mid t w now)))
 ]
 
-pub none_unsynced : (b : Batch) (error : Error) (s t : Shows) → NotSynced error s t → NotWritten b error s t
+pub none_unsynced : (b : Batch) (error : Error) (s t : EngineState) → NotSynced error s t → NotWritten b error s t
 none_unsynced b error s t (is, why) = elim why [
   | inl before ↦ inr (inl (is, before.0, before.1))
   | inr now ↦ inr (inr (subst (λ e. PipesRefused b e s t) (sym is) (empty_unsynced b s t now)))
 ]
 
-pub put_synced : (b : Batch) (len : ℕ) (s mid t : Shows) → IsReadyForEach len b.items b.entries × Writes b false s mid → SyncsAppend mid t → WritesBytes b true len s t
+pub put_synced : (b : Batch) (len : ℕ) (s mid t : EngineState) → IsReadyForEach len b.items b.entries × Writes b false s mid → SyncsAppend mid t → WritesBytes b true len s t
 put_synced b len s mid t (ready, wrote) synced = inr (ready, writes_synced b s mid t wrote synced)
 
 -- a record that is tried once more
@@ -232,17 +232,17 @@ says_some g index b says none =
     let is : 1 ≡ 0 = sym (ap length says.items) ∙ ap length none in
     omega (arith, is)
 
-written_some : (b : Batch) (len : ℕ) (s t : Shows) → (b.items ≡ [] → ⊥) → WritesBytes b false len s t → Writes b false s t
+written_some : (b : Batch) (len : ℕ) (s t : EngineState) → (b.items ≡ [] → ⊥) → WritesBytes b false len s t → Writes b false s t
 written_some b len s t some (inl (none, rest, nothing)) = absurd (some none)
 written_some b len s t some (inr (ready, wrote)) = wrote
 
-pub compacts : (g index count len : ℕ) (b : Batch) (s t : Shows) → entries_below (s.tables g) index ≡ Some count → SaysCompact g index b → WritesBytes b false len s t → WritesFiles b false s.pipes t.pipes
+pub compacts : (g index count len : ℕ) (b : Batch) (s t : EngineState) → entries_below (s.tables g) index ≡ Some count → SaysCompact g index b → WritesBytes b false len s t → WritesFiles b false s.pipes t.pipes
     → CompactsTo g index count s t
 compacts g index count len b s t there says wrote files =
     let some = says_some g index b says in
     inr (there, (b, says, written_some b len s t some wrote, some_unsynced_files b s.pipes t.pipes some files))
 
-pub not_compacted : (g index count : ℕ) (error : Error) (b : Batch) (s t : Shows) → entries_below (s.tables g) index ≡ Some count → SaysCompact g index b → NotWritten b error s t
+pub not_compacted : (g index count : ℕ) (error : Error) (b : Batch) (s t : EngineState) → entries_below (s.tables g) index ≡ Some count → SaysCompact g index b → NotWritten b error s t
     → LeavesFiles b false error s.pipes t.pipes → FailsToCompact g index error s t
 not_compacted g index count error b s t there says why left =
     inr ((λ none. let clash : None ≡ Some count = sym none ∙ there in cc), inr (b, says, why, refused_unsynced_files b error s.pipes t.pipes left))

@@ -8,7 +8,7 @@ use Rattle.raft_log_record_batches.specs.Batch.{Batch}
 use Rattle.raft_log_record_batches.specs.declared.log_batch.BatchState.TheVariants.{Filling}
 use Rattle.raft_log_record_frames.specs.ItemBatch.{command_item}
 use Rattle.raft_log_purge.specs.raft_log_engine_laws.specs.Fetching.{HadFailed}
-use Rattle.raft_log_purge.specs.raft_log_engine_laws.specs.Shows.{Shows, has_failed}
+use Rattle.raft_log_purge.specs.raft_log_engine_laws.specs.EngineState.{EngineState, has_failed}
 use Rattle.raft_log_purge.specs.raft_log_engine_laws.specs.Writing.{NotWritten, Writes}
 use Rattle.raft_log_engine_core.specs.Touching.{LeavesRecord, WritesRecord}
 
@@ -25,25 +25,25 @@ pub record SaysCompact (g index : ℕ) (b : Batch) : Type 0 where
 
 -- A batch that deletes a group's entries below an index was written, and not synced. Nothing else was done to the
 -- files, except that Append may have rotated before the record.
-abbrev pub WritesCompact : ℕ → ℕ → Shows → Shows → Type 0
+abbrev pub WritesCompact : ℕ → ℕ → EngineState → EngineState → Type 0
 WritesCompact g index s t = (b : Batch) × SaysCompact g index b × Writes b false s t
     × WritesRecord b s.pipes t.pipes
 
 -- A batch deleted so many entries of a group: those below the index. If the group has no entries, none are deleted and
 -- nothing is written.
-abbrev pub CompactsTo : ℕ → ℕ → ℕ → Shows → Shows → Type 0
+abbrev pub CompactsTo : ℕ → ℕ → ℕ → EngineState → EngineState → Type 0
 CompactsTo g index count s t =
     ((entries_below (s.tables g) index ≡ None) × (count ≡ 0) × (has_failed s ≡ false) × (t ≡ s))
     ⊎ ((entries_below (s.tables g) index ≡ Some count) × WritesCompact g index s t)
 
 -- Writing the batch that deletes a group's entries failed: out of memory before the write; or the write failed, and
 -- left what `LeavesRecord` says in the files.
-abbrev pub FailsToWriteCompact : ℕ → ℕ → Error → Shows → Shows → Type 0
+abbrev pub FailsToWriteCompact : ℕ → ℕ → Error → EngineState → EngineState → Type 0
 FailsToWriteCompact g index error s t =
     ((error ≡ errors.Memory) × (has_failed s ≡ false) × (t ≡ s))
     ⊎ ((b : Batch) × SaysCompact g index b × NotWritten b error s t × LeavesRecord b error s.pipes t.pipes)
 
 -- why the call fails: the engine had failed; or the group has entries, and writing the batch failed
-abbrev pub FailsToCompact : ℕ → ℕ → Error → Shows → Shows → Type 0
+abbrev pub FailsToCompact : ℕ → ℕ → Error → EngineState → EngineState → Type 0
 FailsToCompact g index error s t = HadFailed s t error
     ⊎ ((entries_below (s.tables g) index ≡ None → ⊥) × FailsToWriteCompact g index error s t)

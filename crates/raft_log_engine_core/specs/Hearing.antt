@@ -14,7 +14,7 @@ use Rattle.raft_log_dual_pipes.specs.Telling.{Hears, Told, files_begun}
 use Rattle.raft_log_file_listeners.specs.Active.{ActiveFiles, first_held}
 use Rattle.raft_log_block_cache.specs.Signing.{signed_for}
 use Rattle.raft_log_purge.specs.raft_log_engine_laws.specs.Trying.{WritesAt}
-use Rattle.raft_log_purge.specs.raft_log_engine_laws.specs.Shows.{Shows}
+use Rattle.raft_log_purge.specs.raft_log_engine_laws.specs.EngineState.{EngineState}
 use Rattle.raft_log_engine_core.specs.Compacting.{SaysCompact, entries_below}
 use Rattle.raft_log_engine_core.specs.Touching.{LeavesRecord, PipeTakes, SyncsIf}
 
@@ -46,7 +46,7 @@ HearsRefused b sync hears error v w old new =
 
 -- If a call deletes a group's entries, listeners hear of the batch's record. For a group without entries they hear
 -- nothing.
-abbrev pub HearsCompact : {L : Type 0} → ℕ → ℕ → (Told → L → L → Type 0) → Shows → Shows → L → L → Type 0
+abbrev pub HearsCompact : {L : Type 0} → ℕ → ℕ → (Told → L → L → Type 0) → EngineState → EngineState → L → L → Type 0
 HearsCompact g index hears s t old new = ((entries_below (s.tables g) index ≡ None) × (new ≡ old))
     ⊎ ((entries_below (s.tables g) index ≡ None → ⊥)
     × ((b : Batch) × SaysCompact g index b × HearsRecord b hears s.pipes t.pipes old new))

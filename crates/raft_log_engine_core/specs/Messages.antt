@@ -6,7 +6,7 @@ use Rattle.raft_log_record_base.specs.declared.errors.Error.{Error}
 use Rattle.raft_log_record_base.specs.declared.errors.Error.TheVariants as errors
 use Rattle.raft_log_memtable_index.specs.Listing.{in_direction}
 use Rattle.raft_log_purge.specs.raft_log_engine_laws.specs.Reading.{ReadsKeys}
-use Rattle.raft_log_purge.specs.raft_log_engine_laws.specs.Shows.{Shows}
+use Rattle.raft_log_purge.specs.raft_log_engine_laws.specs.EngineState.{EngineState}
 
 -- the bytes aren't a message
 abbrev pub IsNoMessage : Error → Type 0
@@ -33,6 +33,6 @@ VisitsMessages {F} {M} reading called f (e ∷ es) =
 -- Calls with all requested keys of a group whose value reads as a message, in their order or backwards, up to the first
 -- that returns false.
 abbrev pub ScansMessages : {F M : Type 0} → (List ℕ → Option M) → (F → List ℕ → M → Bool → F → Type 0) → F
-    → Shows → ℕ → Option (List ℕ) → Option (List ℕ) → Bool → Type 0
+    → EngineState → ℕ → Option (List ℕ) → Option (List ℕ) → Bool → Type 0
 ScansMessages reading called callback s g start end backwards = (es : List (List ℕ × List ℕ))
     × ReadsKeys s g start end es × VisitsMessages reading called callback (in_direction backwards es)

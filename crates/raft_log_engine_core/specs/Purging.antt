@@ -20,7 +20,7 @@ use Rattle.raft_log_purge.specs.Counting.{CountsStanding}
 use Rattle.raft_log_purge.specs.ExpiredFiles.{FailsToPurgeExpired}
 use Rattle.raft_log_purge.specs.declared.expired_files.PurgeCounts.{PurgeCounts}
 use Rattle.raft_log_purge.specs.raft_log_engine_laws.specs.Fetching.{HadFailed}
-use Rattle.raft_log_purge.specs.raft_log_engine_laws.specs.Shows.{Shows}
+use Rattle.raft_log_purge.specs.raft_log_engine_laws.specs.EngineState.{EngineState}
 use Rattle.raft_log_engine_core.specs.Reads.{Lives}
 
 -- the engine is purged by its completed settings, and no group was asked to compact yet
@@ -29,16 +29,16 @@ pub record IsPurgedBy (config : Config) (thresholds : Thresholds) (rounds : Roun
   pub unasked : (g : ℕ) → count_of rounds g ≡ 0
 
 -- why purging all stale files fails: the engine had failed; or it hadn't, and a part of the purge failed
-abbrev pub StopsPurging : Shows → Shows → Error → Type 0
+abbrev pub StopsPurging : EngineState → EngineState → Error → Type 0
 StopsPurging s t error = HadFailed s t error ⊎ (Lives s × FailsToPurgeAll error s t)
 
 -- why rewriting Append fails: the engine had failed; or it hadn't, and a part of that failed
-abbrev pub StopsRewritingAppend : Shows → Shows → Error → Type 0
+abbrev pub StopsRewritingAppend : EngineState → EngineState → Error → Type 0
 StopsRewritingAppend s t error = HadFailed s t error ⊎ (Lives s × FailsToRewriteAppend error s t)
 
 -- why purging expired files, or rewriting Rewrite, fails: the engine had failed; or it hadn't, and a part of that
 -- failed
-abbrev pub StopsPurgingExpired : Shows → Shows → Error → Type 0
+abbrev pub StopsPurgingExpired : EngineState → EngineState → Error → Type 0
 StopsPurgingExpired s t error = HadFailed s t error ⊎ (Lives s × FailsToPurgeExpired error s t)
 
 -- after an open, all that was read from Rewrite counts as written there
@@ -49,12 +49,12 @@ pub record CountsBrought (config : Config) (d : Disk) (counts : PurgeCounts) : T
 
 -- What is counted if purging expired files fails: nothing, if the engine had failed. Else, if a queue is past its
 -- threshold, what was live in Rewrite before, and more depending on where the purge failed.
-abbrev pub StopsCountingIfPast : Thresholds → MemTables → PurgeCounts → PurgeCounts → Shows → Shows → Type 0
+abbrev pub StopsCountingIfPast : Thresholds → MemTables → PurgeCounts → PurgeCounts → EngineState → EngineState → Type 0
 StopsCountingIfPast thresholds m old new s t = (new ≡ old) ⊎ CountsIfPast thresholds m old new s t
 
 -- what is counted if rewriting Rewrite fails: nothing; or what was live there before, and more depending on where it
 -- failed
-abbrev pub StopsCounting : MemTables → PurgeCounts → PurgeCounts → Shows → Shows → Type 0
+abbrev pub StopsCounting : MemTables → PurgeCounts → PurgeCounts → EngineState → EngineState → Type 0
 StopsCounting m old new s t = (new ≡ old) ⊎ CountsAndKeeps m old new s t
 
 -- what is counted if rewriting Append fails: nothing, or what was live in Rewrite before

@@ -13,27 +13,27 @@ use Rattle.raft_log_memtable_index.specs.Shown.{Shown}
 use Rattle.raft_log_memtable.specs.Reads.{entries_from}
 use Rattle.raft_log_dual_pipes.specs.Pipes.{LogPipes}
 use Rattle.raft_log_purge.specs.raft_log_engine_laws.specs.Reading.{ReadsKeys}
-use Rattle.raft_log_purge.specs.raft_log_engine_laws.specs.Shows.{Shows, has_failed, shows}
+use Rattle.raft_log_purge.specs.raft_log_engine_laws.specs.EngineState.{EngineState, has_failed, shows}
 use Rattle.raft_log_engine_core.specs.declared.engine.LogEngine.{LogEngine}
 
 -- what an engine shows, given what its pipes show
-abbrev pub shows_of : {P : Type 0} → (P → LogPipes) → LogEngine P → Shows
+abbrev pub shows_of : {P : Type 0} → (P → LogPipes) → LogEngine P → EngineState
 shows_of shown e = shows (shown e.pipes) e.tables e.cache
 
 -- the engine hasn't failed: reads succeed only then
-abbrev pub Lives : Shows → Type 0
+abbrev pub Lives : EngineState → Type 0
 Lives s = has_failed s ≡ false
 
 -- the engine has failed: reads fail with `Failed` then, and only then
-abbrev pub IsFailed : Shows → Error → Type 0
+abbrev pub IsFailed : EngineState → Error → Type 0
 IsFailed s error = (error ≡ errors.Failed) × (has_failed s ≡ true)
 
 -- why copying fails: the engine has failed; or it hasn't, and is out of memory
-abbrev pub IsUncopied : Shows → Error → Type 0
+abbrev pub IsUncopied : EngineState → Error → Type 0
 IsUncopied s error = IsFailed s error ⊎ ((error ≡ errors.Memory) × Lives s)
 
 -- the file system runs
-abbrev pub Runs : Shows → Type 0
+abbrev pub Runs : EngineState → Type 0
 Runs s = s.pipes.disk.stopped ≡ false
 
 -- The error that a read returns is its own error, with one exception. Out of memory on a stopped file system is
@@ -73,7 +73,7 @@ NoneCounts counts = (g : ℕ) → counts g ≡ false
 
 -- calls with all requested keys of a group, in the order of their bytes or backwards, up to the first that returns
 -- false
-abbrev pub ScansKeys : {F : Type 0} → (F → List ℕ → List ℕ → Bool → F → Type 0) → F → Shows → ℕ
+abbrev pub ScansKeys : {F : Type 0} → (F → List ℕ → List ℕ → Bool → F → Type 0) → F → EngineState → ℕ
     → Option (List ℕ) → Option (List ℕ) → Bool → Type 0
 ScansKeys called callback s g start end backwards = (es : List (List ℕ × List ℕ))
     × ReadsKeys s g start end es × Visits called callback (in_direction backwards es)

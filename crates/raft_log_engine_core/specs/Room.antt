@@ -4,7 +4,7 @@ use Rattle.raft_log_record_base.specs.declared.errors.Error.{Error}
 use Rattle.raft_log_record_base.specs.declared.errors.Error.TheVariants as errors
 use Rattle.raft_log_record_batches.specs.Batch.{Batch, max_kept_len}
 use Rattle.raft_log_record_batches.specs.declared.log_batch.BatchState.TheVariants.{Populated}
-use Rattle.raft_log_purge.specs.raft_log_engine_laws.specs.Shows.{IsWellMarked, IsWritable, Shows}
+use Rattle.raft_log_purge.specs.raft_log_engine_laws.specs.EngineState.{IsWellMarked, IsWritable, EngineState}
 use Rattle.raft_log_purge.specs.raft_log_engine_laws.specs.Writing.{IsUnfit, PipesRefused}
 use Rattle.raft_log_engine_core.specs.declared.writing.Room.{Room}
 
@@ -21,7 +21,7 @@ IsUnfitItself b errors.Memory = Unit {0}
 IsUnfitItself b _ = ⊥
 
 -- why writing a batch fails, and what is true then: the batch was rejected, and nothing was done; or the pipes failed
-abbrev pub PutFails : Batch → Error → Shows → Shows → Type 0
+abbrev pub PutFails : Batch → Error → EngineState → EngineState → Type 0
 PutFails b error s t = (IsUnfit b s.tables error × (t ≡ s)) ⊎ PipesRefused b error s t
 
 -- a batch that was written keeps at most `max_kept_len` bytes of its buffer; an empty one stays unchanged
@@ -33,9 +33,9 @@ abbrev pub StaysWritable : Batch → Batch → Type 0
 StaysWritable old new = IsWritable old.state → IsWritable new.state
 
 -- if writing a batch fails: it was rejected, and nothing was done; or its record is made
-abbrev pub IsMadeIfTried : Error → Batch → Batch → Shows → Shows → Type 0
+abbrev pub IsMadeIfTried : Error → Batch → Batch → EngineState → EngineState → Type 0
 IsMadeIfTried error old new s t = (IsUnfit old s.tables error × (t ≡ s)) ⊎ (new.state ≡ Populated)
 
 -- if writing a batch fails: as above, or the engine has failed
-abbrev pub IsMadeUnlessFailed : Error → Batch → Batch → Shows → Shows → Type 0
+abbrev pub IsMadeUnlessFailed : Error → Batch → Batch → EngineState → EngineState → Type 0
 IsMadeUnlessFailed error old new s t = IsMadeIfTried error old new s t ⊎ (error ≡ errors.Failed)

@@ -8,12 +8,12 @@ use Rattle.raft_log_dual_pipes.specs.State.{pipe_at}
 use Rattle.raft_log_fs.specs.declared.handle.Fault.{Fault}
 use Rattle.raft_log_dual_pipes.specs.Pipes.{ArmsPipes, LogPipes, files_of, which_of}
 use Rattle.raft_log_dual_pipes.specs.Calls.{IsSpanOf, size_at}
-use Rattle.raft_log_purge.specs.raft_log_engine_laws.specs.Shows.{Shows}
+use Rattle.raft_log_purge.specs.raft_log_engine_laws.specs.EngineState.{EngineState}
 use Rattle.raft_log_purge.specs.raft_log_engine_laws.specs.Reading.{ReadsValue}
 use Rattle.raft_log_engine_core.specs.Reads.{IsUncopied, Lives}
 
 -- a fault is armed: the disk may have a place marked as unreadable, and all else is unchanged
-pub record ArmsEngine (fault : Fault) (s t : Shows) : Type 0 where
+pub record ArmsEngine (fault : Fault) (s t : EngineState) : Type 0 where
   pub pipes : ArmsPipes fault s.pipes t.pipes
   pub others : t ≡ record s { pipes = t.pipes }
 
@@ -34,13 +34,13 @@ IsMessageOf reading (Some bytes) (Some message) = reading bytes ≡ Some message
 IsMessageOf reading _ _ = ⊥
 
 -- the value of a key is returned as a message, if it has one
-abbrev pub TellsMessage : {M : Type 0} → (List ℕ → Option M) → Shows → ℕ → List ℕ → Option M → Type 0
+abbrev pub TellsMessage : {M : Type 0} → (List ℕ → Option M) → EngineState → ℕ → List ℕ → Option M → Type 0
 TellsMessage reading s g key message =
     (value : Option (List ℕ)) × ReadsValue s g key value × IsMessageOf reading value message
 
 -- why returning a value as a message fails: the engine has failed; or it hasn't, and is out of memory, or the value
 -- isn't a message
-abbrev pub IsMessageUntold : {M : Type 0} → (List ℕ → Option M) → Shows → ℕ → List ℕ → Error → Type 0
+abbrev pub IsMessageUntold : {M : Type 0} → (List ℕ → Option M) → EngineState → ℕ → List ℕ → Error → Type 0
 IsMessageUntold {M} reading s g key error = IsUncopied s error
     ⊎ (Lives s × ((value : List ℕ) × ReadsValue s g key (Some value)
     × Parses {M = M} (Err error) (reading value)))

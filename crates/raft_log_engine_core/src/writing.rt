@@ -20,7 +20,7 @@ ghost use Rattle.raft_log_fs.specs.Causes.{IsLater};
 ghost use Rattle.raft_log_block_cache.specs.Signing.{signed_for};
 ghost use Rattle.raft_log_purge.specs.raft_log_engine_laws.specs.Trying.{RefusesAt, WritesAt};
 ghost use Rattle.raft_log_block_cache.specs.raft_log_file_pipe.specs.Appending.{SaysTryAgain};
-ghost use Rattle.raft_log_purge.specs.raft_log_engine_laws.specs.Shows.{shows, IsWellMarked, IsWritable};
+ghost use Rattle.raft_log_purge.specs.raft_log_engine_laws.specs.EngineState.{shows, IsWellMarked, IsWritable};
 ghost use Rattle.raft_log_purge.specs.raft_log_engine_laws.specs.Writing.{items_at, IsBatchKept, IsUnfit, PipesRefused, Writes};
 ghost use Rattle.raft_log_engine_core.specs.Hearing.{HearsRecord};
 ghost use Rattle.raft_log_engine_core.specs.Room.{HasListFor, IsUnfitItself, StaysWritable};

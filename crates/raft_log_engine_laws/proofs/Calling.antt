@@ -36,12 +36,12 @@ use Rattle.raft_log_block_cache.proofs.Lasting.{written_entries_are_stored}
 use Rattle.raft_log_block_cache.proofs.WholeBlocks.{batch_whole}
 use Rattle.raft_log_block_cache.specs.raft_log_memtables.specs.Views.{AreMeant, LieIn, view_of}
 use Rattle.raft_log_block_cache.specs.raft_log_memtables.proofs.Growing.{view_grows}
-use Rattle.raft_log_block_cache.specs.raft_log_memtables.proofs.Lying.{written_in}
+use Rattle.raft_log_block_cache.specs.raft_log_memtables.proofs.OpenOrClosed.{written_in}
 use Rattle.raft_log_active_file.specs.Queue.{synced}
-use Rattle.raft_log_block_cache.specs.raft_log_dual_pipes.specs.Pipes.{LogPipes, RunsOn, Said, State, queue_of}
+use Rattle.raft_log_block_cache.specs.raft_log_dual_pipes.specs.Pipes.{LogPipes, RunsOn, LogRecordValue, State, queue_of}
 use Rattle.raft_log_block_cache.specs.raft_log_dual_pipes.specs.Calls.{AppendsTo, SyncsQueue}
-use Rattle.raft_log_engine_laws.specs.Shows.{Home, KeepsOrForgets, LogMap, Shows, log_in, said_by, said_of, sense}
-use Rattle.raft_log_engine_laws.specs.Holding.{EndsAt, FilesRiseIn, Holds, NotesEndIn, RunsAs, RunsEnding}
+use Rattle.raft_log_engine_laws.specs.EngineState.{LogDirectories, KeepsOrForgets, LogMap, EngineState, log_in, said_by, said_of, sense}
+use Rattle.raft_log_engine_laws.specs.Holding.{EndsAt, FilesRiseIn, Represents, NotesEndIn, RunsAs, RunsEnding}
 use Rattle.raft_log_engine_laws.specs.Writing.{items_at}
 use Rattle.raft_log_engine_laws.specs.Laws.{MayBeWritten}
 use Rattle.raft_log_engine_laws.proofs.Renaming.{places_follow}
@@ -49,9 +49,9 @@ use Rattle.raft_log_engine_laws.proofs.Growing.{batch_grows, items_said, read_is
 use Rattle.raft_log_engine_laws.proofs.Keeping.{goes_on, keeps_log, stays_cached}
 
 -- the record of a batch says what the batch says
-pub says_batch : (home : Home) (e : Shows) (b : Batch) → MayBeWritten e b → SaysRecord said_by (log_layout Append home.append) Append (signed_for b) (said_of b)
+pub says_batch : (home : LogDirectories) (e : EngineState) (b : Batch) → MayBeWritten e b → SaysRecord said_by (log_layout Append home.append) Append (signed_for b) (said_of b)
 says_batch home e b ready =
-    subst (λ (y : Said). SaysRecord said_by (log_layout Append home.append) Append (signed_for b) y) (read_is_said b ready.marked ready.laid) (ready.says ready.some said_by Append home.append)
+    subst (λ (y : LogRecordValue). SaysRecord said_by (log_layout Append home.append) Append (signed_for b) y) (read_is_said b ready.marked ready.laid) (ready.says ready.some said_by Append home.append)
 
 -- what goes into the last file of Append lies in no earlier one than all that stands there
 taken_rises : (s : State) (files : LogFiles LogRecord) (d : Disk) (n : ℕ) (v : ℕ → Shown) (xs : List (Tagged Place (List ℕ))) → s.append.files.last ≤ files.last → n ≡ files.last
@@ -77,7 +77,7 @@ taken_noted : (s : State) (files : LogFiles LogRecord) (d : Disk) (n : ℕ) (v :
     → NotesEndIn (next_log InAppend s files d) (all_shown n v xs)
 taken_noted s files d n v xs noted g these is = noted g these (noted_before n (v g) (of_group g xs) these is)
 
-module _ (home : Home) (e : Shows) (w : LogPipes) (b : Batch) (block : FileBlockHandle) (m : LogMap) (pending : List Said) (h : Holds home e m pending) (ready : MayBeWritten e b) (call : AppendsTo InAppend (signed_for b) block e.pipes w) where
+module _ (home : LogDirectories) (e : EngineState) (w : LogPipes) (b : Batch) (block : FileBlockHandle) (m : LogMap) (pending : List LogRecordValue) (h : Represents home e m pending) (ready : MayBeWritten e b) (call : AppendsTo InAppend (signed_for b) block e.pipes w) where
   abbrev after : ℕ → Shown
   after = all_shown block.id.seq e.tables (items_at block b)
 
@@ -109,7 +109,7 @@ module _ (home : Home) (e : Shows) (w : LogPipes) (b : Batch) (block : FileBlock
       )
 
   -- the batch is pending behind the others
-  pub written : (t : Shows) → t.pipes ≡ w → t.tables ≡ after → KeepsOrForgets e t → EndsAt home t m (pending ++ said_of b ∷ [])
+  pub written : (t : EngineState) → t.pipes ≡ w → t.tables ≡ after → KeepsOrForgets e t → EndsAt home t m (pending ++ said_of b ∷ [])
   written t pipes tables kept =
       let (files, keeps, runs, stored, rises, meant, ends) = answer in
       let next : State = next_log InAppend h.state files w.disk in record {
@@ -130,7 +130,7 @@ module _ (home : Home) (e : Shows) (w : LogPipes) (b : Batch) (block : FileBlock
       }
 
 -- the log goes on with the batch, whatever is told of its place
-pub log_written : (home : Home) (e : Shows) (w : LogPipes) (b : Batch) (block : FileBlockHandle) (m : LogMap) (pending : List Said) → Holds home e m pending → MayBeWritten e b
+pub log_written : (home : LogDirectories) (e : EngineState) (w : LogPipes) (b : Batch) (block : FileBlockHandle) (m : LogMap) (pending : List LogRecordValue) → Represents home e m pending → MayBeWritten e b
     → AppendsTo InAppend (signed_for b) block e.pipes w → RunsEnding home w m (pending ++ said_of b ∷ [])
 log_written home e w b block m pending h ready call =
     let s = h.state in
@@ -142,7 +142,7 @@ log_written home e w b block m pending h ready call =
     record { done = ends.done; rest = ends.rest; splits = ends.splits; runs = record { state = t; view = u; runs = runs; at = ends.at } }
 
 -- A sync puts all batches on the map.
-pub synced_all : (home : Home) (e t : Shows) (m : LogMap) (pending : List Said) → Holds home e m pending → t.tables ≡ e.tables → KeepsOrForgets e t → SyncsQueue InAppend e.pipes t.pipes → Holds home t (taken m pending) []
+pub synced_all : (home : LogDirectories) (e t : EngineState) (m : LogMap) (pending : List LogRecordValue) → Represents home e m pending → t.tables ≡ e.tables → KeepsOrForgets e t → SyncsQueue InAppend e.pipes t.pipes → Represents home t (taken m pending) []
 synced_all home e t m pending h same kept call =
     let s = h.state in
     let files : LogFiles LogRecord = synced s.append.files in
@@ -151,7 +151,7 @@ synced_all home e t m pending h same kept call =
     goes_on home e t m pending h same kept files ((calls_keep_bytes {R = LogRecord}).synced s.append.files) runs (taken m pending) []
     (append_synced (Ties (log_in home)) (AllowsIn (log_in home)) s next (view_of e.tables h.map) m pending h.at step)
 
-pub log_synced : (home : Home) (v w : LogPipes) (m : LogMap) (pending : List Said) → RunsAs home v m pending → SyncsQueue InAppend v w → RunsAs home w (taken m pending) []
+pub log_synced : (home : LogDirectories) (v w : LogPipes) (m : LogMap) (pending : List LogRecordValue) → RunsAs home v m pending → SyncsQueue InAppend v w → RunsAs home w (taken m pending) []
 log_synced home v w m pending h call =
     let s = h.state in
     let (runs, step) = call (sense home) s h.runs in

@@ -37,12 +37,12 @@ use Rattle.raft_log_block_cache.proofs.Lasting.{written_entries_are_stored}
 use Rattle.raft_log_block_cache.proofs.WholeBlocks.{batch_whole}
 use Rattle.raft_log_block_cache.specs.raft_log_memtables.specs.Views.{AreMeant, ViewCarries, view_of}
 use Rattle.raft_log_block_cache.specs.raft_log_memtables.proofs.Carrying.{copies_on}
-use Rattle.raft_log_block_cache.specs.raft_log_memtables.proofs.Lying.{written_in}
+use Rattle.raft_log_block_cache.specs.raft_log_memtables.proofs.OpenOrClosed.{written_in}
 use Rattle.raft_log_block_cache.specs.raft_log_dual_pipes.specs.Pipes.{State}
 use Rattle.raft_log_block_cache.specs.raft_log_dual_pipes.specs.Calls.{AppendsTo, FailsToAppendTo}
-use Rattle.raft_log_engine_laws.specs.Shows.{Home, IsLaidOut, KeepsOrForgets, LogMap, Shows}
+use Rattle.raft_log_engine_laws.specs.EngineState.{LogDirectories, IsLaidOut, KeepsOrForgets, LogMap, EngineState}
 use Rattle.raft_log_engine_laws.specs.Settled.{SameTables}
-use Rattle.raft_log_engine_laws.specs.Holding.{FilesRiseIn, Holds, NotesEndIn}
+use Rattle.raft_log_engine_laws.specs.Holding.{FilesRiseIn, Represents, NotesEndIn}
 use Rattle.raft_log_engine_laws.specs.Writing.{items_at}
 use Rattle.raft_log_engine_laws.proofs.Renaming.{places_say}
 use Rattle.raft_log_engine_laws.specs.Rewriting.{CountsAlone, HasCopies, RewriteLeaves, SaysAt, moved_to}
@@ -272,11 +272,11 @@ may_carry s n gate b v m stored meant copies =
 -- The laws.
 
 -- the map that is held is the one that was told
-pub held_map : (home : Home) (e : Shows) (m : LogMap) (h : Holds home e m []) → m ≡ h.map
+pub held_map : (home : LogDirectories) (e : EngineState) (m : LogMap) (h : Represents home e m []) → m ≡ h.map
 held_map home e m h = sym h.at.stands.map
 
-pub copies_written : (home : Home) (e t : Shows) (gate : Option ℕ) (b : Batch) (block : FileBlockHandle) (m : LogMap) → Holds home e m [] → CountsAlone b → HasCopies gate b e.tables m
-    → AppendsTo InRewrite (signed_for b) block e.pipes t.pipes → t.tables ≡ moved_to gate block b e.tables → KeepsOrForgets e t → Holds home t m []
+pub copies_written : (home : LogDirectories) (e t : EngineState) (gate : Option ℕ) (b : Batch) (block : FileBlockHandle) (m : LogMap) → Represents home e m [] → CountsAlone b → HasCopies gate b e.tables m
+    → AppendsTo InRewrite (signed_for b) block e.pipes t.pipes → t.tables ≡ moved_to gate block b e.tables → KeepsOrForgets e t → Represents home t m []
 copies_written home e t gate b block m h alone copies call same kept =
     let these : HasCopies gate b e.tables h.map = subst (λ k. HasCopies gate b e.tables k) (held_map home e m h) copies in
     record_written home e t b block m h alone call (moved_to gate block b e.tables) same kept
@@ -288,7 +288,7 @@ copies_written home e t gate b block m h alone copies call same kept =
       copies_carry (entries_at s) gate block b e.tables h.map meant says these,
     ))
 
-pub copies_refused : (home : Home) (e t : Shows) (gate : Option ℕ) (b : Batch) (m : LogMap) (error : Error) → Holds home e m [] → CountsAlone b → HasCopies gate b e.tables m → SameTables e t
+pub copies_refused : (home : LogDirectories) (e t : EngineState) (gate : Option ℕ) (b : Batch) (m : LogMap) (error : Error) → Represents home e m [] → CountsAlone b → HasCopies gate b e.tables m → SameTables e t
     → FailsToAppendTo InRewrite (signed_for b) error e.pipes t.pipes → RewriteLeaves home m t error
 copies_refused home e t gate b m error h alone copies same call =
     let these : HasCopies gate b e.tables h.map = subst (λ k. HasCopies gate b e.tables k) (held_map home e m h) copies in

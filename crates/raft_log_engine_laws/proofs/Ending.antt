@@ -38,8 +38,8 @@ use Rattle.raft_log_block_cache.specs.raft_log_memtables.specs.Views.{AreMeant, 
 use Rattle.raft_log_block_cache.specs.raft_log_memtables.proofs.Ending.{group_ends}
 use Rattle.raft_log_block_cache.specs.raft_log_dual_pipes.specs.Calls.{AppendsTo, FailsToAppendTo}
 use Rattle.raft_log_block_cache.specs.raft_log_dual_pipes.specs.Pipes.{State}
-use Rattle.raft_log_engine_laws.specs.Shows.{Home, KeepsOrForgets, LogMap, Shows, log_in}
-use Rattle.raft_log_engine_laws.specs.Holding.{FilesRiseIn, Holds, NotesEndIn}
+use Rattle.raft_log_engine_laws.specs.EngineState.{LogDirectories, KeepsOrForgets, LogMap, EngineState, log_in}
+use Rattle.raft_log_engine_laws.specs.Holding.{FilesRiseIn, Represents, NotesEndIn}
 use Rattle.raft_log_engine_laws.specs.Writing.{items_at}
 use Rattle.raft_log_engine_laws.proofs.Keeping.{notes_on, rise_on}
 use Rattle.raft_log_engine_laws.specs.Rewriting.{RewriteLeaves}
@@ -170,7 +170,7 @@ module _ (s : State) (at : Located → List ℕ) where
 pub batches_more : (ps : List WrittenPart) (p : WrittenPart) → batches_of (ps ++ p ∷ []) ≡ batches_of ps ++ p.batch ∷ []
 batches_more ps p = map-append (λ q. q.batch) ps (p ∷ [])
 
-pub end_refused : (home : Home) (e t : Shows) (gate : Option ℕ) (o : UnendedGroup) (b : Batch) (m : LogMap) (error : Error) → HoldsInGroup home e m o → IsGroupPart o.number statuses.End b
+pub end_refused : (home : LogDirectories) (e t : EngineState) (gate : Option ℕ) (o : UnendedGroup) (b : Batch) (m : LogMap) (error : Error) → HoldsInGroup home e m o → IsGroupPart o.number statuses.End b
     → HasWhole gate (batches_of (parts_of o) ++ b ∷ []) e.tables m → SameTables e t → FailsToAppendTo InRewrite (signed_for b) error e.pipes t.pipes → RewriteLeaves home m t error
 end_refused home e t gate o b m error h is has same call =
     let s = h.holds.state in
@@ -233,7 +233,7 @@ shows_end at gate ps files v u k orderly w = fun_ext (λ g. by_about g (k.took.a
     by_about g false is = k.others g is
 
 -- what is known once Rewrite has taken the end
-pub record EndIsTaken (home : Home) (e t : Shows) (gate : Option ℕ) (o : UnendedGroup) (b : Batch) (block : FileBlockHandle) (m : LogMap) (h : HoldsInGroup home e m o) (k : IsTaken home e t m h.holds (signed_for b) (Part (End o.number) (said_items b)) block)
+pub record EndIsTaken (home : LogDirectories) (e t : EngineState) (gate : Option ℕ) (o : UnendedGroup) (b : Batch) (block : FileBlockHandle) (m : LogMap) (h : HoldsInGroup home e m o) (k : IsTaken home e t m h.holds (signed_for b) (Part (End o.number) (said_items b)) block)
     (ps : List WrittenPart) : Type 0 where
   pub lie : Each (LiesInRewrite (next_log InRewrite h.holds.state k.files t.pipes.disk)) ps
   pub says : Each (SaysPart (entries_at (next_log InRewrite h.holds.state k.files t.pipes.disk))) ps
@@ -244,11 +244,11 @@ pub record EndIsTaken (home : Home) (e t : Shows) (gate : Option ℕ) (o : Unend
 abbrev pub with_end : UnendedGroup → FileBlockHandle → Batch → List WrittenPart
 with_end o block b = parts_of o ++ record { block = block; batch = b } ∷ []
 
-pub end_taken : (home : Home) (e t : Shows) (o : UnendedGroup) (b : Batch) (block : FileBlockHandle) (m : LogMap) (h : HoldsInGroup home e m o) → IsGroupPart o.number statuses.End b
+pub end_taken : (home : LogDirectories) (e t : EngineState) (o : UnendedGroup) (b : Batch) (block : FileBlockHandle) (m : LogMap) (h : HoldsInGroup home e m o) → IsGroupPart o.number statuses.End b
     → AppendsTo InRewrite (signed_for b) block e.pipes t.pipes → IsTaken home e t m h.holds (signed_for b) (Part (End o.number) (said_items b)) block
 end_taken home e t o b block m h is call = record_taken home e t m h.holds (signed_for b) (Part (End o.number) (said_items b)) block (says_part home o.number statuses.End b is) call
 
-pub end_is_taken : (home : Home) (e t : Shows) (gate : Option ℕ) (o : UnendedGroup) (b : Batch) (block : FileBlockHandle) (m : LogMap) (h : HoldsInGroup home e m o) (k : IsTaken home e t m h.holds (signed_for b) (Part (End o.number) (said_items b)) block)
+pub end_is_taken : (home : LogDirectories) (e t : EngineState) (gate : Option ℕ) (o : UnendedGroup) (b : Batch) (block : FileBlockHandle) (m : LogMap) (h : HoldsInGroup home e m o) (k : IsTaken home e t m h.holds (signed_for b) (Part (End o.number) (said_items b)) block)
     → IsGroupPart o.number statuses.End b → HasWhole gate (batches_of (parts_of o) ++ b ∷ []) e.tables m → EndIsTaken home e t gate o b block m h k (with_end o block b)
 end_is_taken home e t gate o b block m h k is has =
     let s = h.holds.state in
@@ -269,9 +269,9 @@ end_is_taken home e t gate o b block m h k is has =
     }
 
 -- and the tables show the whole group
-pub end_shown : (home : Home) (e t : Shows) (gate : Option ℕ) (o : UnendedGroup) (b : Batch) (block : FileBlockHandle) (m : LogMap) (h : HoldsInGroup home e m o) (k : IsTaken home e t m h.holds (signed_for b) (Part (End o.number) (said_items b)) block)
+pub end_shown : (home : LogDirectories) (e t : EngineState) (gate : Option ℕ) (o : UnendedGroup) (b : Batch) (block : FileBlockHandle) (m : LogMap) (h : HoldsInGroup home e m o) (k : IsTaken home e t m h.holds (signed_for b) (Part (End o.number) (said_items b)) block)
     → IsGroupPart o.number statuses.End b → EndIsTaken home e t gate o b block m h k (with_end o block b)
-    → ShowsWhole gate (with_end o block b) (files_of_group o block) e.tables t.tables → KeepsOrForgets e t → Holds home t m []
+    → ShowsWhole gate (with_end o block b) (files_of_group o block) e.tables t.tables → KeepsOrForgets e t → Represents home t m []
 end_shown home e t gate o b block m h k is f took kept =
     let s = h.holds.state in
     let next : State = next_log InRewrite s k.files t.pipes.disk in
@@ -303,9 +303,9 @@ end_shown home e t gate o b block m h k is f took kept =
     (end_answered (Ties (log_in home)) (AllowsIn (log_in home)) s next (view_of e.tables h.holds.map) m files.from o.number (said_items o.first.batch) (said_more o)
     (view_of u h.holds.map) block.id.seq (said_items b) k.step ends.ends (in_group home e m o h))
 
-pub end_written : (home : Home) (e t : Shows) (gate : Option ℕ) (o : UnendedGroup) (b : Batch) (block : FileBlockHandle) (m : LogMap) → HoldsInGroup home e m o → IsGroupPart o.number statuses.End b
+pub end_written : (home : LogDirectories) (e t : EngineState) (gate : Option ℕ) (o : UnendedGroup) (b : Batch) (block : FileBlockHandle) (m : LogMap) → HoldsInGroup home e m o → IsGroupPart o.number statuses.End b
     → HasWhole gate (batches_of (parts_of o) ++ b ∷ []) e.tables m → AppendsTo InRewrite (signed_for b) block e.pipes t.pipes
-    → ShowsWhole gate (parts_of o ++ record { block = block; batch = b } ∷ []) (files_of_group o block) e.tables t.tables → KeepsOrForgets e t → Holds home t m []
+    → ShowsWhole gate (parts_of o ++ record { block = block; batch = b } ∷ []) (files_of_group o block) e.tables t.tables → KeepsOrForgets e t → Represents home t m []
 end_written home e t gate o b block m h is has call took kept =
     let k = end_taken home e t o b block m h is call in
     end_shown home e t gate o b block m h k is (end_is_taken home e t gate o b block m h k is has) took kept

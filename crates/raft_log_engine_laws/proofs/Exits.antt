@@ -16,12 +16,12 @@ use Rattle.raft_log_directory_laws.specs.Calls.Which.{InAppend}
 use Rattle.raft_log_directory_laws.proofs.Follows.{taken_twice}
 use Rattle.raft_log_block_cache.specs.raft_log_memtables.specs.declared.mem_tables.MemTables.{MemTables}
 use Rattle.raft_log_block_cache.specs.raft_log_memtables.specs.Batch.{all_shown, counts_at_end}
-use Rattle.raft_log_block_cache.specs.raft_log_dual_pipes.specs.Pipes.{LogPipes, Said, is_failed}
+use Rattle.raft_log_block_cache.specs.raft_log_dual_pipes.specs.Pipes.{LogPipes, LogRecordValue, is_failed}
 use Rattle.raft_log_block_cache.specs.raft_log_dual_pipes.specs.Calls.{FailsToSyncQueue, StaysFailed, SyncsQueue, TellsFailure}
 use Rattle.raft_log_record_base.specs.declared.pipe_log.LogFileContext.{LogFileContext}
 use Rattle.raft_log_block_cache.specs.declared.block_cache.BlockCache.{BlockCache}
-use Rattle.raft_log_engine_laws.specs.Shows.{Home, KeepsOrForgets, LogMap, Shows, has_failed, said_of, shows}
-use Rattle.raft_log_engine_laws.specs.Holding.{EndsAt, Holds, RunsAs, RunsEnding}
+use Rattle.raft_log_engine_laws.specs.EngineState.{LogDirectories, KeepsOrForgets, LogMap, EngineState, has_failed, said_of, shows}
+use Rattle.raft_log_engine_laws.specs.Holding.{EndsAt, Represents, RunsAs, RunsEnding}
 use Rattle.raft_log_engine_laws.specs.Syncing.{FailsToSyncAppend, NotSynced, RunsOnSame, SyncsAppend}
 use Rattle.raft_log_engine_laws.specs.Trying.{RefusesAt, TriesTwiceInVain, WritesAt}
 use Rattle.raft_log_block_cache.specs.raft_log_file_pipe.specs.Appending.{SaysTryAgain}
@@ -36,7 +36,7 @@ later_on : (a b c : Disk) → IsLater a b → IsLater b c → IsLater a c
 later_on a b c h k = record { failures = omega (arith, h.failures, k.failures); stopped = λ s. k.stopped (h.stopped s) }
 
 -- a sync that is answered
-pub syncs : (s t : Shows) → has_failed s ≡ false → RunsOnSame s t → t.cache ≡ s.cache → IsLater s.pipes.disk t.pipes.disk → SyncsQueue InAppend s.pipes t.pipes → SyncsAppend s t
+pub syncs : (s t : EngineState) → has_failed s ≡ false → RunsOnSame s t → t.cache ≡ s.cache → IsLater s.pipes.disk t.pipes.disk → SyncsQueue InAppend s.pipes t.pipes → SyncsAppend s t
 syncs s t lived same cache later call = record {
   lived = lived;
   same = same;
@@ -47,7 +47,7 @@ syncs s t lived same cache later call = record {
 }
 
 -- one that failed
-pub fails_to_sync : (s t : Shows) → has_failed s ≡ false → has_failed t ≡ true → IsLater s.pipes.disk t.pipes.disk → FailsToSyncQueue InAppend s.pipes t.pipes → FailsToSyncAppend s t
+pub fails_to_sync : (s t : EngineState) → has_failed s ≡ false → has_failed t ≡ true → IsLater s.pipes.disk t.pipes.disk → FailsToSyncQueue InAppend s.pipes t.pipes → FailsToSyncAppend s t
 fails_to_sync s t lived failed later call = record {
   lived = lived;
   failed = failed;
@@ -56,7 +56,7 @@ fails_to_sync s t lived failed later call = record {
 }
 
 -- a batch that was written, without a sync
-pub writes : (b : Batch) (block : FileBlockHandle) (s t : Shows) → has_failed s ≡ false → has_failed t ≡ false → t.tables ≡ all_shown block.id.seq s.tables (items_at block b)
+pub writes : (b : Batch) (block : FileBlockHandle) (s t : EngineState) → has_failed s ≡ false → has_failed t ≡ false → t.tables ≡ all_shown block.id.seq s.tables (items_at block b)
     → ((g : ℕ) → t.counts g ≡ counts_at_end (s.counts g) (of_group g (items_at block b))) → KeepsOrForgets s t → IsLater s.pipes.disk t.pipes.disk → MayBeWritten s b
     → WritesAt (signed_for b) block s.pipes t.pipes → Writes b false s t
 writes b block s t lived alive tables counts kept later ready call = record {
@@ -73,20 +73,20 @@ writes b block s t lived alive tables counts kept later ready call = record {
   synced = λ asked. absurd (false≢true asked);
 }
 
-all_done : (home : Home) (t : Shows) (m : LogMap) (pending : List Said) → Holds home t (taken m pending) [] → EndsAt home t m pending
+all_done : (home : LogDirectories) (t : EngineState) (m : LogMap) (pending : List LogRecordValue) → Represents home t (taken m pending) [] → EndsAt home t m pending
 all_done home t m pending h = record { done = pending; rest = []; splits = append-nil pending; holds = h }
 
-kept_on : (s mid t : Shows) → KeepsOrForgets s mid → t.cache ≡ mid.cache → KeepsOrForgets s t
+kept_on : (s mid t : EngineState) → KeepsOrForgets s mid → t.cache ≡ mid.cache → KeepsOrForgets s t
 kept_on s mid t (inl same) cache = inl (cache ∙ same)
 kept_on s mid t (inr none) cache = inr (ap (λ (c : BlockCache). c.place) cache ∙ none)
 
 -- and then synced
-pub writes_synced : (b : Batch) (s mid t : Shows) → Writes b false s mid → SyncsAppend mid t → Writes b true s t
+pub writes_synced : (b : Batch) (s mid t : EngineState) → Writes b false s mid → SyncsAppend mid t → Writes b true s t
 writes_synced b s mid t w y =
-    let holds : (home : Home) (m : LogMap) (pending : List Said) → Holds home s m pending → Holds home t (taken m (pending ++ said_of b ∷ [])) [] =
+    let holds : (home : LogDirectories) (m : LogMap) (pending : List LogRecordValue) → Represents home s m pending → Represents home t (taken m (pending ++ said_of b ∷ [])) [] =
     λ home m pending h.
     (let e = w.holds home m pending h in
-    subst (λ k. Holds home t k []) (taken_twice m e.done e.rest ∙ ap (taken m) e.splits) (y.holds home (taken m e.done) e.rest e.holds)) in record {
+    subst (λ k. Represents home t k []) (taken_twice m e.done e.rest ∙ ap (taken m) e.splits) (y.holds home (taken m e.done) e.rest e.holds)) in record {
       block = w.block;
       some = w.some;
       lived = w.lived;
@@ -107,7 +107,7 @@ writes_synced b s mid t w y =
     }
 
 -- a sync that failed behind a batch
-pub write_unsynced : (b : Batch) (s mid t : Shows) → Writes b false s mid → FailsToSyncAppend mid t → PipesRefused b errors.Failed s t
+pub write_unsynced : (b : Batch) (s mid t : EngineState) → Writes b false s mid → FailsToSyncAppend mid t → PipesRefused b errors.Failed s t
 write_unsynced b s mid t w f = record {
   lived = w.lived;
   tells = (λ hit. refl, λ same. f.failed);
@@ -123,7 +123,7 @@ write_unsynced b s mid t w f = record {
 }
 
 -- one that failed where nothing was to be written
-pub empty_unsynced : (b : Batch) (s t : Shows) → FailsToSyncAppend s t → PipesRefused b errors.Failed s t
+pub empty_unsynced : (b : Batch) (s t : EngineState) → FailsToSyncAppend s t → PipesRefused b errors.Failed s t
 empty_unsynced b s t f = record {
   lived = f.lived;
   tells = (λ hit. refl, λ same. f.failed);
@@ -141,7 +141,7 @@ tried_twice signed error v w full (inl (other, call)) = absurd (other full)
 tried_twice signed error v w full (inr (mid, vain, later, call)) = (mid, vain, (error, full, later, call.0))
 
 -- a batch that the pipes refused
-pub refuses : (b : Batch) (error : Error) (s t : Shows) → has_failed s ≡ false → (IsTrue (has_failed t) ↔ (error ≡ errors.Failed)) → t.tables ≡ s.tables → t.counts ≡ s.counts
+pub refuses : (b : Batch) (error : Error) (s t : EngineState) → has_failed s ≡ false → (IsTrue (has_failed t) ↔ (error ≡ errors.Failed)) → t.tables ≡ s.tables → t.counts ≡ s.counts
     → t.cache.place ≡ None → IsLater s.pipes.disk t.pipes.disk → MayBeWritten s b → RefusesAt (signed_for b) error s.pipes t.pipes → PipesRefused b error s t
 refuses b error s t lived tells tables counts none later ready call = record {
   lived = lived;

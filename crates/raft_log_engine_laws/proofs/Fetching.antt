@@ -26,12 +26,12 @@ use Rattle.raft_log_memtable.specs.Reads.{AreIn, entries_from, entry_at, fetched
 use Rattle.raft_log_block_cache.specs.Stored.{Each, EntryLiesIn, IsStored, block_at, entries_at, file_bytes, part, queue_in}
 use Rattle.raft_log_active_file.specs.declared.record.LogRecord.{LogRecord}
 use Rattle.raft_log_block_cache.specs.raft_log_dual_pipes.specs.State.{Spanned}
-use Rattle.raft_log_block_cache.specs.raft_log_dual_pipes.specs.Pipes.{Said, State}
+use Rattle.raft_log_block_cache.specs.raft_log_dual_pipes.specs.Pipes.{LogRecordValue, State}
 use Rattle.raft_log_block_cache.specs.declared.block_cache.BlockCache.{BlockCache}
 use Rattle.raft_log_block_cache.specs.Blocks.{AreUnread, BlockIsStored, IsEntryUnread, IsFileUnread, IsNoEntry, IsOfLog, IsUnplaced, KeepsBlock, ReadsEntries, ReadsEntry, written_block}
 use Rattle.raft_log_block_cache.proofs.KeptBlocks.{file_unread, kept_is_written, none_kept, stopped_block}
-use Rattle.raft_log_engine_laws.specs.Shows.{Home, LogMap, Shows, sense}
-use Rattle.raft_log_engine_laws.specs.Holding.{Holds}
+use Rattle.raft_log_engine_laws.specs.EngineState.{LogDirectories, LogMap, EngineState, sense}
+use Rattle.raft_log_engine_laws.specs.Holding.{Represents}
 use Rattle.raft_log_engine_laws.specs.Fetching.{AreEntriesOf, AreToRead, IsEntryOf, IsOneUntold, IsUntold, StaysButBlock}
 
 -- lists and their elements
@@ -113,7 +113,7 @@ place_in [] k less = absurd (omega (arith, less))
 place_in (p ∷ ps) zero less = (p, refl)
 place_in (p ∷ ps) (suc k) less = place_in ps k (omega (arith, less))
 
-module _ (s : Shows) (g : ℕ) (home : Home) (m : LogMap) (pending : List Said) (h : Holds home s m pending) where
+module _ (s : EngineState) (g : ℕ) (home : LogDirectories) (m : LogMap) (pending : List LogRecordValue) (h : Represents home s m pending) where
   abbrev told : LogMap
   told = taken m pending
 

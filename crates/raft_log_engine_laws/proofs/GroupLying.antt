@@ -18,7 +18,7 @@ use Rattle.raft_log_block_cache.specs.Stored.{Each, EntryLiesIn, KeepsLog, entri
 use Rattle.raft_log_block_cache.specs.Written.{RunIsStored}
 use Rattle.raft_log_block_cache.proofs.Staying.{block_stays}
 use Rattle.raft_log_block_cache.specs.raft_log_dual_pipes.specs.Pipes.{State}
-use Rattle.raft_log_engine_laws.specs.Shows.{IsLaidOut}
+use Rattle.raft_log_engine_laws.specs.EngineState.{IsLaidOut}
 use Rattle.raft_log_engine_laws.specs.Writing.{items_at}
 use Rattle.raft_log_engine_laws.proofs.Copying.{block_behind, bytes_behind, copies_said, not_behind, runs_there, says_behind, says_there, turned_round}
 use Rattle.raft_log_engine_laws.specs.Parts.{FilesGoUp, LiesInRewrite, OfEntries, SaysPart, WrittenPart}

@@ -28,12 +28,12 @@ use Rattle.raft_log_memtable_index.specs.Bridge.{Located, table_of}
 use Rattle.raft_log_block_cache.specs.raft_log_memtables.specs.Batch.{MayFollowAll, all_shown, all_written}
 use Rattle.raft_log_block_cache.specs.raft_log_memtables.specs.Views.{LieIn, view_of}
 use Rattle.raft_log_block_cache.specs.raft_log_memtables.proofs.Growing.{view_grows}
-use Rattle.raft_log_block_cache.specs.raft_log_memtables.proofs.Lying.{written_in}
-use Rattle.raft_log_engine_laws.specs.Shows.{IsLaidOut, IsWellMarked, LogMap, said_by, said_of}
+use Rattle.raft_log_block_cache.specs.raft_log_memtables.proofs.OpenOrClosed.{written_in}
+use Rattle.raft_log_engine_laws.specs.EngineState.{IsLaidOut, IsWellMarked, LogMap, said_by, said_of}
 use Rattle.raft_log_record_base.specs.Files.{no_block}
 use Rattle.raft_log_engine_laws.specs.Writing.{items_at}
 use Rattle.raft_log_engine_laws.proofs.Renaming.{places_follow, places_say}
-use Rattle.raft_log_block_cache.specs.raft_log_dual_pipes.specs.Pipes.{Said}
+use Rattle.raft_log_block_cache.specs.raft_log_dual_pipes.specs.Pipes.{LogRecordValue}
 
 -- what the tables show goes on with the view's map, whatever that is: only where things stand matters
 pub grows_by : {E : Type 0} (at : Located → E) (n : ℕ) (v : ℕ → Shown) (m : Map E (List ℕ)) (xs : List (Tagged Place (List ℕ))) (y : Record E (List ℕ)) → ((g : ℕ) → IsOrderly (v g))
@@ -52,7 +52,7 @@ items_marked markings.Unmarked xs some = refl
 items_marked (markings.Part id status) xs some = refl
 items_marked markings.Broken xs some = absurd (some refl)
 
-marked_says : (marking : Marking) (xs : List (Tagged (List ℕ) (List ℕ))) → (marking ≡ markings.Broken → ⊥) → (y : Said) × (marked marking xs ≡ Some y)
+marked_says : (marking : Marking) (xs : List (Tagged (List ℕ) (List ℕ))) → (marking ≡ markings.Broken → ⊥) → (y : LogRecordValue) × (marked marking xs ≡ Some y)
 marked_says markings.Unmarked xs some = (Plain xs, refl)
 marked_says (markings.Part id status) xs some = (Part (part_of id status) xs, refl)
 marked_says markings.Broken xs some = absurd (some refl)
@@ -66,8 +66,8 @@ pub read_is_said : (b : Batch) → IsWellMarked b → IsLaidOut b → said_by (r
 read_is_said b some laid =
     let (said, is) = marked_says (marking_of_items b.items) (tagged_items (entry_bytes b.entries) b.items) some in
     let read = read_means_what_was_added b.items b.entries no_block laid.laid laid.adds in
-    let else_said : Said = Plain (tagged_items (entry_bytes (block_bytes (record_said b).entries)) (placed no_block (record_said b).items)) in
-    ap (λ (o : Option Said). unwrap_or o else_said) (read ∙ is) ∙ sym (ap (λ (o : Option Said). unwrap_or o (Plain [])) is)
+    let else_said : LogRecordValue = Plain (tagged_items (entry_bytes (block_bytes (record_said b).entries)) (placed no_block (record_said b).items)) in
+    ap (λ (o : Option LogRecordValue). unwrap_or o else_said) (read ∙ is) ∙ sym (ap (λ (o : Option LogRecordValue). unwrap_or o (Plain [])) is)
 
 -- the view goes on by the batch, in whichever file it was written
 pub batch_grows : (b : Batch) (block : FileBlockHandle) (v : ℕ → Shown) (m : LogMap) → ((g : ℕ) → IsOrderly (v g)) → IsWellMarked b → MayFollowAll v (tagged_items (λ e. e) b.items)

@@ -14,12 +14,12 @@ use Rattle.raft_log_block_cache.proofs.Staying.{stored_entries_stay}
 use Rattle.raft_log_memtable_index.specs.Shown.{Shown}
 use Rattle.raft_log_memtable_index.specs.Noted.{FilesRise}
 use Rattle.raft_log_block_cache.specs.raft_log_memtables.specs.Views.{AreMeant, view_of}
-use Rattle.raft_log_block_cache.specs.raft_log_dual_pipes.specs.Pipes.{LogPipes, RunsOn, Said, State}
+use Rattle.raft_log_block_cache.specs.raft_log_dual_pipes.specs.Pipes.{LogPipes, RunsOn, LogRecordValue, State}
 use Rattle.raft_log_block_cache.specs.declared.block_cache.BlockCache.{BlockCache}
 use Rattle.raft_log_block_cache.specs.Blocks.{IsOfLog}
 use Rattle.raft_log_block_cache.proofs.KeptBlocks.{kept_blocks_stay, none_kept}
-use Rattle.raft_log_engine_laws.specs.Shows.{Home, KeepsOrForgets, LogMap, Shows, log_in, sense}
-use Rattle.raft_log_engine_laws.specs.Holding.{EndsAt, FilesRiseIn, Holds, NotesEndIn, RunsAs}
+use Rattle.raft_log_engine_laws.specs.EngineState.{LogDirectories, KeepsOrForgets, LogMap, EngineState, log_in, sense}
+use Rattle.raft_log_engine_laws.specs.Holding.{EndsAt, FilesRiseIn, Represents, NotesEndIn, RunsAs}
 
 -- what Append's files keep the log keeps
 pub keeps_log : (s : State) (files : LogFiles LogRecord) (d : Disk) → KeepsBytes s.append.files files → KeepsLog s (next_log InAppend s files d)
@@ -48,7 +48,7 @@ pub notes_on : (s t : State) → KeepsLog s t → (v : ℕ → Shown) → NotesE
 notes_on s t keeps v noted g files is = (let low = noted g files is in let later = keeps.rewrite.last in omega (arith, low, later))
 
 -- an engine whose pipes run is one whose log runs
-pub holds_runs : (home : Home) (e : Shows) (m : LogMap) (pending : List Said) → Holds home e m pending → RunsAs home e.pipes m pending
+pub holds_runs : (home : LogDirectories) (e : EngineState) (m : LogMap) (pending : List LogRecordValue) → Represents home e m pending → RunsAs home e.pipes m pending
 holds_runs home e m pending h = record { state = h.state; view = view_of e.tables h.map; runs = h.runs; at = h.at }
 
 -- the block that was kept stays what was written at its place; where none is kept there is nothing to say
@@ -56,10 +56,10 @@ pub stays_cached : (s t : State) → KeepsLog s t → (old new : BlockCache) →
 stays_cached s t keeps old new (inl same) is = subst (IsOfLog t) (sym same) (kept_blocks_stay s t keeps old is)
 stays_cached s t keeps old new (inr none) is = none_kept t new none
 
-module _ (home : Home) (e t : Shows) (m : LogMap) (pending : List Said) (h : Holds home e m pending) (same : t.tables ≡ e.tables) (kept : KeepsOrForgets e t) where
+module _ (home : LogDirectories) (e t : EngineState) (m : LogMap) (pending : List LogRecordValue) (h : Represents home e m pending) (same : t.tables ≡ e.tables) (kept : KeepsOrForgets e t) where
   -- the same tables go on with a log that keeps theirs
   pub goes_on : (files : LogFiles LogRecord) → KeepsBytes h.state.append.files files → RunsOn (sense home) t.pipes (next_log InAppend h.state files t.pipes.disk)
-      → (k : LogMap) (rest : List Said) → IsAt (Ties (log_in home) (next_log InAppend h.state files t.pipes.disk)) (view_of e.tables h.map) k rest → Holds home t k rest
+      → (k : LogMap) (rest : List LogRecordValue) → IsAt (Ties (log_in home) (next_log InAppend h.state files t.pipes.disk)) (view_of e.tables h.map) k rest → Represents home t k rest
   goes_on files keeps runs k rest at =
       let next : State = next_log InAppend h.state files t.pipes.disk in
       let log = keeps_log h.state files t.pipes.disk keeps in

@@ -7,7 +7,7 @@ pub mod Tries
 pub mod Exits
 pub mod Fetching
 pub mod Reading
-pub mod Lying
+pub mod OpenOrClosed
 pub mod LeftOpen
 pub mod GroupLying
 pub mod Writing

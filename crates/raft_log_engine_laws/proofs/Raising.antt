@@ -26,14 +26,14 @@ use Rattle.raft_log_memtable_index.proofs.Noting.{least_is_noted}
 use Rattle.raft_log_memtable.specs.Files.{IsLeastInAppend}
 use Rattle.raft_log_block_cache.specs.raft_log_dual_pipes.specs.State.{LogOnDisk, Ties}
 use Rattle.raft_log_block_cache.specs.raft_log_dual_pipes.specs.Syncing.{raised_log}
-use Rattle.raft_log_block_cache.specs.raft_log_dual_pipes.specs.Lying.{RunOrLie, both_open, with_open}
+use Rattle.raft_log_block_cache.specs.raft_log_dual_pipes.specs.OpenOrClosed.{IsOpenOrClosed, both_open, with_open}
 use Rattle.raft_log_block_cache.specs.Stored.{AreStored, Each, EntryLiesIn, IsStored, entries_at, entry_at, queue_in}
 use Rattle.raft_log_block_cache.proofs.Staying.{means_alike}
 use Rattle.raft_log_block_cache.specs.raft_log_memtables.specs.Views.{AreMeant, view_of}
-use Rattle.raft_log_block_cache.specs.raft_log_dual_pipes.specs.Pipes.{RunsOn, Said, State, files_of}
+use Rattle.raft_log_block_cache.specs.raft_log_dual_pipes.specs.Pipes.{RunsOn, LogRecordValue, State, files_of}
 use Rattle.raft_log_block_cache.specs.raft_log_dual_pipes.specs.Calls.{FailsToPurgeQueue, PurgesQueue}
-use Rattle.raft_log_engine_laws.specs.Shows.{Home, LogMap, Shows, log_in, sense}
-use Rattle.raft_log_engine_laws.specs.Holding.{FilesRiseIn, IsLeftAt, NotesEndIn}
+use Rattle.raft_log_engine_laws.specs.EngineState.{LogDirectories, LogMap, EngineState, log_in, sense}
+use Rattle.raft_log_engine_laws.specs.Holding.{FilesRiseIn, IsRecoverableAs, NotesEndIn}
 use Rattle.raft_log_engine_laws.specs.Raising.{AppendMayBegin, MayBegin, PurgeLeavesHeld, RewriteMayBegin}
 use Rattle.raft_log_block_cache.proofs.KeptBlocks.{none_kept}
 use Rattle.raft_log_engine_laws.specs.Settled.{HoldsSettled}
@@ -142,7 +142,7 @@ rewrite_stands_from n at v map meant may g s there =
 
 -- The log once a queue began later.
 
-raised_settled : (which : Which) (home : Home) (e t : Shows) (m : LogMap) (n : ℕ) (h : HoldsSettled home e m) → MayBegin which n e.tables → t.tables ≡ e.tables → t.cache.place ≡ None
+raised_settled : (which : Which) (home : LogDirectories) (e t : EngineState) (m : LogMap) (n : ℕ) (h : HoldsSettled home e m) → MayBegin which n e.tables → t.tables ≡ e.tables → t.cache.place ≡ None
     → RunsOn (sense home) t.pipes (raised_log which h.state n t.pipes.disk)
     → AreStored (raised_log which h.state n t.pipes.disk) e.tables
     → IsSettled (Ties (log_in home) (raised_log which h.state n t.pipes.disk)) (view_of e.tables h.map) m → HoldsSettled home t m
@@ -159,7 +159,7 @@ raised_settled which home e t m n h may same forgets runs stored at =
       at = subst (λ v. IsSettled (Ties (log_in home) next) (view_of v h.map) m) (sym same) at;
     }
 
-pub raised : (which : Which) (home : Home) (e t : Shows) (m : LogMap) (n : ℕ) → HoldsSettled home e m → MayBegin which n e.tables → t.tables ≡ e.tables → t.cache.place ≡ None → PurgesQueue which n e.pipes t.pipes
+pub raised : (which : Which) (home : LogDirectories) (e t : EngineState) (m : LogMap) (n : ℕ) → HoldsSettled home e m → MayBegin which n e.tables → t.tables ≡ e.tables → t.cache.place ≡ None → PurgesQueue which n e.pipes t.pipes
     → HoldsSettled home t m
 raised InAppend home e t m n h may same forgets call =
     let s = h.state in
@@ -177,7 +177,7 @@ raised InRewrite home e t m n h may same forgets call =
 -- Refusals.
 
 -- the same log, on pipes that run over it
-settled_same : (home : Home) (e t : Shows) (m : LogMap) (h : HoldsSettled home e m) → t.tables ≡ e.tables → t.cache.place ≡ None → RunsOn (sense home) t.pipes h.state → HoldsSettled home t m
+settled_same : (home : LogDirectories) (e t : EngineState) (m : LogMap) (h : HoldsSettled home e m) → t.tables ≡ e.tables → t.cache.place ≡ None → RunsOn (sense home) t.pipes h.state → HoldsSettled home t m
 settled_same home e t m h same forgets runs = record {
   state = h.state;
   map = h.map;
@@ -190,7 +190,7 @@ settled_same home e t m h same forgets runs = record {
   at = subst (λ v. IsSettled (Ties (log_in home) h.state) (view_of v h.map) m) (sym same) h.at;
 }
 
-raise_failed : (which : Which) (home : Home) (e t : Shows) (m : LogMap) (n : ℕ) (h : HoldsSettled home e m) → MayBegin which n e.tables
+raise_failed : (which : Which) (home : LogDirectories) (e t : EngineState) (m : LogMap) (n : ℕ) (h : HoldsSettled home e m) → MayBegin which n e.tables
     → Raises (Ties (log_in home)) (Ties (log_in home)) which n h.state (raised_log which h.state n t.pipes.disk)
     → IsLog (Ties (log_in home) (raised_log which h.state n t.pipes.disk)) m []
 raise_failed InAppend home e t m n h may step =
@@ -204,7 +204,7 @@ disk_of_raised : (which : Which) (s : State) (n : ℕ) (d : Disk) → (raised_lo
 disk_of_raised InAppend s n d = refl
 disk_of_raised InRewrite s n d = refl
 
-pub raise_refused : (which : Which) (home : Home) (e t : Shows) (m : LogMap) (n : ℕ) (error : Error) → HoldsSettled home e m → MayBegin which n e.tables → t.tables ≡ e.tables → t.cache.place ≡ None
+pub raise_refused : (which : Which) (home : LogDirectories) (e t : EngineState) (m : LogMap) (n : ℕ) (error : Error) → HoldsSettled home e m → MayBegin which n e.tables → t.tables ≡ e.tables → t.cache.place ≡ None
     → FailsToPurgeQueue which n error e.pipes t.pipes → PurgeLeavesHeld home m t error
 raise_refused which home e t m n errors.Memory h may same forgets call = settled_same home e t m h same forgets (call (sense home) h.state h.runs).0
 raise_refused which home e t m n (errors.Other fault) h may same forgets call = settled_same home e t m h same forgets (call (sense home) h.state h.runs).1.0
@@ -212,6 +212,6 @@ raise_refused which home e t m n errors.NumberRange h may same forgets call = se
 raise_refused which home e t m n errors.Failed h may same forgets call =
     let (fails, left) = call (sense home) h.state h.runs in
     let next : State = raised_log which h.state n t.pipes.disk in
-    subst (λ d. IsLeftAt home d m []) (disk_of_raised which h.state n t.pipes.disk)
+    subst (λ d. IsRecoverableAs home d m []) (disk_of_raised which h.state n t.pipes.disk)
     (left_whole home (with_open which (both_open (files_of e.pipes)) None) next m [] left.0 (raise_failed which home e t m n h may left.1))
 raise_refused which home e t m n _ h may same forgets call = call (sense home) h.state h.runs

@@ -15,9 +15,9 @@ use Rattle.raft_log_memtable_index.proofs.Queues.{located_length}
 use Rattle.raft_log_memtable_index.specs.Listing.{ListsAll, values_within}
 use Rattle.raft_log_memtable.specs.Reads.{first_of, last_of}
 use Rattle.raft_log_block_cache.specs.Stored.{entries_at}
-use Rattle.raft_log_block_cache.specs.raft_log_dual_pipes.specs.Pipes.{Said}
-use Rattle.raft_log_engine_laws.specs.Shows.{Home, LogMap, Shows}
-use Rattle.raft_log_engine_laws.specs.Holding.{Holds}
+use Rattle.raft_log_block_cache.specs.raft_log_dual_pipes.specs.Pipes.{LogRecordValue}
+use Rattle.raft_log_engine_laws.specs.EngineState.{LogDirectories, LogMap, EngineState}
+use Rattle.raft_log_engine_laws.specs.Holding.{Represents}
 use Rattle.raft_log_engine_laws.specs.Reading.{AreKeysOf, IsFirstIn, IsLastIn, StandsUnder, TablesTell, is_within}
 
 -- an element of a list, by its index
@@ -87,21 +87,21 @@ module _ (at : Located → List ℕ) (v : Shown) (m : LogMap) (g : ℕ) (meant :
       )
   last_in false h = first_in false h
 
-module _ (e : Shows) (g : ℕ) where
-  first_told : (home : Home) (m : LogMap) (pending : List Said) → Holds home e m pending → IsFirstIn (taken m pending) g (first_of (e.tables g))
+module _ (e : EngineState) (g : ℕ) where
+  first_told : (home : LogDirectories) (m : LogMap) (pending : List LogRecordValue) → Represents home e m pending → IsFirstIn (taken m pending) g (first_of (e.tables g))
   first_told home m pending h =
       subst (λ k. IsFirstIn k g (first_of (e.tables g))) h.at.stands.map (first_in (entries_at h.state) (e.tables g) h.map g (h.meant.meant g) (nat_lt 0 (length (e.tables g).places)) refl)
 
-  last_told : (home : Home) (m : LogMap) (pending : List Said) → Holds home e m pending → IsLastIn (taken m pending) g (last_of (e.tables g))
+  last_told : (home : LogDirectories) (m : LogMap) (pending : List LogRecordValue) → Represents home e m pending → IsLastIn (taken m pending) g (last_of (e.tables g))
   last_told home m pending h =
       subst (λ k. IsLastIn k g (last_of (e.tables g))) h.at.stands.map (last_in (entries_at h.state) (e.tables g) h.map g (h.meant.meant g) (nat_lt 0 (length (e.tables g).places)) refl)
 
-  value_told : (key : List ℕ) (home : Home) (m : LogMap) (pending : List Said) → Holds home e m pending → StandsUnder (taken m pending) g key (bytes_held ((e.tables g).held key))
+  value_told : (key : List ℕ) (home : LogDirectories) (m : LogMap) (pending : List LogRecordValue) → Represents home e m pending → StandsUnder (taken m pending) g key (bytes_held ((e.tables g).held key))
   value_told key home m pending h =
       subst (λ (n : LogMap). StandsUnder n g key (bytes_held ((e.tables g).held key))) h.at.stands.map
       (sym (h.meant.meant g (Key key)) ∙ held_value (entries_at h.state) (bytes_held ((e.tables g).held key)))
 
-  keys_told : (start end : Option (List ℕ)) (es : List (List ℕ × List ℕ)) → ListsAll (values_within start end (e.tables g)) es → (home : Home) (m : LogMap) (pending : List Said) → Holds home e m pending
+  keys_told : (start end : Option (List ℕ)) (es : List (List ℕ × List ℕ)) → ListsAll (values_within start end (e.tables g)) es → (home : LogDirectories) (m : LogMap) (pending : List LogRecordValue) → Represents home e m pending
       → AreKeysOf (taken m pending) g start end es
   keys_told start end es listed home m pending h = record {
     rising = listed.rising;

@@ -16,26 +16,26 @@ use Rattle.raft_log_directory_laws.proofs.Follows.{taken_twice}
 use Rattle.raft_log_block_cache.specs.raft_log_memtables.specs.Batch.{all_shown}
 use Rattle.raft_log_block_cache.specs.raft_log_dual_pipes.specs.Crash.{AllowsIn}
 use Rattle.raft_log_block_cache.specs.raft_log_dual_pipes.specs.Failing.{failed_pipe}
-use Rattle.raft_log_block_cache.specs.raft_log_dual_pipes.specs.Lying.{OpenPipes, RunOrLie, both_open, with_open}
+use Rattle.raft_log_block_cache.specs.raft_log_dual_pipes.specs.OpenOrClosed.{OpenPipes, IsOpenOrClosed, both_open, with_open}
 use Rattle.raft_log_block_cache.specs.raft_log_dual_pipes.specs.OnDisk.{LogLiesOn}
 use Rattle.raft_log_block_cache.specs.raft_log_dual_pipes.specs.State.{Ties}
 use Rattle.raft_log_block_cache.specs.raft_log_dual_pipes.specs.Steps.{next_log}
 use Rattle.raft_log_block_cache.specs.Stored.{KeepsBytes}
 use Rattle.raft_log_block_cache.proofs.Keeping.{calls_keep_bytes}
 use Rattle.raft_log_block_cache.specs.raft_log_memtables.specs.Views.{view_of}
-use Rattle.raft_log_block_cache.specs.raft_log_dual_pipes.specs.Pipes.{LogPipes, RunsOn, Said, State, files_of}
+use Rattle.raft_log_block_cache.specs.raft_log_dual_pipes.specs.Pipes.{LogPipes, RunsOn, LogRecordValue, State, files_of}
 use Rattle.raft_log_block_cache.specs.raft_log_dual_pipes.specs.Calls.{CutsBackOn, FailsToAppendTo, FailsToSyncQueue, LeavesOutOn}
-use Rattle.raft_log_engine_laws.specs.Shows.{Home, KeepsOrForgets, LogMap, Shows, log_in, said_of, sense}
-use Rattle.raft_log_engine_laws.specs.Holding.{EndsAt, Holds, IsLeftAt, RunsAs, RunsEnding}
+use Rattle.raft_log_engine_laws.specs.EngineState.{LogDirectories, KeepsOrForgets, LogMap, EngineState, log_in, said_of, sense}
+use Rattle.raft_log_engine_laws.specs.Holding.{EndsAt, Represents, IsRecoverableAs, RunsAs, RunsEnding}
 use Rattle.raft_log_engine_laws.specs.Writing.{Leaves, items_at}
 use Rattle.raft_log_engine_laws.proofs.Growing.{batch_grows, in_file}
 use Rattle.raft_log_engine_laws.specs.Laws.{MayBeWritten}
 use Rattle.raft_log_engine_laws.proofs.Keeping.{goes_on}
 use Rattle.raft_log_engine_laws.proofs.Calling.{says_batch}
 
-module _ (home : Home) (e t : Shows) (b : Batch) (m : LogMap) (pending : List Said) (h : Holds home e m pending) (same : t.tables ≡ e.tables) (kept : KeepsOrForgets e t) where
+module _ (home : LogDirectories) (e t : EngineState) (b : Batch) (m : LogMap) (pending : List LogRecordValue) (h : Represents home e m pending) (same : t.tables ≡ e.tables) (kept : KeepsOrForgets e t) where
   -- cut back, all batches before are in the map
-  cut_back : CutsBackOn (sense home) InAppend h.state e.pipes t.pipes → Holds home t (taken m pending) []
+  cut_back : CutsBackOn (sense home) InAppend h.state e.pipes t.pipes → Represents home t (taken m pending) []
   cut_back call =
       let s = h.state in
       let (files, cut, runs, step) = call in
@@ -59,14 +59,14 @@ module _ (home : Home) (e t : Shows) (b : Batch) (m : LogMap) (pending : List Sa
       }
 
 -- a log that ends so lies on its disk
-left_at : (home : Home) (o : OpenPipes) (t : State) (m : LogMap) (pending : List Said) → RunOrLie (log_in home) o t → LogEnds (Ties (log_in home) t) m pending → IsLeftAt home t.disk m pending
+left_at : (home : LogDirectories) (o : OpenPipes) (t : State) (m : LogMap) (pending : List LogRecordValue) → IsOpenOrClosed (log_in home) o t → LogEnds (Ties (log_in home) t) m pending → IsRecoverableAs home t.disk m pending
 left_at home o t m pending stands ends = (
   o,
   record { done = ends.done; rest = ends.rest; splits = ends.splits; lies = record { state = t; disk = refl; stands = stands; holds = ends.log } },
 )
 
 -- what the pipes leave of a batch that they refused
-pub refused_leaves : (home : Home) (e t : Shows) (b : Batch) (m : LogMap) (pending : List Said) (error : Error) → Holds home e m pending → MayBeWritten e b → t.tables ≡ e.tables → KeepsOrForgets e t
+pub refused_leaves : (home : LogDirectories) (e t : EngineState) (b : Batch) (m : LogMap) (pending : List LogRecordValue) (error : Error) → Represents home e m pending → MayBeWritten e b → t.tables ≡ e.tables → KeepsOrForgets e t
     → FailsToAppendTo InAppend (signed_for b) error e.pipes t.pipes → Leaves home b m pending e t error
 refused_leaves home e t b m pending (errors.Io kind) h ready same kept call =
     let (cause, cut) = call (sense home) h.state (said_of b) h.runs (says_batch home e b ready) in
@@ -94,8 +94,8 @@ refused_leaves home e t b m pending _ h ready same kept call =
     call (sense home) h.state (said_of b) h.runs (says_batch home e b ready)
 
 -- a sync that failed leaves the log as it was
-pub unsynced_left : (home : Home) (v w : LogPipes) (m : LogMap) (pending : List Said) → RunsAs home v m pending → FailsToSyncQueue InAppend v w
-    → Fails v.disk w.disk × IsLeftAt home w.disk m pending
+pub unsynced_left : (home : LogDirectories) (v w : LogPipes) (m : LogMap) (pending : List LogRecordValue) → RunsAs home v m pending → FailsToSyncQueue InAppend v w
+    → Fails v.disk w.disk × IsRecoverableAs home w.disk m pending
 unsynced_left home v w m pending h call =
     let s = h.state in
     let (fails, stands, step) = call (sense home) s h.runs in
@@ -104,7 +104,7 @@ unsynced_left home v w m pending h call =
     (fails, left_at home (failed_pipe InAppend (files_of v)) next m pending stands (record { done = []; rest = pending; splits = refl; log = log }))
 
 -- what is left behind some synced batches is left behind all
-pub left_behind : (home : Home) (d : Disk) (m : LogMap) (done rest pending : List Said) → done ++ rest ≡ pending → IsLeftAt home d (taken m done) rest → IsLeftAt home d m pending
+pub left_behind : (home : LogDirectories) (d : Disk) (m : LogMap) (done rest pending : List LogRecordValue) → done ++ rest ≡ pending → IsRecoverableAs home d (taken m done) rest → IsRecoverableAs home d m pending
 left_behind home d m done rest pending splits (o, left) = (
   o,
   record {

@@ -17,7 +17,7 @@ use Rattle.raft_log_directory_laws.proofs.Follows.{append_follows, rewrite_follo
 use Rattle.raft_log_directory_laws.proofs.SettledLaws.{append_settles, rewrite_settles, settled_stays, sync_settles}
 use Rattle.raft_log_block_cache.specs.raft_log_dual_pipes.specs.Crash.{AllowsIn}
 use Rattle.raft_log_block_cache.specs.raft_log_dual_pipes.specs.Failing.{failed_pipe}
-use Rattle.raft_log_block_cache.specs.raft_log_dual_pipes.specs.Lying.{OpenPipes, RunOrLie, both_open, with_open}
+use Rattle.raft_log_block_cache.specs.raft_log_dual_pipes.specs.OpenOrClosed.{OpenPipes, IsOpenOrClosed, both_open, with_open}
 use Rattle.raft_log_block_cache.specs.raft_log_dual_pipes.specs.Syncing.{FailsMoved}
 use Rattle.raft_log_block_cache.specs.raft_log_dual_pipes.specs.State.{Ties, spanned_at}
 use Rattle.raft_log_block_cache.specs.raft_log_dual_pipes.specs.Steps.{next_log}
@@ -25,26 +25,26 @@ use Rattle.raft_log_block_cache.specs.Stored.{AreStored, KeepsBytes, KeepsLog, e
 use Rattle.raft_log_block_cache.proofs.Keeping.{calls_keep_bytes, calls_keep_log}
 use Rattle.raft_log_block_cache.proofs.Staying.{stored_entries_stay}
 use Rattle.raft_log_block_cache.specs.raft_log_memtables.specs.Views.{AreMeant, view_of}
-use Rattle.raft_log_block_cache.specs.raft_log_dual_pipes.specs.Pipes.{LogPipes, RunsOn, Said, State, files_of}
+use Rattle.raft_log_block_cache.specs.raft_log_dual_pipes.specs.Pipes.{LogPipes, RunsOn, LogRecordValue, State, files_of}
 use Rattle.raft_log_block_cache.specs.raft_log_dual_pipes.specs.Calls.{FailsToRotateQueue, FailsToSyncQueue, RotatesQueue, SyncsQueue}
-use Rattle.raft_log_engine_laws.specs.Shows.{Home, LogMap, Shows, log_in, sense}
-use Rattle.raft_log_engine_laws.specs.Holding.{FilesRiseIn, Holds, IsLeftAt, NotesEndIn, RunsAs}
+use Rattle.raft_log_engine_laws.specs.EngineState.{LogDirectories, LogMap, EngineState, log_in, sense}
+use Rattle.raft_log_engine_laws.specs.Holding.{FilesRiseIn, Represents, IsRecoverableAs, NotesEndIn, RunsAs}
 use Rattle.raft_log_engine_laws.proofs.Keeping.{notes_on, rise_on, stays_cached}
 use Rattle.raft_log_block_cache.specs.Blocks.{IsOfLog}
 use Rattle.raft_log_engine_laws.specs.Quiet.{TurnLeavesHeld}
 use Rattle.raft_log_engine_laws.specs.Settled.{HoldsSettled, SameTables}
 
 -- what is settled is held
-pub settled_held : (home : Home) (e : Shows) (m : LogMap) → HoldsSettled home e m → Holds home e m []
+pub settled_held : (home : LogDirectories) (e : EngineState) (m : LogMap) → HoldsSettled home e m → Represents home e m []
 settled_held home e m h = record { state = h.state; map = h.map; runs = h.runs; stored = h.stored; rises = h.rises; noted = h.noted; meant = h.meant; cached = h.cached; at = h.at.at }
 
 -- the same tables go on with a log that keeps its bytes
-module _ (home : Home) (e t : Shows) (which : Which) (s : State) (map : LogMap) (stored : AreStored s e.tables) (rises : FilesRiseIn s e.tables) (noted : NotesEndIn s e.tables) (meant : AreMeant (entries_at s) e.tables map) (cached : IsOfLog s e.cache) (same : SameTables e t) (files : LogFiles LogRecord)
+module _ (home : LogDirectories) (e t : EngineState) (which : Which) (s : State) (map : LogMap) (stored : AreStored s e.tables) (rises : FilesRiseIn s e.tables) (noted : NotesEndIn s e.tables) (meant : AreMeant (entries_at s) e.tables map) (cached : IsOfLog s e.cache) (same : SameTables e t) (files : LogFiles LogRecord)
     (keeps : KeepsBytes (spanned_at which s).files files) (runs : RunsOn (sense home) t.pipes (next_log which s files t.pipes.disk)) where
   abbrev next : State
   next = next_log which s files t.pipes.disk
 
-  pub held_on : (k : LogMap) (rest : List Said) → IsAt (Ties (log_in home) next) (view_of e.tables map) k rest → Holds home t k rest
+  pub held_on : (k : LogMap) (rest : List LogRecordValue) → IsAt (Ties (log_in home) next) (view_of e.tables map) k rest → Represents home t k rest
   held_on k rest at =
       let stays = stored_entries_stay s next (calls_keep_log which s files t.pipes.disk keeps) e.tables stored in record {
         state = next;
@@ -74,7 +74,7 @@ module _ (home : Home) (e t : Shows) (which : Which) (s : State) (map : LogMap) 
 
 -- Syncs.
 
-pub sync_keeps : (home : Home) (e t : Shows) (m : LogMap) (pending : List Said) → Holds home e m pending → SameTables e t → SyncsQueue InRewrite e.pipes t.pipes → Holds home t m pending
+pub sync_keeps : (home : LogDirectories) (e t : EngineState) (m : LogMap) (pending : List LogRecordValue) → Represents home e m pending → SameTables e t → SyncsQueue InRewrite e.pipes t.pipes → Represents home t m pending
 sync_keeps home e t m pending h same call =
     let s = h.state in
     let files : LogFiles LogRecord = synced s.rewrite.files in
@@ -82,7 +82,7 @@ sync_keeps home e t m pending h same call =
     held_on home e t InRewrite s h.map h.stored h.rises h.noted h.meant h.cached same files ((calls_keep_bytes {R = LogRecord}).synced s.rewrite.files) runs m pending
     (rewrite_synced (Ties (log_in home)) (AllowsIn (log_in home)) s (next_log InRewrite s files t.pipes.disk) (view_of e.tables h.map) m pending h.at step)
 
-pub sync_settles_log : (home : Home) (e t : Shows) (m : LogMap) → Holds home e m [] → SameTables e t → SyncsQueue InRewrite e.pipes t.pipes → HoldsSettled home t m
+pub sync_settles_log : (home : LogDirectories) (e t : EngineState) (m : LogMap) → Represents home e m [] → SameTables e t → SyncsQueue InRewrite e.pipes t.pipes → HoldsSettled home t m
 sync_settles_log home e t m h same call =
     let s = h.state in
     let files : LogFiles LogRecord = synced s.rewrite.files in
@@ -92,21 +92,21 @@ sync_settles_log home e t m h same call =
     (rewrite_settles (Ties (log_in home)) s next (view_of e.tables h.map) m (sync_settles (Ties (log_in home)) s next InRewrite step) h.at)
 
 -- a log that is so lies on its disk
-pub left_whole : (home : Home) (o : OpenPipes) (t : State) (m : LogMap) (pending : List Said) → RunOrLie (log_in home) o t → IsLog (Ties (log_in home) t) m pending → IsLeftAt home t.disk m pending
+pub left_whole : (home : LogDirectories) (o : OpenPipes) (t : State) (m : LogMap) (pending : List LogRecordValue) → IsOpenOrClosed (log_in home) o t → IsLog (Ties (log_in home) t) m pending → IsRecoverableAs home t.disk m pending
 left_whole home o t m pending stands log = (
   o,
   record { done = []; rest = pending; splits = refl; lies = record { state = t; disk = refl; stands = stands; holds = log } },
 )
 
 -- either queue's sync failed
-sync_failed : (which : Which) (home : Home) (v w : LogPipes) (m : LogMap) (pending : List Said) (h : RunsAs home v m pending) → Fails v.disk w.disk
-    → (next : State) → next.disk ≡ w.disk → RunOrLie (log_in home) (failed_pipe which (files_of v)) next → IsLog (Ties (log_in home) next) m pending
-    → Fails v.disk w.disk × IsLeftAt home w.disk m pending
+sync_failed : (which : Which) (home : LogDirectories) (v w : LogPipes) (m : LogMap) (pending : List LogRecordValue) (h : RunsAs home v m pending) → Fails v.disk w.disk
+    → (next : State) → next.disk ≡ w.disk → IsOpenOrClosed (log_in home) (failed_pipe which (files_of v)) next → IsLog (Ties (log_in home) next) m pending
+    → Fails v.disk w.disk × IsRecoverableAs home w.disk m pending
 sync_failed which home v w m pending h fails next disk stands log =
-    (fails, subst (λ d. IsLeftAt home d m pending) disk (left_whole home (failed_pipe which (files_of v)) next m pending stands log))
+    (fails, subst (λ d. IsRecoverableAs home d m pending) disk (left_whole home (failed_pipe which (files_of v)) next m pending stands log))
 
-pub failed_sync : (which : Which) (home : Home) (v w : LogPipes) (m : LogMap) (pending : List Said) → RunsAs home v m pending → FailsToSyncQueue which v w
-    → Fails v.disk w.disk × IsLeftAt home w.disk m pending
+pub failed_sync : (which : Which) (home : LogDirectories) (v w : LogPipes) (m : LogMap) (pending : List LogRecordValue) → RunsAs home v m pending → FailsToSyncQueue which v w
+    → Fails v.disk w.disk × IsRecoverableAs home w.disk m pending
 failed_sync InAppend home v w m pending h call =
     let s = h.state in
     let (fails, stands, step) = call (sense home) s h.runs in
@@ -120,7 +120,7 @@ failed_sync InRewrite home v w m pending h call =
 
 -- Rotations.
 
-pub append_rotates : (home : Home) (e t : Shows) (m : LogMap) (pending : List Said) → Holds home e m pending → SameTables e t → RotatesQueue InAppend e.pipes t.pipes → Holds home t (taken m pending) []
+pub append_rotates : (home : LogDirectories) (e t : EngineState) (m : LogMap) (pending : List LogRecordValue) → Represents home e m pending → SameTables e t → RotatesQueue InAppend e.pipes t.pipes → Represents home t (taken m pending) []
 append_rotates home e t m pending h same call =
     let s = h.state in
     let (files, goes, runs, step) = call (sense home) s h.runs in
@@ -128,7 +128,7 @@ append_rotates home e t m pending h same call =
     held_on home e t InAppend s h.map h.stored h.rises h.noted h.meant h.cached same files ((calls_keep_bytes {R = LogRecord}).turned _ _ _ s.append.files files (inr goes)) runs (taken m pending) []
     (append_settles (Ties (log_in home)) s next (view_of e.tables h.map) m pending step h.at)
 
-pub settled_rotates : (home : Home) (e t : Shows) (m : LogMap) → HoldsSettled home e m → SameTables e t → RotatesQueue InAppend e.pipes t.pipes → HoldsSettled home t m
+pub settled_rotates : (home : LogDirectories) (e t : EngineState) (m : LogMap) → HoldsSettled home e m → SameTables e t → RotatesQueue InAppend e.pipes t.pipes → HoldsSettled home t m
 settled_rotates home e t m h same call =
     let s = h.state in
     let (files, goes, runs, step) = call (sense home) s h.runs in
@@ -136,7 +136,7 @@ settled_rotates home e t m h same call =
     settled_on home e t InAppend s h.map h.stored h.rises h.noted h.meant h.cached same files ((calls_keep_bytes {R = LogRecord}).turned _ _ _ s.append.files files (inr goes)) runs m
     (settled_stays (Ties (log_in home)) s next (view_of e.tables h.map) m step h.at)
 
-pub rewrite_rotates : (home : Home) (e t : Shows) (m : LogMap) → Holds home e m [] → SameTables e t → RotatesQueue InRewrite e.pipes t.pipes → HoldsSettled home t m
+pub rewrite_rotates : (home : LogDirectories) (e t : EngineState) (m : LogMap) → Represents home e m [] → SameTables e t → RotatesQueue InRewrite e.pipes t.pipes → HoldsSettled home t m
 rewrite_rotates home e t m h same call =
     let s = h.state in
     let (files, goes, runs, step) = call (sense home) s h.runs in
@@ -156,7 +156,7 @@ same_log s = record {
 }
 
 -- the same log, on pipes that run over it
-pub held_same : (home : Home) (e t : Shows) (m : LogMap) (pending : List Said) (h : Holds home e m pending) → SameTables e t → RunsOn (sense home) t.pipes h.state → Holds home t m pending
+pub held_same : (home : LogDirectories) (e t : EngineState) (m : LogMap) (pending : List LogRecordValue) (h : Represents home e m pending) → SameTables e t → RunsOn (sense home) t.pipes h.state → Represents home t m pending
 held_same home e t m pending h same runs = record {
   state = h.state;
   map = h.map;
@@ -170,14 +170,14 @@ held_same home e t m pending h same runs = record {
 }
 
 -- a log of which some first batches are synced lies on its disk
-pub left_ending : (home : Home) (o : OpenPipes) (t : State) (m : LogMap) (pending : List Said) → RunOrLie (log_in home) o t → LogEnds (Ties (log_in home) t) m pending → IsLeftAt home t.disk m pending
+pub left_ending : (home : LogDirectories) (o : OpenPipes) (t : State) (m : LogMap) (pending : List LogRecordValue) → IsOpenOrClosed (log_in home) o t → LogEnds (Ties (log_in home) t) m pending → IsRecoverableAs home t.disk m pending
 left_ending home o t m pending stands ends = (
   o,
   record { done = ends.done; rest = ends.rest; splits = ends.splits; lies = record { state = t; disk = refl; stands = stands; holds = ends.log } },
 )
 
 -- the files moved on, and the pipe failed
-moved_log : (which : Which) (home : Home) (s t : State) (v : View (List ℕ) (List ℕ)) (m : LogMap) (pending : List Said) → IsAt (Ties (log_in home) s) v m pending
+moved_log : (which : Which) (home : LogDirectories) (s t : State) (v : View (List ℕ) (List ℕ)) (m : LogMap) (pending : List LogRecordValue) → IsAt (Ties (log_in home) s) v m pending
     → FailsMoved (Ties (log_in home)) (Ties (log_in home)) which s t → LogEnds (Ties (log_in home) t) m pending
 moved_log InAppend home s t v m pending h call =
     let (a, there) = call h.files h.there in
@@ -195,12 +195,12 @@ moved_log InRewrite home s t v m pending h call =
       log = stands_log (Ties (log_in home) t) v (with_rewrite h.files a.from a.queue) m pending (rewrite_follows v h.files m pending a h.stands) there;
     }
 
-turn_failed : (which : Which) (home : Home) (o : OpenPipes) (s t : State) (d : Disk) (v : View (List ℕ) (List ℕ)) (m : LogMap) (pending : List Said) → t.disk ≡ d → IsAt (Ties (log_in home) s) v m pending
-    → RunOrLie (log_in home) o t → FailsMoved (Ties (log_in home)) (Ties (log_in home)) which s t → IsLeftAt home d m pending
+turn_failed : (which : Which) (home : LogDirectories) (o : OpenPipes) (s t : State) (d : Disk) (v : View (List ℕ) (List ℕ)) (m : LogMap) (pending : List LogRecordValue) → t.disk ≡ d → IsAt (Ties (log_in home) s) v m pending
+    → IsOpenOrClosed (log_in home) o t → FailsMoved (Ties (log_in home)) (Ties (log_in home)) which s t → IsRecoverableAs home d m pending
 turn_failed which home o s t d v m pending disk h stands moved =
-    subst (λ x. IsLeftAt home x m pending) disk (left_ending home o t m pending stands (moved_log which home s t v m pending h moved))
+    subst (λ x. IsRecoverableAs home x m pending) disk (left_ending home o t m pending stands (moved_log which home s t v m pending h moved))
 
-pub turn_refused : (which : Which) (home : Home) (e t : Shows) (m : LogMap) (pending : List Said) (error : Error) → Holds home e m pending → SameTables e t
+pub turn_refused : (which : Which) (home : LogDirectories) (e t : EngineState) (m : LogMap) (pending : List LogRecordValue) (error : Error) → Represents home e m pending → SameTables e t
     → FailsToRotateQueue which error e.pipes t.pipes → TurnLeavesHeld home m pending t error
 turn_refused which home e t m pending errors.Memory h same call = held_same home e t m pending h same (call (sense home) h.state h.runs).0
 turn_refused which home e t m pending errors.NumberRange h same call = held_same home e t m pending h same (call (sense home) h.state h.runs).0

@@ -20,7 +20,7 @@ use Rattle.raft_log_directory_laws.specs.Calls.Which.{InRewrite}
 use Rattle.raft_log_block_cache.specs.raft_log_dual_pipes.specs.Steps.{next_log}
 use Rattle.raft_log_memtable_index.specs.Bridge.{Located}
 use Rattle.raft_log_block_cache.specs.Stored.{entries_at}
-use Rattle.raft_log_engine_laws.specs.Shows.{Shows, shows}
+use Rattle.raft_log_engine_laws.specs.EngineState.{EngineState, shows}
 use Rattle.raft_log_engine_laws.specs.Writing.{items_at}
 use Rattle.raft_log_engine_laws.specs.Parts.{WrittenPart, parts_of}
 use Rattle.raft_log_engine_laws.specs.Ending.{files_of_group}
@@ -84,8 +84,8 @@ none_filed at (x ∷ xs) none = absurd (let never : ⊥ = cc in never)
 
 pub end_over_tables : EndsOverTables
 end_over_tables home v w old m new cache after gate o b block map group h is all alone call there moved notes kept =
-    let e : Shows = shows v old cache in
-    let t : Shows = shows w new after in
+    let e : EngineState = shows v old cache in
+    let t : EngineState = shows w new after in
     let bs : List Batch = batches_of (parts_of o) ++ b ∷ [] in
     let ps : List WrittenPart = with_end o block b in
     let k = end_taken home e t o b block map h is call in

@@ -12,12 +12,12 @@ use Rattle.raft_log_block_cache.specs.Signing.{signed_for}
 use Rattle.raft_log_directory_laws.specs.Calls.Which.{InAppend}
 use Rattle.raft_log_directory_laws.proofs.Follows.{taken_twice}
 use Rattle.raft_log_block_cache.specs.raft_log_memtables.specs.Batch.{all_shown}
-use Rattle.raft_log_block_cache.specs.raft_log_dual_pipes.specs.Pipes.{LogPipes, Said}
+use Rattle.raft_log_block_cache.specs.raft_log_dual_pipes.specs.Pipes.{LogPipes, LogRecordValue}
 use Rattle.raft_log_block_cache.specs.raft_log_dual_pipes.specs.Calls.{FailsToAppendTo}
 use Rattle.raft_log_block_cache.specs.raft_log_dual_pipes.specs.Numbers.{HasLastNumber}
 use Rattle.raft_log_block_cache.specs.declared.block_cache.BlockCache.{BlockCache}
-use Rattle.raft_log_engine_laws.specs.Shows.{Home, KeepsOrForgets, LogMap, Shows, said_of, sense}
-use Rattle.raft_log_engine_laws.specs.Holding.{EndsAt, Holds, RunsAs, RunsEnding}
+use Rattle.raft_log_engine_laws.specs.EngineState.{LogDirectories, KeepsOrForgets, LogMap, EngineState, said_of, sense}
+use Rattle.raft_log_engine_laws.specs.Holding.{EndsAt, Represents, RunsAs, RunsEnding}
 use Rattle.raft_log_engine_laws.specs.Trying.{RefusesAt, TriesInVain, WritesAt}
 use Rattle.raft_log_block_cache.specs.raft_log_file_pipe.specs.Appending.{SaysTryAgain}
 use Rattle.raft_log_engine_laws.specs.Writing.{Leaves, items_at}
@@ -26,29 +26,29 @@ use Rattle.raft_log_engine_laws.proofs.Calling.{log_written, says_batch, written
 use Rattle.raft_log_engine_laws.proofs.Refusing.{left_behind, refused_leaves}
 
 -- what ends behind synced batches ends behind all
-ends_behind : (home : Home) (t : Shows) (m : LogMap) (pending more : List Said) → EndsAt home t (taken m pending) more → EndsAt home t m (pending ++ more)
+ends_behind : (home : LogDirectories) (t : EngineState) (m : LogMap) (pending more : List LogRecordValue) → EndsAt home t (taken m pending) more → EndsAt home t m (pending ++ more)
 ends_behind home t m pending more e = record {
   done = pending ++ e.done;
   rest = e.rest;
-  splits = append_assoc pending e.done e.rest ∙ ap (λ (l : List Said). pending ++ l) e.splits;
-  holds = subst (λ k. Holds home t k e.rest) (taken_twice m pending e.done) e.holds;
+  splits = append_assoc pending e.done e.rest ∙ ap (λ (l : List LogRecordValue). pending ++ l) e.splits;
+  holds = subst (λ k. Represents home t k e.rest) (taken_twice m pending e.done) e.holds;
 }
 
-runs_behind : (home : Home) (w : LogPipes) (m : LogMap) (pending more : List Said) → RunsEnding home w (taken m pending) more → RunsEnding home w m (pending ++ more)
+runs_behind : (home : LogDirectories) (w : LogPipes) (m : LogMap) (pending more : List LogRecordValue) → RunsEnding home w (taken m pending) more → RunsEnding home w m (pending ++ more)
 runs_behind home w m pending more e = record {
   done = pending ++ e.done;
   rest = e.rest;
-  splits = append_assoc pending e.done e.rest ∙ ap (λ (l : List Said). pending ++ l) e.splits;
+  splits = append_assoc pending e.done e.rest ∙ ap (λ (l : List LogRecordValue). pending ++ l) e.splits;
   runs = subst (λ k. RunsAs home w k e.rest) (taken_twice m pending e.done) e.runs;
 }
 
-none_behind : (m : LogMap) (pending : List Said) → taken (taken m pending) [] ≡ taken m pending
+none_behind : (m : LogMap) (pending : List LogRecordValue) → taken (taken m pending) [] ≡ taken m pending
 none_behind m pending = taken_twice m pending [] ∙ ap (taken m) (append-nil pending)
 
 -- what a second try leaves
-leaves_behind : (home : Home) (b : Batch) (m : LogMap) (pending : List Said) (s mid t : Shows) (error : Error) → IsLater s.pipes.disk mid.pipes.disk → Leaves home b (taken m pending) [] mid t error → Leaves home b m pending s t error
-leaves_behind home b m pending s mid t (errors.Io kind) later (cause, h) = (fails_after s.pipes.disk mid.pipes.disk t.pipes.disk later cause, subst (λ k. Holds home t k []) (none_behind m pending) h)
-leaves_behind home b m pending s mid t (errors.TryAgain text) later (cause, h) = (fails_after s.pipes.disk mid.pipes.disk t.pipes.disk later cause, subst (λ k. Holds home t k []) (none_behind m pending) h)
+leaves_behind : (home : LogDirectories) (b : Batch) (m : LogMap) (pending : List LogRecordValue) (s mid t : EngineState) (error : Error) → IsLater s.pipes.disk mid.pipes.disk → Leaves home b (taken m pending) [] mid t error → Leaves home b m pending s t error
+leaves_behind home b m pending s mid t (errors.Io kind) later (cause, h) = (fails_after s.pipes.disk mid.pipes.disk t.pipes.disk later cause, subst (λ k. Represents home t k []) (none_behind m pending) h)
+leaves_behind home b m pending s mid t (errors.TryAgain text) later (cause, h) = (fails_after s.pipes.disk mid.pipes.disk t.pipes.disk later cause, subst (λ k. Represents home t k []) (none_behind m pending) h)
 leaves_behind home b m pending s mid t errors.NumberRange later h = subst (EndsAt home t m) (append-nil pending) (ends_behind home t m pending [] h)
 leaves_behind home b m pending s mid t errors.Memory later h = subst (EndsAt home t m) (append-nil pending) (ends_behind home t m pending [] h)
 leaves_behind home b m pending s mid t errors.Failed later (cause, inl without) =
@@ -58,19 +58,19 @@ leaves_behind home b m pending s mid t errors.Failed later (cause, inr with_it) 
 leaves_behind home b m pending s mid t _ later h = h
 
 -- where there was no space, all batches before are in the map
-vain_leaves : (home : Home) (b : Batch) (m : LogMap) (pending : List Said) (s t : Shows) (error : Error) → SaysTryAgain error → Leaves home b m pending s t error → Holds home t (taken m pending) []
+vain_leaves : (home : LogDirectories) (b : Batch) (m : LogMap) (pending : List LogRecordValue) (s t : EngineState) (error : Error) → SaysTryAgain error → Leaves home b m pending s t error → Represents home t (taken m pending) []
 vain_leaves home b m pending s t (errors.TryAgain text) none h = h.1
 vain_leaves home b m pending s t _ none h = absurd none
 
 -- the engine between the two tries
-abbrev between : Shows → LogPipes → BlockCache → Shows
+abbrev between : EngineState → LogPipes → BlockCache → EngineState
 between s mid cache = record { tables = s.tables; counts = s.counts; pipes = mid; cache = cache }
 
-module _ (home : Home) (s t : Shows) (b : Batch) (m : LogMap) (pending : List Said) (h : Holds home s m pending) (ready : MayBeWritten s b) (kept : KeepsOrForgets s t) where
+module _ (home : LogDirectories) (s t : EngineState) (b : Batch) (m : LogMap) (pending : List LogRecordValue) (h : Represents home s m pending) (ready : MayBeWritten s b) (kept : KeepsOrForgets s t) where
   ready_between : (mid : LogPipes) → MayBeWritten (between s mid t.cache) b
   ready_between mid = record { some = ready.some; marked = ready.marked; follows = ready.follows; says = ready.says; laid = ready.laid }
 
-  held_between : (mid : LogPipes) → TriesInVain (signed_for b) s.pipes mid → Holds home (between s mid t.cache) (taken m pending) []
+  held_between : (mid : LogPipes) → TriesInVain (signed_for b) s.pipes mid → Represents home (between s mid t.cache) (taken m pending) []
   held_between mid (error, none, later, call) =
       vain_leaves home b m pending s (between s mid t.cache) error none
       (refused_leaves home s (between s mid t.cache) b m pending error h ready refl kept call)

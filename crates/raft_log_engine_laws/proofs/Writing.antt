@@ -34,8 +34,8 @@ use Rattle.raft_log_block_cache.proofs.Staying.{stored_entries_stay}
 use Rattle.raft_log_block_cache.specs.raft_log_memtables.specs.Views.{view_of}
 use Rattle.raft_log_block_cache.specs.raft_log_dual_pipes.specs.Calls.{AppendsTo, FailsToAppendTo, LeavesOutOn, SyncsQueue}
 use Rattle.raft_log_block_cache.specs.raft_log_dual_pipes.specs.Pipes.{RunsOn, State}
-use Rattle.raft_log_engine_laws.specs.Shows.{Home, LogMap, Shows, log_in, said_by, sense}
-use Rattle.raft_log_engine_laws.specs.Holding.{Holds}
+use Rattle.raft_log_engine_laws.specs.EngineState.{LogDirectories, LogMap, EngineState, log_in, said_by, sense}
+use Rattle.raft_log_engine_laws.specs.Holding.{Represents}
 use Rattle.raft_log_engine_laws.proofs.Keeping.{notes_on, rise_on, stays_cached}
 use Rattle.raft_log_engine_laws.specs.Rewriting.{RewriteLeaves}
 use Rattle.raft_log_engine_laws.specs.Settled.{SameTables}
@@ -45,7 +45,7 @@ use Rattle.raft_log_engine_laws.specs.GroupWriting.{LeavesRecords}
 use Rattle.raft_log_engine_laws.proofs.GroupLying.{each_more, later_file, one_more_file, part_lies, parts_stay}
 
 -- its record says the part
-pub says_part : (home : Home) (number : ℕ) (status : AtomicGroupStatus) (b : Batch) → IsGroupPart number status b
+pub says_part : (home : LogDirectories) (number : ℕ) (status : AtomicGroupStatus) (b : Batch) → IsGroupPart number status b
     → SaysRecord said_by (log_layout Rewrite home.rewrite) Rewrite (signed_for b) (Part (part_of number status) (said_items b))
 says_part home number status b is = says_marked home b (markings.Part number status) (Part (part_of number status) (said_items b)) is.some is.part refl is.says is.laid
 
@@ -54,12 +54,12 @@ abbrev pub said_more : UnendedGroup → List (List (Tagged (List ℕ) (List ℕ)
 said_more o = map (λ p. said_items p.batch) o.more
 
 -- the log's files with the group open
-abbrev pub in_group : (home : Home) (e : Shows) (m : LogMap) (o : UnendedGroup) (h : HoldsInGroup home e m o)
+abbrev pub in_group : (home : LogDirectories) (e : EngineState) (m : LogMap) (o : UnendedGroup) (h : HoldsInGroup home e m o)
     → IsInGroup (Ties (log_in home) h.holds.state) (view_of e.tables h.holds.map) m [] o.first.block.id.seq o.number (said_items o.first.batch) (said_more o)
 in_group home e m o h = record { files = h.holds.at.files; stands = h.holds.at.stands; there = h.holds.at.there; group = h.unended }
 
 -- A group that stands open in a log with these files of Rewrite, which has what the log had.
-module _ (home : Home) (e t : Shows) (m : LogMap) (h : Holds home e m []) (same : SameTables e t) (files : LogFiles LogRecord) (keeps : KeepsLog h.state (next_log InRewrite h.state files t.pipes.disk))
+module _ (home : LogDirectories) (e t : EngineState) (m : LogMap) (h : Represents home e m []) (same : SameTables e t) (files : LogFiles LogRecord) (keeps : KeepsLog h.state (next_log InRewrite h.state files t.pipes.disk))
     (runs : RunsOn (sense home) t.pipes (next_log InRewrite h.state files t.pipes.disk)) where
   abbrev next : State
   next = next_log InRewrite h.state files t.pipes.disk
@@ -89,7 +89,7 @@ module _ (home : Home) (e t : Shows) (m : LogMap) (h : Holds home e m []) (same 
 
 -- Written.
 
-pub part_begins : (home : Home) (e t : Shows) (number : ℕ) (b : Batch) (block : FileBlockHandle) (m : LogMap) → Holds home e m [] → IsGroupPart number statuses.Begin b
+pub part_begins : (home : LogDirectories) (e t : EngineState) (number : ℕ) (b : Batch) (block : FileBlockHandle) (m : LogMap) → Represents home e m [] → IsGroupPart number statuses.Begin b
     → AppendsTo InRewrite (signed_for b) block e.pipes t.pipes → SameTables e t → HoldsInGroup home t m (begun_by number (record { block = block; batch = b }))
 part_begins home e t number b block m h is call same =
     let k = record_taken home e t m h (signed_for b) (Part (Begin number) (said_items b)) block (says_part home number statuses.Begin b is) call in
@@ -100,7 +100,7 @@ part_begins home e t number b block m h is call same =
     (part_lies next k.value block b k.spans is.some is.laid is.says k.last, tt) (le_refl block.id.seq, omega (arith, last))
     (λ g. subst (λ n. FilesRise h.state.append.files.last n (e.tables g)) (sym last) (rise_on h.state next k.keeps e.tables h.rises g))
 
-pub part_goes_on : (home : Home) (e t : Shows) (o : UnendedGroup) (b : Batch) (block : FileBlockHandle) (m : LogMap) → HoldsInGroup home e m o → IsGroupPart o.number statuses.Middle b
+pub part_goes_on : (home : LogDirectories) (e t : EngineState) (o : UnendedGroup) (b : Batch) (block : FileBlockHandle) (m : LogMap) → HoldsInGroup home e m o → IsGroupPart o.number statuses.Middle b
     → AppendsTo InRewrite (signed_for b) block e.pipes t.pipes → SameTables e t → HoldsInGroup home t m (gone_on_by o (record { block = block; batch = b }))
 part_goes_on home e t o b block m h is call same =
     let k = record_taken home e t m h.holds (signed_for b) (Part (Middle o.number) (said_items b)) block (says_part home o.number statuses.Middle b is) call in
@@ -118,7 +118,7 @@ part_goes_on home e t o b block m h is call same =
 -- Refused.
 
 -- nothing was done to the records of Rewrite
-pub left_open : (home : Home) (e t : Shows) (o : UnendedGroup) (m : LogMap) (h : HoldsInGroup home e m o) → SameTables e t → LeavesOutOn (sense home) InRewrite h.holds.state e.pipes t.pipes → HoldsInGroup home t m o
+pub left_open : (home : LogDirectories) (e t : EngineState) (o : UnendedGroup) (m : LogMap) (h : HoldsInGroup home e m o) → SameTables e t → LeavesOutOn (sense home) InRewrite h.holds.state e.pipes t.pipes → HoldsInGroup home t m o
 left_open home e t o m h same call =
     let s = h.holds.state in
     let (files, left, runs, step) = call in
@@ -129,7 +129,7 @@ left_open home e t o m h same call =
     (group_left_out (Ties (log_in home)) (AllowsIn (log_in home)) s next (view_of e.tables h.holds.map) m o.first.block.id.seq o.number (said_items o.first.batch) (said_more o) [] step (in_group home e m o h))
     (parts_stay s next keeps (parts_of o) h.parts) (later_file o.first.block.id.seq s.rewrite.files.last files.last (parts_of o) later h.files) h.rises
 
-pub part_left_out : (home : Home) (e t : Shows) (o : UnendedGroup) (status : AtomicGroupStatus) (b : Batch) (m : LogMap) (error : Error) → HoldsInGroup home e m o → IsGroupPart o.number status b → SameTables e t
+pub part_left_out : (home : LogDirectories) (e t : EngineState) (o : UnendedGroup) (status : AtomicGroupStatus) (b : Batch) (m : LogMap) (error : Error) → HoldsInGroup home e m o → IsGroupPart o.number status b → SameTables e t
     → LeavesRecords error → FailsToAppendTo InRewrite (signed_for b) error e.pipes t.pipes → HoldsInGroup home t m o
 part_left_out home e t o status b m errors.NumberRange h is same left call =
     left_open home e t o m h same (call (sense home) h.holds.state (Part (part_of o.number status) (said_items b)) h.holds.runs (says_part home o.number status b is))
@@ -137,13 +137,13 @@ part_left_out home e t o status b m errors.Memory h is same left call =
     left_open home e t o m h same (call (sense home) h.holds.state (Part (part_of o.number status) (said_items b)) h.holds.runs (says_part home o.number status b is))
 part_left_out home e t o status b m _ h is same left call = absurd left
 
-pub begin_refused : (home : Home) (e t : Shows) (number : ℕ) (b : Batch) (m : LogMap) (error : Error) → Holds home e m [] → IsGroupPart number statuses.Begin b → SameTables e t
+pub begin_refused : (home : LogDirectories) (e t : EngineState) (number : ℕ) (b : Batch) (m : LogMap) (error : Error) → Represents home e m [] → IsGroupPart number statuses.Begin b → SameTables e t
     → FailsToAppendTo InRewrite (signed_for b) error e.pipes t.pipes → RewriteLeaves home m t error
 begin_refused home e t number b m error h is same call =
     refusal_leaves home e t m error h same (signed_for b) (Part (Begin number) (said_items b)) (says_part home number statuses.Begin b is)
     (λ next may. begin_may_be_there (Ties (log_in home)) (Ties (log_in home)) h.state next (view_of e.tables h.map) m [] h.at number (said_items b) is.fits may) call
 
-pub middle_refused : (home : Home) (e t : Shows) (o : UnendedGroup) (b : Batch) (m : LogMap) (error : Error) → HoldsInGroup home e m o → IsGroupPart o.number statuses.Middle b → SameTables e t
+pub middle_refused : (home : LogDirectories) (e t : EngineState) (o : UnendedGroup) (b : Batch) (m : LogMap) (error : Error) → HoldsInGroup home e m o → IsGroupPart o.number statuses.Middle b → SameTables e t
     → FailsToAppendTo InRewrite (signed_for b) error e.pipes t.pipes → RewriteLeaves home m t error
 middle_refused home e t o b m error h is same call =
     refusal_leaves home e t m error h.holds same (signed_for b) (Part (Middle o.number) (said_items b)) (says_part home o.number statuses.Middle b is)
@@ -153,10 +153,10 @@ middle_refused home e t o b m error h is same call =
 -- Synced.
 
 -- a sync is a quiet event
-quiet_sync : (home : Home) (s t : State) → Syncs (Ties (log_in home)) InRewrite s t → LeavesOut (Ties (log_in home)) InRewrite s t
+quiet_sync : (home : LogDirectories) (s t : State) → Syncs (Ties (log_in home)) InRewrite s t → LeavesOut (Ties (log_in home)) InRewrite s t
 quiet_sync home s t call f there = (let at_end = sync_settles (Ties (log_in home)) s t InRewrite call f there in (at_end.0, at_end.2))
 
-pub sync_leaves_open : (home : Home) (e t : Shows) (o : UnendedGroup) (m : LogMap) → HoldsInGroup home e m o → SameTables e t → SyncsQueue InRewrite e.pipes t.pipes → HoldsInGroup home t m o
+pub sync_leaves_open : (home : LogDirectories) (e t : EngineState) (o : UnendedGroup) (m : LogMap) → HoldsInGroup home e m o → SameTables e t → SyncsQueue InRewrite e.pipes t.pipes → HoldsInGroup home t m o
 sync_leaves_open home e t o m h same call =
     let s = h.holds.state in
     let files : LogFiles LogRecord = synced s.rewrite.files in

@@ -16,8 +16,8 @@ use Rattle.raft_log_memtable.specs.Table.{Raw, shown}
 use Rattle.raft_log_memtable.specs.Files.{with_group}
 use Rattle.raft_log_block_cache.specs.raft_log_memtables.specs.Views.{GroupEnd, MayEnd}
 use Rattle.raft_log_block_cache.specs.raft_log_dual_pipes.specs.Calls.{AppendsTo, FailsToAppendTo}
-use Rattle.raft_log_engine_laws.specs.Shows.{Home, KeepsOrForgets, LogMap, Shows}
-use Rattle.raft_log_engine_laws.specs.Holding.{Holds}
+use Rattle.raft_log_engine_laws.specs.EngineState.{LogDirectories, KeepsOrForgets, LogMap, EngineState}
+use Rattle.raft_log_engine_laws.specs.Holding.{Represents}
 use Rattle.raft_log_engine_laws.specs.Rewriting.{RewriteLeaves}
 use Rattle.raft_log_engine_laws.specs.Settled.{SameTables}
 use Rattle.raft_log_engine_laws.specs.Parts.{FilesGoUp, HoldsInGroup, IsGroupPart, UnendedGroup, WrittenPart, parts_of}
@@ -69,20 +69,20 @@ files_of_group o block = record { from = o.first.block.id.seq; to = block.id.seq
 
 -- The record with the end was written, and the tables took the whole group: the map is kept.
 abbrev pub WrittenEndsKeepTheMap : Type 0
-WrittenEndsKeepTheMap = (home : Home) (e t : Shows) (gate : Option ℕ) (o : UnendedGroup) (b : Batch)
+WrittenEndsKeepTheMap = (home : LogDirectories) (e t : EngineState) (gate : Option ℕ) (o : UnendedGroup) (b : Batch)
     (block : FileBlockHandle) (m : LogMap) → HoldsInGroup home e m o → IsGroupPart o.number End b
     → HasWhole gate (batches_of (parts_of o) ++ b ∷ []) e.tables m
     → AppendsTo InRewrite (signed_for b) block e.pipes t.pipes
     → ShowsWhole gate (parts_of o ++ record { block = block; batch = b } ∷ []) (files_of_group o block)
-    e.tables t.tables → KeepsOrForgets e t → Holds home t m []
+    e.tables t.tables → KeepsOrForgets e t → Represents home t m []
 
 -- Rewrite failed to write the part that ends a group, and the tables are unchanged. The group is given up; or it may
 -- continue, if nothing was done to its records.
 pub record RefusedEndsKeepTheMap : Type 0 where
-  pub given_up : (home : Home) (e t : Shows) (gate : Option ℕ) (o : UnendedGroup) (b : Batch) (m : LogMap)
+  pub given_up : (home : LogDirectories) (e t : EngineState) (gate : Option ℕ) (o : UnendedGroup) (b : Batch) (m : LogMap)
       (error : Error) → HoldsInGroup home e m o → IsGroupPart o.number End b
       → HasWhole gate (batches_of (parts_of o) ++ b ∷ []) e.tables m → SameTables e t
       → FailsToAppendTo InRewrite (signed_for b) error e.pipes t.pipes → RewriteLeaves home m t error
-  pub goes_on : (home : Home) (e t : Shows) (o : UnendedGroup) (b : Batch) (m : LogMap) (error : Error)
+  pub goes_on : (home : LogDirectories) (e t : EngineState) (o : UnendedGroup) (b : Batch) (m : LogMap) (error : Error)
       → HoldsInGroup home e m o → IsGroupPart o.number End b → SameTables e t → LeavesRecords error
       → FailsToAppendTo InRewrite (signed_for b) error e.pipes t.pipes → HoldsInGroup home t m o

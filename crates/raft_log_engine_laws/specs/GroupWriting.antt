@@ -9,19 +9,19 @@ use Rattle.raft_log_record_batches.specs.Batch.{Batch}
 use Rattle.raft_log_block_cache.specs.Signing.{signed_for}
 use Rattle.raft_log_directory_laws.specs.Calls.Which.{InRewrite}
 use Rattle.raft_log_block_cache.specs.raft_log_dual_pipes.specs.Calls.{AppendsTo, FailsToAppendTo, SyncsQueue}
-use Rattle.raft_log_engine_laws.specs.Shows.{Home, LogMap, Shows}
-use Rattle.raft_log_engine_laws.specs.Holding.{Holds}
+use Rattle.raft_log_engine_laws.specs.EngineState.{LogDirectories, LogMap, EngineState}
+use Rattle.raft_log_engine_laws.specs.Holding.{Represents}
 use Rattle.raft_log_engine_laws.specs.Rewriting.{RewriteLeaves}
 use Rattle.raft_log_engine_laws.specs.Settled.{SameTables}
 use Rattle.raft_log_engine_laws.specs.Parts.{HoldsInGroup, IsGroupPart, UnendedGroup, begun_by, gone_on_by}
 
 -- A record that begins or continues a group was written: the group is open with that part. The tables are unchanged.
 pub record WrittenPartsKeepTheMap : Type 0 where
-  pub begins : (home : Home) (e t : Shows) (number : ℕ) (b : Batch) (block : FileBlockHandle) (m : LogMap)
-      → Holds home e m [] → IsGroupPart number Begin b
+  pub begins : (home : LogDirectories) (e t : EngineState) (number : ℕ) (b : Batch) (block : FileBlockHandle) (m : LogMap)
+      → Represents home e m [] → IsGroupPart number Begin b
       → AppendsTo InRewrite (signed_for b) block e.pipes t.pipes
       → SameTables e t → HoldsInGroup home t m (begun_by number (record { block = block; batch = b }))
-  pub goes_on : (home : Home) (e t : Shows) (o : UnendedGroup) (b : Batch) (block : FileBlockHandle)
+  pub goes_on : (home : LogDirectories) (e t : EngineState) (o : UnendedGroup) (b : Batch) (block : FileBlockHandle)
       (m : LogMap) → HoldsInGroup home e m o → IsGroupPart o.number Middle b
       → AppendsTo InRewrite (signed_for b) block e.pipes t.pipes → SameTables e t
       → HoldsInGroup home t m (gone_on_by o (record { block = block; batch = b }))
@@ -35,17 +35,17 @@ LeavesRecords _ = ⊥
 -- Rewrite failed to write a part that begins or continues a group. The group may be given up: then the log is left as
 -- by any failed write to Rewrite. A group that had begun may also continue, if nothing was done to its records.
 pub record RefusedPartsKeepTheMap : Type 0 where
-  pub begins : (home : Home) (e t : Shows) (number : ℕ) (b : Batch) (m : LogMap) (error : Error)
-      → Holds home e m [] → IsGroupPart number Begin b → SameTables e t
+  pub begins : (home : LogDirectories) (e t : EngineState) (number : ℕ) (b : Batch) (m : LogMap) (error : Error)
+      → Represents home e m [] → IsGroupPart number Begin b → SameTables e t
       → FailsToAppendTo InRewrite (signed_for b) error e.pipes t.pipes → RewriteLeaves home m t error
-  pub given_up : (home : Home) (e t : Shows) (o : UnendedGroup) (b : Batch) (m : LogMap) (error : Error)
+  pub given_up : (home : LogDirectories) (e t : EngineState) (o : UnendedGroup) (b : Batch) (m : LogMap) (error : Error)
       → HoldsInGroup home e m o → IsGroupPart o.number Middle b → SameTables e t
       → FailsToAppendTo InRewrite (signed_for b) error e.pipes t.pipes → RewriteLeaves home m t error
-  pub goes_on : (home : Home) (e t : Shows) (o : UnendedGroup) (b : Batch) (m : LogMap) (error : Error)
+  pub goes_on : (home : LogDirectories) (e t : EngineState) (o : UnendedGroup) (b : Batch) (m : LogMap) (error : Error)
       → HoldsInGroup home e m o → IsGroupPart o.number Middle b → SameTables e t → LeavesRecords error
       → FailsToAppendTo InRewrite (signed_for b) error e.pipes t.pipes → HoldsInGroup home t m o
 
 -- a sync of Rewrite leaves a group open
 abbrev pub SyncsLeaveGroupsOpen : Type 0
-SyncsLeaveGroupsOpen = (home : Home) (e t : Shows) (o : UnendedGroup) (m : LogMap) → HoldsInGroup home e m o
+SyncsLeaveGroupsOpen = (home : LogDirectories) (e t : EngineState) (o : UnendedGroup) (m : LogMap) → HoldsInGroup home e m o
     → SameTables e t → SyncsQueue InRewrite e.pipes t.pipes → HoldsInGroup home t m o

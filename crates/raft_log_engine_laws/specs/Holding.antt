@@ -5,16 +5,16 @@ use Rattle.raft_log_model_laws.specs.Groups.{taken}
 use Rattle.raft_log_fs.specs.Disk.{Disk}
 use Rattle.raft_log_directory_laws.specs.Log.{IsAt, View}
 use Rattle.raft_log_block_cache.specs.raft_log_dual_pipes.specs.State.{Ties}
-use Rattle.raft_log_block_cache.specs.raft_log_dual_pipes.specs.Lying.{OpenPipes}
+use Rattle.raft_log_block_cache.specs.raft_log_dual_pipes.specs.OpenOrClosed.{OpenPipes}
 use Rattle.raft_log_block_cache.specs.raft_log_dual_pipes.specs.Failing.{LogEndsLying}
 use Rattle.raft_log_memtable_index.specs.declared.group_files.GroupFiles.{GroupFiles}
 use Rattle.raft_log_memtable_index.specs.Shown.{Shown}
 use Rattle.raft_log_memtable_index.specs.Noted.{FilesRise}
 use Rattle.raft_log_block_cache.specs.raft_log_memtables.specs.Views.{AreMeant, view_of}
 use Rattle.raft_log_block_cache.specs.Stored.{AreStored, entries_at}
-use Rattle.raft_log_block_cache.specs.raft_log_dual_pipes.specs.Pipes.{LogPipes, RunsOn, Said, State}
+use Rattle.raft_log_block_cache.specs.raft_log_dual_pipes.specs.Pipes.{LogPipes, RunsOn, LogRecordValue, State}
 use Rattle.raft_log_block_cache.specs.Blocks.{IsOfLog}
-use Rattle.raft_log_engine_laws.specs.Shows.{Home, LogMap, Shows, log_in, sense}
+use Rattle.raft_log_engine_laws.specs.EngineState.{LogDirectories, LogMap, EngineState, log_in, sense}
 
 -- along each group's entries the file numbers never fall, in either queue, up to the last file of the queue
 abbrev pub FilesRiseIn : State → (ℕ → Shown) → Type 0
@@ -32,7 +32,7 @@ NotesEndIn s v =
 -- - no file is noted past the last one
 -- - the bytes at these places are the map after the batches
 -- - the cached block is what was written at its place
-pub record Holds (home : Home) (e : Shows) (m : LogMap) (pending : List Said) : Type 0 where
+pub record Represents (home : LogDirectories) (e : EngineState) (m : LogMap) (pending : List LogRecordValue) : Type 0 where
   pub state : State
   pub map : LogMap
   pub runs : RunsOn (sense home) e.pipes state
@@ -45,27 +45,27 @@ pub record Holds (home : Home) (e : Shows) (m : LogMap) (pending : List Said) : 
 
 -- the pipes run over a log in these directories that is the map m with these batches pending, whatever any tables
 -- show
-pub record RunsAs (home : Home) (v : LogPipes) (m : LogMap) (pending : List Said) : Type 0 where
+pub record RunsAs (home : LogDirectories) (v : LogPipes) (m : LogMap) (pending : List LogRecordValue) : Type 0 where
   pub state : State
   pub view : View (List ℕ) (List ℕ)
   pub runs : RunsOn (sense home) v state
   pub at : IsAt (Ties (log_in home) state) view m pending
 
 -- the pipes run over this map and these batches; some first batches are synced, the others pending
-pub record RunsEnding (home : Home) (v : LogPipes) (m : LogMap) (pending : List Said) : Type 0 where
-  pub done : List Said
-  pub rest : List Said
+pub record RunsEnding (home : LogDirectories) (v : LogPipes) (m : LogMap) (pending : List LogRecordValue) : Type 0 where
+  pub done : List LogRecordValue
+  pub rest : List LogRecordValue
   pub splits : done ++ rest ≡ pending
   pub runs : RunsAs home v (taken m done) rest
 
 -- an engine holds this map and these batches; some first batches are synced, the others pending
-pub record EndsAt (home : Home) (e : Shows) (m : LogMap) (pending : List Said) : Type 0 where
-  pub done : List Said
-  pub rest : List Said
+pub record EndsAt (home : LogDirectories) (e : EngineState) (m : LogMap) (pending : List LogRecordValue) : Type 0 where
+  pub done : List LogRecordValue
+  pub rest : List LogRecordValue
   pub splits : done ++ rest ≡ pending
-  pub holds : Holds home e (taken m done) rest
+  pub holds : Represents home e (taken m done) rest
 
 -- what a failed engine leaves on its disk: a log that can be opened; some first batches are synced, the others
 -- pending
-abbrev pub IsLeftAt : Home → Disk → LogMap → List Said → Type 0
-IsLeftAt home d m pending = (open_ones : OpenPipes) × LogEndsLying (log_in home) open_ones d m pending
+abbrev pub IsRecoverableAs : LogDirectories → Disk → LogMap → List LogRecordValue → Type 0
+IsRecoverableAs home d m pending = (open_ones : OpenPipes) × LogEndsLying (log_in home) open_ones d m pending

@@ -10,17 +10,17 @@ use Rattle.raft_log_record_batches.specs.Batch.{Batch}
 use Rattle.raft_log_block_cache.specs.Signing.{SaysItself, signed_for}
 use Rattle.raft_log_directory_laws.specs.Calls.Which.{InAppend}
 use Rattle.raft_log_block_cache.specs.raft_log_memtables.specs.Batch.{MayFollowAll, all_shown}
-use Rattle.raft_log_block_cache.specs.raft_log_dual_pipes.specs.Lying.{both_open}
+use Rattle.raft_log_block_cache.specs.raft_log_dual_pipes.specs.OpenOrClosed.{both_open}
 use Rattle.raft_log_block_cache.specs.raft_log_dual_pipes.specs.OnDisk.{LogLiesOn}
 use Rattle.raft_log_block_cache.specs.raft_log_dual_pipes.specs.ClosingCalls.{ClosesLog, ClosesSettled}
-use Rattle.raft_log_block_cache.specs.raft_log_dual_pipes.specs.Pipes.{LogPipes, Said, files_of}
+use Rattle.raft_log_block_cache.specs.raft_log_dual_pipes.specs.Pipes.{LogPipes, LogRecordValue, files_of}
 use Rattle.raft_log_block_cache.specs.raft_log_dual_pipes.specs.Calls.{AppendsTo, FailsToAppendTo, FailsToSyncQueue, SyncsQueue}
-use Rattle.raft_log_engine_laws.specs.Shows.{Home, IsLaidOut, IsWellMarked, KeepsOrForgets, LogMap, Shows, log_in, said_of}
-use Rattle.raft_log_engine_laws.specs.Holding.{EndsAt, Holds, IsLeftAt, RunsAs}
+use Rattle.raft_log_engine_laws.specs.EngineState.{LogDirectories, IsLaidOut, IsWellMarked, KeepsOrForgets, LogMap, EngineState, log_in, said_of}
+use Rattle.raft_log_engine_laws.specs.Holding.{EndsAt, Represents, IsRecoverableAs, RunsAs}
 use Rattle.raft_log_engine_laws.specs.Writing.{Leaves, items_at}
 
 -- what is known of a batch that may be written
-pub record MayBeWritten (e : Shows) (b : Batch) : Type 0 where
+pub record MayBeWritten (e : EngineState) (b : Batch) : Type 0 where
   pub some : b.items ≡ [] → ⊥
   pub marked : IsWellMarked b
   pub follows : MayFollowAll e.tables (tagged_items (λ e. e) b.items)
@@ -29,41 +29,41 @@ pub record MayBeWritten (e : Shows) (b : Batch) : Type 0 where
 
 -- a batch that the pipes wrote, and that the tables applied in the file of its place
 abbrev pub BatchesAreWritten : Type 0
-BatchesAreWritten = (home : Home) (e t : Shows) (b : Batch) (block : FileBlockHandle) (m : LogMap)
-    (pending : List Said) → Holds home e m pending → MayBeWritten e b
+BatchesAreWritten = (home : LogDirectories) (e t : EngineState) (b : Batch) (block : FileBlockHandle) (m : LogMap)
+    (pending : List LogRecordValue) → Represents home e m pending → MayBeWritten e b
     → AppendsTo InAppend (signed_for b) block e.pipes t.pipes
     → t.tables ≡ all_shown block.id.seq e.tables (items_at block b) → KeepsOrForgets e t
     → EndsAt home t m (pending ++ said_of b ∷ [])
 
 -- a batch that the pipes failed to write
 abbrev pub RefusalsLeaveNoTrace : Type 0
-RefusalsLeaveNoTrace = (home : Home) (e t : Shows) (b : Batch) (m : LogMap) (pending : List Said)
-    (error : Error) → Holds home e m pending → MayBeWritten e b → t.tables ≡ e.tables → KeepsOrForgets e t
+RefusalsLeaveNoTrace = (home : LogDirectories) (e t : EngineState) (b : Batch) (m : LogMap) (pending : List LogRecordValue)
+    (error : Error) → Represents home e m pending → MayBeWritten e b → t.tables ≡ e.tables → KeepsOrForgets e t
     → FailsToAppendTo InAppend (signed_for b) error e.pipes t.pipes → Leaves home b m pending e t error
 
 -- a sync puts all batches into the map
 abbrev pub SyncsAreHeld : Type 0
-SyncsAreHeld = (home : Home) (e t : Shows) (m : LogMap) (pending : List Said) → Holds home e m pending
+SyncsAreHeld = (home : LogDirectories) (e t : EngineState) (m : LogMap) (pending : List LogRecordValue) → Represents home e m pending
     → t.tables ≡ e.tables → KeepsOrForgets e t → SyncsQueue InAppend e.pipes t.pipes
-    → Holds home t (taken m pending) []
+    → Represents home t (taken m pending) []
 
 -- a sync that failed leaves the log on the disk, with its map and pending batches
 abbrev pub FailuresLeaveLogs : Type 0
-FailuresLeaveLogs = (home : Home) (v w : LogPipes) (m : LogMap) (pending : List Said)
+FailuresLeaveLogs = (home : LogDirectories) (v w : LogPipes) (m : LogMap) (pending : List LogRecordValue)
     → RunsAs home v m pending → FailsToSyncQueue InAppend v w
-    → Fails v.disk w.disk × IsLeftAt home w.disk m pending
+    → Fails v.disk w.disk × IsRecoverableAs home w.disk m pending
 
 -- A close leaves an engine's log on the disk, with its map and its pending batches, whatever failed meanwhile.
 abbrev pub ClosedEnginesAreLeft : Type 0
-ClosedEnginesAreLeft = (home : Home) (e : Shows) (m : LogMap) (pending : List Said) (d : Disk)
-    → Holds home e m pending → ClosesLog e.pipes d → IsLeftAt home d m pending
+ClosedEnginesAreLeft = (home : LogDirectories) (e : EngineState) (m : LogMap) (pending : List LogRecordValue) (d : Disk)
+    → Represents home e m pending → ClosesLog e.pipes d → IsRecoverableAs home d m pending
 
 -- A close that doesn't fail leaves the log on the disk with all batches in its map, and none pending.
 abbrev pub ClosedEnginesAreDurable : Type 0
-ClosedEnginesAreDurable = (home : Home) (e : Shows) (m : LogMap) (pending : List Said) (d : Disk)
-    → Holds home e m pending → ClosesSettled e.pipes d → IsLeftAt home d (taken m pending) []
+ClosedEnginesAreDurable = (home : LogDirectories) (e : EngineState) (m : LogMap) (pending : List LogRecordValue) (d : Disk)
+    → Represents home e m pending → ClosesSettled e.pipes d → IsRecoverableAs home d (taken m pending) []
 
 -- the log of an engine is on its disk, while both pipes run
 abbrev pub EnginesLieOnDisks : Type 0
-EnginesLieOnDisks = (home : Home) (e : Shows) (m : LogMap) (pending : List Said) → Holds home e m pending
+EnginesLieOnDisks = (home : LogDirectories) (e : EngineState) (m : LogMap) (pending : List LogRecordValue) → Represents home e m pending
     → LogLiesOn (log_in home) (both_open (files_of e.pipes)) e.pipes.disk m pending

@@ -5,14 +5,14 @@ use Rattle.raft_log_model_laws.specs.Item.Mark.{Begin, End, Middle}
 use Rattle.raft_log_model_laws.specs.Item.Record.{Part, Plain}
 use Rattle.raft_log_model_laws.specs.Groups.{Open, none_open, opened, settled}
 use Rattle.raft_log_machine_laws.specs.Unbroken.{UnbrokenFrom, begun}
-use Rattle.raft_log_engine_laws.specs.Shows.{Home, LogMap, Shows}
-use Rattle.raft_log_engine_laws.specs.Holding.{Holds}
+use Rattle.raft_log_engine_laws.specs.EngineState.{LogDirectories, LogMap, EngineState}
+use Rattle.raft_log_engine_laws.specs.Holding.{Represents}
 use Rattle.raft_log_engine_laws.specs.Parts.{HoldsInGroup, UnendedGroup}
 
 -- a group may be given up at any time: the log stays as it was
 abbrev pub GroupsMayBeGivenUp : Type 0
-GroupsMayBeGivenUp = (home : Home) (e : Shows) (m : LogMap) (o : UnendedGroup) → HoldsInGroup home e m o
-    → Holds home e m []
+GroupsMayBeGivenUp = (home : LogDirectories) (e : EngineState) (m : LogMap) (o : UnendedGroup) → HoldsInGroup home e m o
+    → Represents home e m []
 
 -- records after a group that is left open, which don't continue it, count as if nothing of the group were there
 abbrev pub GroupsLeftOpenCountNot : Type 0 → Type 0 → Type 0

@@ -1,4 +1,4 @@
-pub mod Shows
+pub mod EngineState
 pub mod Holding
 pub mod Syncing
 pub mod Trying

@@ -19,8 +19,8 @@ use Rattle.raft_log_memtable_index.specs.Noted.{FilesRise}
 use Rattle.raft_log_block_cache.specs.raft_log_memtables.specs.Rewriting.{copied_items}
 use Rattle.raft_log_block_cache.specs.Stored.{Each, EntryLiesIn, entries_at}
 use Rattle.raft_log_block_cache.specs.raft_log_dual_pipes.specs.Pipes.{State}
-use Rattle.raft_log_engine_laws.specs.Shows.{Home, IsLaidOut, LogMap, Shows}
-use Rattle.raft_log_engine_laws.specs.Holding.{Holds}
+use Rattle.raft_log_engine_laws.specs.EngineState.{LogDirectories, IsLaidOut, LogMap, EngineState}
+use Rattle.raft_log_engine_laws.specs.Holding.{Represents}
 use Rattle.raft_log_engine_laws.specs.Writing.{items_at}
 
 -- a part of an atomic group that was written: the place of its record, and its batch
@@ -83,8 +83,8 @@ FilesGoUp low high (p ∷ ps) = (low ≤ p.block.id.seq) × FilesGoUp p.block.id
 -- - The records of the group are the last ones of Rewrite, from the file of its begin on.
 -- - Its parts are in these files.
 -- - No entry that the tables show in Rewrite is in a later file than the begin.
-pub record HoldsInGroup (home : Home) (e : Shows) (m : LogMap) (o : UnendedGroup) : Type 0 where
-  pub holds : Holds home e m []
+pub record HoldsInGroup (home : LogDirectories) (e : EngineState) (m : LogMap) (o : UnendedGroup) : Type 0 where
+  pub holds : Represents home e m []
   pub unended : GoesOnFrom holds.at.files.rewrite o.first.block.id.seq o.number (said_items o.first.batch)
       (map (λ p. said_items p.batch) o.more)
   pub parts : Each (LiesInRewrite holds.state) (parts_of o)

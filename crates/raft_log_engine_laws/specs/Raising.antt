@@ -10,8 +10,8 @@ use Rattle.raft_log_memtable_index.specs.Shown.{Shown, whereabouts}
 use Rattle.raft_log_memtable_index.specs.Noted.{IsLeastInRewrite, start_of}
 use Rattle.raft_log_memtable.specs.Files.{IsLeastInAppend}
 use Rattle.raft_log_block_cache.specs.raft_log_dual_pipes.specs.Calls.{FailsToPurgeQueue, PurgesQueue}
-use Rattle.raft_log_engine_laws.specs.Shows.{Home, LogMap, Shows}
-use Rattle.raft_log_engine_laws.specs.Holding.{IsLeftAt}
+use Rattle.raft_log_engine_laws.specs.EngineState.{LogDirectories, LogMap, EngineState}
+use Rattle.raft_log_engine_laws.specs.Holding.{IsRecoverableAs}
 use Rattle.raft_log_engine_laws.specs.Settled.{HoldsSettled}
 
 -- Append may begin at this file: no group owes a tombstone, and nothing of Append is in a file below
@@ -31,22 +31,22 @@ MayBegin InRewrite n v = RewriteMayBegin n v
 
 -- A purge of files below one at which the queue may begin keeps the map. It forgets the cached block.
 abbrev pub PurgesKeepTheMap : Type 0
-PurgesKeepTheMap = (which : Which) (home : Home) (e t : Shows) (m : LogMap) (n : ℕ) → HoldsSettled home e m
+PurgesKeepTheMap = (which : Which) (home : LogDirectories) (e t : EngineState) (m : LogMap) (n : ℕ) → HoldsSettled home e m
     → MayBegin which n e.tables → t.tables ≡ e.tables → t.cache.place ≡ None → PurgesQueue which n e.pipes t.pipes
     → HoldsSettled home t m
 
 -- what is true after it failed: the map is kept, with nothing pending; or the engine has failed, and left it on the
 -- disk
-abbrev pub PurgeLeavesHeld : Home → LogMap → Shows → Error → Type 0
+abbrev pub PurgeLeavesHeld : LogDirectories → LogMap → EngineState → Error → Type 0
 PurgeLeavesHeld home m t errors.Memory = HoldsSettled home t m
 PurgeLeavesHeld home m t (errors.Other fault) = HoldsSettled home t m
 PurgeLeavesHeld home m t errors.NumberRange = HoldsSettled home t m
-PurgeLeavesHeld home m t errors.Failed = IsLeftAt home t.pipes.disk m []
+PurgeLeavesHeld home m t errors.Failed = IsRecoverableAs home t.pipes.disk m []
 PurgeLeavesHeld home m t _ = ⊥
 
 -- a failed purge of either queue keeps the map: nothing is pending, or the engine has failed and left its log on the
 -- disk
 abbrev pub RefusedPurgesKeepTheMap : Type 0
-RefusedPurgesKeepTheMap = (which : Which) (home : Home) (e t : Shows) (m : LogMap) (n : ℕ) (error : Error)
+RefusedPurgesKeepTheMap = (which : Which) (home : LogDirectories) (e t : EngineState) (m : LogMap) (n : ℕ) (error : Error)
     → HoldsSettled home e m → MayBegin which n e.tables → t.tables ≡ e.tables → t.cache.place ≡ None
     → FailsToPurgeQueue which n error e.pipes t.pipes → PurgeLeavesHeld home m t error

@@ -11,9 +11,9 @@ use Rattle.raft_log_memtable_index.specs.Shown.{KeyValue, Shown}
 use Rattle.raft_log_memtable_index.specs.Bridge.{bytes_held}
 use Rattle.raft_log_memtable_index.specs.Listing.{ListsAll, is_below, is_from, values_within}
 use Rattle.raft_log_memtable.specs.Reads.{first_of, last_of}
-use Rattle.raft_log_block_cache.specs.raft_log_dual_pipes.specs.Pipes.{Said}
-use Rattle.raft_log_engine_laws.specs.Shows.{Home, LogMap, Shows}
-use Rattle.raft_log_engine_laws.specs.Holding.{Holds}
+use Rattle.raft_log_block_cache.specs.raft_log_dual_pipes.specs.Pipes.{LogRecordValue}
+use Rattle.raft_log_engine_laws.specs.EngineState.{LogDirectories, LogMap, EngineState}
+use Rattle.raft_log_engine_laws.specs.Holding.{Represents}
 
 -- the first index of a group that has an entry, if there is one
 abbrev pub IsFirstIn : LogMap → ℕ → Option ℕ → Type 0
@@ -30,21 +30,21 @@ abbrev pub StandsUnder : LogMap → ℕ → List ℕ → Option (List ℕ) → T
 StandsUnder m g k value = m g (Key k) ≡ option_map Value value
 
 -- A group's first index was returned: the tables', which is the map's after the pending batches.
-pub record ReadsFirst (e : Shows) (g : ℕ) (index : Option ℕ) : Type 0 where
+pub record ReadsFirst (e : EngineState) (g : ℕ) (index : Option ℕ) : Type 0 where
   pub shown : index ≡ first_of (e.tables g)
-  pub exact : (home : Home) (m : LogMap) (pending : List Said) → Holds home e m pending
+  pub exact : (home : LogDirectories) (m : LogMap) (pending : List LogRecordValue) → Represents home e m pending
       → IsFirstIn (taken m pending) g index
 
 -- A group's last index was returned: the tables', which is the map's after the pending batches.
-pub record ReadsLast (e : Shows) (g : ℕ) (index : Option ℕ) : Type 0 where
+pub record ReadsLast (e : EngineState) (g : ℕ) (index : Option ℕ) : Type 0 where
   pub shown : index ≡ last_of (e.tables g)
-  pub exact : (home : Home) (m : LogMap) (pending : List Said) → Holds home e m pending
+  pub exact : (home : LogDirectories) (m : LogMap) (pending : List LogRecordValue) → Represents home e m pending
       → IsLastIn (taken m pending) g index
 
 -- The value of a group's key was returned: the tables', which is the map's after the pending batches.
-pub record ReadsValue (e : Shows) (g : ℕ) (key : List ℕ) (value : Option (List ℕ)) : Type 0 where
+pub record ReadsValue (e : EngineState) (g : ℕ) (key : List ℕ) (value : Option (List ℕ)) : Type 0 where
   pub shown : value ≡ bytes_held ((e.tables g).held key)
-  pub exact : (home : Home) (m : LogMap) (pending : List Said) → Holds home e m pending
+  pub exact : (home : LogDirectories) (m : LogMap) (pending : List LogRecordValue) → Represents home e m pending
       → StandsUnder (taken m pending) g key value
 
 -- whether a key is in the range: not below the start, and below the end
@@ -60,16 +60,16 @@ pub record AreKeysOf (m : LogMap) (g : ℕ) (start end : Option (List ℕ)) (es 
 
 -- All keys of a group in the range were returned with their values: the tables', which are the map's after the
 -- pending batches.
-pub record ReadsKeys (e : Shows) (g : ℕ) (start end : Option (List ℕ)) (es : List (List ℕ × List ℕ))
+pub record ReadsKeys (e : EngineState) (g : ℕ) (start end : Option (List ℕ)) (es : List (List ℕ × List ℕ))
     : Type 0 where
   pub shown : ListsAll (values_within start end (e.tables g)) es
-  pub exact : (home : Home) (m : LogMap) (pending : List Said) → Holds home e m pending
+  pub exact : (home : LogDirectories) (m : LogMap) (pending : List LogRecordValue) → Represents home e m pending
       → AreKeysOf (taken m pending) g start end es
 
 -- what may be returned from an engine's tables
 pub record TablesTell : Type 0 where
-  pub first : (e : Shows) (g : ℕ) → ReadsFirst e g (first_of (e.tables g))
-  pub last : (e : Shows) (g : ℕ) → ReadsLast e g (last_of (e.tables g))
-  pub value : (e : Shows) (g : ℕ) (key : List ℕ) → ReadsValue e g key (bytes_held ((e.tables g).held key))
-  pub keys : (e : Shows) (g : ℕ) (start end : Option (List ℕ)) (es : List (List ℕ × List ℕ))
+  pub first : (e : EngineState) (g : ℕ) → ReadsFirst e g (first_of (e.tables g))
+  pub last : (e : EngineState) (g : ℕ) → ReadsLast e g (last_of (e.tables g))
+  pub value : (e : EngineState) (g : ℕ) (key : List ℕ) → ReadsValue e g key (bytes_held ((e.tables g).held key))
+  pub keys : (e : EngineState) (g : ℕ) (start end : Option (List ℕ)) (es : List (List ℕ × List ℕ))
       → ListsAll (values_within start end (e.tables g)) es → ReadsKeys e g start end es

@@ -9,7 +9,7 @@ use Rattle.raft_log_machine_laws.specs.Whereabouts.{RunStands}
 use Rattle.raft_log_record_batches.specs.Batch.{Batch}
 use Rattle.raft_log_memtable_index.specs.Shown.{KeyValue, Shown}
 use Rattle.raft_log_block_cache.specs.Stored.{Each}
-use Rattle.raft_log_engine_laws.specs.Shows.{LogMap}
+use Rattle.raft_log_engine_laws.specs.EngineState.{LogMap}
 use Rattle.raft_log_engine_laws.specs.Parts.{said_items}
 use Rattle.raft_log_engine_laws.specs.Whole.{HasWhole}
 

@@ -20,8 +20,8 @@ use Rattle.raft_log_record_batches.specs.Places.{entry_bytes}
 use Rattle.raft_log_block_cache.specs.raft_log_memtables.specs.Views.{AreMeant}
 use Rattle.raft_log_engine_laws.specs.Writing.{items_at}
 use Rattle.raft_log_block_cache.specs.raft_log_dual_pipes.specs.Calls.{AppendsTo, FailsToAppendTo}
-use Rattle.raft_log_engine_laws.specs.Shows.{Home, IsLaidOut, KeepsOrForgets, LogMap, Shows}
-use Rattle.raft_log_engine_laws.specs.Holding.{Holds, IsLeftAt}
+use Rattle.raft_log_engine_laws.specs.EngineState.{LogDirectories, IsLaidOut, KeepsOrForgets, LogMap, EngineState}
+use Rattle.raft_log_engine_laws.specs.Holding.{Represents, IsRecoverableAs}
 use Rattle.raft_log_engine_laws.specs.Settled.{HoldsSettled, SameTables}
 
 -- what is known of a batch that counts by itself in Rewrite: it is no part of an atomic group
@@ -35,12 +35,12 @@ pub record CountsAlone (b : Batch) : Type 0 where
 -- - `Io`, `TryAgain`: the record was truncated away, and all that was written before is synced
 -- - `NumberRange`, `Memory`: the record was left out, and the log is as it was
 -- - `Failed`: the engine has failed and left its log on the disk; the record may be there
-abbrev pub RewriteLeaves : Home → LogMap → Shows → Error → Type 0
+abbrev pub RewriteLeaves : LogDirectories → LogMap → EngineState → Error → Type 0
 RewriteLeaves home m t (errors.Io kind) = HoldsSettled home t m
 RewriteLeaves home m t (errors.TryAgain text) = HoldsSettled home t m
-RewriteLeaves home m t errors.NumberRange = Holds home t m []
-RewriteLeaves home m t errors.Memory = Holds home t m []
-RewriteLeaves home m t errors.Failed = IsLeftAt home t.pipes.disk m []
+RewriteLeaves home m t errors.NumberRange = Represents home t m []
+RewriteLeaves home m t errors.Memory = Represents home t m []
+RewriteLeaves home m t errors.Failed = IsRecoverableAs home t.pipes.disk m []
 RewriteLeaves home m t _ = ⊥
 
 -- Tombstones.
@@ -52,14 +52,14 @@ pub record SaysOwed (b : Batch) (v : ℕ → Shown) : Type 0 where
 
 -- The owed tombstones were written to Rewrite: the log is the map with tables that owe none.
 abbrev pub WrittenMarksKeepTheMap : Type 0
-WrittenMarksKeepTheMap = (home : Home) (e t : Shows) (b : Batch) (block : FileBlockHandle) (m : LogMap)
-    → Holds home e m [] → SaysOwed b e.tables → AppendsTo InRewrite (signed_for b) block e.pipes t.pipes
-    → t.tables ≡ (λ g. unmarked (e.tables g)) → KeepsOrForgets e t → Holds home t m []
+WrittenMarksKeepTheMap = (home : LogDirectories) (e t : EngineState) (b : Batch) (block : FileBlockHandle) (m : LogMap)
+    → Represents home e m [] → SaysOwed b e.tables → AppendsTo InRewrite (signed_for b) block e.pipes t.pipes
+    → t.tables ≡ (λ g. unmarked (e.tables g)) → KeepsOrForgets e t → Represents home t m []
 
 -- Rewrite failed to write the owed tombstones: the tables still owe them.
 abbrev pub RefusedMarksKeepTheMap : Type 0
-RefusedMarksKeepTheMap = (home : Home) (e t : Shows) (b : Batch) (m : LogMap) (error : Error)
-    → Holds home e m [] → SaysOwed b e.tables → SameTables e t
+RefusedMarksKeepTheMap = (home : LogDirectories) (e t : EngineState) (b : Batch) (m : LogMap) (error : Error)
+    → Represents home e m [] → SaysOwed b e.tables → SameTables e t
     → FailsToAppendTo InRewrite (signed_for b) error e.pipes t.pipes → RewriteLeaves home m t error
 
 -- Copies.
@@ -81,13 +81,13 @@ moved_to gate block b v g = all_rewritten gate block.id.seq (v g) (of_group g (i
 
 -- Copies were written to Rewrite, and the tables applied them in the file of their place.
 abbrev pub WrittenCopiesKeepTheMap : Type 0
-WrittenCopiesKeepTheMap = (home : Home) (e t : Shows) (gate : Option ℕ) (b : Batch) (block : FileBlockHandle)
-    (m : LogMap) → Holds home e m [] → CountsAlone b → HasCopies gate b e.tables m
+WrittenCopiesKeepTheMap = (home : LogDirectories) (e t : EngineState) (gate : Option ℕ) (b : Batch) (block : FileBlockHandle)
+    (m : LogMap) → Represents home e m [] → CountsAlone b → HasCopies gate b e.tables m
     → AppendsTo InRewrite (signed_for b) block e.pipes t.pipes → t.tables ≡ moved_to gate block b e.tables
-    → KeepsOrForgets e t → Holds home t m []
+    → KeepsOrForgets e t → Represents home t m []
 
 -- Rewrite failed to write copies: the tables are unchanged.
 abbrev pub RefusedCopiesKeepTheMap : Type 0
-RefusedCopiesKeepTheMap = (home : Home) (e t : Shows) (gate : Option ℕ) (b : Batch) (m : LogMap)
-    (error : Error) → Holds home e m [] → CountsAlone b → HasCopies gate b e.tables m → SameTables e t
+RefusedCopiesKeepTheMap = (home : LogDirectories) (e t : EngineState) (gate : Option ℕ) (b : Batch) (m : LogMap)
+    (error : Error) → Represents home e m [] → CountsAlone b → HasCopies gate b e.tables m → SameTables e t
     → FailsToAppendTo InRewrite (signed_for b) error e.pipes t.pipes → RewriteLeaves home m t error

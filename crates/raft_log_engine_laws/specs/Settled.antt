@@ -6,7 +6,7 @@ use Rattle.raft_log_block_cache.specs.raft_log_memtables.specs.Views.{AreMeant, 
 use Rattle.raft_log_block_cache.specs.Stored.{AreStored, entries_at}
 use Rattle.raft_log_block_cache.specs.raft_log_dual_pipes.specs.Pipes.{RunsOn, State}
 use Rattle.raft_log_block_cache.specs.Blocks.{IsOfLog}
-use Rattle.raft_log_engine_laws.specs.Shows.{Home, KeepsOrForgets, LogMap, Shows, log_in, sense}
+use Rattle.raft_log_engine_laws.specs.EngineState.{LogDirectories, KeepsOrForgets, LogMap, EngineState, log_in, sense}
 use Rattle.raft_log_engine_laws.specs.Holding.{FilesRiseIn, NotesEndIn}
 
 -- The engine's log, in these directories, is the map m, and nothing is pending, in Append or in Rewrite:
@@ -16,7 +16,7 @@ use Rattle.raft_log_engine_laws.specs.Holding.{FilesRiseIn, NotesEndIn}
 -- - no file is noted past the last one
 -- - the bytes at these places are the map
 -- - the cached block is what was written at its place
-pub record HoldsSettled (home : Home) (e : Shows) (m : LogMap) : Type 0 where
+pub record HoldsSettled (home : LogDirectories) (e : EngineState) (m : LogMap) : Type 0 where
   pub state : State
   pub map : LogMap
   pub runs : RunsOn (sense home) e.pipes state
@@ -28,6 +28,6 @@ pub record HoldsSettled (home : Home) (e : Shows) (m : LogMap) : Type 0 where
   pub at : IsSettled (Ties (log_in home) state) (view_of e.tables map) m
 
 -- The tables are unchanged, and the cached block stays cached, or none is any more.
-pub record SameTables (e t : Shows) : Type 0 where
+pub record SameTables (e t : EngineState) : Type 0 where
   pub tables : t.tables ≡ e.tables
   pub cache : KeepsOrForgets e t

@@ -4,36 +4,36 @@ use Rattle.raft_log_model_laws.specs.Groups.{taken}
 use Rattle.raft_log_fs.specs.Causes.{Fails, IsLater}
 use Rattle.raft_log_record_base.specs.declared.errors.Error.{Error}
 use Rattle.raft_log_record_base.specs.declared.errors.Error.TheVariants as errors
-use Rattle.raft_log_block_cache.specs.raft_log_dual_pipes.specs.Pipes.{Said}
-use Rattle.raft_log_engine_laws.specs.Shows.{Home, LogMap, Shows, has_failed}
-use Rattle.raft_log_engine_laws.specs.Holding.{Holds, IsLeftAt, RunsAs}
+use Rattle.raft_log_block_cache.specs.raft_log_dual_pipes.specs.Pipes.{LogRecordValue}
+use Rattle.raft_log_engine_laws.specs.EngineState.{LogDirectories, LogMap, EngineState, has_failed}
+use Rattle.raft_log_engine_laws.specs.Holding.{Represents, IsRecoverableAs, RunsAs}
 
 -- the engine hasn't failed, and its tables are unchanged
-pub record RunsOnSame (s t : Shows) : Type 0 where
+pub record RunsOnSame (s t : EngineState) : Type 0 where
   pub alive : has_failed t ≡ false
   pub tables : t.tables ≡ s.tables
   pub counts : t.counts ≡ s.counts
 
 -- Append was synced: all batches are in the map, and none is pending. The cached block stays.
-pub record SyncsAppend (s t : Shows) : Type 0 where
+pub record SyncsAppend (s t : EngineState) : Type 0 where
   pub lived : has_failed s ≡ false
   pub same : RunsOnSame s t
   pub cache : t.cache ≡ s.cache
   pub later : IsLater s.pipes.disk t.pipes.disk
-  pub holds : (home : Home) (m : LogMap) (pending : List Said) → Holds home s m pending
-      → Holds home t (taken m pending) []
-  pub log : (home : Home) (m : LogMap) (pending : List Said) → RunsAs home s.pipes m pending
+  pub holds : (home : LogDirectories) (m : LogMap) (pending : List LogRecordValue) → Represents home s m pending
+      → Represents home t (taken m pending) []
+  pub log : (home : LogDirectories) (m : LogMap) (pending : List LogRecordValue) → RunsAs home s.pipes m pending
       → RunsAs home t.pipes (taken m pending) []
 
 -- a sync failed because a file call did: the engine has failed, and left its log on the disk with its pending batches
-pub record FailsToSyncAppend (s t : Shows) : Type 0 where
+pub record FailsToSyncAppend (s t : EngineState) : Type 0 where
   pub lived : has_failed s ≡ false
   pub failed : has_failed t ≡ true
   pub later : IsLater s.pipes.disk t.pipes.disk
-  pub leaves : (home : Home) (m : LogMap) (pending : List Said) → RunsAs home s.pipes m pending
-      → Fails s.pipes.disk t.pipes.disk × IsLeftAt home t.pipes.disk m pending
+  pub leaves : (home : LogDirectories) (m : LogMap) (pending : List LogRecordValue) → RunsAs home s.pipes m pending
+      → Fails s.pipes.disk t.pipes.disk × IsRecoverableAs home t.pipes.disk m pending
 
 -- The error of a failed sync is `Failed`: the engine had failed before, and nothing was done; or it has failed now.
-abbrev pub NotSynced : Error → Shows → Shows → Type 0
+abbrev pub NotSynced : Error → EngineState → EngineState → Type 0
 NotSynced error s t = (error ≡ errors.Failed)
     × (((has_failed s ≡ true) × (t ≡ s)) ⊎ FailsToSyncAppend s t)

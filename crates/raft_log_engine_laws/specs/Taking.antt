@@ -16,8 +16,8 @@ use Rattle.raft_log_block_cache.specs.raft_log_memtables.specs.Tables.{has_table
 use Rattle.raft_log_block_cache.specs.raft_log_dual_pipes.specs.Calls.{AppendsTo}
 use Rattle.raft_log_block_cache.specs.raft_log_dual_pipes.specs.Pipes.{LogPipes}
 use Rattle.raft_log_block_cache.specs.declared.block_cache.BlockCache.{BlockCache}
-use Rattle.raft_log_engine_laws.specs.Shows.{Home, KeepsOrForgets, LogMap, shows}
-use Rattle.raft_log_engine_laws.specs.Holding.{Holds}
+use Rattle.raft_log_engine_laws.specs.EngineState.{LogDirectories, KeepsOrForgets, LogMap, shows}
+use Rattle.raft_log_engine_laws.specs.Holding.{Represents}
 use Rattle.raft_log_engine_laws.specs.Writing.{items_at}
 use Rattle.raft_log_engine_laws.specs.Parts.{FilesGoUp, HoldsInGroup, IsGroupPart, UnendedGroup, WrittenPart, parts_of}
 use Rattle.raft_log_engine_laws.specs.Whole.{IsWholeCopy, batches_of, filed_items, parts_moved}
@@ -55,7 +55,7 @@ TablesTakeWholeGroups E = (at : Located → E) (gate : Option ℕ) (a : ℕ) (ps
 -- all parts, and noted the files. The batches say what Rewrite has of that group, and nothing of others. Then the map
 -- is kept.
 abbrev pub EndsOverTables : Type 0
-EndsOverTables = (home : Home) (v w : LogPipes) (old m new : MemTables) (cache after : BlockCache)
+EndsOverTables = (home : LogDirectories) (v w : LogPipes) (old m new : MemTables) (cache after : BlockCache)
     (gate : Option ℕ) (o : UnendedGroup) (b : Batch) (block : FileBlockHandle) (map : LogMap) (group : ℕ)
     → HoldsInGroup home (shows v old cache) map o → IsGroupPart o.number End b
     → ((g : ℕ) → RestatesGroup g (batches_of (parts_of o) ++ b ∷ []) (shown_of old g) (map g))
@@ -63,4 +63,4 @@ EndsOverTables = (home : Home) (v w : LogPipes) (old m new : MemTables) (cache a
     → AppendsTo InRewrite (signed_for b) block v w → has_table m group ≡ true
     → MovedParts gate (parts_of o ++ record { block = block; batch = b } ∷ []) old m
     → NotesFiles group (files_of_group o block) m new
-    → KeepsOrForgets (shows v old cache) (shows w new after) → Holds home (shows w new after) map []
+    → KeepsOrForgets (shows v old cache) (shows w new after) → Represents home (shows w new after) map []

@@ -14,7 +14,7 @@ use Rattle.raft_log_memtable_index.specs.Noted.{FilesRise}
 use Rattle.raft_log_block_cache.specs.raft_log_memtables.specs.Rewriting.{IsCopy, all_rewritten, moves_of, rewritten_item}
 use Rattle.raft_log_block_cache.specs.Stored.{Each}
 use Rattle.raft_log_block_cache.specs.raft_log_memtables.specs.Views.{AreMeant}
-use Rattle.raft_log_engine_laws.specs.Shows.{LogMap}
+use Rattle.raft_log_engine_laws.specs.EngineState.{LogMap}
 use Rattle.raft_log_engine_laws.specs.Writing.{items_at}
 use Rattle.raft_log_engine_laws.specs.Parts.{FilesGoUp, SaysPart, WrittenPart}
 

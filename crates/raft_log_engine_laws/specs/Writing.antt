@@ -14,14 +14,14 @@ use Rattle.raft_log_extents.specs.declared.place.Place.{Place}
 use Rattle.raft_log_memtable_index.specs.Shown.{Shown}
 use Rattle.raft_log_block_cache.specs.raft_log_memtables.specs.Batch.{MayFollowAll, all_shown, counts_at_end}
 use Rattle.raft_log_block_cache.specs.Written.{placed_items}
-use Rattle.raft_log_block_cache.specs.raft_log_dual_pipes.specs.Pipes.{Said}
+use Rattle.raft_log_block_cache.specs.raft_log_dual_pipes.specs.Pipes.{LogRecordValue}
 use Rattle.raft_log_block_cache.specs.raft_log_dual_pipes.specs.Numbers.{HasLastNumber}
 use Rattle.raft_log_directory_laws.specs.Calls.Which.{InAppend}
-use Rattle.raft_log_engine_laws.specs.Shows.{IsWellMarked, IsWritable, KeepsOrForgets, Home, LogMap, Shows, has_failed, said_of}
+use Rattle.raft_log_engine_laws.specs.EngineState.{IsWellMarked, IsWritable, KeepsOrForgets, LogDirectories, LogMap, EngineState, has_failed, said_of}
 use Rattle.raft_log_engine_laws.specs.Syncing.{RunsOnSame, SyncsAppend}
 use Rattle.raft_log_engine_laws.specs.Trying.{TriesTwiceInVain}
 use Rattle.raft_log_block_cache.specs.raft_log_file_pipe.specs.Appending.{SaysTryAgain}
-use Rattle.raft_log_engine_laws.specs.Holding.{EndsAt, Holds, IsLeftAt, RunsEnding}
+use Rattle.raft_log_engine_laws.specs.Holding.{EndsAt, Represents, IsRecoverableAs, RunsEnding}
 
 -- the items of a batch that was written at this place, with the places of their entries
 abbrev pub items_at : FileBlockHandle → Batch → List (Tagged Place (List ℕ))
@@ -29,7 +29,7 @@ items_at block b = placed_items block b.items b.entries
 
 -- A batch that isn't empty was written at this place. The tables applied it in the file of its place. It is pending
 -- after the others; a rotation may have synced some first ones. With a sync none is pending.
-pub record Writes (b : Batch) (sync : Bool) (s t : Shows) : Type 0 where
+pub record Writes (b : Batch) (sync : Bool) (s t : EngineState) : Type 0 where
   pub block : FileBlockHandle
   pub some : b.items ≡ [] → ⊥
   pub lived : has_failed s ≡ false
@@ -38,20 +38,20 @@ pub record Writes (b : Batch) (sync : Bool) (s t : Shows) : Type 0 where
   pub counts : (g : ℕ) → t.counts g ≡ counts_at_end (s.counts g) (of_group g (items_at block b))
   pub cache : KeepsOrForgets s t
   pub later : IsLater s.pipes.disk t.pipes.disk
-  pub log : (home : Home) (m : LogMap) (pending : List Said) → Holds home s m pending
+  pub log : (home : LogDirectories) (m : LogMap) (pending : List LogRecordValue) → Represents home s m pending
       → RunsEnding home t.pipes m (pending ++ said_of b ∷ [])
-  pub holds : (home : Home) (m : LogMap) (pending : List Said) → Holds home s m pending
+  pub holds : (home : LogDirectories) (m : LogMap) (pending : List LogRecordValue) → Represents home s m pending
       → EndsAt home t m (pending ++ said_of b ∷ [])
-  pub synced : sync ≡ true → (home : Home) (m : LogMap) (pending : List Said) → Holds home s m pending
-      → Holds home t (taken m (pending ++ said_of b ∷ [])) []
+  pub synced : sync ≡ true → (home : LogDirectories) (m : LogMap) (pending : List LogRecordValue) → Represents home s m pending
+      → Represents home t (taken m (pending ++ said_of b ∷ [])) []
 
 -- An empty batch: nothing is written, and Append is synced if a sync was asked for.
-abbrev pub WritesNothing : Bool → Shows → Shows → Type 0
+abbrev pub WritesNothing : Bool → EngineState → EngineState → Type 0
 WritesNothing true s t = SyncsAppend s t
 WritesNothing false s t = (t ≡ s) × (has_failed s ≡ false)
 
 -- A batch was written, and its record has so many bytes; an empty one has none.
-abbrev pub WritesBytes : Batch → Bool → ℕ → Shows → Shows → Type 0
+abbrev pub WritesBytes : Batch → Bool → ℕ → EngineState → EngineState → Type 0
 WritesBytes b sync len s t = ((b.items ≡ []) × (len ≡ 0) × WritesNothing sync s t)
     ⊎ (IsReadyForEach len b.items b.entries × Writes b sync s t)
 
@@ -68,34 +68,34 @@ IsUnfit b v _ = ⊥
 -- - `NumberRange`, `Memory`: the record was left out, and some first batches may be synced
 -- - `Failed`: a file call failed, and the engine has failed; it left its log on the disk, with the batch or without
 --   it
-abbrev pub Leaves : Home → Batch → LogMap → List Said → Shows → Shows → Error → Type 0
+abbrev pub Leaves : LogDirectories → Batch → LogMap → List LogRecordValue → EngineState → EngineState → Error → Type 0
 Leaves home b m pending s t (errors.Io kind) =
-    Fails s.pipes.disk t.pipes.disk × Holds home t (taken m pending) []
+    Fails s.pipes.disk t.pipes.disk × Represents home t (taken m pending) []
 Leaves home b m pending s t (errors.TryAgain text) =
-    Fails s.pipes.disk t.pipes.disk × Holds home t (taken m pending) []
+    Fails s.pipes.disk t.pipes.disk × Represents home t (taken m pending) []
 Leaves home b m pending s t errors.NumberRange = EndsAt home t m pending
 Leaves home b m pending s t errors.Memory = EndsAt home t m pending
 Leaves home b m pending s t errors.Failed = Fails s.pipes.disk t.pipes.disk
-    × (IsLeftAt home t.pipes.disk m pending ⊎ IsLeftAt home t.pipes.disk m (pending ++ said_of b ∷ []))
+    × (IsRecoverableAs home t.pipes.disk m pending ⊎ IsRecoverableAs home t.pipes.disk m (pending ++ said_of b ∷ []))
 Leaves home b m pending s t _ = ⊥
 
 -- The pipes failed to write the batch. Unless the engine has failed, its tables are unchanged, and no block is
 -- cached. `TryAgain` is returned only after two tries, `NumberRange` only if Append's last file has the last number.
-pub record PipesRefused (b : Batch) (error : Error) (s t : Shows) : Type 0 where
+pub record PipesRefused (b : Batch) (error : Error) (s t : EngineState) : Type 0 where
   pub lived : has_failed s ≡ false
   pub tells : IsTrue (has_failed t) ↔ (error ≡ errors.Failed)
   pub same : has_failed t ≡ false → RunsOnSame s t
   pub forgets : has_failed t ≡ false → t.cache.place ≡ None
   pub tries : SaysTryAgain error → TriesTwiceInVain (signed_for b) s.pipes t.pipes
-  pub range : error ≡ errors.NumberRange → (home : Home) (m : LogMap) (pending : List Said)
-      → Holds home s m pending → HasLastNumber InAppend t.pipes
+  pub range : error ≡ errors.NumberRange → (home : LogDirectories) (m : LogMap) (pending : List LogRecordValue)
+      → Represents home s m pending → HasLastNumber InAppend t.pipes
   pub later : IsLater s.pipes.disk t.pipes.disk
-  pub leaves : (home : Home) (m : LogMap) (pending : List Said) → Holds home s m pending
+  pub leaves : (home : LogDirectories) (m : LogMap) (pending : List LogRecordValue) → Represents home s m pending
       → Leaves home b m pending s t error
 
 -- A batch wasn't written: it was rejected, or the engine had failed before, and nothing was done; or the pipes failed
 -- to write it.
-abbrev pub NotWritten : Batch → Error → Shows → Shows → Type 0
+abbrev pub NotWritten : Batch → Error → EngineState → EngineState → Type 0
 NotWritten b error s t = (IsUnfit b s.tables error × (t ≡ s))
     ⊎ ((error ≡ errors.Failed) × (has_failed s ≡ true) × (t ≡ s))
     ⊎ PipesRefused b error s t

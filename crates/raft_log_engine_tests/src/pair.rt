@@ -19,7 +19,7 @@ pub struct Plain {
 }
 
 impl ReactiveBytes for Plain {
-    type Said = Vec<u8>;
+    type Content = Vec<u8>;
 
     ghost said = { λ plain. plain.bytes };
 

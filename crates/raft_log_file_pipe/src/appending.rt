@@ -23,7 +23,7 @@ use std::alloc::Global;
 use std::io::ErrorKind;
 
 /// Rotates if the active file has reached the target size.
-fn turn_first<G: PipeFormat, F: FileSystem, L: Log>(
+fn rotate_if_full<G: PipeFormat, F: FileSystem, L: Log>(
     alloc: Global,
     layout: &G,
     rt: &L,
@@ -56,7 +56,7 @@ fn turn_first<G: PipeFormat, F: FileSystem, L: Log>(
 
 /// The active file is out of space for a record: rotates, and returns the error to report: `TryAgain` if the rotation
 /// succeeded, otherwise the error that stopped it.
-fn turn_elsewhere<G: PipeFormat, F: FileSystem, L: Log>(
+fn rotate_for_space<G: PipeFormat, F: FileSystem, L: Log>(
     alloc: Global,
     layout: &G,
     rt: &L,
@@ -85,7 +85,7 @@ fn turn_elsewhere<G: PipeFormat, F: FileSystem, L: Log>(
 }
 
 /// Returns the error to report for a failed write. If the write failed for lack of space, the pipe rotates.
-fn tell_fault<G: PipeFormat, F: FileSystem, L: Log>(
+fn report_write_fault<G: PipeFormat, F: FileSystem, L: Log>(
     alloc: Global,
     layout: &G,
     rt: &L,
@@ -108,7 +108,7 @@ fn tell_fault<G: PipeFormat, F: FileSystem, L: Log>(
     match fault {
         WriteFault::CutBack(kind) => {
             if kind == ErrorKind::StorageFull {
-                return turn_elsewhere(alloc, layout, rt, file_system, files, new_files);
+                return rotate_for_space(alloc, layout, rt, file_system, files, new_files);
             }
             Error::Io(kind)
         }
@@ -160,7 +160,7 @@ pub fn append<G: PipeFormat, F: FileSystem, L: Log, B: ReactiveBytes>(
     ensures first { files.new.first_seq ≡ files.old.first_seq }
     ensures later { IsLater (F.disk file_system.old) (F.disk file_system.new) }
 {
-    turn_first(alloc, layout, rt, file_system, files, new_files)?;
+    rotate_if_full(alloc, layout, rt, file_system, files, new_files)?;
     let id = FileId::new(queue, files.active.seq);
     bytes.sign(&LogFileContext::new(id, files.active.format.version));
     let record = bytes.as_bytes();
@@ -171,6 +171,6 @@ pub fn append<G: PipeFormat, F: FileSystem, L: Log, B: ReactiveBytes>(
             offset: at as u64,
             len: record.len(),
         }),
-        Err(fault) => Err(tell_fault(alloc, layout, rt, file_system, files, new_files, fault)),
+        Err(fault) => Err(report_write_fault(alloc, layout, rt, file_system, files, new_files, fault)),
     }
 }

@@ -98,7 +98,7 @@ fn first_seq(earlier: &VecDeque<File>, last: &File) -> FileSeq
 }
 
 /// Reopens a queue after what was read of its last file.
-fn take_up<G: PipeFormat, F: FileSystem, L: Log>(
+fn reopen_active_file<G: PipeFormat, F: FileSystem, L: Log>(
     alloc: Global,
     layout: &G,
     rt: &L,
@@ -169,7 +169,7 @@ pub fn open<G: PipeFormat, F: FileSystem, L: Log>(
         recycled,
     } = found;
     match files.pop_back() {
-        Some(last) => take_up(alloc, layout, rt, file_system, files, last, end, recycled),
+        Some(last) => reopen_active_file(alloc, layout, rt, file_system, files, last, end, recycled),
         None => begin(alloc, layout, rt, file_system, new_files, recycled),
     }
 }

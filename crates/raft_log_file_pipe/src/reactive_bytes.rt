@@ -9,9 +9,9 @@ pub trait ReactiveBytes {
     ghost use Rattle.raft_log_record_base.specs.declared.pipe_log.LogFileContext.{LogFileContext};
 
     /// The value that is written, whatever file it is signed for.
-    type Said;
+    type Content;
 
-    ghost said: { Self → Self.Said };
+    ghost said: { Self → Self.Content };
 
     ghost bytes: { Self → List ℕ };
 

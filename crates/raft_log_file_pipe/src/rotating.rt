@@ -42,7 +42,7 @@ fn place_beside<G: PipeFormat>(layout: &G, file: &File) -> PathId
 }
 
 /// Rotates into the oldest file kept for recycling, under the next number, in its directory.
-fn go_over<G: PipeFormat, F: FileSystem, L: Log>(
+fn rotate_into_recycled<G: PipeFormat, F: FileSystem, L: Log>(
     alloc: Global,
     layout: &G,
     rt: &L,
@@ -102,7 +102,7 @@ fn go_over<G: PipeFormat, F: FileSystem, L: Log>(
 }
 
 /// Rotates into a new file with the next number.
-fn go_into_new<G: PipeFormat, F: FileSystem, L: Log>(
+fn rotate_into_new<G: PipeFormat, F: FileSystem, L: Log>(
     alloc: Global,
     layout: &G,
     rt: &L,
@@ -189,7 +189,7 @@ pub fn rotate<G: PipeFormat, F: FileSystem, L: Log>(
     };
     files.earlier.reserve(1)?;
     match files.recycled.front().copied() {
-        Some(kept) => go_over(alloc, layout, rt, file_system, files, new_files, kept, seq),
-        None => go_into_new(alloc, layout, rt, file_system, files, new_files, seq),
+        Some(kept) => rotate_into_recycled(alloc, layout, rt, file_system, files, new_files, kept, seq),
+        None => rotate_into_new(alloc, layout, rt, file_system, files, new_files, seq),
     }
 }

@@ -2,7 +2,7 @@
 use Rattle.std.proofs.Common.{ℕ, List, [], ◌++◌, None, refl, sym, ap, ◌∙◌, inl, arith}
 use Rattle.raft_log_model_laws.specs.Groups.{directory_meaning, taken}
 use Rattle.raft_log_machine_laws.specs.Survival.{HoldsMap, Survives}
-use Rattle.raft_log_machine_laws.specs.Truth.{AreTrue}
+use Rattle.raft_log_machine_laws.specs.Truth.{AreCorrect}
 use Rattle.raft_log_machine_laws.specs.Machine.{Machine, Event, Steps, IsKept, said_of}
 use Rattle.raft_log_machine_laws.specs.Fresh.{nowhere, nothing_stands, fresh_machine}
 use Rattle.raft_log_machine_laws.proofs.Starts.{no_front, no_back}
@@ -17,7 +17,7 @@ module _ {E V : Type 0} where
       ∙ ap (λ l. directory_meaning l (a_back ++ []) g s) (no_front r_kept r_lost kept)
       ∙ ap (λ l. directory_meaning [] (l ++ []) g s) (no_back a_cut a_back a_start)
 
-  fresh_truth : (g : ℕ) → AreTrue (said_of g (fresh_machine {E = E} {V = V}).store) (taken nothing_stands [] g) nowhere
+  fresh_truth : (g : ℕ) → AreCorrect (said_of g (fresh_machine {E = E} {V = V}).store) (taken nothing_stands [] g) nowhere
   fresh_truth g = record {
     in_order = (omega arith, omega arith, omega arith);
     below = λ i h. refl;

@@ -16,7 +16,7 @@ use Rattle.raft_log_model_laws.proofs.Summaries.{content_word}
 use Rattle.raft_log_model_laws.proofs.Joins.{stands_in}
 use Rattle.raft_log_model_laws.proofs.AnySummary.{directory_of_any}
 use Rattle.raft_log_machine_laws.specs.Whereabouts.{Whereabouts, top}
-use Rattle.raft_log_machine_laws.specs.Truth.{SaysOfSlot, AreTrue}
+use Rattle.raft_log_machine_laws.specs.Truth.{SaysOfSlot, AreCorrect}
 use Rattle.raft_log_machine_laws.specs.Recovery.{has_compact, has_del, IsRecovered, HasMarks, IsReadOff}
 use Rattle.raft_log_machine_laws.specs.Images.{IsOneRun}
 use Rattle.raft_log_machine_laws.proofs.TruthRaises.{no_word, speaks_above}
@@ -50,7 +50,7 @@ in_run m run i c e = (
 )
 
 -- true whereabouts tell the run
-abbrev pub run_told : {E V : Type 0} (said : SaysOfSlot E V) (m : Slot → Option (Content E V)) (t : Whereabouts) → AreTrue said m t → IsOneRun m
+abbrev pub run_told : {E V : Type 0} (said : SaysOfSlot E V) (m : Slot → Option (Content E V)) (t : Whereabouts) → AreCorrect said m t → IsOneRun m
 run_told said m t b = record { first = t.first; end = t.end; in_range = b.in_order.2; below = b.below; above = b.above; solid = b.solid }
 
 -- Of what was read of Append, and of what the directory means for the group, an open makes the whereabouts. Append's

@@ -7,12 +7,12 @@ use Rattle.raft_log_model_laws.specs.Groups.{appended, taken}
 use Rattle.raft_log_model_laws.specs.Holes.{Window, nothing, window}
 use Rattle.raft_log_machine_laws.specs.Queue.{all_records}
 use Rattle.raft_log_machine_laws.specs.Whereabouts.{Whereabouts, top, IsRenumbered}
-use Rattle.raft_log_machine_laws.specs.Truth.{SaysOfSlot, AreTrue, IsSettledIndex}
+use Rattle.raft_log_machine_laws.specs.Truth.{SaysOfSlot, AreCorrect, IsSettledIndex}
 use Rattle.raft_log_machine_laws.specs.Replay.{IsTopOf, IsReplayable}
 use Rattle.raft_log_machine_laws.specs.Machine.{Machine, IsKept, said_of}
 use Rattle.raft_log_machine_laws.specs.Images.{HasRuns}
 
-module _ {E V : Type 0} (said : SaysOfSlot E V) (m : Slot → Option (Content E V)) (t : Whereabouts) (b : AreTrue said m t) (empty : t.first ≡ t.end) (n : ℕ) (high : n ≤ top) where
+module _ {E V : Type 0} (said : SaysOfSlot E V) (m : Slot → Option (Content E V)) (t : Whereabouts) (b : AreCorrect said m t) (empty : t.first ≡ t.end) (n : ℕ) (high : n ≤ top) where
   no_entry_at : (i : ℕ) → m (Index i) ≡ None
   no_entry_at i = elim (cases_lt i t.first) [ inl before ↦ b.below i before | inr from ↦ b.above i (omega arith) ]
 
@@ -25,7 +25,7 @@ module _ {E V : Type 0} (said : SaysOfSlot E V) (m : Slot → Option (Content E 
   settled i (inr (inr (inl owed))) = inr (inr (inl (owed.0, inr refl)))
   settled i (inr (inr (inr newer))) = absurd (let order = b.in_order in omega (arith, newer.0, newer.1))
 
-  pub renumbered_truth : AreTrue said m numbered
+  pub renumbered_truth : AreCorrect said m numbered
   renumbered_truth = record {
     in_order = (omega arith, omega arith, high);
     below = λ i h. no_entry_at i;
@@ -49,13 +49,13 @@ module _ {E V : Type 0} (w : Machine E V) (whereabouts : ℕ → Whereabouts) (a
   abbrev renumbered : Machine E V
   renumbered = record w { whereabouts = whereabouts }
 
-  true_one : (g : ℕ) (t u : Whereabouts) → IsRenumbered t u → AreTrue (said_of g w.store) (taken w.map w.store.append.pending g) t
-      → AreTrue (said_of g w.store) (taken w.map w.store.append.pending g) u
-  true_one g t u (inl same) b = subst (λ x. AreTrue (said_of g w.store) (taken w.map w.store.append.pending g) x) (sym same) b
-  true_one g t u (inr h) b = subst (λ x. AreTrue (said_of g w.store) (taken w.map w.store.append.pending g) x) (sym h.1.2)
+  true_one : (g : ℕ) (t u : Whereabouts) → IsRenumbered t u → AreCorrect (said_of g w.store) (taken w.map w.store.append.pending g) t
+      → AreCorrect (said_of g w.store) (taken w.map w.store.append.pending g) u
+  true_one g t u (inl same) b = subst (λ x. AreCorrect (said_of g w.store) (taken w.map w.store.append.pending g) x) (sym same) b
+  true_one g t u (inr h) b = subst (λ x. AreCorrect (said_of g w.store) (taken w.map w.store.append.pending g) x) (sym h.1.2)
       (renumbered_truth (said_of g w.store) (taken w.map w.store.append.pending g) t b h.0 h.1.0 h.1.1)
 
-  top_one : (g : ℕ) (t u : Whereabouts) → IsRenumbered t u → AreTrue (said_of g w.store) (taken w.map w.store.append.pending g) t
+  top_one : (g : ℕ) (t u : Whereabouts) → IsRenumbered t u → AreCorrect (said_of g w.store) (taken w.map w.store.append.pending g) t
       → IsTopOf (window nothing (appended g (all_records w.store.append))) t → IsTopOf (window nothing (appended g (all_records w.store.append))) u
   top_one g t u (inl same) b p = subst (λ x. IsTopOf (window nothing (appended g (all_records w.store.append))) x) (sym same) p
   top_one g t u (inr h) b p = subst (λ x. IsTopOf (window nothing (appended g (all_records w.store.append))) x) (sym h.1.2)

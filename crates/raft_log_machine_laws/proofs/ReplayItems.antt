@@ -12,7 +12,7 @@ use Rattle.raft_log_model_laws.specs.Holes.{Window, nothing, next_window, window
 use Rattle.raft_log_model_laws.proofs.Holes.{no_hole_append, window_append}
 use Rattle.raft_log_model_laws.proofs.Windows.{Spans, one_run_fits}
 use Rattle.raft_log_machine_laws.specs.Whereabouts.{Whereabouts, top, AppendTakes, GrowsBy, Carries, CarriesAll}
-use Rattle.raft_log_machine_laws.specs.Truth.{SaysOfSlot, AreTrue}
+use Rattle.raft_log_machine_laws.specs.Truth.{SaysOfSlot, AreCorrect}
 use Rattle.raft_log_machine_laws.proofs.RecoveryLaws.{ends_alike, run_told}
 use Rattle.raft_log_machine_laws.specs.Replay.{IsTopOf}
 use Rattle.raft_log_machine_laws.proofs.Words.{says_append}
@@ -63,7 +63,7 @@ item_fits {E} {V} w t (Put k v) u le h g = (tt, subst (λ a. IsTopOf w a) (sym g
 item_fits {E} {V} w t (Del k) u le h g = (tt, subst (λ a. IsTopOf w a) (sym g.2) h)
 
 pub items_fit : {E V : Type 0} (said : SaysOfSlot E V) (m : Slot → Option (Content E V)) (t : Whereabouts) (xs : List (Item E V)) (u : Whereabouts) (w : Window)
-    → GrowsBy t xs u → AreTrue said m t → IsTopOf w t → NoHole w xs × IsTopOf (window w xs) u
+    → GrowsBy t xs u → AreCorrect said m t → IsTopOf w t → NoHole w xs × IsTopOf (window w xs) u
 items_fit said m t [] u w g b h = (tt, subst (λ v. IsTopOf w v) (sym g) h)
 items_fit said m t (x ∷ xs) u w g b h =
     let order : t.first ≤ t.end = (let parts = b.in_order in omega arith) in
@@ -78,7 +78,7 @@ not_past_empty wf we f h = grind (arith, nat_tests)
 not_past_within : (wf we f : ℕ) → f ≤ we → (nat_lt wf we && nat_lt we f) ≡ false
 not_past_within wf we f h = grind (arith, nat_tests)
 
-module _ {E V : Type 0} (said : SaysOfSlot E V) (m : Slot → Option (Content E V)) (t : Whereabouts) (b : AreTrue said m t) (whole : List (Item E V))
+module _ {E V : Type 0} (said : SaysOfSlot E V) (m : Slot → Option (Content E V)) (t : Whereabouts) (b : AreCorrect said m t) (whole : List (Item E V))
     (all : (s : Slot) → said.lowest s ≡ says s whole) (no_hole : NoHole nothing whole) where
   run : Window
   run = window nothing whole
@@ -138,7 +138,7 @@ module _ {E V : Type 0} (said : SaysOfSlot E V) (m : Slot → Option (Content E 
   written_fits (Put k v) u h = tt
   written_fits (Del k) u h = tt
 
-pub all_written_fit : {E V : Type 0} (said : SaysOfSlot E V) (m : Slot → Option (Content E V)) (t : Whereabouts) (whole xs : List (Item E V)) (u : Whereabouts) → AreTrue said m t
+pub all_written_fit : {E V : Type 0} (said : SaysOfSlot E V) (m : Slot → Option (Content E V)) (t : Whereabouts) (whole xs : List (Item E V)) (u : Whereabouts) → AreCorrect said m t
     → ((s : Slot) → said.lowest s ≡ says s whole) → NoHole nothing whole → CarriesAll m t xs u → NoHole (window nothing whole) xs
 all_written_fit said m t whole [] u b all no_hole c = tt
 all_written_fit said m t whole (x ∷ xs) u b all no_hole c =
@@ -165,7 +165,7 @@ carries_all_ends m t (x ∷ xs) u h =
     let one = carries_ends m t x h.0 h.1 in let rest = carries_all_ends m h.0 xs u h.2 in (rest.0 ∙ one.0, rest.1 ∙ one.1)
 
 -- the whereabouts of what was read: its entries end where Append's run does, if that isn't empty
-pub recovered_top : {E V : Type 0} (said : SaysOfSlot E V) (m : Slot → Option (Content E V)) (t : Whereabouts) (xs : List (Item E V)) → AreTrue said m t → NoHole nothing xs
+pub recovered_top : {E V : Type 0} (said : SaysOfSlot E V) (m : Slot → Option (Content E V)) (t : Whereabouts) (xs : List (Item E V)) → AreCorrect said m t → NoHole nothing xs
     → ((s : Slot) (v : Option (Content E V)) → says s xs ≡ Some v → m s ≡ v) → IsTopOf (window nothing xs) t
 recovered_top said m t xs b no_hole means = elim (cases_lt (window nothing xs).first (window nothing xs).end) [
   | inl some ↦ (let ends = ends_alike m xs (run_told said m t b) (window nothing xs) (one_run_fits xs no_hole) means some in inr (ends.1, ends.0))

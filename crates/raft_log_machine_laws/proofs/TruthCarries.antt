@@ -11,7 +11,7 @@ use Rattle.raft_log_model_laws.proofs.Cases.{at_bool}
 use Rattle.raft_log_model_laws.proofs.Tests.{run_sets, run_truncates, run_leaves, compact_removes, compact_leaves, from_same_key}
 use Rattle.raft_log_machine_laws.specs.Survival.{IsSpoken, IsHarmless}
 use Rattle.raft_log_machine_laws.specs.Whereabouts.{Whereabouts, top, with_key, RunStands, Carries, CarriesAll, NothingRewritten}
-use Rattle.raft_log_machine_laws.specs.Truth.{SaysOfSlot, AreTrue, IsRightInRewrite, IsSettledKey}
+use Rattle.raft_log_machine_laws.specs.Truth.{SaysOfSlot, AreCorrect, IsRightInRewrite, IsSettledKey}
 use Rattle.raft_log_machine_laws.proofs.Words.{option_or_assoc}
 use Rattle.raft_log_machine_laws.proofs.TruthGrows.{true_along}
 
@@ -34,9 +34,9 @@ right_still said m x s e h =
 pub differ : {P : Type 0} → true ≡ false → P
 differ e = absurd (let no_way : true ≡ false = e in let never : ⊥ = cc in never)
 
-module _ {E V : Type 0} (said : SaysOfSlot E V) (m : Slot → Option (Content E V)) (t : Whereabouts) (b : AreTrue said m t) where
+module _ {E V : Type 0} (said : SaysOfSlot E V) (m : Slot → Option (Content E V)) (t : Whereabouts) (b : AreCorrect said m t) where
   carries_run : (f : ℕ) (es : List E) → 0 < length es → t.first ≤ f → f ≤ t.split → t.split ≤ f + length es → f + length es ≤ t.end → RunStands m f es
-      → (t.split ≡ f + length es) ⊎ ((t.cleaned ≡ false) × (t.compacted ≡ false)) → AreTrue (rewrite_said said (Run f es)) m (record t { split = f + length es })
+      → (t.split ≡ f + length es) ⊎ ((t.cleaned ≡ false) × (t.compacted ≡ false)) → AreCorrect (rewrite_said said (Run f es)) m (record t { split = f + length es })
   carries_run f es some low within reaches fits same clean = record {
     in_order = (omega arith, fits, omega arith);
     below = b.below;
@@ -88,7 +88,7 @@ module _ {E V : Type 0} (said : SaysOfSlot E V) (m : Slot → Option (Content E 
   del_allowed l (inl d) = b.after_delete l d
   del_allowed l (inr nothing) = nothing
 
-  carries_clean : NothingRewritten m t → AreTrue (rewrite_said said Clean) m (record t { cleaned = false })
+  carries_clean : NothingRewritten m t → AreCorrect (rewrite_said said Clean) m (record t { cleaned = false })
   carries_clean nothing = record {
     in_order = b.in_order;
     below = b.below;
@@ -118,7 +118,7 @@ module _ {E V : Type 0} (said : SaysOfSlot E V) (m : Slot → Option (Content E 
       no_key = nothing.1
 
   carries_compact : (c : ℕ) → ((t.first < t.split) × (c ≡ t.first)) ⊎ ((t.first ≡ t.split) × (c ≡ top))
-      → AreTrue (rewrite_said said (Compact c)) m (record t { compacted = false })
+      → AreCorrect (rewrite_said said (Compact c)) m (record t { compacted = false })
   carries_compact c which = record {
     in_order = b.in_order;
     below = b.below;
@@ -162,7 +162,7 @@ module _ {E V : Type 0} (said : SaysOfSlot E V) (m : Slot → Option (Content E 
       not_owed i high from h = elim which [ inl some ↦ elim h [ inl before ↦ omega arith | inr nothing ↦ omega arith ] | inr none ↦ omega arith ]
 
   carries_put : (l : List ℕ) (v : V) → m (Key l) ≡ Some (Value v) → (t.appended l ≡ true → (t.cleaned ≡ false) × (t.deleted l ≡ false))
-      → AreTrue (rewrite_said said (Put l v)) m (record t { appended = with_key t.appended l false })
+      → AreCorrect (rewrite_said said (Put l v)) m (record t { appended = with_key t.appended l false })
   carries_put l v same clear = record {
     in_order = b.in_order;
     below = b.below;
@@ -208,7 +208,7 @@ module _ {E V : Type 0} (said : SaysOfSlot E V) (m : Slot → Option (Content E 
   no_deleted : (l k : List ℕ) → (t.appended l ≡ false → m (Key l) ≡ None) → bytes_eq l k ≡ true → t.appended k ≡ false → m (Key k) ≡ None
   no_deleted l k nothing e h = subst (λ j. t.appended j ≡ false → m (Key j) ≡ None) (from_same_key l k e) nothing h
 
-  carries_del : (l : List ℕ) → (t.appended l ≡ false → m (Key l) ≡ None) → AreTrue (rewrite_said said (Del l)) m (record t { deleted = with_key t.deleted l false })
+  carries_del : (l : List ℕ) → (t.appended l ≡ false → m (Key l) ≡ None) → AreCorrect (rewrite_said said (Del l)) m (record t { deleted = with_key t.deleted l false })
   carries_del l d = record {
     in_order = b.in_order;
     below = b.below;
@@ -233,7 +233,7 @@ module _ {E V : Type 0} (said : SaysOfSlot E V) (m : Slot → Option (Content E 
         (λ e. b.key k);
   }
 
-  said_nothing : (f : ℕ) → AreTrue (rewrite_said said (Run f [])) m t
+  said_nothing : (f : ℕ) → AreCorrect (rewrite_said said (Run f [])) m t
   said_nothing f = record {
     in_order = b.in_order;
     below = b.below;
@@ -249,14 +249,14 @@ module _ {E V : Type 0} (said : SaysOfSlot E V) (m : Slot → Option (Content E 
     key = b.key;
   }
 
-  pub carries : (x : Item E V) (u : Whereabouts) → Carries m t x u → AreTrue (rewrite_said said x) m u
-  carries (Run f []) u e = subst (λ v. AreTrue (rewrite_said said (Run f [])) m v) (sym e) (said_nothing f)
+  pub carries : (x : Item E V) (u : Whereabouts) → Carries m t x u → AreCorrect (rewrite_said said x) m u
+  carries (Run f []) u e = subst (λ v. AreCorrect (rewrite_said said (Run f [])) m v) (sym e) (said_nothing f)
   carries (Run f (e ∷ es)) u h =
-      subst (λ v. AreTrue (rewrite_said said (Run f (e ∷ es))) m v) (sym h.6) (carries_run f (e ∷ es) (omega arith) h.0 h.1 h.2 h.3 h.4 h.5)
-  carries Clean u h = subst (λ v. AreTrue (rewrite_said said Clean) m v) (sym h.1) (carries_clean (clean_allowed h.0))
-  carries (Compact c) u h = subst (λ v. AreTrue (rewrite_said said (Compact c)) m v) (sym h.1) (carries_compact c h.0)
-  carries (Put l v) u h = subst (λ w. AreTrue (rewrite_said said (Put l v)) m w) (sym h.2) (carries_put l v h.0 h.1)
-  carries (Del l) u h = subst (λ v. AreTrue (rewrite_said said (Del l)) m v) (sym h.1) (carries_del l (del_allowed l h.0))
+      subst (λ v. AreCorrect (rewrite_said said (Run f (e ∷ es))) m v) (sym h.6) (carries_run f (e ∷ es) (omega arith) h.0 h.1 h.2 h.3 h.4 h.5)
+  carries Clean u h = subst (λ v. AreCorrect (rewrite_said said Clean) m v) (sym h.1) (carries_clean (clean_allowed h.0))
+  carries (Compact c) u h = subst (λ v. AreCorrect (rewrite_said said (Compact c)) m v) (sym h.1) (carries_compact c h.0)
+  carries (Put l v) u h = subst (λ w. AreCorrect (rewrite_said said (Put l v)) m w) (sym h.2) (carries_put l v h.0 h.1)
+  carries (Del l) u h = subst (λ v. AreCorrect (rewrite_said said (Del l)) m v) (sym h.1) (carries_del l (del_allowed l h.0))
 
   -- an index at which the item says "empty", and the whereabouts say that nothing rewritten stands there
   emptied : (i : ℕ) (w : Option (Option (Content E V))) → w ≡ Some None → (i < t.first) ⊎ (t.split ≤ i) → IsHarmless w (m (Index i)) (said.append (Index i))
@@ -317,8 +317,8 @@ rewrite_said_all said xs =
     record { lowest = λ s. option_or (says s xs) (said.lowest s); rewrite = λ s. option_or (says s xs) (said.rewrite s); append = said.append }
 
 pub carries_all : {E V : Type 0} (said : SaysOfSlot E V) (m : Slot → Option (Content E V)) (t : Whereabouts) (xs : List (Item E V)) (u : Whereabouts) → CarriesAll m t xs u
-    → AreTrue said m t → AreTrue (rewrite_said_all said xs) m u
-carries_all said m t [] u e b = subst (λ v. AreTrue (rewrite_said_all said []) m v) (sym e) b
+    → AreCorrect said m t → AreCorrect (rewrite_said_all said xs) m u
+carries_all said m t [] u e b = subst (λ v. AreCorrect (rewrite_said_all said []) m v) (sym e) b
 carries_all said m t (x ∷ xs) u h b =
     true_along (rewrite_said_all (rewrite_said said x) xs) (rewrite_said_all said (x ∷ xs)) m m u
     (λ s. sym (option_or_assoc (says s xs) (write s x) (said.lowest s))) (λ s. sym (option_or_assoc (says s xs) (write s x) (said.rewrite s)))
@@ -331,7 +331,7 @@ both_harmless older (Some x) v a h (inl e) = inl e
 both_harmless older (Some x) v a h (inr k) = inr k
 
 pub all_harmless : {E V : Type 0} (said : SaysOfSlot E V) (m : Slot → Option (Content E V)) (t : Whereabouts) (xs : List (Item E V)) (u : Whereabouts) → CarriesAll m t xs u
-    → AreTrue said m t → (s : Slot) → IsHarmless (says s xs) (m s) (said.append s)
+    → AreCorrect said m t → (s : Slot) → IsHarmless (says s xs) (m s) (said.append s)
 all_harmless said m t [] u h b s = inl refl
 all_harmless said m t (x ∷ xs) u h b s =
     both_harmless (write s x) (says s xs) (m s) (said.append s) (is_harmless said m t b x h.0 h.1 s)

@@ -14,7 +14,7 @@ use Rattle.raft_log_model_laws.proofs.Tests.{run_sets, run_truncates, run_leaves
 use Rattle.raft_log_machine_laws.specs.Survival.{IsSpoken}
 use Rattle.raft_log_machine_laws.specs.Whereabouts.{Whereabouts, top, with_key, Alone, GoesOn, compacted_first, AppendTakes, GrowsBy}
 use Rattle.raft_log_machine_laws.proofs.Words.{option_or_assoc, unwrap_or_option_or}
-use Rattle.raft_log_machine_laws.specs.Truth.{SaysOfSlot, AreTrue, IsRightInRewrite}
+use Rattle.raft_log_machine_laws.specs.Truth.{SaysOfSlot, AreCorrect, IsRightInRewrite}
 
 pub spoken_after : {C : Type 0} (newer older : Option (Option C)) → IsSpoken older → IsSpoken (option_or newer older)
 spoken_after None older h = h
@@ -41,7 +41,7 @@ stepped m x s = unwrap_or (write s x) (m s)
 pub right_along : {E V : Type 0} (said : SaysOfSlot E V) (m n : Slot → Option (Content E V)) (s : Slot) → n s ≡ m s → IsRightInRewrite said m s → IsRightInRewrite said n s
 right_along said m n s e h = (h.0 ∙ sym e, h.1 ∙ sym e)
 
-module _ {E V : Type 0} (said : SaysOfSlot E V) (m : Slot → Option (Content E V)) (t : Whereabouts) (b : AreTrue said m t) where
+module _ {E V : Type 0} (said : SaysOfSlot E V) (m : Slot → Option (Content E V)) (t : Whereabouts) (b : AreCorrect said m t) where
   -- inside a run its entry stands
   entry_of_run : (f : ℕ) (es : List E) → 0 < length es → (i : ℕ) → f ≤ i → i < f + length es
       → (entry : Content E V) × (stepped m (Run f es) (Index i) ≡ Some entry)
@@ -49,7 +49,7 @@ module _ {E V : Type 0} (said : SaysOfSlot E V) (m : Slot → Option (Content E 
       let it = inside i f es low high in (Entry it.0, becomes m (Index i) _ _ (run_sets i f es low some) ∙ it.1)
 
   grows_alone : (f : ℕ) (es : List E) → 0 < length es → f + length es ≤ top → Alone t f
-      → AreTrue (append_said said (Run f es)) (stepped m (Run f es)) (record t { first = f; split = f; end = f + length es })
+      → AreCorrect (append_said said (Run f es)) (stepped m (Run f es)) (record t { first = f; split = f; end = f + length es })
   grows_alone f es some fits alone = record {
     in_order = (omega arith, omega arith, fits);
     below = λ i h. stays m (Index i) _ (run_leaves i f es h) ∙ empty_below i h;
@@ -80,7 +80,7 @@ module _ {E V : Type 0} (said : SaysOfSlot E V) (m : Slot → Option (Content E 
       not_appended i low from some_appended = elim alone [ inl first ↦ omega arith | inr none ↦ omega arith ]
 
   grows_on : (f : ℕ) (es : List E) → 0 < length es → f + length es ≤ top → GoesOn t f
-      → AreTrue (append_said said (Run f es)) (stepped m (Run f es)) (record t { split = min t.split f; end = f + length es })
+      → AreCorrect (append_said said (Run f es)) (stepped m (Run f es)) (record t { split = min t.split f; end = f + length es })
   grows_on f es some fits on = record {
     in_order = (omega arith, omega arith, fits);
     below = λ i h. stays m (Index i) _ (run_leaves i f es (omega arith)) ∙ b.below i h;
@@ -110,7 +110,7 @@ module _ {E V : Type 0} (said : SaysOfSlot E V) (m : Slot → Option (Content E 
     key = b.key;
   }
 
-  grows_compact : (c : ℕ) → AreTrue (append_said said (Compact c)) (stepped m (Compact c))
+  grows_compact : (c : ℕ) → AreCorrect (append_said said (Compact c)) (stepped m (Compact c))
       (record t { first = compacted_first t c; split = max t.split (compacted_first t c); compacted = true })
   grows_compact c = record {
     in_order = (omega arith, omega arith, omega arith);
@@ -146,7 +146,7 @@ module _ {E V : Type 0} (said : SaysOfSlot E V) (m : Slot → Option (Content E 
   }
 
   grows_clean : (u : Whereabouts) → u.first ≡ u.end → u.split ≡ u.end → u.end ≤ top → ((k : List ℕ) → u.appended k ≡ false) → u.cleaned ≡ true
-      → AreTrue (append_said said Clean) (stepped m Clean) u
+      → AreCorrect (append_said said Clean) (stepped m Clean) u
   grows_clean u none none_split fits no_key cleaned = record {
     in_order = (omega arith, omega arith, fits);
     below = λ i h. refl;
@@ -162,7 +162,7 @@ module _ {E V : Type 0} (said : SaysOfSlot E V) (m : Slot → Option (Content E 
     key = λ k. inr (inl cleaned);
   }
 
-  grows_put : (l : List ℕ) (v : V) → AreTrue (append_said said (Put l v)) (stepped m (Put l v)) (record t { appended = with_key t.appended l true })
+  grows_put : (l : List ℕ) (v : V) → AreCorrect (append_said said (Put l v)) (stepped m (Put l v)) (record t { appended = with_key t.appended l true })
   grows_put l v = record {
     in_order = b.in_order;
     below = b.below;
@@ -199,7 +199,7 @@ module _ {E V : Type 0} (said : SaysOfSlot E V) (m : Slot → Option (Content E 
       differ e = cc
 
   grows_del : (l : List ℕ) (changed : Bool) → (t.compacted ≡ true → changed ≡ true)
-      → AreTrue (append_said said (Del l)) (stepped m (Del l)) (record t { appended = with_key t.appended l false; compacted = changed; deleted = with_key t.deleted l true })
+      → AreCorrect (append_said said (Del l)) (stepped m (Del l)) (record t { appended = with_key t.appended l false; compacted = changed; deleted = with_key t.deleted l true })
   grows_del l changed still = record {
     in_order = b.in_order;
     below = b.below;
@@ -236,10 +236,10 @@ module _ {E V : Type 0} (said : SaysOfSlot E V) (m : Slot → Option (Content E 
         (λ e. inr (inr (inl refl))) (λ e. b.key k);
   }
 
-  pub grows : (x : Item E V) (u : Whereabouts) → AppendTakes t x u → AreTrue (append_said said x) (stepped m x) u
-  grows (Run f []) u e = subst (λ v. AreTrue (append_said said (Run f [])) (stepped m (Run f [])) v) (sym e) nothing_said
+  pub grows : (x : Item E V) (u : Whereabouts) → AppendTakes t x u → AreCorrect (append_said said x) (stepped m x) u
+  grows (Run f []) u e = subst (λ v. AreCorrect (append_said said (Run f [])) (stepped m (Run f [])) v) (sym e) nothing_said
     where
-      nothing_said : AreTrue (append_said said (Run f [])) (stepped m (Run f [])) t
+      nothing_said : AreCorrect (append_said said (Run f [])) (stepped m (Run f [])) t
       nothing_said = record {
         in_order = b.in_order;
         below = b.below;
@@ -255,14 +255,14 @@ module _ {E V : Type 0} (said : SaysOfSlot E V) (m : Slot → Option (Content E 
         key = b.key;
       }
   grows (Run f (e ∷ es)) u h = elim h.1 [
-    | inl alone ↦ subst (λ v. AreTrue (append_said said (Run f (e ∷ es))) (stepped m (Run f (e ∷ es))) v) (sym alone.1)
+    | inl alone ↦ subst (λ v. AreCorrect (append_said said (Run f (e ∷ es))) (stepped m (Run f (e ∷ es))) v) (sym alone.1)
         (grows_alone f (e ∷ es) (omega arith) h.0 alone.0)
-    | inr on ↦ subst (λ v. AreTrue (append_said said (Run f (e ∷ es))) (stepped m (Run f (e ∷ es))) v) (sym on.1) (grows_on f (e ∷ es) (omega arith) h.0 on.0)
+    | inr on ↦ subst (λ v. AreCorrect (append_said said (Run f (e ∷ es))) (stepped m (Run f (e ∷ es))) v) (sym on.1) (grows_on f (e ∷ es) (omega arith) h.0 on.0)
   ]
   grows Clean u h = grows_clean u h.0 h.1 h.2 h.3 h.4
-  grows (Compact c) u e = subst (λ v. AreTrue (append_said said (Compact c)) (stepped m (Compact c)) v) (sym e) (grows_compact c)
-  grows (Put l v) u e = subst (λ w. AreTrue (append_said said (Put l v)) (stepped m (Put l v)) w) (sym e) (grows_put l v)
-  grows (Del l) u h = subst (λ v. AreTrue (append_said said (Del l)) (stepped m (Del l)) v) (sym h.2) (grows_del l h.0 h.1)
+  grows (Compact c) u e = subst (λ v. AreCorrect (append_said said (Compact c)) (stepped m (Compact c)) v) (sym e) (grows_compact c)
+  grows (Put l v) u e = subst (λ w. AreCorrect (append_said said (Put l v)) (stepped m (Put l v)) w) (sym e) (grows_put l v)
+  grows (Del l) u h = subst (λ v. AreCorrect (append_said said (Del l)) (stepped m (Del l)) v) (sym h.2) (grows_del l h.0 h.1)
 
 -- equal words, slot by slot, are one record of words
 pub same_said : {E V : Type 0} (a b : SaysOfSlot E V) → ((s : Slot) → a.lowest s ≡ b.lowest s) → ((s : Slot) → a.rewrite s ≡ b.rewrite s)
@@ -270,17 +270,17 @@ pub same_said : {E V : Type 0} (a b : SaysOfSlot E V) → ((s : Slot) → a.lowe
 same_said a b p q r = λ i. record { lowest = λ s. p s i; rewrite = λ s. q s i; append = λ s. r s i }
 
 pub true_along : {E V : Type 0} (a b : SaysOfSlot E V) (m n : Slot → Option (Content E V)) (t : Whereabouts) → ((s : Slot) → a.lowest s ≡ b.lowest s)
-    → ((s : Slot) → a.rewrite s ≡ b.rewrite s) → ((s : Slot) → a.append s ≡ b.append s) → ((s : Slot) → m s ≡ n s) → AreTrue a m t → AreTrue b n t
+    → ((s : Slot) → a.rewrite s ≡ b.rewrite s) → ((s : Slot) → a.append s ≡ b.append s) → ((s : Slot) → m s ≡ n s) → AreCorrect a m t → AreCorrect b n t
 true_along a b m n t p q r e truth =
-    subst (λ f. AreTrue b f t) (fun_ext e) (subst (λ w. AreTrue w m t) (same_said a b p q r) truth)
+    subst (λ f. AreCorrect b f t) (fun_ext e) (subst (λ w. AreCorrect w m t) (same_said a b p q r) truth)
 
 -- what is said once Append took the items
 abbrev pub append_said_all : {E V : Type 0} → SaysOfSlot E V → List (Item E V) → SaysOfSlot E V
 append_said_all said xs = record { lowest = said.lowest; rewrite = said.rewrite; append = λ s. option_or (says s xs) (said.append s) }
 
 pub grows_by : {E V : Type 0} (said : SaysOfSlot E V) (m : Slot → Option (Content E V)) (t : Whereabouts) (xs : List (Item E V)) (u : Whereabouts) → GrowsBy t xs u
-    → AreTrue said m t → AreTrue (append_said_all said xs) (after m xs) u
-grows_by said m t [] u e b = subst (λ v. AreTrue (append_said_all said []) (after m []) v) (sym e) b
+    → AreCorrect said m t → AreCorrect (append_said_all said xs) (after m xs) u
+grows_by said m t [] u e b = subst (λ v. AreCorrect (append_said_all said []) (after m []) v) (sym e) b
 grows_by said m t (x ∷ xs) u h b =
     true_along (append_said_all (append_said said x) xs) (append_said_all said (x ∷ xs)) (after (stepped m x) xs) (after m (x ∷ xs)) u
     (λ s. refl) (λ s. refl) (λ s. sym (option_or_assoc (says s xs) (write s x) (said.append s)))

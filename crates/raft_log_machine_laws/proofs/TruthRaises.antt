@@ -11,7 +11,7 @@ use Rattle.raft_log_model_laws.proofs.Cases.{at_bool, at_option}
 use Rattle.raft_log_model_laws.proofs.Tests.{run_sets, run_leaves}
 use Rattle.raft_log_machine_laws.specs.Survival.{IsSpoken}
 use Rattle.raft_log_machine_laws.specs.Whereabouts.{Whereabouts, top, OwesNothing, HasAppended, HasRewritten}
-use Rattle.raft_log_machine_laws.specs.Truth.{SaysOfSlot, AreTrue, IsRightInRewrite, IsSettledKey}
+use Rattle.raft_log_machine_laws.specs.Truth.{SaysOfSlot, AreCorrect, IsRightInRewrite, IsSettledKey}
 use Rattle.raft_log_machine_laws.proofs.Starts.{spoken_newer}
 use Rattle.raft_log_machine_laws.proofs.TruthGrows.{spoken_after}
 use Rattle.raft_log_machine_laws.proofs.TruthCarries.{differ}
@@ -58,10 +58,10 @@ pub says_none : {C : Type 0} (word older : Option (Option C)) → option_or word
 says_none None older e = refl
 says_none (Some x) older e = no_word x (sym e)
 
-module _ {E V : Type 0} (said : SaysOfSlot E V) (m : Slot → Option (Content E V)) (t : Whereabouts) (b : AreTrue said m t) where
+module _ {E V : Type 0} (said : SaysOfSlot E V) (m : Slot → Option (Content E V)) (t : Whereabouts) (b : AreCorrect said m t) where
   -- Append's span begins at these items
   pub append_raised : (kept : List (Item E V)) → HasAppended t kept
-      → AreTrue (record { lowest = said.lowest; rewrite = said.rewrite; append = λ s. says s kept }) m t
+      → AreCorrect (record { lowest = said.lowest; rewrite = said.rewrite; append = λ s. says s kept }) m t
   append_raised kept h = record {
     in_order = b.in_order;
     below = b.below;
@@ -103,7 +103,7 @@ module _ {E V : Type 0} (said : SaysOfSlot E V) (m : Slot → Option (Content E 
         → IsRightInRewrite (record { lowest = said.lowest; rewrite = λ s. says s kept; append = said.append }) m s
     still_right s none right = (right.0, fewer_right (said.rewrite s) (says s kept) (older s) (m s) (all s) right.1 none)
 
-    pub rewrite_raised : AreTrue (record { lowest = said.lowest; rewrite = λ s. says s kept; append = said.append }) m t
+    pub rewrite_raised : AreCorrect (record { lowest = said.lowest; rewrite = λ s. says s kept; append = said.append }) m t
     rewrite_raised = record {
       in_order = b.in_order;
       below = b.below;
@@ -150,7 +150,7 @@ module _ {E V : Type 0} (said : SaysOfSlot E V) (m : Slot → Option (Content E 
 
   -- Rewrite's lowest start lies higher
   pub rewrite_left : (lowest lost between : Slot → Option (Option (Content E V))) → ((s : Slot) → said.lowest s ≡ option_or (lowest s) (lost s))
-      → ((s : Slot) → lowest s ≡ option_or (said.rewrite s) (between s)) → AreTrue (record { lowest = lowest; rewrite = said.rewrite; append = said.append }) m t
+      → ((s : Slot) → lowest s ≡ option_or (said.rewrite s) (between s)) → AreCorrect (record { lowest = lowest; rewrite = said.rewrite; append = said.append }) m t
   rewrite_left lowest lost between all shorter = record {
     in_order = b.in_order;
     below = b.below;

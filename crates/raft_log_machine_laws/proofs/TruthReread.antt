@@ -12,7 +12,7 @@ use Rattle.raft_log_model_laws.proofs.Cases.{at_bool, at_option}
 use Rattle.raft_log_model_laws.proofs.Tests.{run_sets, run_leaves, compact_removes, compact_leaves}
 use Rattle.raft_log_machine_laws.specs.Survival.{IsSpoken}
 use Rattle.raft_log_machine_laws.specs.Whereabouts.{Whereabouts}
-use Rattle.raft_log_machine_laws.specs.Truth.{SaysOfSlot, AreTrue, IsRightInRewrite, IsSettledIndex, IsSettledKey}
+use Rattle.raft_log_machine_laws.specs.Truth.{SaysOfSlot, AreCorrect, IsRightInRewrite, IsSettledIndex, IsSettledKey}
 use Rattle.raft_log_machine_laws.specs.Recovery.{has_compact, has_del, IsRecovered}
 use Rattle.raft_log_machine_laws.proofs.Words.{option_or_none}
 use Rattle.raft_log_machine_laws.proofs.Starts.{spoken_newer}
@@ -212,7 +212,7 @@ module _ {E V : Type 0} (said : SaysOfSlot E V) (m : Slot → Option (Content E 
   quiet_clash : (s : Slot) → IsSpoken (says s append) → says s append ≡ None → ⊥
   quiet_clash s h e = no_word h.0 (sym e ∙ h.1)
 
-  pub recovered_truth : AreTrue said m t
+  pub recovered_truth : AreCorrect said m t
   recovered_truth = record {
     in_order = r.in_order;
     below = r.below;

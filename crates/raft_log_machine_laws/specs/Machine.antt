@@ -11,7 +11,7 @@ use Rattle.raft_log_machine_laws.specs.Unbroken.{IsUnbroken, begun, joined}
 use Rattle.raft_log_machine_laws.specs.Queue.{Queue, Store, all_records, takes, synced, raised, left, reread, with_append, with_rewrite}
 use Rattle.raft_log_machine_laws.specs.Survival.{HoldsMap}
 use Rattle.raft_log_machine_laws.specs.Whereabouts.{Whereabouts, top, GrowsBy, CarriesAll, OwesNothing, HasAppended, HasRewritten}
-use Rattle.raft_log_machine_laws.specs.Truth.{SaysOfSlot, AreTrue}
+use Rattle.raft_log_machine_laws.specs.Truth.{SaysOfSlot, AreCorrect}
 use Rattle.raft_log_machine_laws.specs.Recovery.{IsRecovered}
 
 -- the run ends at or below `top`
@@ -166,4 +166,4 @@ pub record IsKept {E V : Type 0} (w : Machine E V) : Type 0 where
   pub unbroken : IsUnbroken (all_records w.store.rewrite)
   pub fits : RecordsFit (all_records w.store.rewrite)
   pub whereabouts : w.failed ≡ false → (g : ℕ)
-      → AreTrue (said_of g w.store) (taken w.map w.store.append.pending g) (w.whereabouts g)
+      → AreCorrect (said_of g w.store) (taken w.map w.store.append.pending g) (w.whereabouts g)

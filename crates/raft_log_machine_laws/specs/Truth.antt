@@ -33,7 +33,7 @@ IsSettledKey said m t k =
     IsRightInRewrite said m (Key k) ⊎ ((t.cleaned ≡ true) ⊎ ((t.deleted k ≡ true) ⊎ (t.appended k ≡ true)))
 
 -- the whereabouts t agree with what is said, for a group whose map is m
-pub record AreTrue {E V : Type 0} (said : SaysOfSlot E V) (m : Slot → Option (Content E V)) (t : Whereabouts)
+pub record AreCorrect {E V : Type 0} (said : SaysOfSlot E V) (m : Slot → Option (Content E V)) (t : Whereabouts)
     : Type 0 where
   pub in_order : (t.first ≤ t.split) × (t.split ≤ t.end) × (t.end ≤ top)
   pub below : (i : ℕ) → i < t.first → m (Index i) ≡ None

@@ -38,7 +38,7 @@ pub enum Act {
     /// There is no such directory.
     Lacks(&'static str),
     /// A file has so many bytes.
-    Holds(&'static str, usize),
+    Represents(&'static str, usize),
 }
 
 /// Why a log isn't opened.
@@ -156,7 +156,7 @@ fn touch<F: FileSystem>(files: &mut F, act: &Act) -> std::result::Result<(), Err
             Ok(_) => Err(ErrorKind::AlreadyExists),
             Err(_) => Ok(()),
         },
-        Act::Holds(path, size) => match has_size(files, path, *size)? {
+        Act::Represents(path, size) => match has_size(files, path, *size)? {
             true => Ok(()),
             false => Err(ErrorKind::InvalidData),
         },

@@ -79,7 +79,7 @@ fn answer_purge<L: Log, P: PipeLog>(rt: &L, store: &mut Store<P>, step: &Step) -
         Step::Compact(index, count) => store.compacts(rt, *index, *count),
         Step::Rewrite(exit) => store.rewrite(rt, *exit),
         Step::RewriteBoth => store.rewrites_both(rt),
-        Step::PurgeStale => store.purge_stale(rt),
+        Step::PurgeStale => store.delete_stale_files(rt),
         Step::Asks(groups) => store.asks(rt, groups),
         Step::Purge(asked, gone) => store.purges(rt, asked, *gone),
         _ => read(store, step),

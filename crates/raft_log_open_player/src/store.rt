@@ -188,7 +188,7 @@ impl<P: PipeLog> Store<P> {
     }
 
     /// Takes the files out of both queues that nothing is in that is in use.
-    pub fn purge_stale<L: Log>(&mut self, rt: &L) -> Result<bool> {
+    pub fn delete_stale_files<L: Log>(&mut self, rt: &L) -> Result<bool> {
         self.engine.must_purge_all_stale(rt)?;
         Ok(true)
     }

@@ -1,5 +1,5 @@
 //! Purges and compactions worked by hand: which files Append comes to have, how many entries go, and what then stands.
-use raft_log_open_player::acts::Act::{Holds, Uses};
+use raft_log_open_player::acts::Act::{Represents, Uses};
 use raft_log_open_player::acts::{Act, played};
 use raft_log_open_player::batches::Word::{Delete, Put};
 use raft_log_open_player::settings::{SMALL, Settings, USUAL};
@@ -120,9 +120,9 @@ const FILLED: [Step; 6] = [
 /// The files of such a log are as long as that.
 const LONG_FILES: [Act; 4] = [
     Uses(NARROW, &[&FILLED]),
-    Holds("d/0000000000000001.raftlog", 69 + 14 * 71),
-    Holds("d/0000000000000011.raftlog", 69 + 10 * 71 + 1_086),
-    Holds("d/0000000000000012.raftlog", 69 + 1_086),
+    Represents("d/0000000000000001.raftlog", 69 + 14 * 71),
+    Represents("d/0000000000000011.raftlog", 69 + 10 * 71 + 1_086),
+    Represents("d/0000000000000012.raftlog", 69 + 1_086),
 ];
 
 #[test]

@@ -20,7 +20,7 @@ use Rattle.raft_log_extents.specs.declared.place.Place.{Place}
 use Rattle.raft_log_extents.specs.Entries.{place_of}
 use Rattle.raft_log_memtable_index.specs.Shown.{Shown, all_stepped, stepped}
 use Rattle.raft_log_record_base.specs.declared.errors.Error.{Error}
-use Rattle.raft_log_engine_laws.specs.Shows.{Shows, has_failed}
+use Rattle.raft_log_engine_laws.specs.EngineState.{EngineState, has_failed}
 use Rattle.raft_log_engine_laws.specs.Writing.{NotWritten, Writes, items_at}
 use Rattle.raft_log_engine_laws.proofs.Renaming.{placed_items}
 use Rattle.raft_log_purge.specs.Marks.{CameOf, said_in}
@@ -130,7 +130,7 @@ module _ (items : List LogItem) (b : Batch) (g : ℕ) (x : Item EntryIndex (List
 
 -- A batch.
 
-module _ (items : List LogItem) (b : Batch) (sync : Bool) (s t : Shows) (came : CameOf items s.tables) (wrote : Writes b sync s t) (g : ℕ) where
+module _ (items : List LogItem) (b : Batch) (sync : Bool) (s t : EngineState) (came : CameOf items s.tables) (wrote : Writes b sync s t) (g : ℕ) where
   abbrev name : EntryIndex → Place
   name e = place_of (written_entry (block_place wrote.block b.entries) e)
 
@@ -164,10 +164,10 @@ module _ (items : List LogItem) (b : Batch) (sync : Bool) (s t : Shows) (came : 
 
 -- A refusal.
 
-refused_none : (items : List LogItem) (b : Batch) (error : Error) (s t : Shows) → CameOf items s.tables → NotWritten b error s t → has_failed t ≡ false → CameOf items t.tables
+refused_none : (items : List LogItem) (b : Batch) (error : Error) (s t : EngineState) → CameOf items s.tables → NotWritten b error s t → has_failed t ≡ false → CameOf items t.tables
 refused_none items b error s t came refused lives = elim refused [
-  | inl unfit ↦ subst (λ (x : Shows). CameOf items x.tables) (sym unfit.1) came
-  | inr (inl failed) ↦ subst (λ (x : Shows). CameOf items x.tables) (sym failed.2) came
+  | inl unfit ↦ subst (λ (x : EngineState). CameOf items x.tables) (sym unfit.1) came
+  | inr (inl failed) ↦ subst (λ (x : EngineState). CameOf items x.tables) (sym failed.2) came
   | inr (inr pipes) ↦ subst (CameOf items) (sym (pipes.same lives).tables) came
 ]
 

@@ -9,11 +9,11 @@ use Rattle.raft_log_record_base.specs.declared.errors.Error.{Error}
 use Rattle.raft_log_directory_laws.specs.Calls.Which.{InAppend}
 use Rattle.raft_log_memtable.specs.declared.global_stats.GlobalStats.{GlobalStats}
 use Rattle.raft_log_memtables.specs.declared.mem_tables.MemTables.{MemTables}
-use Rattle.raft_log_dual_pipes.specs.Pipes.{LogPipes, Said, is_failed}
+use Rattle.raft_log_dual_pipes.specs.Pipes.{LogPipes, LogRecordValue, is_failed}
 use Rattle.raft_log_dual_pipes.specs.Calls.{SyncsQueue}
 use Rattle.raft_log_purge_copy.specs.raft_log_block_cache.specs.declared.block_cache.BlockCache.{BlockCache}
-use Rattle.raft_log_purge_copy.specs.raft_log_engine_laws.specs.Shows.{Home, LogMap, Shows, has_failed, shows}
-use Rattle.raft_log_purge_copy.specs.raft_log_engine_laws.specs.Holding.{Holds}
+use Rattle.raft_log_purge_copy.specs.raft_log_engine_laws.specs.EngineState.{LogDirectories, LogMap, EngineState, has_failed, shows}
+use Rattle.raft_log_purge_copy.specs.raft_log_engine_laws.specs.Holding.{Represents}
 use Rattle.raft_log_purge_copy.specs.raft_log_engine_laws.proofs.Settling.{settled_held}
 use Rattle.raft_log_purge_policy.specs.declared.thresholds.Thresholds.{Thresholds}
 use Rattle.raft_log_purge_policy.specs.declared.rounds.Rounds.{Rounds}
@@ -34,15 +34,15 @@ use Rattle.raft_log_purge.specs.ExpiredFiles.{PurgesExpired, RewritesIfPast, Syn
 use Rattle.raft_log_purge.proofs.Whole.{held_behind, on_the_map}
 
 -- whatever the log was, with nothing pending, it is so
-record GoesWell (s t : Shows) : Type 0 where
+record GoesWell (s t : EngineState) : Type 0 where
   pub alive : has_failed s ≡ false → has_failed t ≡ false
   pub later : IsLater s.pipes.disk t.pipes.disk
-  pub holds : (home : Home) (log : LogMap) → Holds home s log [] → Holds home t log []
+  pub holds : (home : LogDirectories) (log : LogMap) → Represents home s log [] → Represents home t log []
 
-goes_nowhere : (s : Shows) → GoesWell s s
+goes_nowhere : (s : EngineState) → GoesWell s s
 goes_nowhere s = record { alive = λ lived. lived; later = same_later s.pipes.disk; holds = λ home log h. h }
 
-rewritten_well : (thresholds : Thresholds) (old new : GlobalStats) (before after : MemTables) (restated : Bool) (s t : Shows) → RewritesIfPast thresholds old new before after restated s t → GoesWell s t
+rewritten_well : (thresholds : Thresholds) (old new : GlobalStats) (before after : MemTables) (restated : Bool) (s t : EngineState) → RewritesIfPast thresholds old new before after restated s t → GoesWell s t
 rewritten_well thresholds old new before after true s t (takes, rewrites, reset) = record {
   alive = λ lived. rewrites.alive;
   later = rewrites.later;
@@ -51,13 +51,13 @@ rewritten_well thresholds old new before after true s t (takes, rewrites, reset)
 rewritten_well thresholds old new before after false s t (leaves, tables, same, counts) = subst (GoesWell s) (sym same) (goes_nowhere s)
 
 -- each group owes the marks that it owed
-rewritten_owes : (thresholds : Thresholds) (old new : GlobalStats) (before after : MemTables) (restated : Bool) (s t : Shows) → RewritesIfPast thresholds old new before after restated s t
-    → (home : Home) (log : LogMap) → Holds home s log [] → (g : ℕ) → OwesSame (s.tables g) (t.tables g)
+rewritten_owes : (thresholds : Thresholds) (old new : GlobalStats) (before after : MemTables) (restated : Bool) (s t : EngineState) → RewritesIfPast thresholds old new before after restated s t
+    → (home : LogDirectories) (log : LogMap) → Represents home s log [] → (g : ℕ) → OwesSame (s.tables g) (t.tables g)
 rewritten_owes thresholds old new before after true s t (takes, rewrites, reset) home log h g = (rewrites.from home log h g).owes
 rewritten_owes thresholds old new before after false s t (leaves, tables, same, counts) home log h g =
-    subst (λ (e : Shows). OwesSame (s.tables g) (e.tables g)) (sym same) (record { cleaned = refl; compact = refl; deleted = refl })
+    subst (λ (e : EngineState). OwesSame (s.tables g) (e.tables g)) (sym same) (record { cleaned = refl; compact = refl; deleted = refl })
 
-purged_well : (thresholds : Thresholds) (held : Option ℕ) (restated : Bool) (before after : MemTables) (old new : Rounds) (groups : List ℕ) (s t : Shows) → PurgesIfPast thresholds held restated before after old new groups s t → GoesWell s t
+purged_well : (thresholds : Thresholds) (held : Option ℕ) (restated : Bool) (before after : MemTables) (old new : Rounds) (groups : List ℕ) (s t : EngineState) → PurgesIfPast thresholds held restated before after old new groups s t → GoesWell s t
 purged_well thresholds held restated before after old new groups s t (inl (takes, purges)) = record {
   alive = λ lived. purges.rewrites.alive;
   later = purges.rewrites.later;
@@ -80,17 +80,17 @@ seen_told marks counts m (Ok seen) h = subst (λ (w : Watermarks). Surveys w cou
 seen_told marks counts m (Err e) h = tt
 
 -- where Rewrite wasn't rewritten, what was seen of the tables is so
-pub still_surveyed : (thresholds : Thresholds) (old new : GlobalStats) (before after : MemTables) (restated : Bool) (s t : Shows) (counts : ℕ → ℕ) (known : Option Survey)
+pub still_surveyed : (thresholds : Thresholds) (old new : GlobalStats) (before after : MemTables) (restated : Bool) (s t : EngineState) (counts : ℕ → ℕ) (known : Option Survey)
     → RewritesIfPast thresholds old new before after restated s t → SurveysIfTold counts before known → restated ≡ false → SurveysIfTold counts after known
 still_surveyed thresholds old new before after true s t counts known rewrites seen not = absurd (false≢true (sym not))
 still_surveyed thresholds old new before after false s t counts known (leaves, tables, same, stats) seen not = subst (λ (m : MemTables). SurveysIfTold counts m known) (sym tables) seen
 
-module _ (s : Shows) (synced : LogPipes) (syncs : SyncsQueue InAppend s.pipes synced) (later : IsLater s.pipes.disk synced.disk) (lives : is_failed synced ≡ false) where
-  abbrev behind : Shows
+module _ (s : EngineState) (synced : LogPipes) (syncs : SyncsQueue InAppend s.pipes synced) (later : IsLater s.pipes.disk synced.disk) (lives : is_failed synced ≡ false) where
+  abbrev behind : EngineState
   behind = record s { pipes = synced }
 
   -- Rewrite wasn't rewritten
-  pub not_restated : (error : Error) (t : Shows) → FailsToRewriteRewrite error behind t → FailsToRewriteAppend error s t
+  pub not_restated : (error : Error) (t : EngineState) → FailsToRewriteRewrite error behind t → FailsToRewriteAppend error s t
   not_restated error t fails = record {
     tells = λ lived. fails.tells lives;
     later = later_on s.pipes.disk synced.disk t.pipes.disk later fails.later;
@@ -98,7 +98,7 @@ module _ (s : Shows) (synced : LogPipes) (syncs : SyncsQueue InAppend s.pipes sy
     cause = λ home log pending h. inl (reason_after home (taken log pending) error s behind t later (fails.cause home (taken log pending) (held_behind s synced syncs later lives home log pending h)));
   }
 
-  restated_whole : (m : MemTables) (t : Shows) → RewritesRewrite m behind t → SyncsAndRewrites m s t
+  restated_whole : (m : MemTables) (t : EngineState) → RewritesRewrite m behind t → SyncsAndRewrites m s t
   restated_whole m t rewrites = record {
     synced = synced;
     syncs = syncs;
@@ -108,17 +108,17 @@ module _ (s : Shows) (synced : LogPipes) (syncs : SyncsQueue InAppend s.pipes sy
     settles = λ home log pending h. rewrites.settles home (taken log pending) (held_behind s synced syncs later lives home log pending h);
   }
 
-  pub whole_restated : (m : MemTables) (t : Shows) (q : Result (Unit {0}) Error) → OnOk q (RewritesRewrite m behind t) → OnOk q (SyncsAndRewrites m s t)
+  pub whole_restated : (m : MemTables) (t : EngineState) (q : Result (Unit {0}) Error) → OnOk q (RewritesRewrite m behind t) → OnOk q (SyncsAndRewrites m s t)
   whole_restated m t (Ok x) rewrites = restated_whole m t rewrites
   whole_restated m t (Err e) rewrites = tt
 
-  pub whole_unrestated : (t : Shows) (q : Result (Unit {0}) Error) → IfErr q (λ error. FailsToRewriteRewrite error behind t) → IfErr q (λ error. FailsToRewriteAppend error s t)
+  pub whole_unrestated : (t : EngineState) (q : Result (Unit {0}) Error) → IfErr q (λ error. FailsToRewriteRewrite error behind t) → IfErr q (λ error. FailsToRewriteAppend error s t)
   whole_unrestated t (Ok x) fails = tt
   whole_unrestated t (Err e) fails = not_restated e t fails
 
   module _ (thresholds : Thresholds) (old : GlobalStats) (new : GlobalStats) (before between : MemTables) (restated : Bool) (pipes : LogPipes) (cache : BlockCache)
       (rewrites : RewritesIfPast thresholds old new before between restated behind (shows pipes between cache)) where
-    abbrev mid : Shows
+    abbrev mid : EngineState
     mid = shows pipes between cache
 
     went : GoesWell behind mid
@@ -127,11 +127,11 @@ module _ (s : Shows) (synced : LogPipes) (syncs : SyncsQueue InAppend s.pipes sy
     to_mid : IsLater s.pipes.disk pipes.disk
     to_mid = later_on s.pipes.disk synced.disk pipes.disk later went.later
 
-    held_there : (home : Home) (log : LogMap) (pending : List Said) → Holds home s log pending → Holds home mid (taken log pending) []
+    held_there : (home : LogDirectories) (log : LogMap) (pending : List LogRecordValue) → Represents home s log pending → Represents home mid (taken log pending) []
     held_there home log pending h = went.holds home (taken log pending) (held_behind s synced syncs later lives home log pending h)
 
     -- Append wasn't purged
-    append_unpurged : (error : Error) (t : Shows) → FailsToPurgeAppend error mid t → FailsToRewriteAppend error s t
+    append_unpurged : (error : Error) (t : EngineState) → FailsToPurgeAppend error mid t → FailsToRewriteAppend error s t
     append_unpurged error t fails = record {
       tells = λ lived. fails.tells (went.alive lives);
       later = later_on s.pipes.disk pipes.disk t.pipes.disk to_mid fails.later;
@@ -142,11 +142,11 @@ module _ (s : Shows) (synced : LogPipes) (syncs : SyncsQueue InAppend s.pipes sy
           (fails.cause home (taken log pending) (held_there home log pending h));
     }
 
-    pub whole_unpurged : {A : Type 0} (t : Shows) (q : Result A Error) → IfErr q (λ error. FailsToPurgeAppend error mid t) → IfErr q (λ error. FailsToRewriteAppend error s t)
+    pub whole_unpurged : {A : Type 0} (t : EngineState) (q : Result A Error) → IfErr q (λ error. FailsToPurgeAppend error mid t) → IfErr q (λ error. FailsToRewriteAppend error s t)
     whole_unpurged t (Ok x) fails = tt
     whole_unpurged t (Err e) fails = append_unpurged e t fails
 
-    all_purged : (hold_back : LogPipes → Option ℕ → Type 0) (held : Option ℕ) → hold_back pipes held → (after : MemTables) (first last : PurgeCounts) (groups : List ℕ) (t : Shows) → first.stats ≡ old → last.stats ≡ new → PurgesIfPast thresholds held restated between after first.rounds last.rounds groups mid t
+    all_purged : (hold_back : LogPipes → Option ℕ → Type 0) (held : Option ℕ) → hold_back pipes held → (after : MemTables) (first last : PurgeCounts) (groups : List ℕ) (t : EngineState) → first.stats ≡ old → last.stats ≡ new → PurgesIfPast thresholds held restated between after first.rounds last.rounds groups mid t
         → PurgesExpired hold_back thresholds before after first last groups s t
     all_purged hold_back held told after first last groups t from to purges =
         let ends = purged_well thresholds held restated between after first.rounds last.rounds groups mid t purges in record {
@@ -165,7 +165,7 @@ module _ (s : Shows) (synced : LogPipes) (syncs : SyncsQueue InAppend s.pipes sy
           holds = λ home log pending h. ends.holds home (taken log pending) (held_there home log pending h);
         }
 
-    pub whole_purged : {A : Type 0} (q : Result A Error) (items : A → List ℕ) (hold_back : LogPipes → Option ℕ → Type 0) (held : Option ℕ) → hold_back pipes held → (after : MemTables) (first last : PurgeCounts) (t : Shows) → first.stats ≡ old → last.stats ≡ new
+    pub whole_purged : {A : Type 0} (q : Result A Error) (items : A → List ℕ) (hold_back : LogPipes → Option ℕ → Type 0) (held : Option ℕ) → hold_back pipes held → (after : MemTables) (first last : PurgeCounts) (t : EngineState) → first.stats ≡ old → last.stats ≡ new
         → IfOk q (λ x. PurgesIfPast thresholds held restated between after first.rounds last.rounds (items x) mid t) → IfOk q (λ x. PurgesExpired hold_back thresholds before after first last (items x) s t)
     whole_purged (Ok x) items hold_back held told after first last t from to purges = all_purged hold_back held told after first last (items x) t from to purges
     whole_purged (Err e) items hold_back held told after first last t from to purges = tt

@@ -11,7 +11,7 @@ use Rattle.raft_log_record_batches.proofs.Entries.{joined-length}
 use Rattle.raft_log_record_batches.specs.Bounds.{key_value_len, record_bound}
 use Rattle.raft_log_record_batches.proofs.Bounds.{record_bound-append, record_bound-entries}
 use Rattle.raft_log_record_batches.proofs.Lengths.{no_record_is_longer}
-use Rattle.raft_log_engine_laws.specs.Shows.{LogMap}
+use Rattle.raft_log_engine_laws.specs.EngineState.{LogMap}
 use Rattle.raft_log_purge_copy.specs.Entries.{AreEntryBytes}
 use Rattle.raft_log_purge_copy.specs.Lengths.{AreOnePiece, IsOneMark}
 use Rattle.raft_log_purge.specs.Lengths.{AreModest, pairs_bound}

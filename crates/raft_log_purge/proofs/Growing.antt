@@ -20,22 +20,22 @@ use Rattle.raft_log_purge.proofs.Within.{Among, contained}
 abbrev Stands : Type 0
 Stands = Content (List ℕ) (List ℕ)
 
-abbrev Said : Type 0
-Said = Item (List ℕ) (List ℕ)
+abbrev LogRecordValue : Type 0
+LogRecordValue = Item (List ℕ) (List ℕ)
 
 no_content : (c : Stands) → ◌≡◌ {A = Option Stands} None (Some c) → ⊥
 no_content c is = (let never : ⊥ = cc in never)
 
 -- a value that stands was there, or is put
 module _ (k w : List ℕ) where
-  put_more : (y : Said) (xs : List Said) → Among (k, w) (puts_of xs) → Among (k, w) (puts_of (y ∷ xs))
+  put_more : (y : LogRecordValue) (xs : List LogRecordValue) → Among (k, w) (puts_of xs) → Among (k, w) (puts_of (y ∷ xs))
   put_more (Run f es) xs later = later
   put_more Clean xs later = later
   put_more (Compact c) xs later = later
   put_more (Put l v) xs later = inr later
   put_more (Del l) xs later = later
 
-  put_now : (y : Said) (xs : List Said) (o : Option Stands) → unwrap_or (write (Key k) y) o ≡ Some (Value w) → (o ≡ Some (Value w)) ⊎ Among (k, w) (puts_of (y ∷ xs))
+  put_now : (y : LogRecordValue) (xs : List LogRecordValue) (o : Option Stands) → unwrap_or (write (Key k) y) o ≡ Some (Value w) → (o ≡ Some (Value w)) ⊎ Among (k, w) (puts_of (y ∷ xs))
   put_now (Run f es) xs o is = inl is
   put_now Clean xs o is = absurd (no_content (Value w) is)
   put_now (Compact c) xs o is = inl is
@@ -46,7 +46,7 @@ module _ (k w : List ℕ) where
       at_bool (bytes_eq l k) (λ b. unwrap_or (if b then Some None else None) o ≡ Some (Value w) → (o ≡ Some (Value w)) ⊎ Among (k, w) (puts_of (Del l ∷ xs))) (λ same gone. absurd (no_content (Value w) gone))
       (λ apart still. inl still) is
 
-  put_or_there : (xs : List Said) (o : Option Stands) → unwrap_or (says (Key k) xs) o ≡ Some (Value w) → (o ≡ Some (Value w)) ⊎ Among (k, w) (puts_of xs)
+  put_or_there : (xs : List LogRecordValue) (o : Option Stands) → unwrap_or (says (Key k) xs) o ≡ Some (Value w) → (o ≡ Some (Value w)) ⊎ Among (k, w) (puts_of xs)
   put_or_there [] o is = inl is
   put_or_there (x ∷ xs) o is = elim (put_or_there xs (unwrap_or (write (Key k) x) o) (sym (unwrap_or_option_or (says (Key k) xs) (write (Key k) x) o) ∙ is)) [
     | inl before ↦ put_now x xs o before
@@ -62,7 +62,7 @@ entry_got None bytes is = absurd (no_content (Entry bytes) is)
 entry_got (Some x) bytes is = (let same : ◌≡◌ {A = Option (List ℕ)} (Some x) (Some bytes) = cc in same)
 
 module _ (i : ℕ) (bytes : List ℕ) where
-  run_now : (y : Said) (o : Option Stands) → IsShortRun y → unwrap_or (write (Index i) y) o ≡ Some (Entry bytes) → (o ≡ Some (Entry bytes)) ⊎ IsLow i bytes
+  run_now : (y : LogRecordValue) (o : Option Stands) → IsShortRun y → unwrap_or (write (Index i) y) o ≡ Some (Entry bytes) → (o ≡ Some (Entry bytes)) ⊎ IsLow i bytes
   run_now (Run f []) o short is = inl is
   run_now (Run f (e ∷ es)) o short is =
       at_bool (nat_le f i) (λ b. unwrap_or (if b then Some (option_map Entry (slice_get (e ∷ es) (i - f))) else None) o ≡ Some (Entry bytes) → (o ≡ Some (Entry bytes)) ⊎ IsLow i bytes)
@@ -77,7 +77,7 @@ module _ (i : ℕ) (bytes : List ℕ) where
   run_now (Put l v) o short is = inl is
   run_now (Del l) o short is = inl is
 
-  low_or_there : (xs : List Said) (o : Option Stands) → AreShortRuns xs → unwrap_or (says (Index i) xs) o ≡ Some (Entry bytes) → (o ≡ Some (Entry bytes)) ⊎ IsLow i bytes
+  low_or_there : (xs : List LogRecordValue) (o : Option Stands) → AreShortRuns xs → unwrap_or (says (Index i) xs) o ≡ Some (Entry bytes) → (o ≡ Some (Entry bytes)) ⊎ IsLow i bytes
   low_or_there [] o short is = inl is
   low_or_there (x ∷ xs) o (short, rest) is = elim (low_or_there xs (unwrap_or (write (Index i) x) o) rest (sym (unwrap_or_option_or (says (Index i) xs) (write (Index i) x) o) ∙ is)) [
     | inl before ↦ run_now x o short before

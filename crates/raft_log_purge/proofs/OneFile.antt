@@ -2,10 +2,10 @@
 use Rattle.std.proofs.Common.{◌≡◌, ◌≤◌, ℕ, suc, List, inl, inr, sym, ap, ◌∙◌, arith}
 use Rattle.raft_log_file_writer.specs.LogQueue.{LogFiles}
 use Rattle.raft_log_directory_laws.specs.Calls.Which.{InAppend}
-use Rattle.raft_log_dual_pipes.specs.Pipes.{LogPipes, RunsOn, Said, State}
+use Rattle.raft_log_dual_pipes.specs.Pipes.{LogPipes, RunsOn, LogRecordValue, State}
 use Rattle.raft_log_dual_pipes.specs.Calls.{PurgesQueue, RotatesQueue, SyncsQueue}
-use Rattle.raft_log_purge_copy.specs.raft_log_engine_laws.specs.Shows.{Home, LogMap, Shows, sense}
-use Rattle.raft_log_purge_copy.specs.raft_log_engine_laws.specs.Holding.{Holds}
+use Rattle.raft_log_purge_copy.specs.raft_log_engine_laws.specs.EngineState.{LogDirectories, LogMap, EngineState, sense}
+use Rattle.raft_log_purge_copy.specs.raft_log_engine_laws.specs.Holding.{Represents}
 use Rattle.raft_log_purge_policy.specs.Watermarks.{first_at}
 use Rattle.raft_log_dual_pipes.specs.LastFile.{last_of}
 use Rattle.raft_log_purge_copy.specs.Parts.{StaysInFile}
@@ -26,7 +26,7 @@ synced_stays v w call home s runs =
     ((_, on), there ∙ sym runs.run.append.pipe.number)
 
 -- it went on in its next file
-pub turned : (v w : LogPipes) (home : Home) (s : State) → RunsOn (sense home) v s → RotatesQueue InAppend v w
+pub turned : (v w : LogPipes) (home : LogDirectories) (s : State) → RunsOn (sense home) v s → RotatesQueue InAppend v w
     → ((next : State) × RunsOn (sense home) w next) × (last_of InAppend w ≡ suc (last_of InAppend v))
 turned v w home s runs call =
     let (files, goes, on, step) = call (sense home) s runs in
@@ -37,7 +37,7 @@ turned v w home s runs call =
     ((_, on), omega (arith, there, here, behind))
 
 -- the span begins at its last file or before
-pub begins_low : (home : Home) (e : Shows) (m : LogMap) (pending : List Said) → Holds home e m pending
+pub begins_low : (home : LogDirectories) (e : EngineState) (m : LogMap) (pending : List LogRecordValue) → Represents home e m pending
     → first_at InAppend e.pipes ≤ last_of InAppend e.pipes
 begins_low home e m pending h =
     let first = h.runs.run.append.first in
@@ -45,7 +45,7 @@ begins_low home e m pending h =
     let above = h.at.there.append.above in omega (arith, first, last, above)
 
 -- from the file behind the gate on, where Append's files up to it are gone, and nothing lies behind
-pub one_is_left : (gate least : ℕ) (home : Home) (s : Shows) (log : LogMap) (pending : List Said) (synced past mid last : LogPipes) → Holds home s log pending → SyncsQueue InAppend s.pipes synced → gate ≡ last_of InAppend synced
+pub one_is_left : (gate least : ℕ) (home : LogDirectories) (s : EngineState) (log : LogMap) (pending : List LogRecordValue) (synced past mid last : LogPipes) → Represents home s log pending → SyncsQueue InAppend s.pipes synced → gate ≡ last_of InAppend synced
     → GoesOnPast gate synced past → StaysInFile past mid → StaysInFile mid last → first_at InAppend mid ≤ last_of InAppend mid → least ≤ last_of InAppend mid → first_at InAppend last ≡ beginning gate least mid → HasOneFile last
 one_is_left gate least home s log pending synced past mid last h syncs is goes on then low limited begins =
     let one = synced_stays s.pipes synced syncs home h.state h.runs in

@@ -22,11 +22,11 @@ use Rattle.raft_log_purge.specs.Laws.{MarksTakeNoMore}
 use Rattle.raft_log_purge.proofs.Within.{Among, AreApart, among, among_map, sum_within}
 use Rattle.raft_log_purge.proofs.Weights.{Tag, bound_weighs, plain_tagged, tag_weight, tagged_weigh_less, weight}
 
-abbrev Said : Type 0
-Said = Item EntryIndex (List ℕ)
+abbrev LogRecordValue : Type 0
+LogRecordValue = Item EntryIndex (List ℕ)
 
 -- what is said, but for the index of a Compact
-abbrev kind : Said → Said
+abbrev kind : LogRecordValue → LogRecordValue
 kind (Run first es) = Run first es
 kind Clean = Clean
 kind (Compact index) = Compact 0
@@ -36,7 +36,7 @@ kind (Del key) = Del key
 abbrev tag_kind : Tag → Tag
 tag_kind x = record { group = x.group; item = kind x.item }
 
-same_weight : (x : Said) → weight (kind x) ≡ weight x
+same_weight : (x : LogRecordValue) → weight (kind x) ≡ weight x
 same_weight (Run first es) = refl
 same_weight Clean = refl
 same_weight (Compact index) = refl
@@ -50,7 +50,7 @@ kinds_weigh (x ∷ xs) = omega (arith, same_weight x.item, sum_by-cons tag_weigh
 -- The deletions.
 
 -- each is owed
-each_owed : (deleted : List ℕ → Bool) (ks : List (List ℕ)) (x : Said) → AllOwed deleted ks → Among x (map kind (dels ks)) → (k : List ℕ) × (◌≡◌ {A = Said} (Del k) x) × (deleted k ≡ true)
+each_owed : (deleted : List ℕ → Bool) (ks : List (List ℕ)) (x : LogRecordValue) → AllOwed deleted ks → Among x (map kind (dels ks)) → (k : List ℕ) × (◌≡◌ {A = LogRecordValue} (Del k) x) × (deleted k ≡ true)
 each_owed deleted [] x owed never = absurd never
 each_owed deleted (j ∷ js) x (owed, rest) (inl same) = (j, same, owed)
 each_owed deleted (j ∷ js) x (owed, rest) (inr later) =
@@ -70,10 +70,10 @@ dels_apart deleted (k ∷ ks) (owed, rest) = (fresh, dels_apart (λ i. if bytes_
 
 -- The marks of a group.
 
-abbrev listed : ℕ → Bool → Bool → List (List ℕ) → List Said
+abbrev listed : ℕ → Bool → Bool → List (List ℕ) → List LogRecordValue
 listed index a b ks = (if a then Clean ∷ [] else []) ++ ((if b then Compact index ∷ [] else []) ++ dels ks)
 
-no_del : (deleted : List ℕ → Bool) (ks : List (List ℕ)) (x : Said) → ((k : List ℕ) → ◌≡◌ {A = Said} (Del k) x → ⊥) → AllOwed deleted ks → Among x (map kind (dels ks)) → ⊥
+no_del : (deleted : List ℕ → Bool) (ks : List (List ℕ)) (x : LogRecordValue) → ((k : List ℕ) → ◌≡◌ {A = LogRecordValue} (Del k) x → ⊥) → AllOwed deleted ks → Among x (map kind (dels ks)) → ⊥
 no_del deleted ks x none owed there = (let (k, same, is) = each_owed deleted ks x owed there in none k same)
 
 module _ (deleted : List ℕ → Bool) (ks : List (List ℕ)) (owed : AllOwed deleted ks) (index : ℕ) where
@@ -90,24 +90,24 @@ module _ (deleted : List ℕ → Bool) (ks : List (List ℕ)) (owed : AllOwed de
   listed_apart true b = (no_clean b, compact_apart b)
   listed_apart false b = compact_apart b
 
-  module _ (zs : List Said) (x : Said) (del_said : (k : List ℕ) → deleted k ≡ true → Contains zs (Del k)) where
+  module _ (zs : List LogRecordValue) (x : LogRecordValue) (del_said : (k : List ℕ) → deleted k ≡ true → Contains zs (Del k)) where
     del_known : Among x (map kind (dels ks)) → Among x (map kind zs)
     del_known there =
-        let (k, same, is) = each_owed deleted ks x owed there in subst (λ (y : Said). Among y (map kind zs)) same (among_map kind (Del k) zs (among zs (Del k) (del_said k is)))
+        let (k, same, is) = each_owed deleted ks x owed there in subst (λ (y : LogRecordValue). Among y (map kind zs)) same (among_map kind (Del k) zs (among zs (Del k) (del_said k is)))
 
     compact_known : (b : Bool) → (b ≡ true → (i : ℕ) × Contains zs (Compact i)) → Among x (map kind ((if b then Compact index ∷ [] else []) ++ dels ks)) → Among x (map kind zs)
-    compact_known true said (inl same) = (let (i, there) = said refl in subst (λ (y : Said). Among y (map kind zs)) same (among_map kind (Compact i) zs (among zs (Compact i) there)))
+    compact_known true said (inl same) = (let (i, there) = said refl in subst (λ (y : LogRecordValue). Among y (map kind zs)) same (among_map kind (Compact i) zs (among zs (Compact i) there)))
     compact_known true said (inr there) = del_known there
     compact_known false said there = del_known there
 
     listed_known : (a b : Bool) → (a ≡ true → Contains zs Clean) → (b ≡ true → (i : ℕ) × Contains zs (Compact i)) → Among x (map kind (listed index a b ks)) → Among x (map kind zs)
-    listed_known true b clean compact (inl same) = subst (λ (y : Said). Among y (map kind zs)) same (among_map kind Clean zs (among zs Clean (clean refl)))
+    listed_known true b clean compact (inl same) = subst (λ (y : LogRecordValue). Among y (map kind zs)) same (among_map kind Clean zs (among zs Clean (clean refl)))
     listed_known true b clean compact (inr there) = compact_known b compact there
     listed_known false b clean compact there = compact_known b compact there
 
 -- Groups.
 
-tagged_group : (g : ℕ) (x : Said) (ys : List Tag) → Among (record { group = g; item = x }) (map tag_kind ys) → Among x (map kind (of_group g ys))
+tagged_group : (g : ℕ) (x : LogRecordValue) (ys : List Tag) → Among (record { group = g; item = x }) (map tag_kind ys) → Among x (map kind (of_group g ys))
 tagged_group g x [] never = absurd never
 tagged_group g x (y ∷ ys) (inl same) =
     at_bool (y.group == g) (λ b. Among x (map kind (if b then y.item ∷ of_group g ys else of_group g ys))) (λ _. inl (ap (λ (t : Tag). t.item) same))
@@ -116,7 +116,7 @@ tagged_group g x (y ∷ ys) (inr later) =
     let there = tagged_group g x ys later in
     at_bool (y.group == g) (λ b. Among x (map kind (if b then y.item ∷ of_group g ys else of_group g ys))) (λ _. inr there) (λ _. there)
 
-group_tagged : (g : ℕ) (x : Said) (ys : List Tag) → Among x (map kind (of_group g ys)) → Among (record { group = g; item = x }) (map tag_kind ys)
+group_tagged : (g : ℕ) (x : LogRecordValue) (ys : List Tag) → Among x (map kind (of_group g ys)) → Among (record { group = g; item = x }) (map tag_kind ys)
 group_tagged g x [] never = absurd never
 group_tagged g x (y ∷ ys) there =
     at_bool (y.group == g) (λ b. Among x (map kind (if b then y.item ∷ of_group g ys else of_group g ys)) → Among (record { group = g; item = x }) (map tag_kind (y ∷ ys)))
@@ -124,7 +124,7 @@ group_tagged g x (y ∷ ys) there =
   where
     here : (Among x (map kind (of_group g ys)) → Among (record { group = g; item = x }) (map tag_kind ys)) → y.group ≡ g → Among x (kind y.item ∷ map kind (of_group g ys))
         → Among (record { group = g; item = x }) (map tag_kind (y ∷ ys))
-    here behind group (inl same) = inl (ap₂ (λ (n : ℕ) (i : Said). record { group = n; item = i }) group same)
+    here behind group (inl same) = inl (ap₂ (λ (n : ℕ) (i : LogRecordValue). record { group = n; item = i }) group same)
     here behind group (inr later) = inr (behind later)
 
 apart_tagged : (xs : List Tag) → ((g : ℕ) → AreApart (map kind (of_group g xs))) → AreApart (map tag_kind xs)
@@ -155,12 +155,12 @@ module _ (items : List LogItem) (v : ℕ → Shown) (b : Batch) (came : CameOf i
   group_apart : (g : ℕ) → AreApart (map kind (of_group g marked))
   group_apart g =
       let (ks, lists, is) = says.owed g in
-      subst (λ (l : List Said). AreApart (map kind l)) (sym is) (listed_apart (v g).deleted ks lists.owed (index_of g) (v g).cleaned (v g).compacted)
+      subst (λ (l : List LogRecordValue). AreApart (map kind l)) (sym is) (listed_apart (v g).deleted ks lists.owed (index_of g) (v g).cleaned (v g).compacted)
 
-  group_known : (g : ℕ) (x : Said) → Among x (map kind (of_group g marked)) → Among x (map kind (said_in items g))
+  group_known : (g : ℕ) (x : LogRecordValue) → Among x (map kind (of_group g marked)) → Among x (map kind (said_in items g))
   group_known g x there =
       let (ks, lists, is) = says.owed g in
-      listed_known (v g).deleted ks lists.owed (index_of g) (said_in items g) x (came.deletions g) (v g).cleaned (v g).compacted (came.cleans g) (came.compacts g) (subst (λ (l : List Said). Among x (map kind l)) is there)
+      listed_known (v g).deleted ks lists.owed (index_of g) (said_in items g) x (came.deletions g) (v g).cleaned (v g).compacted (came.cleans g) (came.compacts g) (subst (λ (l : List LogRecordValue). Among x (map kind l)) is there)
 
   each_known : (t : Tag) → Among t (map tag_kind marked) → Among t (map tag_kind known)
   each_known t there = group_tagged t.group t.item known (group_known t.group t.item (tagged_group t.group t.item marked there))

@@ -22,8 +22,8 @@ use Rattle.raft_log_dual_pipes.specs.Pipes.{LogPipes}
 use Rattle.raft_log_dual_pipes.specs.Calls.{FailsToPurgeQueue, FailsToSyncQueue, PurgesQueue, SyncsQueue, TellsFailure}
 use Rattle.raft_log_dual_pipes.specs.Numbers.{EndsNumbersBelow}
 use Rattle.raft_log_purge_copy.specs.raft_log_block_cache.specs.declared.block_cache.BlockCache.{BlockCache}
-use Rattle.raft_log_purge_copy.specs.raft_log_engine_laws.specs.Shows.{Home, LogMap, Shows, sense, shows}
-use Rattle.raft_log_purge_copy.specs.raft_log_engine_laws.specs.Holding.{Holds, IsLeftAt}
+use Rattle.raft_log_purge_copy.specs.raft_log_engine_laws.specs.EngineState.{LogDirectories, LogMap, EngineState, sense, shows}
+use Rattle.raft_log_purge_copy.specs.raft_log_engine_laws.specs.Holding.{Represents, IsRecoverableAs}
 use Rattle.raft_log_purge_copy.specs.raft_log_engine_laws.proofs.Keeping.{holds_runs}
 use Rattle.raft_log_purge_copy.specs.raft_log_engine_laws.specs.Settled.{HoldsSettled}
 use Rattle.raft_log_purge_copy.specs.raft_log_engine_laws.specs.Raising.{AppendMayBegin, PurgeLeavesHeld}
@@ -52,7 +52,7 @@ abbrev pub every : ℕ → Bool
 every g = true
 
 -- nothing was done, for want of memory
-pub none_rewritten_yet : (gate : ℕ) (error : Error) (s : Shows) → error ≡ errors.Memory → StopsRewriting every gate error s s
+pub none_rewritten_yet : (gate : ℕ) (error : Error) (s : EngineState) → error ≡ errors.Memory → StopsRewriting every gate error s s
 none_rewritten_yet gate error s memory = record {
   part = part_same every gate s;
   tells = λ lived. tells_nothing error s.pipes lived (memory_is_none error memory);
@@ -60,7 +60,7 @@ none_rewritten_yet gate error s memory = record {
   cause = λ owes home m h. memory_reason home m error s s memory;
 }
 
-pub some_rewritten : (groups : List ℕ) (gate : ℕ) (error : Error) (s t : Shows) → StopsAtGroups groups gate error s t → StopsRewriting every gate error s t
+pub some_rewritten : (groups : List ℕ) (gate : ℕ) (error : Error) (s t : EngineState) → StopsAtGroups groups gate error s t → StopsRewriting every gate error s t
 some_rewritten groups gate error s t stops = record {
   part = part_wider (among groups) every gate s t (λ g h. refl) stops.part;
   tells = stops.tells;
@@ -73,7 +73,7 @@ unknown_rewritten : (gate : ℕ) (o : Option GroupTable) → is_some o ≡ false
 unknown_rewritten gate None none = record { entries = refl; values = λ k h held appended. no_word h held }
 unknown_rewritten gate (Some t) none = absurd (false≢true (sym none))
 
-pub every_rewritten : (groups : List ℕ) (gate : ℕ) (m : MemTables) (v : LogPipes) (cache : BlockCache) (t : Shows) → ListsGroups (has_table m) groups → RewritesGroups groups gate (shows v m cache) t → Rewrites every gate (shows v m cache) t
+pub every_rewritten : (groups : List ℕ) (gate : ℕ) (m : MemTables) (v : LogPipes) (cache : BlockCache) (t : EngineState) → ListsGroups (has_table m) groups → RewritesGroups groups gate (shows v m cache) t → Rewrites every gate (shows v m cache) t
 every_rewritten groups gate m v cache t lists r = record {
   part = part_wider (among groups) every gate (shows v m cache) t (λ g h. refl) r.part;
   whole = λ g h.
@@ -86,7 +86,7 @@ every_rewritten groups gate m v cache t lists r = record {
 }
 
 -- all groups are those that are listed
-pub all_listed : (groups : List ℕ) (gate : ℕ) (m : MemTables) (v : LogPipes) (cache : BlockCache) (t : Shows) → ListsGroups (has_table m) groups → RewritesThese groups gate (shows v m cache) t → RewritesAll gate (shows v m cache) t
+pub all_listed : (groups : List ℕ) (gate : ℕ) (m : MemTables) (v : LogPipes) (cache : BlockCache) (t : EngineState) → ListsGroups (has_table m) groups → RewritesThese groups gate (shows v m cache) t → RewritesAll gate (shows v m cache) t
 all_listed groups gate m v cache t lists r = record {
   copied = r.copied;
   copies = every_rewritten groups gate m v cache r.copied lists r.copies;
@@ -101,16 +101,16 @@ all_listed groups gate m v cache t lists r = record {
 
 -- so it is whichever way it went
 
-pub whole_listed : (groups : List ℕ) (gate : ℕ) (m : MemTables) (v : LogPipes) (cache : BlockCache) (t : Shows) → ListsGroups (has_table m) groups → (q : Result (Unit {0}) Error)
+pub whole_listed : (groups : List ℕ) (gate : ℕ) (m : MemTables) (v : LogPipes) (cache : BlockCache) (t : EngineState) → ListsGroups (has_table m) groups → (q : Result (Unit {0}) Error)
     → OnOk q (RewritesThese groups gate (shows v m cache) t) → OnOk q (RewritesAll gate (shows v m cache) t)
 whole_listed groups gate m v cache t lists (Ok x) r = all_listed groups gate m v cache t lists r
 whole_listed groups gate m v cache t lists (Err e) r = tt
 
-pub whole_unlisted : (groups : List ℕ) (gate : ℕ) (s t : Shows) → (q : Result (Unit {0}) Error) → IfErr q (λ error. StopsAtGroups groups gate error s t) → IfErr q (λ error. StopsRewriting every gate error s t)
+pub whole_unlisted : (groups : List ℕ) (gate : ℕ) (s t : EngineState) → (q : Result (Unit {0}) Error) → IfErr q (λ error. StopsAtGroups groups gate error s t) → IfErr q (λ error. StopsRewriting every gate error s t)
 whole_unlisted groups gate s t (Ok x) stops = tt
 whole_unlisted groups gate s t (Err e) stops = some_rewritten groups gate e s t stops
 
-module _ (test : ℕ → Bool) (gate : ℕ) (s copied : Shows) (r : Rewrites test gate s copied) (w : LogPipes) (later : IsLater copied.pipes.disk w.disk) where
+module _ (test : ℕ → Bool) (gate : ℕ) (s copied : EngineState) (r : Rewrites test gate s copied) (w : LogPipes) (later : IsLater copied.pipes.disk w.disk) where
   all_synced : {A : Type 0} (x : A) → CountsEach s.pipes copied.pipes → TellsFailure (Ok x) w → SyncsQueue InRewrite copied.pipes w → RewritesSynced test gate s (record copied { pipes = w })
   all_synced {A} x handed tells call = record {
     copied = copied;
@@ -150,7 +150,7 @@ module _ (test : ℕ → Bool) (gate : ℕ) (s copied : Shows) (r : Rewrites tes
 
 -- Files go.
 
-nothing_lost : (gate : ℕ) (error : Error) (s : Shows) → (error ≡ errors.Failed → ⊥) → (gate < last_of InAppend s.pipes → HasFileReason error s s) → FailsToLoseTo gate error s s
+nothing_lost : (gate : ℕ) (error : Error) (s : EngineState) → (error ≡ errors.Failed → ⊥) → (gate < last_of InAppend s.pipes → HasFileReason error s s) → FailsToLoseTo gate error s s
 nothing_lost gate error s other reason = record {
   tells = λ lived. tells_nothing error s.pipes lived other;
   later = same_later s.pipes.disk;
@@ -159,7 +159,7 @@ nothing_lost gate error s other reason = record {
 }
 
 -- for want of a number behind the gate
-pub none_behind : (gate : ℕ) (s : Shows) → 2 ^ 64 ≤ gate + 1 → FailsToLoseTo gate errors.NumberRange s s
+pub none_behind : (gate : ℕ) (s : EngineState) → 2 ^ 64 ≤ gate + 1 → FailsToLoseTo gate errors.NumberRange s s
 none_behind gate s high = nothing_lost gate errors.NumberRange s (λ is. let never : ⊥ = cc in never) (λ low. (InAppend, omega (arith, high, low)))
 
 -- what lies behind both lies behind the greater
@@ -169,7 +169,7 @@ behind_both v a b n is low high = (
   λ k h held appended. (let one = low.1 k h held appended in let two = high.1 k h held appended in omega (arith, is, one, two)),
 )
 
-pub left_or_held : (home : Home) (m : LogMap) (t : Shows) (error : Error) → PurgeLeavesHeld home m t error → Holds home t m [] ⊎ ((error ≡ errors.Failed) × IsLeftAt home t.pipes.disk m [])
+pub left_or_held : (home : LogDirectories) (m : LogMap) (t : EngineState) (error : Error) → PurgeLeavesHeld home m t error → Represents home t m [] ⊎ ((error ≡ errors.Failed) × IsRecoverableAs home t.pipes.disk m [])
 left_or_held home m t errors.Memory h = inl (settled_held home t m h)
 left_or_held home m t (errors.Other fault) h = inl (settled_held home t m h)
 left_or_held home m t errors.NumberRange h = inl (settled_held home t m h)
@@ -177,11 +177,11 @@ left_or_held home m t errors.Failed h = inr (refl, h)
 left_or_held home m t _ h = absurd h
 
 module _ (gate least seq : ℕ) (m : MemTables) (v : LogPipes) (old : BlockCache) (is_least : IsLeastOf Append (last_of InAppend v) m least) (is : seq ≡ max (gate + 1) least) where
-  abbrev before : Shows
+  abbrev before : EngineState
   before = shows v m old
 
   -- Append may begin there
-  may_begin : AreRewrittenTo gate before → OweNothing before.tables → (home : Home) (log : LogMap) → HoldsSettled home before log → AppendMayBegin seq (shown_of m)
+  may_begin : AreRewrittenTo gate before → OweNothing before.tables → (home : LogDirectories) (log : LogMap) → HoldsSettled home before log → AppendMayBegin seq (shown_of m)
   may_begin past owes home log h g =
       let front = λ (k : ℕ). front_is_least h.state.append.files.last h.state.rewrite.files.last (shown_of m k) (h.rises k) in
       let low = queue_may_begin Append (last_of InAppend v) least m is_least h.meant.orderly front owes g in
@@ -202,7 +202,7 @@ module _ (gate least seq : ℕ) (m : MemTables) (v : LogPipes) (old : BlockCache
   }
 
   module _ (w : LogPipes) (new : BlockCache) (none : new.place ≡ None) (later : IsLater v.disk w.disk) where
-    begins_there : first_at InAppend v < seq → PurgesQueue InAppend seq v w → (home : Home) (log : LogMap) → HoldsSettled home before log → first_at InAppend w ≡ beginning gate least v
+    begins_there : first_at InAppend v < seq → PurgesQueue InAppend seq v w → (home : LogDirectories) (log : LogMap) → HoldsSettled home before log → first_at InAppend w ≡ beginning gate least v
     begins_there low call home log h =
         let (runs, step) = call (sense home) h.state h.runs in
         let first : first_at InAppend w ≡ seq = runs.run.append.first in

@@ -15,8 +15,8 @@ use Rattle.raft_log_dual_pipes.specs.Pipes.{LogPipes}
 use Rattle.raft_log_dual_pipes.specs.Calls.{FailsToPurgeQueue, PurgesQueue, TellsFailure}
 use Rattle.raft_log_dual_pipes.specs.Numbers.{EndsNumbersBelow}
 use Rattle.raft_log_purge_copy.specs.raft_log_block_cache.specs.declared.block_cache.BlockCache.{BlockCache}
-use Rattle.raft_log_purge_copy.specs.raft_log_engine_laws.specs.Shows.{Home, LogMap, Shows, sense, shows}
-use Rattle.raft_log_purge_copy.specs.raft_log_engine_laws.specs.Holding.{Holds}
+use Rattle.raft_log_purge_copy.specs.raft_log_engine_laws.specs.EngineState.{LogDirectories, LogMap, EngineState, sense, shows}
+use Rattle.raft_log_purge_copy.specs.raft_log_engine_laws.specs.Holding.{Represents}
 use Rattle.raft_log_purge_copy.specs.raft_log_engine_laws.specs.Settled.{HoldsSettled}
 use Rattle.raft_log_purge_copy.specs.raft_log_engine_laws.specs.Raising.{AppendMayBegin}
 use Rattle.raft_log_purge_copy.specs.raft_log_engine_laws.proofs.Settling.{settled_held}
@@ -41,11 +41,11 @@ use Rattle.raft_log_purge.proofs.Whole.{after_sync, at_most_last, held_or_left, 
 -- Files go.
 
 module _ (held : Option ℕ) (least : ℕ) (m : MemTables) (v : LogPipes) (old : BlockCache) (is : IsLeastOf Append (up_to held (last_of InAppend v)) m least) where
-  abbrev before : Shows
+  abbrev before : EngineState
   before = shows v m old
 
   -- Append may begin there
-  may_begin : OweNothing before.tables → (home : Home) (log : LogMap) → HoldsSettled home before log → AppendMayBegin least (shown_of m)
+  may_begin : OweNothing before.tables → (home : LogDirectories) (log : LogMap) → HoldsSettled home before log → AppendMayBegin least (shown_of m)
   may_begin owes home log h =
       let front = λ (k : ℕ). front_is_least h.state.append.files.last h.state.rewrite.files.last (shown_of m k) (h.rises k) in
       queue_may_begin Append (up_to held (last_of InAppend v)) least m is h.meant.orderly front owes
@@ -64,7 +64,7 @@ module _ (held : Option ℕ) (least : ℕ) (m : MemTables) (v : LogPipes) (old :
   }
 
   module _ (w : LogPipes) (new : BlockCache) (none : new.place ≡ None) (later : IsLater v.disk w.disk) where
-    begins_there : first_at InAppend v < least → PurgesQueue InAppend least v w → (home : Home) (log : LogMap) → HoldsSettled home before log → first_at InAppend w ≡ max (first_at InAppend v) least
+    begins_there : first_at InAppend v < least → PurgesQueue InAppend least v w → (home : LogDirectories) (log : LogMap) → HoldsSettled home before log → first_at InAppend w ≡ max (first_at InAppend v) least
     begins_there low call home log h =
         let (runs, step) = call (sense home) h.state h.runs in
         let first : first_at InAppend w ≡ least = runs.run.append.first in
@@ -98,7 +98,7 @@ module _ (held : Option ℕ) (least : ℕ) (m : MemTables) (v : LogPipes) (old :
 -- Groups are rewritten, and then files go.
 
 -- nothing was done, for want of memory
-pub nothing_purged : (error : Error) (s : Shows) → error ≡ errors.Memory → FailsToPurgeAppend error s s
+pub nothing_purged : (error : Error) (s : EngineState) → error ≡ errors.Memory → FailsToPurgeAppend error s s
 nothing_purged error s memory = record {
   tells = λ lived. tells_nothing error s.pipes lived (memory_is_none error memory);
   later = same_later s.pipes.disk;
@@ -106,7 +106,7 @@ nothing_purged error s memory = record {
   cause = λ home m h. inl (memory_reason home m error s s memory);
 }
 
-pub marks_refused : (error : Error) (s t : Shows) → PartIsRefused error s t → FailsToPurgeAppend error s t
+pub marks_refused : (error : Error) (s t : EngineState) → PartIsRefused error s t → FailsToPurgeAppend error s t
 marks_refused error s t refused = record {
   tells = refused.tells;
   later = refused.later;
@@ -115,7 +115,7 @@ marks_refused error s t refused = record {
 }
 
 -- so it is of the groups that pass another test, which is the same of each
-pub synced_alike : (few many : ℕ → Bool) (gate : ℕ) (s t : Shows) → ((g : ℕ) → few g ≡ many g) → RewritesSynced few gate s t → RewritesSynced many gate s t
+pub synced_alike : (few many : ℕ → Bool) (gate : ℕ) (s t : EngineState) → ((g : ℕ) → few g ≡ many g) → RewritesSynced few gate s t → RewritesSynced many gate s t
 synced_alike few many gate s t same r = record {
   copied = r.copied;
   copies = record {
@@ -134,13 +134,13 @@ synced_alike few many gate s t same r = record {
   settles = r.settles;
 }
 
-module _ (s carried : Shows) (carries : CarriesMarks s carried) where
+module _ (s carried : EngineState) (carries : CarriesMarks s carried) where
   -- marks that are carried are owed no more
   none_owed : OweNothing carried.tables
   none_owed = subst OweNothing (sym carries.tables) (λ g. (refl, refl, λ k. refl))
 
   -- the groups weren't rewritten, not all of them
-  pub not_rewritten : (test : ℕ → Bool) (gate : ℕ) (error : Error) (t : Shows) → StopsRewriting test gate error carried t → FailsToPurgeAppend error s t
+  pub not_rewritten : (test : ℕ → Bool) (gate : ℕ) (error : Error) (t : EngineState) → StopsRewriting test gate error carried t → FailsToPurgeAppend error s t
   not_rewritten test gate error t stops = record {
     tells = λ lived. stops.tells carries.alive;
     later = later_on s.pipes.disk carried.pipes.disk t.pipes.disk carries.later stops.part.later;
@@ -148,18 +148,18 @@ module _ (s carried : Shows) (carries : CarriesMarks s carried) where
     cause = λ home log h. inl (reason_after home log error s carried t carries.later (stops.cause none_owed home log (settled_held home carried log (carries.settles home log h))));
   }
 
-  module _ (test : ℕ → Bool) (gate : ℕ) (copied : Shows) (copies : RewritesSynced test gate carried copied) where
+  module _ (test : ℕ → Bool) (gate : ℕ) (copied : EngineState) (copies : RewritesSynced test gate carried copied) where
     owe_none : OweNothing copied.tables
     owe_none = synced_owe_nothing test gate carried copied copies none_owed
 
-    settled_there : (home : Home) (log : LogMap) → Holds home s log [] → HoldsSettled home copied log
+    settled_there : (home : LogDirectories) (log : LogMap) → Represents home s log [] → HoldsSettled home copied log
     settled_there home log h = copies.settles none_owed home log (settled_held home carried log (carries.settles home log h))
 
     to_copied : IsLater s.pipes.disk copied.pipes.disk
     to_copied = later_on s.pipes.disk carried.pipes.disk copied.pipes.disk carries.later copies.later
 
     -- files didn't go
-    stopped_there : (error : Error) (t : Shows) → FailsToLoseBelow error copied t → FailsToPurgeAppend error s t
+    stopped_there : (error : Error) (t : EngineState) → FailsToLoseBelow error copied t → FailsToPurgeAppend error s t
     stopped_there error t stops = record {
       tells = λ lived. stops.tells copies.alive;
       later = later_on s.pipes.disk copied.pipes.disk t.pipes.disk to_copied stops.later;
@@ -167,7 +167,7 @@ module _ (s carried : Shows) (carries : CarriesMarks s carried) where
       cause = λ home log h. inl (reason_after home log error s copied t to_copied (reason_of_files home log error copied t (stops.cause home log (settled_there home log h))));
     }
 
-    picked_rewritten : (held : Option ℕ) (m : MemTables) (t : Shows) → LosesBelow held m copied t → RewritesPicked test gate held m s t
+    picked_rewritten : (held : Option ℕ) (m : MemTables) (t : EngineState) → LosesBelow held m copied t → RewritesPicked test gate held m s t
     picked_rewritten held m t loses = record {
       carried = carried;
       carries = carries;
@@ -181,15 +181,15 @@ module _ (s carried : Shows) (carries : CarriesMarks s carried) where
       settles = λ home log h. loses.keeps owe_none home log (settled_there home log h);
     }
 
-    pub whole_picked : {A : Type 0} (held : Option ℕ) (m : MemTables) (t : Shows) (q : Result A Error) → OnOk q (LosesBelow held m copied t) → OnOk q (RewritesPicked test gate held m s t)
+    pub whole_picked : {A : Type 0} (held : Option ℕ) (m : MemTables) (t : EngineState) (q : Result A Error) → OnOk q (LosesBelow held m copied t) → OnOk q (RewritesPicked test gate held m s t)
     whole_picked held m t (Ok x) loses = picked_rewritten held m t loses
     whole_picked held m t (Err e) loses = tt
 
-    pub whole_unpicked : {A : Type 0} (t : Shows) (q : Result A Error) → IfErr q (λ error. FailsToLoseBelow error copied t) → IfErr q (λ error. FailsToPurgeAppend error s t)
+    pub whole_unpicked : {A : Type 0} (t : EngineState) (q : Result A Error) → IfErr q (λ error. FailsToLoseBelow error copied t) → IfErr q (λ error. FailsToPurgeAppend error s t)
     whole_unpicked t (Ok x) stops = tt
     whole_unpicked t (Err e) stops = stopped_there e t stops
 
 -- so it is of the groups that are listed
-pub listed_picked : (groups : List ℕ) (test : ℕ → Bool) (gate : ℕ) (held : Option ℕ) (m : MemTables) (s t : Shows) → ListsGroups test groups → RewritesPicked (among groups) gate held m s t → RewritesPicked test gate held m s t
+pub listed_picked : (groups : List ℕ) (test : ℕ → Bool) (gate : ℕ) (held : Option ℕ) (m : MemTables) (s t : EngineState) → ListsGroups test groups → RewritesPicked (among groups) gate held m s t → RewritesPicked test gate held m s t
 listed_picked groups test gate held m s t lists r =
     picked_rewritten s r.carried r.carries test gate r.copied (synced_alike (among groups) test gate r.carried r.copied lists.exact r.copies) held m t r.loses

@@ -26,8 +26,8 @@ use Rattle.raft_log_dual_pipes.specs.Pipes.{LogPipes, is_failed}
 use Rattle.raft_log_dual_pipes.specs.Calls.{FailsToRotateQueue, FailsToSyncQueue, RotatesQueue, SyncsQueue, TellsFailure}
 use Rattle.raft_log_dual_pipes.specs.Numbers.{EndsNumbers}
 use Rattle.raft_log_purge_copy.specs.raft_log_block_cache.specs.declared.block_cache.BlockCache.{BlockCache}
-use Rattle.raft_log_purge_copy.specs.raft_log_engine_laws.specs.Shows.{Home, LogMap, Shows, sense, shows}
-use Rattle.raft_log_purge_copy.specs.raft_log_engine_laws.specs.Holding.{Holds}
+use Rattle.raft_log_purge_copy.specs.raft_log_engine_laws.specs.EngineState.{LogDirectories, LogMap, EngineState, sense, shows}
+use Rattle.raft_log_purge_copy.specs.raft_log_engine_laws.specs.Holding.{Represents}
 use Rattle.raft_log_purge_copy.specs.raft_log_engine_laws.proofs.Keeping.{holds_runs}
 use Rattle.raft_log_purge_copy.specs.raft_log_engine_laws.specs.Settled.{HoldsSettled}
 use Rattle.raft_log_purge_copy.specs.raft_log_engine_laws.specs.Quiet.{TurnLeavesHeld}
@@ -53,7 +53,7 @@ unknown_restated : (n : ℕ) (o : Option GroupTable) → is_some o ≡ false →
 unknown_restated n None none = record { entries = tt; values = λ k h held rewritten. no_word h held; noted = λ k low from. from; past = λ k low past. past; owes = record { cleaned = refl; compact = refl; deleted = refl } }
 unknown_restated n (Some t) none = absurd (false≢true (sym none))
 
-pub every_restated : (groups : List ℕ) (m : MemTables) (v : LogPipes) (cache : BlockCache) (t : Shows) → ListsGroups (has_table m) groups → RestatesEach groups (shows v m cache) t → Restates every (shows v m cache) t
+pub every_restated : (groups : List ℕ) (m : MemTables) (v : LogPipes) (cache : BlockCache) (t : EngineState) → ListsGroups (has_table m) groups → RestatesEach groups (shows v m cache) t → Restates every (shows v m cache) t
 every_restated groups m v cache t lists r = record {
   others = λ g none. absurd (false≢true (sym none));
   counts = r.counts;
@@ -69,7 +69,7 @@ every_restated groups m v cache t lists r = record {
 }
 
 -- nothing was done, for want of memory
-pub none_restated_yet : (error : Error) (s : Shows) → error ≡ errors.Memory → FailsToRewriteRewrite error s s
+pub none_restated_yet : (error : Error) (s : EngineState) → error ≡ errors.Memory → FailsToRewriteRewrite error s s
 none_restated_yet error s memory = record {
   counts = refl;
   tells = λ lived. tells_nothing error s.pipes lived (memory_is_none error memory);
@@ -78,10 +78,10 @@ none_restated_yet error s memory = record {
   cause = λ home m h. memory_reason home m error s s memory;
 }
 
-pub some_restated : (groups : List ℕ) (error : Error) (s t : Shows) → StopsRestating groups error s t → FailsToRewriteRewrite error s t
+pub some_restated : (groups : List ℕ) (error : Error) (s t : EngineState) → StopsRestating groups error s t → FailsToRewriteRewrite error s t
 some_restated groups error s t stops = record { counts = stops.counts; tells = stops.tells; later = stops.later; remains = stops.remains; cause = stops.cause }
 
-module _ (s restated : Shows) (r : Restates every s restated) (w : LogPipes) (later : IsLater restated.pipes.disk w.disk) where
+module _ (s restated : EngineState) (r : Restates every s restated) (w : LogPipes) (later : IsLater restated.pipes.disk w.disk) where
   all_synced : {A : Type 0} (x : A) → CountsEach s.pipes restated.pipes → TellsFailure (Ok x) w → SyncsQueue InRewrite restated.pipes w → RestatesAll s (record restated { pipes = w })
   all_synced {A} x handed tells call = record {
     restated = restated;
@@ -121,18 +121,18 @@ up_to_past : (n : ℕ) (o : Option GroupFiles) → ((files : GroupFiles) → o �
 up_to_past n None h = tt
 up_to_past n (Some files) h = inr (h files refl)
 
-turned_or_left : (home : Home) (m : LogMap) (t : Shows) (error : Error) → TurnLeavesHeld home m [] t error → IsLeft home m error t
+turned_or_left : (home : LogDirectories) (m : LogMap) (t : EngineState) (error : Error) → TurnLeavesHeld home m [] t error → IsLeft home m error t
 turned_or_left home m t errors.Memory h = inl h
 turned_or_left home m t errors.NumberRange h = inl h
 turned_or_left home m t errors.Failed h = inr (refl, h)
 turned_or_left home m t _ h = absurd h
 
-lost_or_left : (home : Home) (m : LogMap) (t : Shows) (error : Error) → RemainsSettled home m t error → IsLeft home m error t
+lost_or_left : (home : LogDirectories) (m : LogMap) (t : EngineState) (error : Error) → RemainsSettled home m t error → IsLeft home m error t
 lost_or_left home m t errors.Failed h = inr (refl, h)
 lost_or_left home m t _ h = inl (settled_held home t m h)
 
 -- Rewrite didn't go on
-pub not_turned : (error : Error) (s : Shows) (w : LogPipes) → TellsFailure {A = Unit {0}} (Err error) w → IsLater s.pipes.disk w.disk → FailsToRotateQueue InRewrite error s.pipes w → EndsNumbers InRewrite error s.pipes
+pub not_turned : (error : Error) (s : EngineState) (w : LogPipes) → TellsFailure {A = Unit {0}} (Err error) w → IsLater s.pipes.disk w.disk → FailsToRotateQueue InRewrite error s.pipes w → EndsNumbers InRewrite error s.pipes
     → FailsToRewriteRewrite error s (record s { pipes = w })
 not_turned error s w tells later call ends = record {
   counts = refl;
@@ -142,15 +142,15 @@ not_turned error s w tells later call ends = record {
   cause = λ home m h. reason_of_files home m error s (record s { pipes = w }) (turn_reason InRewrite home error s (record s { pipes = w }) h.state h.runs call ends);
 }
 
-module _ (s : Shows) (turned : LogPipes) (turns : RotatesQueue InRewrite s.pipes turned) (later : IsLater s.pipes.disk turned.disk) (lives : is_failed turned ≡ false) where
-  abbrev behind : Shows
+module _ (s : EngineState) (turned : LogPipes) (turns : RotatesQueue InRewrite s.pipes turned) (later : IsLater s.pipes.disk turned.disk) (lives : is_failed turned ≡ false) where
+  abbrev behind : EngineState
   behind = record s { pipes = turned }
 
-  held_behind : (home : Home) (m : LogMap) → Holds home s m [] → Holds home behind m []
+  held_behind : (home : LogDirectories) (m : LogMap) → Represents home s m [] → Represents home behind m []
   held_behind home m h = settled_held home behind m (rewrite_rotates home s behind m h (record { tables = refl; cache = inl refl }) turns)
 
   -- the next file is behind the former last one
-  next_file : (home : Home) (m : LogMap) → Holds home s m [] → last_file s + 1 ≤ last_file behind
+  next_file : (home : LogDirectories) (m : LogMap) → Represents home s m [] → last_file s + 1 ≤ last_file behind
   next_file home m h =
       let q = h.state in
       let (files, goes, runs, step) = turns (sense home) q h.runs in
@@ -159,7 +159,7 @@ module _ (s : Shows) (turned : LogPipes) (turns : RotatesQueue InRewrite s.pipes
       let next : files.last ≡ suc q.rewrite.files.last = ap (λ (l : LogFiles LogRecord). l.last) goes.3 in
       omega (arith, before, after, next)
 
-  pub not_restated : (error : Error) (t : Shows) → FailsToRewriteRewrite error behind t → FailsToRewriteRewrite error s t
+  pub not_restated : (error : Error) (t : EngineState) → FailsToRewriteRewrite error behind t → FailsToRewriteRewrite error s t
   not_restated error t stops = record {
     counts = stops.counts;
     tells = λ lived. stops.tells lives;
@@ -168,17 +168,17 @@ module _ (s : Shows) (turned : LogPipes) (turns : RotatesQueue InRewrite s.pipes
     cause = λ home m h. reason_after home m error s behind t later (stops.cause home m (held_behind home m h));
   }
 
-  module _ (restated : Shows) (all : RestatesAll behind restated) where
+  module _ (restated : EngineState) (all : RestatesAll behind restated) where
     to_restated : IsLater s.pipes.disk restated.pipes.disk
     to_restated = later_on s.pipes.disk turned.disk restated.pipes.disk later all.later
 
-    settled_there : (home : Home) (m : LogMap) → Holds home s m [] → HoldsSettled home restated m
+    settled_there : (home : LogDirectories) (m : LogMap) → Represents home s m [] → HoldsSettled home restated m
     settled_there home m h = all.settles home m (held_behind home m h)
 
     same_counts : restated.counts ≡ s.counts
-    same_counts = ap (λ (e : Shows). e.counts) all.same ∙ all.restates.counts
+    same_counts = ap (λ (e : EngineState). e.counts) all.same ∙ all.restates.counts
 
-    pub not_lost : (last : ℕ) (error : Error) (t : Shows) → last ≡ written_file Rewrite restated.pipes → t.counts ≡ restated.counts → FailsToLoseFiles Rewrite last error restated t → FailsToRewriteRewrite error s t
+    pub not_lost : (last : ℕ) (error : Error) (t : EngineState) → last ≡ written_file Rewrite restated.pipes → t.counts ≡ restated.counts → FailsToLoseFiles Rewrite last error restated t → FailsToRewriteRewrite error s t
     not_lost last error t is counts fails = record {
       counts = counts ∙ same_counts;
       tells = λ lived. fails.tells all.alive;
@@ -189,13 +189,13 @@ module _ (s : Shows) (turned : LogPipes) (turns : RotatesQueue InRewrite s.pipes
           reason_after home m error s restated t to_restated (reason_of_files home m error restated t (limited_reason Rewrite last home error restated t there.state there.runs is (fails.cause home m there))));
     }
 
-    lies_behind : (home : Home) (m : LogMap) → Holds home s m [] → (g : ℕ) → IsRestatedFrom (last_file s + 1) (s.tables g) (restated.tables g)
+    lies_behind : (home : LogDirectories) (m : LogMap) → Represents home s m [] → (g : ℕ) → IsRestatedFrom (last_file s + 1) (s.tables g) (restated.tables g)
     lies_behind home m h g =
-        subst (λ (e : Shows). IsRestatedFrom (last_file s + 1) (s.tables g) (e.tables g)) (sym all.same)
+        subst (λ (e : EngineState). IsRestatedFrom (last_file s + 1) (s.tables g) (e.tables g)) (sym all.same)
         (from_lower (last_file s + 1) (last_file behind) (s.tables g) (all.restated.tables g) (next_file home m h) (all.restates.from home m (held_behind home m h) g refl))
 
     -- and so does the least file that is in use
-    least_past : (m : MemTables) (least : ℕ) → shown_of m ≡ restated.tables → IsLeastOf Rewrite (written_file Rewrite restated.pipes) m least → (home : Home) (log : LogMap) → Holds home s log [] → last_file s < least
+    least_past : (m : MemTables) (least : ℕ) → shown_of m ≡ restated.tables → IsLeastOf Rewrite (written_file Rewrite restated.pipes) m least → (home : LogDirectories) (log : LogMap) → Represents home s log [] → last_file s < least
     least_past m least tabled is home log h = elim is.exact [
       | inl limit ↦ (
           let one = next_file home log h in
@@ -213,7 +213,7 @@ module _ (s : Shows) (turned : LogPipes) (turns : RotatesQueue InRewrite s.pipes
           )
     ]
 
-    pub rewritten : (m : MemTables) (count last : ℕ) (t : Shows) → shown_of m ≡ restated.tables → last ≡ written_file Rewrite restated.pipes → t.tables ≡ restated.tables → t.counts ≡ restated.counts → LosesFiles Rewrite last m count restated t → RewritesRewrite m s t
+    pub rewritten : (m : MemTables) (count last : ℕ) (t : EngineState) → shown_of m ≡ restated.tables → last ≡ written_file Rewrite restated.pipes → t.tables ≡ restated.tables → t.counts ≡ restated.counts → LosesFiles Rewrite last m count restated t → RewritesRewrite m s t
     rewritten m count last t tabled is tables counts loses =
         let gone = subst (λ (n : ℕ). LosesFiles Rewrite n m count restated t) is loses in record {
           turned = turned;

@@ -5,12 +5,12 @@ use Rattle.raft_log_record_base.specs.declared.errors.Error.TheVariants as error
 use Rattle.raft_log_record_batches.specs.Batch.{Batch}
 use Rattle.raft_log_record_batches.specs.Bounds.{batch_bound}
 use Rattle.raft_log_record_batches.proofs.Lengths.{no_record_is_longer}
-use Rattle.raft_log_engine_laws.specs.Shows.{Shows}
+use Rattle.raft_log_engine_laws.specs.EngineState.{EngineState}
 use Rattle.raft_log_engine_laws.specs.Writing.{NotWritten}
 use Rattle.raft_log_purge.specs.Lengths.{HasLog}
 use Rattle.raft_log_purge.specs.Laws.{BoundedBatchesAreNotFull}
 
-never_full : (b : Batch) (s t : Shows) → HasLog s → batch_bound b < 2 ^ 56 → NotWritten b errors.Full s t → ⊥
+never_full : (b : Batch) (s t : EngineState) → HasLog s → batch_bound b < 2 ^ 56 → NotWritten b errors.Full s t → ⊥
 never_full b s t log few (inl unfit) = omega (arith, few, unfit.0, no_record_is_longer b.items b.entries)
 never_full b s t log few (inr (inl failed)) = let other : errors.Full ≡ errors.Failed = failed.0 in let no : ⊥ = cc in no
 never_full b s t (home, m, pending, holds) few (inr (inr refused)) = refused.leaves home m pending holds

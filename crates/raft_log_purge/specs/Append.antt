@@ -9,10 +9,10 @@ use Rattle.raft_log_record_base.specs.declared.pipe_log.LogQueue.TheVariants.{Ap
 use Rattle.raft_log_directory_laws.specs.Calls.Which.{InAppend, InRewrite}
 use Rattle.raft_log_memtables.specs.declared.mem_tables.MemTables.{MemTables}
 use Rattle.raft_log_memtables.specs.Walking.{IsLeastOf}
-use Rattle.raft_log_dual_pipes.specs.Pipes.{LogPipes, Said, is_failed}
+use Rattle.raft_log_dual_pipes.specs.Pipes.{LogPipes, LogRecordValue, is_failed}
 use Rattle.raft_log_dual_pipes.specs.Calls.{RotatesQueue, SyncsQueue}
-use Rattle.raft_log_purge_copy.specs.raft_log_engine_laws.specs.Shows.{Home, LogMap, Shows, has_failed}
-use Rattle.raft_log_purge_copy.specs.raft_log_engine_laws.specs.Holding.{Holds, IsLeftAt}
+use Rattle.raft_log_purge_copy.specs.raft_log_engine_laws.specs.EngineState.{LogDirectories, LogMap, EngineState, has_failed}
+use Rattle.raft_log_purge_copy.specs.raft_log_engine_laws.specs.Holding.{Represents, IsRecoverableAs}
 use Rattle.raft_log_purge_copy.specs.raft_log_engine_laws.specs.Settled.{HoldsSettled}
 use Rattle.raft_log_purge_policy.specs.Watermarks.{first_at}
 use Rattle.raft_log_dual_pipes.specs.LastFile.{last_of}
@@ -50,14 +50,14 @@ pub record PassesGate (watermark : Option ℕ) (gate : ℕ) (v w : LogPipes) : T
 -- All groups.
 
 -- the tables show nothing in Append up to the gate
-abbrev pub AreRewrittenTo : ℕ → Shows → Type 0
+abbrev pub AreRewrittenTo : ℕ → EngineState → Type 0
 AreRewrittenTo gate s = (g : ℕ) → IsRewrittenTo gate (s.tables g)
 
 -- Each group that passes the test was rewritten up to the gate. Rewrite was synced at the end, and before whenever
 -- that was due by the bytes of all these groups. If the log's map was held with nothing pending and no tombstone
 -- owed, the log is settled with that map.
-pub record RewritesSynced (test : ℕ → Bool) (gate : ℕ) (s t : Shows) : Type 0 where
-  pub copied : Shows
+pub record RewritesSynced (test : ℕ → Bool) (gate : ℕ) (s t : EngineState) : Type 0 where
+  pub copied : EngineState
   pub copies : Rewrites test gate s copied
   pub handed : CountsEach s.pipes copied.pipes
   pub syncs : SyncsQueue InRewrite copied.pipes t.pipes
@@ -65,14 +65,14 @@ pub record RewritesSynced (test : ℕ → Bool) (gate : ℕ) (s t : Shows) : Typ
   pub alive : has_failed t ≡ false
   pub later : IsLater s.pipes.disk t.pipes.disk
   pub stays : StaysInFile s.pipes t.pipes
-  pub settles : OweNothing s.tables → (home : Home) (m : LogMap) → Holds home s m [] → HoldsSettled home t m
+  pub settles : OweNothing s.tables → (home : LogDirectories) (m : LogMap) → Represents home s m [] → HoldsSettled home t m
 
 -- each of these groups was rewritten up to the gate, and Rewrite was synced
-abbrev pub RewritesThese : List ℕ → ℕ → Shows → Shows → Type 0
+abbrev pub RewritesThese : List ℕ → ℕ → EngineState → EngineState → Type 0
 RewritesThese groups gate s t = RewritesSynced (λ g. list_any (λ k. k == g) groups) gate s t
 
 -- all groups were rewritten up to the gate, and Rewrite was synced
-abbrev pub RewritesAll : ℕ → Shows → Shows → Type 0
+abbrev pub RewritesAll : ℕ → EngineState → EngineState → Type 0
 RewritesAll gate s t = RewritesSynced (λ g. true) gate s t
 
 -- Append's files.
@@ -84,7 +84,7 @@ beginning gate least v = max (first_at InAppend v) (max (suc gate) least)
 
 -- Append lost its files up to the gate, and all others below the least in use. If the files up to the gate had
 -- nothing in use and no tombstone is owed, a settled log stays settled, with its map.
-pub record LosesTo (gate : ℕ) (m : MemTables) (s t : Shows) : Type 0 where
+pub record LosesTo (gate : ℕ) (m : MemTables) (s t : EngineState) : Type 0 where
   pub least : ℕ
   pub is : IsLeastOf Append (last_of InAppend s.pipes) m least
   pub same : t.tables ≡ s.tables
@@ -92,9 +92,9 @@ pub record LosesTo (gate : ℕ) (m : MemTables) (s t : Shows) : Type 0 where
   pub alive : has_failed s ≡ false → has_failed t ≡ false
   pub later : IsLater s.pipes.disk t.pipes.disk
   pub stays : StaysInFile s.pipes t.pipes
-  pub begins : (home : Home) (log : LogMap) → HoldsSettled home s log
+  pub begins : (home : LogDirectories) (log : LogMap) → HoldsSettled home s log
       → first_at InAppend t.pipes ≡ beginning gate least s.pipes
-  pub keeps : AreRewrittenTo gate s → OweNothing s.tables → (home : Home) (log : LogMap)
+  pub keeps : AreRewrittenTo gate s → OweNothing s.tables → (home : LogDirectories) (log : LogMap)
       → HoldsSettled home s log → HoldsSettled home t log
 
 -- The whole.
@@ -109,14 +109,14 @@ ends_after step None = false
 ends_after step (Some n) = n == step
 
 -- all groups were rewritten, and then files went
-abbrev pub RewritesAndLoses : ℕ → MemTables → Shows → Shows → Type 0
-RewritesAndLoses gate m s t = (mid : Shows) × RewritesAll gate s mid × LosesTo gate m mid t
+abbrev pub RewritesAndLoses : ℕ → MemTables → EngineState → EngineState → Type 0
+RewritesAndLoses gate m s t = (mid : EngineState) × RewritesAll gate s mid × LosesTo gate m mid t
 
 -- what is done after the tombstones:
 -- - nothing, if the call is to end with them
 -- - else all groups are rewritten
 -- - then files go, unless the call is to end with the groups
-abbrev pub GoesOnBehindMarks : Option ℕ → ℕ → MemTables → Shows → Shows → Type 0
+abbrev pub GoesOnBehindMarks : Option ℕ → ℕ → MemTables → EngineState → EngineState → Type 0
 GoesOnBehindMarks exit gate m s t = MatchBool (ends_after 1 exit) (t ≡ s)
     (MatchBool (ends_after 2 exit) (RewritesAll gate s t) (RewritesAndLoses gate m s t))
 
@@ -124,57 +124,57 @@ GoesOnBehindMarks exit gate m s t = MatchBool (ends_after 1 exit) (t ≡ s)
 -- written. Then all groups were rewritten and files went, as far as the call was to go. The map is kept, nothing is
 -- pending, and no tombstone is owed. Without a watermark and a step to end with, one file is left in Append's live
 -- range.
-pub record RewritesAppend (watermark exit : Option ℕ) (m : MemTables) (s t : Shows) : Type 0 where
+pub record RewritesAppend (watermark exit : Option ℕ) (m : MemTables) (s t : EngineState) : Type 0 where
   pub synced : LogPipes
   pub syncs : SyncsQueue InAppend s.pipes synced
   pub gate : ℕ
   pub past : LogPipes
   pub passes : PassesGate watermark gate synced past
-  pub carried : Shows
+  pub carried : EngineState
   pub carries : CarriesMarks (record s { pipes = past }) carried
   pub goes_on : GoesOnBehindMarks exit gate m carried t
   pub alive : has_failed t ≡ false
   pub later : IsLater s.pipes.disk t.pipes.disk
   pub unowed : OweNothing t.tables
-  pub settles : (home : Home) (log : LogMap) (pending : List Said) → Holds home s log pending
+  pub settles : (home : LogDirectories) (log : LogMap) (pending : List LogRecordValue) → Represents home s log pending
       → HoldsSettled home t (taken log pending)
-  pub one : watermark ≡ None → exit ≡ None → (home : Home) (log : LogMap) (pending : List Said)
-      → Holds home s log pending → HasOneFile t.pipes
+  pub one : watermark ≡ None → exit ≡ None → (home : LogDirectories) (log : LogMap) (pending : List LogRecordValue)
+      → Represents home s log pending → HasOneFile t.pipes
 
 -- Failures.
 
 -- a purge failed: the map is kept, with nothing pending; or the engine has failed, and left its log on the disk
-abbrev pub StaysOrIsLeftSettled : Error → Shows → Shows → Type 0
-StaysOrIsLeftSettled error s t = OweNothing s.tables → (home : Home) (m : LogMap) → HoldsSettled home s m
-    → Holds home t m [] ⊎ ((error ≡ errors.Failed) × IsLeftAt home t.pipes.disk m [])
+abbrev pub StaysOrIsLeftSettled : Error → EngineState → EngineState → Type 0
+StaysOrIsLeftSettled error s t = OweNothing s.tables → (home : LogDirectories) (m : LogMap) → HoldsSettled home s m
+    → Represents home t m [] ⊎ ((error ≡ errors.Failed) × IsRecoverableAs home t.pipes.disk m [])
 
 -- Append's files below the gate don't go. If it is rewritten up to there, the map is kept with nothing pending, or
 -- the failed engine left its log on the disk. The reason is known if the gate is below Append's last file.
-pub record FailsToLoseTo (gate : ℕ) (error : Error) (s t : Shows) : Type 0 where
+pub record FailsToLoseTo (gate : ℕ) (error : Error) (s t : EngineState) : Type 0 where
   pub tells : has_failed s ≡ false → IsTrue (has_failed t) ↔ (error ≡ errors.Failed)
   pub later : IsLater s.pipes.disk t.pipes.disk
   pub remains : AreRewrittenTo gate s → StaysOrIsLeftSettled error s t
-  pub cause : gate < last_of InAppend s.pipes → (home : Home) (log : LogMap) → HoldsSettled home s log
+  pub cause : gate < last_of InAppend s.pipes → (home : LogDirectories) (log : LogMap) → HoldsSettled home s log
       → HasFileReason error s t
 
 -- What is done after the tombstones failed. The map is kept with nothing pending, or the failed engine left its log
 -- on the disk. The reason is known if the gate is below Append's last file, and no tombstone is owed.
-pub record StopsGoingOn (gate : ℕ) (error : Error) (s t : Shows) : Type 0 where
+pub record StopsGoingOn (gate : ℕ) (error : Error) (s t : EngineState) : Type 0 where
   pub tells : has_failed s ≡ false → IsTrue (has_failed t) ↔ (error ≡ errors.Failed)
   pub later : IsLater s.pipes.disk t.pipes.disk
   pub remains : StaysOrIsLeftSettled error s t
-  pub cause : gate < last_of InAppend s.pipes → OweNothing s.tables → (home : Home) (log : LogMap)
+  pub cause : gate < last_of InAppend s.pipes → OweNothing s.tables → (home : LogDirectories) (log : LogMap)
       → HoldsSettled home s log → HasReason home log error s t
 
 -- The whole failed, and why:
 -- - the map is kept, with nothing pending
 -- - or the engine has failed, and left its log on the disk, with the batches in the map or still pending
-pub record FailsToRewriteAppend (error : Error) (s t : Shows) : Type 0 where
+pub record FailsToRewriteAppend (error : Error) (s t : EngineState) : Type 0 where
   pub tells : has_failed s ≡ false → IsTrue (has_failed t) ↔ (error ≡ errors.Failed)
   pub later : IsLater s.pipes.disk t.pipes.disk
-  pub remains : (home : Home) (log : LogMap) (pending : List Said) → Holds home s log pending
-      → Holds home t (taken log pending) []
-      ⊎ ((error ≡ errors.Failed) × (IsLeftAt home t.pipes.disk (taken log pending) []
-      ⊎ IsLeftAt home t.pipes.disk log pending))
-  pub cause : (home : Home) (log : LogMap) (pending : List Said) → Holds home s log pending
+  pub remains : (home : LogDirectories) (log : LogMap) (pending : List LogRecordValue) → Represents home s log pending
+      → Represents home t (taken log pending) []
+      ⊎ ((error ≡ errors.Failed) × (IsRecoverableAs home t.pipes.disk (taken log pending) []
+      ⊎ IsRecoverableAs home t.pipes.disk log pending))
+  pub cause : (home : LogDirectories) (log : LogMap) (pending : List LogRecordValue) → Represents home s log pending
       → HasPurgeReason home (taken log pending) error s t

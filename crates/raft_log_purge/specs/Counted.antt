@@ -3,7 +3,7 @@ use Rattle.std.specs.Prelude.{◌≡◌, ◌↔◌, IsTrue, ℕ, Bool, List, Opt
 use Rattle.raft_log_memtables.specs.declared.mem_tables.MemTables.{MemTables}
 use Rattle.raft_log_dual_pipes.specs.Pipes.{LogPipes}
 use Rattle.raft_log_purge.specs.RewriteQueue.{reset_counts}
-use Rattle.raft_log_purge_copy.specs.raft_log_engine_laws.specs.Shows.{Shows}
+use Rattle.raft_log_purge_copy.specs.raft_log_engine_laws.specs.EngineState.{EngineState}
 use Rattle.raft_log_purge_policy.specs.declared.thresholds.Thresholds.{Thresholds}
 use Rattle.raft_log_purge_policy.specs.Watermarks.{IsAnyPast}
 use Rattle.raft_log_purge.specs.Counting.{CountsIf, CountsStanding}
@@ -13,7 +13,7 @@ use Rattle.raft_log_purge.specs.declared.expired_files.PurgeCounts.{PurgeCounts}
 -- Expired files were purged, and just these groups are returned. If a queue is past its threshold, what is live in
 -- Rewrite was counted before and after; else nothing was. The rules use the first count to know what is garbage.
 pub record PurgesAndCounts (hold_back : LogPipes → Option ℕ → Type 0) (thresholds : Thresholds)
-    (before after : MemTables) (old new : PurgeCounts) (groups : List ℕ) (s t : Shows) : Type 0 where
+    (before after : MemTables) (old new : PurgeCounts) (groups : List ℕ) (s t : EngineState) : Type 0 where
   pub past : Bool
   pub tells : IsTrue past ↔ IsAnyPast thresholds s.pipes
   pub counted : PurgeCounts
@@ -23,7 +23,7 @@ pub record PurgesAndCounts (hold_back : LogPipes → Option ℕ → Type 0) (thr
   pub second : CountsIf past after purged new
 
 -- what is counted if that failed
-pub record CountsIfPast (thresholds : Thresholds) (before : MemTables) (old new : PurgeCounts) (s t : Shows)
+pub record CountsIfPast (thresholds : Thresholds) (before : MemTables) (old new : PurgeCounts) (s t : EngineState)
     : Type 0 where
   pub past : Bool
   pub tells : IsTrue past ↔ IsAnyPast thresholds s.pipes
@@ -39,7 +39,7 @@ pub record CountsAndResets (before : MemTables) (old new : PurgeCounts) : Type 0
   pub rounds : new.rounds ≡ old.rounds
 
 -- what is counted if Rewrite wasn't rewritten
-pub record CountsAndKeeps (before : MemTables) (old new : PurgeCounts) (s t : Shows) : Type 0 where
+pub record CountsAndKeeps (before : MemTables) (old new : PurgeCounts) (s t : EngineState) : Type 0 where
   pub counted : PurgeCounts
   pub first : CountsStanding before old counted
   pub stats : StopsAtRewrite before counted.stats new.stats s t

@@ -8,8 +8,8 @@ use Rattle.raft_log_directory_laws.specs.Calls.Which.{InAppend}
 use Rattle.raft_log_memtables.specs.declared.mem_tables.MemTables.{MemTables}
 use Rattle.raft_log_memtables.specs.Owing.{AreOwed}
 use Rattle.raft_log_memtables.specs.Walking.{IsLeastOf, ListsGroups}
-use Rattle.raft_log_purge_copy.specs.raft_log_engine_laws.specs.Shows.{Home, LogMap, Shows, has_failed}
-use Rattle.raft_log_purge_copy.specs.raft_log_engine_laws.specs.Holding.{Holds, IsLeftAt}
+use Rattle.raft_log_purge_copy.specs.raft_log_engine_laws.specs.EngineState.{LogDirectories, LogMap, EngineState, has_failed}
+use Rattle.raft_log_purge_copy.specs.raft_log_engine_laws.specs.Holding.{Represents, IsRecoverableAs}
 use Rattle.raft_log_purge_copy.specs.raft_log_engine_laws.specs.Settled.{HoldsSettled}
 use Rattle.raft_log_purge_policy.specs.declared.thresholds.Thresholds.{Thresholds}
 use Rattle.raft_log_purge_policy.specs.declared.watermarks.Watermarks.{Watermarks}
@@ -45,41 +45,41 @@ pub record PicksGroups (marks : Watermarks) (restated : Bool) (m : MemTables) (o
 
 -- Append lost its files below the least of three: the first pinned file, its last file, and the least in use. It
 -- begins there, but never earlier than before. If no tombstone is owed, a settled log stays settled, with its map.
-pub record LosesBelow (held : Option ℕ) (m : MemTables) (s t : Shows) : Type 0 where
+pub record LosesBelow (held : Option ℕ) (m : MemTables) (s t : EngineState) : Type 0 where
   pub least : ℕ
   pub is : IsLeastOf Append (up_to held (last_of InAppend s.pipes)) m least
   pub same : t.tables ≡ s.tables
   pub counts : t.counts ≡ s.counts
   pub alive : has_failed s ≡ false → has_failed t ≡ false
   pub later : IsLater s.pipes.disk t.pipes.disk
-  pub begins : (home : Home) (log : LogMap) → HoldsSettled home s log
+  pub begins : (home : LogDirectories) (log : LogMap) → HoldsSettled home s log
       → first_at InAppend t.pipes ≡ max (first_at InAppend s.pipes) least
-  pub keeps : OweNothing s.tables → (home : Home) (log : LogMap) → HoldsSettled home s log
+  pub keeps : OweNothing s.tables → (home : LogDirectories) (log : LogMap) → HoldsSettled home s log
       → HoldsSettled home t log
 
 -- Append's files didn't go, and why. If no tombstone is owed and the log was settled, the map is kept with nothing
 -- pending, or the failed engine left its log on the disk.
-pub record FailsToLoseBelow (error : Error) (s t : Shows) : Type 0 where
+pub record FailsToLoseBelow (error : Error) (s t : EngineState) : Type 0 where
   pub tells : has_failed s ≡ false → IsTrue (has_failed t) ↔ (error ≡ errors.Failed)
   pub later : IsLater s.pipes.disk t.pipes.disk
   pub remains : StaysOrIsLeftSettled error s t
-  pub cause : (home : Home) (log : LogMap) → HoldsSettled home s log → HasFileReason error s t
+  pub cause : (home : LogDirectories) (log : LogMap) → HoldsSettled home s log → HasFileReason error s t
 
 -- The groups that pass the test were rewritten, and then files went. The owed tombstones were written before, and
 -- Rewrite was synced between. Nothing of these groups is left in Append up to the gate, and no tombstone is owed. If
 -- the log's map was held with nothing pending, the log is settled with that map.
-pub record RewritesPicked (test : ℕ → Bool) (gate : ℕ) (held : Option ℕ) (m : MemTables) (s t : Shows)
+pub record RewritesPicked (test : ℕ → Bool) (gate : ℕ) (held : Option ℕ) (m : MemTables) (s t : EngineState)
     : Type 0 where
-  pub carried : Shows
+  pub carried : EngineState
   pub carries : CarriesMarks s carried
-  pub copied : Shows
+  pub copied : EngineState
   pub copies : RewritesSynced test gate carried copied
   pub loses : LosesBelow held m copied t
   pub alive : has_failed t ≡ false
   pub later : IsLater s.pipes.disk t.pipes.disk
   pub past : (g : ℕ) → test g ≡ true → IsRewrittenTo gate (t.tables g)
   pub unowed : OweNothing t.tables
-  pub settles : (home : Home) (log : LogMap) → Holds home s log [] → HoldsSettled home t log
+  pub settles : (home : LogDirectories) (log : LogMap) → Represents home s log [] → HoldsSettled home t log
 
 -- The whole.
 
@@ -87,7 +87,7 @@ pub record RewritesPicked (test : ℕ → Bool) (gate : ℕ) (held : Option ℕ)
 -- compacted. The groups that the rules pick were rewritten before files went. The rules use the tables before the
 -- purge.
 pub record PurgesAppend (held : Option ℕ) (restated : Bool) (before after : MemTables) (old new : Rounds)
-    (groups : List ℕ) (s t : Shows) : Type 0 where
+    (groups : List ℕ) (s t : EngineState) : Type 0 where
   pub answered : ListsGroups (answers_at (Some (watermarks_of s.pipes)) restated before) groups
   pub rounds : CountsRound (watermarks_of s.pipes) before old new
   pub rewrites : RewritesPicked (rewrites_at (watermarks_of s.pipes) (count_of old) before)
@@ -95,23 +95,23 @@ pub record PurgesAppend (held : Option ℕ) (restated : Bool) (before after : Me
 
 -- Append was left alone: no group is asked to be compacted, and no round counted
 pub record LeavesAppend (restated : Bool) (before : MemTables) (old new : Rounds) (groups : List ℕ)
-    (s t : Shows) : Type 0 where
+    (s t : EngineState) : Type 0 where
   pub answered : ListsGroups (answers_at None restated before) groups
   pub rounds : new ≡ old
   pub same : t ≡ s
 
 -- Append was purged exactly if it is past its threshold
 abbrev pub PurgesIfPast : Thresholds → Option ℕ → Bool → MemTables → MemTables → Rounds → Rounds → List ℕ
-    → Shows → Shows → Type 0
+    → EngineState → EngineState → Type 0
 PurgesIfPast thresholds held restated before after old new groups s t =
     (TakesAppend thresholds s.pipes × PurgesAppend held restated before after old new groups s t)
     ⊎ ((TakesAppend thresholds s.pipes → ⊥) × LeavesAppend restated before old new groups s t)
 
 -- Append's purge failed, and why. If the log's map was held with nothing pending, it still is; or the engine has
 -- failed, and left its log on the disk.
-pub record FailsToPurgeAppend (error : Error) (s t : Shows) : Type 0 where
+pub record FailsToPurgeAppend (error : Error) (s t : EngineState) : Type 0 where
   pub tells : has_failed s ≡ false → IsTrue (has_failed t) ↔ (error ≡ errors.Failed)
   pub later : IsLater s.pipes.disk t.pipes.disk
-  pub remains : (home : Home) (log : LogMap) → Holds home s log []
-      → Holds home t log [] ⊎ ((error ≡ errors.Failed) × IsLeftAt home t.pipes.disk log [])
-  pub cause : (home : Home) (log : LogMap) → Holds home s log [] → HasPurgeReason home log error s t
+  pub remains : (home : LogDirectories) (log : LogMap) → Represents home s log []
+      → Represents home t log [] ⊎ ((error ≡ errors.Failed) × IsRecoverableAs home t.pipes.disk log [])
+  pub cause : (home : LogDirectories) (log : LogMap) → Represents home s log [] → HasPurgeReason home log error s t

@@ -6,11 +6,11 @@ use Rattle.raft_log_record_base.specs.declared.errors.Error.{Error}
 use Rattle.raft_log_directory_laws.specs.Calls.Which.{InAppend}
 use Rattle.raft_log_memtable.specs.declared.global_stats.GlobalStats.{GlobalStats}
 use Rattle.raft_log_memtables.specs.declared.mem_tables.MemTables.{MemTables}
-use Rattle.raft_log_dual_pipes.specs.Pipes.{LogPipes, Said}
+use Rattle.raft_log_dual_pipes.specs.Pipes.{LogPipes, LogRecordValue}
 use Rattle.raft_log_dual_pipes.specs.Calls.{SyncsQueue}
 use Rattle.raft_log_purge_copy.specs.raft_log_block_cache.specs.declared.block_cache.BlockCache.{BlockCache}
-use Rattle.raft_log_purge_copy.specs.raft_log_engine_laws.specs.Shows.{Home, LogMap, Shows, has_failed, shows}
-use Rattle.raft_log_purge_copy.specs.raft_log_engine_laws.specs.Holding.{Holds}
+use Rattle.raft_log_purge_copy.specs.raft_log_engine_laws.specs.EngineState.{LogDirectories, LogMap, EngineState, has_failed, shows}
+use Rattle.raft_log_purge_copy.specs.raft_log_engine_laws.specs.Holding.{Represents}
 use Rattle.raft_log_purge_copy.specs.raft_log_engine_laws.specs.Settled.{HoldsSettled}
 use Rattle.raft_log_purge_policy.specs.declared.thresholds.Thresholds.{Thresholds}
 use Rattle.raft_log_purge_policy.specs.Watermarks.{TakesRewrite}
@@ -22,8 +22,8 @@ use Rattle.raft_log_purge.specs.Garbage.{CountsRefused}
 
 -- Rewrite was rewritten exactly if it is past its threshold and enough of it is garbage; else nothing is done. The
 -- tables are those before and after.
-abbrev pub RewritesIfPast : Thresholds → GlobalStats → GlobalStats → MemTables → MemTables → Bool → Shows
-    → Shows → Type 0
+abbrev pub RewritesIfPast : Thresholds → GlobalStats → GlobalStats → MemTables → MemTables → Bool → EngineState
+    → EngineState → Type 0
 RewritesIfPast thresholds old new before after true s t =
     TakesRewrite thresholds old s.pipes × RewritesRewrite after s t × (new ≡ reset_counts old)
 RewritesIfPast thresholds old new before after false s t =
@@ -31,20 +31,20 @@ RewritesIfPast thresholds old new before after false s t =
 
 -- Append was synced, and Rewrite rewritten, whatever its size is. The map is kept, and nothing is pending in either
 -- queue.
-pub record SyncsAndRewrites (m : MemTables) (s t : Shows) : Type 0 where
+pub record SyncsAndRewrites (m : MemTables) (s t : EngineState) : Type 0 where
   pub synced : LogPipes
   pub syncs : SyncsQueue InAppend s.pipes synced
   pub rewrites : RewritesRewrite m (record s { pipes = synced }) t
   pub alive : has_failed t ≡ false
   pub later : IsLater s.pipes.disk t.pipes.disk
-  pub settles : (home : Home) (log : LogMap) (pending : List Said) → Holds home s log pending
+  pub settles : (home : LogDirectories) (log : LogMap) (pending : List LogRecordValue) → Represents home s log pending
       → HoldsSettled home t (taken log pending)
 
 -- Expired files were purged, and just these groups are returned. Append was synced; Rewrite was rewritten if that was
 -- due; then Append was purged if that was due, except for files that were pinned then. The map is kept, and nothing
 -- is pending.
 pub record PurgesExpired (hold_back : LogPipes → Option ℕ → Type 0) (thresholds : Thresholds)
-    (before after : MemTables) (old new : PurgeCounts) (groups : List ℕ) (s t : Shows) : Type 0 where
+    (before after : MemTables) (old new : PurgeCounts) (groups : List ℕ) (s t : EngineState) : Type 0 where
   pub synced : LogPipes
   pub syncs : SyncsQueue InAppend s.pipes synced
   pub restated : Bool
@@ -59,26 +59,26 @@ pub record PurgesExpired (hold_back : LogPipes → Option ℕ → Type 0) (thres
       (shows pipes between cache) t
   pub alive : has_failed t ≡ false
   pub later : IsLater s.pipes.disk t.pipes.disk
-  pub holds : (home : Home) (log : LogMap) (pending : List Said) → Holds home s log pending
-      → Holds home t (taken log pending) []
+  pub holds : (home : LogDirectories) (log : LogMap) (pending : List LogRecordValue) → Represents home s log pending
+      → Represents home t (taken log pending) []
 
 -- Either failed, and why:
 -- - the map is kept, with nothing pending
 -- - or the engine has failed, and left its log on the disk, with the batches in the map or still pending
-abbrev pub FailsToPurgeExpired : Error → Shows → Shows → Type 0
+abbrev pub FailsToPurgeExpired : Error → EngineState → EngineState → Type 0
 FailsToPurgeExpired error s t = FailsToRewriteAppend error s t
 
 -- What is counted if it failed.
 
 -- what is counted of Rewrite if Append wasn't synced, or was, and then Rewrite's rewrite failed: `before` are the
 -- tables before that
-abbrev pub StopsAtRewrite : MemTables → GlobalStats → GlobalStats → Shows → Shows → Type 0
+abbrev pub StopsAtRewrite : MemTables → GlobalStats → GlobalStats → EngineState → EngineState → Type 0
 StopsAtRewrite before old new s t = ((t.tables ≡ s.tables) × (new ≡ old))
     ⊎ ((synced : LogPipes) × SyncsQueue InAppend s.pipes synced
     × CountsRefused before old new (record s { pipes = synced }) t)
 
 -- what is counted of Rewrite if Append's purge failed: Rewrite was rewritten before, if that was due
-pub record StopsAtAppend (thresholds : Thresholds) (before : MemTables) (old new : GlobalStats) (s : Shows)
+pub record StopsAtAppend (thresholds : Thresholds) (before : MemTables) (old new : GlobalStats) (s : EngineState)
     : Type 0 where
   pub synced : LogPipes
   pub syncs : SyncsQueue InAppend s.pipes synced
@@ -90,7 +90,7 @@ pub record StopsAtAppend (thresholds : Thresholds) (before : MemTables) (old new
       (record s { pipes = synced }) (shows pipes between cache)
 
 -- what is counted if a purge failed: no round; and of Rewrite by the step that failed
-pub record KeepsCounts (thresholds : Thresholds) (before : MemTables) (old new : PurgeCounts) (s t : Shows)
+pub record KeepsCounts (thresholds : Thresholds) (before : MemTables) (old new : PurgeCounts) (s t : EngineState)
     : Type 0 where
   pub rounds : new.rounds ≡ old.rounds
   pub stats : StopsAtRewrite before old.stats new.stats s t

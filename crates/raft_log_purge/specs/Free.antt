@@ -3,7 +3,7 @@ use Rattle.std.specs.Prelude.{ℕ, List, Option, None}
 use Rattle.raft_log_memtables.specs.declared.mem_tables.MemTables.{MemTables}
 use Rattle.raft_log_dual_pipes.specs.HoldingBack.{NothingIsHeldBack}
 use Rattle.raft_log_dual_pipes.specs.Pipes.{LogPipes}
-use Rattle.raft_log_purge_copy.specs.raft_log_engine_laws.specs.Shows.{Shows}
+use Rattle.raft_log_purge_copy.specs.raft_log_engine_laws.specs.EngineState.{EngineState}
 use Rattle.raft_log_purge_policy.specs.Watermarks.{TakesAppend}
 use Rattle.raft_log_purge_policy.specs.declared.thresholds.Thresholds.{Thresholds}
 use Rattle.raft_log_purge.specs.declared.expired_files.PurgeCounts.{PurgeCounts}
@@ -14,6 +14,6 @@ use Rattle.raft_log_purge.specs.ExpiredFiles.{PurgesExpired}
 -- in use
 abbrev pub FreeFilesGo : (LogPipes → Option ℕ → Type 0) → Type 0
 FreeFilesGo hold_back = NothingIsHeldBack hold_back → (thresholds : Thresholds) (before after : MemTables)
-    (old new : PurgeCounts) (groups : List ℕ) (s t : Shows)
+    (old new : PurgeCounts) (groups : List ℕ) (s t : EngineState)
     → (purged : PurgesExpired hold_back thresholds before after old new groups s t)
-    → TakesAppend thresholds purged.pipes → (copied : Shows) × LosesBelow None after copied t
+    → TakesAppend thresholds purged.pipes → (copied : EngineState) × LosesBelow None after copied t

@@ -12,7 +12,7 @@ use Rattle.raft_log_memtables.specs.Walking.{ListsGroups}
 use Rattle.raft_log_memtables.specs.declared.mem_tables.MemTables.{MemTables}
 use Rattle.raft_log_dual_pipes.specs.Calls.{RotatesQueue}
 use Rattle.raft_log_dual_pipes.specs.Pipes.{LogPipes}
-use Rattle.raft_log_purge_copy.specs.raft_log_engine_laws.specs.Shows.{Shows}
+use Rattle.raft_log_purge_copy.specs.raft_log_engine_laws.specs.EngineState.{EngineState}
 use Rattle.raft_log_purge_copy.specs.Restated.{last_file}
 use Rattle.raft_log_purge.specs.RewriteQueue.{RestatesAll, reset_counts}
 
@@ -38,10 +38,10 @@ pub record CountsGarbage (file : ℕ) (v : ℕ → Shown) (groups : List ℕ) (o
   pub stats : new ≡ deleted Rewrite count (added Rewrite count old)
 
 -- all groups were restated, and Rewrite was synced: the garbage was taken off the counts
-pub record ResetsCounts (old new : GlobalStats) (s t : Shows) : Type 0 where
+pub record ResetsCounts (old new : GlobalStats) (s t : EngineState) : Type 0 where
   pub turned : LogPipes
   pub turns : RotatesQueue InRewrite s.pipes turned
-  pub restated : Shows
+  pub restated : EngineState
   pub restates : RestatesAll (record s { pipes = turned }) restated
   pub tables : t.tables ≡ restated.tables
   pub stats : new ≡ reset_counts old
@@ -50,7 +50,7 @@ pub record ResetsCounts (old new : GlobalStats) (s t : Shows) : Type 0 where
 -- - nothing, and the tables are unchanged
 -- - what was restated, which is live past the former last file
 -- - all groups were restated, and the garbage is taken off the counts
-abbrev pub CountsRefused : MemTables → GlobalStats → GlobalStats → Shows → Shows → Type 0
+abbrev pub CountsRefused : MemTables → GlobalStats → GlobalStats → EngineState → EngineState → Type 0
 CountsRefused before old new s t = ((t.tables ≡ s.tables) × (new ≡ old))
     ⊎ (((groups : List ℕ) × ListsGroups (has_table before) groups
     × CountsGarbage (last_file s) t.tables groups old new)

@@ -8,9 +8,9 @@ use Rattle.raft_log_record_base.specs.declared.errors.Error.TheVariants as error
 use Rattle.raft_log_record_items.specs.declared.item.LogItem.{LogItem}
 use Rattle.raft_log_record_batches.specs.Batch.{Batch}
 use Rattle.raft_log_record_batches.specs.Bounds.{batch_bound, record_bound}
-use Rattle.raft_log_block_cache.specs.raft_log_dual_pipes.specs.Pipes.{Said}
+use Rattle.raft_log_block_cache.specs.raft_log_dual_pipes.specs.Pipes.{LogRecordValue}
 use Rattle.raft_log_memtable_index.specs.Shown.{Shown}
-use Rattle.raft_log_engine_laws.specs.Shows.{Home, LogMap, Shows, has_failed}
+use Rattle.raft_log_engine_laws.specs.EngineState.{LogDirectories, LogMap, EngineState, has_failed}
 use Rattle.raft_log_engine_laws.specs.Writing.{NotWritten, Writes}
 use Rattle.raft_log_purge_copy.specs.Lengths.{HasLongGroup}
 use Rattle.raft_log_purge_copy.specs.Owed.{OweNoMore, SaysMarks}
@@ -21,7 +21,7 @@ use Rattle.raft_log_purge.specs.Marks.{CameOf}
 
 -- An engine with a log never fails with `Full` for a batch whose bound is below 2 ^ 56.
 abbrev pub BoundedBatchesAreNotFull : Type 0
-BoundedBatchesAreNotFull = (b : Batch) (error : Error) (s t : Shows) → HasLog s → batch_bound b < 2 ^ 56
+BoundedBatchesAreNotFull = (b : Batch) (error : Error) (s t : EngineState) → HasLog s → batch_bound b < 2 ^ 56
     → NotWritten b error s t → error ≢ errors.Full
 
 -- If a log's groups are modest, no record of what one group has is too long.
@@ -36,7 +36,7 @@ KnownLogsAreModest = (m : LogMap) (known : ℕ → List (List ℕ × List ℕ)) 
 -- An empty log has no known pairs, and a batch whose runs are short adds those that it puts.
 pub record KnownPairsGrow : Type 0 where
   pub none : AreKnown (λ g s. None) (λ g. [])
-  pub more : (m : LogMap) (known : ℕ → List (List ℕ × List ℕ)) (said : Said) → AreKnown m known
+  pub more : (m : LogMap) (known : ℕ → List (List ℕ × List ℕ)) (said : LogRecordValue) → AreKnown m known
       → ((g : ℕ) → AreShortRuns (appended g (said ∷ [])))
       → AreKnown (taken m (said ∷ [])) (λ g. known g ++ puts_of (appended g (said ∷ [])))
 
@@ -57,9 +57,9 @@ MarksTakeNoMore = (items : List LogItem) (v : ℕ → Shown) (b : Batch) → Cam
 -- - a call after which no more is owed, as a purge, adds none
 pub record MarksComeOfBatches : Type 0 where
   pub none : (v : ℕ → Shown) → OweNothing v → CameOf [] v
-  pub written : (items : List LogItem) (b : Batch) (sync : Bool) (s t : Shows) → CameOf items s.tables
+  pub written : (items : List LogItem) (b : Batch) (sync : Bool) (s t : EngineState) → CameOf items s.tables
       → Writes b sync s t → CameOf (items ++ b.items) t.tables
-  pub unwritten : (items : List LogItem) (b : Batch) (error : Error) (s t : Shows) → CameOf items s.tables
+  pub unwritten : (items : List LogItem) (b : Batch) (error : Error) (s t : EngineState) → CameOf items s.tables
       → NotWritten b error s t → has_failed t ≡ false → CameOf items t.tables
   pub purged : (items : List LogItem) (v w : ℕ → Shown) → CameOf items v → OweNoMore v w → CameOf items w
 
@@ -67,6 +67,6 @@ pub record MarksComeOfBatches : Type 0 where
 -- - the log's groups are modest
 -- - the tombstones owed before it came from items whose record has fewer than 2 ^ 56 bytes by its bound
 abbrev pub ModestLogsArePurged : Type 0
-ModestLogsArePurged = (home : Home) (m : LogMap) (items : List LogItem) (error : Error) (s t : Shows)
+ModestLogsArePurged = (home : LogDirectories) (m : LogMap) (items : List LogItem) (error : Error) (s t : EngineState)
     → AreModest m → CameOf items s.tables → record_bound items [] < 2 ^ 56
     → HasPurgeReason home m error s t → error ≢ errors.Full

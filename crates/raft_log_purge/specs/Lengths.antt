@@ -10,14 +10,14 @@ use Rattle.raft_log_model_laws.specs.Item.Item.{Run, Put}
 use Rattle.raft_log_model_laws.specs.Meaning.Slot.{Index, Key}
 use Rattle.raft_log_model_laws.specs.Meaning.Content.{Entry, Value}
 use Rattle.raft_log_record_batches.specs.Batch.{max_entries_len}
-use Rattle.raft_log_block_cache.specs.raft_log_dual_pipes.specs.Pipes.{Said}
-use Rattle.raft_log_engine_laws.specs.Shows.{Home, LogMap, Shows}
-use Rattle.raft_log_engine_laws.specs.Holding.{Holds}
+use Rattle.raft_log_block_cache.specs.raft_log_dual_pipes.specs.Pipes.{LogRecordValue}
+use Rattle.raft_log_engine_laws.specs.EngineState.{LogDirectories, LogMap, EngineState}
+use Rattle.raft_log_engine_laws.specs.Holding.{Represents}
 use Rattle.raft_log_purge_copy.specs.Lengths.{AreValuesIn}
 
 -- the engine's log is some map with some batches pending after it
-abbrev pub HasLog : Shows → Type 0
-HasLog s = (home : Home) × (m : LogMap) × (pending : List Said) × Holds home s m pending
+abbrev pub HasLog : EngineState → Type 0
+HasLog s = (home : LogDirectories) × (m : LogMap) × (pending : List LogRecordValue) × Represents home s m pending
 
 -- the most bytes that keys and their values take in a record: their own, and 32 for each pair
 abbrev pub pairs_bound : List (List ℕ × List ℕ) → ℕ

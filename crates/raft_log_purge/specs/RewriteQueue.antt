@@ -10,8 +10,8 @@ use Rattle.raft_log_memtables.specs.declared.mem_tables.MemTables.{MemTables}
 use Rattle.raft_log_dual_pipes.specs.State.{pipe_at}
 use Rattle.raft_log_dual_pipes.specs.Pipes.{LogPipes, files_of}
 use Rattle.raft_log_dual_pipes.specs.Calls.{RotatesQueue, SyncsQueue}
-use Rattle.raft_log_purge_copy.specs.raft_log_engine_laws.specs.Shows.{Home, LogMap, Shows, has_failed}
-use Rattle.raft_log_purge_copy.specs.raft_log_engine_laws.specs.Holding.{Holds}
+use Rattle.raft_log_purge_copy.specs.raft_log_engine_laws.specs.EngineState.{LogDirectories, LogMap, EngineState, has_failed}
+use Rattle.raft_log_purge_copy.specs.raft_log_engine_laws.specs.Holding.{Represents}
 use Rattle.raft_log_purge_copy.specs.raft_log_engine_laws.specs.Settled.{HoldsSettled}
 use Rattle.raft_log_purge_copy.specs.Files.{LosesFiles}
 use Rattle.raft_log_purge_copy.specs.Reasons.{GivesReason}
@@ -25,27 +25,27 @@ every g = true
 
 -- All groups were restated, and Rewrite was synced: during this whenever it was due by the bytes of all of them, and
 -- at the end. If the log's map was held with nothing pending, the log is settled with that map.
-pub record RestatesAll (s t : Shows) : Type 0 where
-  pub restated : Shows
+pub record RestatesAll (s t : EngineState) : Type 0 where
+  pub restated : EngineState
   pub restates : Restates every s restated
   pub handed : CountsEach s.pipes restated.pipes
   pub syncs : SyncsQueue InRewrite restated.pipes t.pipes
   pub same : t ≡ record restated { pipes = t.pipes }
   pub alive : has_failed t ≡ false
   pub later : IsLater s.pipes.disk t.pipes.disk
-  pub settles : (home : Home) (m : LogMap) → Holds home s m [] → HoldsSettled home t m
+  pub settles : (home : LogDirectories) (m : LogMap) → Represents home s m [] → HoldsSettled home t m
 
 -- the first file of Rewrite's live range
-abbrev pub first_file : Shows → ℕ
+abbrev pub first_file : EngineState → ℕ
 first_file s = (pipe_at InRewrite (files_of s.pipes)).first_seq
 
 -- Rewrite was rewritten. It rotated; all groups were restated, and it was synced. Then the files below the least in
 -- use left its live range, which begins at that one or as before, past the former last file. All that each group has
 -- in Rewrite is after that file. The map is kept, and nothing is pending in either queue.
-pub record RewritesRewrite (m : MemTables) (s t : Shows) : Type 0 where
+pub record RewritesRewrite (m : MemTables) (s t : EngineState) : Type 0 where
   pub turned : LogPipes
   pub turns : RotatesQueue InRewrite s.pipes turned
-  pub restated : Shows
+  pub restated : EngineState
   pub restates : RestatesAll (record s { pipes = turned }) restated
   pub count : ℕ
   pub loses : LosesFiles Rewrite (written_file Rewrite restated.pipes) m count restated t
@@ -53,16 +53,16 @@ pub record RewritesRewrite (m : MemTables) (s t : Shows) : Type 0 where
   pub counts : t.counts ≡ s.counts
   pub alive : has_failed t ≡ false
   pub later : IsLater s.pipes.disk t.pipes.disk
-  pub begins : (home : Home) (log : LogMap) → Holds home s log []
+  pub begins : (home : LogDirectories) (log : LogMap) → Represents home s log []
       → first_file t ≡ max (first_file restated) loses.least
-  pub past : (home : Home) (log : LogMap) → Holds home s log [] → last_file s < first_file t
-  pub from : (home : Home) (log : LogMap) → Holds home s log [] → (g : ℕ)
+  pub past : (home : LogDirectories) (log : LogMap) → Represents home s log [] → last_file s < first_file t
+  pub from : (home : LogDirectories) (log : LogMap) → Represents home s log [] → (g : ℕ)
       → IsRestatedFrom (last_file s + 1) (s.tables g) (t.tables g)
-  pub settles : (home : Home) (log : LogMap) → Holds home s log [] → HoldsSettled home t log
+  pub settles : (home : LogDirectories) (log : LogMap) → Represents home s log [] → HoldsSettled home t log
 
 -- A rewrite of Rewrite failed, and why. The map is kept, with nothing pending; or the engine has failed, and left its
 -- log on the disk.
-pub record FailsToRewriteRewrite (error : Error) (s t : Shows) : Type 0 where
+pub record FailsToRewriteRewrite (error : Error) (s t : EngineState) : Type 0 where
   pub counts : t.counts ≡ s.counts
   pub tells : has_failed s ≡ false → IsTrue (has_failed t) ↔ (error ≡ errors.Failed)
   pub later : IsLater s.pipes.disk t.pipes.disk

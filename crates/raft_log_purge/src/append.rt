@@ -5,7 +5,7 @@ ghost use Rattle.raft_log_directory_laws.specs.Calls.Which.{InAppend};
 ghost use Rattle.raft_log_fs.specs.Causes.{IsLater};
 ghost use Rattle.raft_log_dual_pipes.specs.Calls.{FailsToRotateQueue, TellsFailure};
 ghost use Rattle.raft_log_dual_pipes.specs.Numbers.{EndsNumbers};
-ghost use Rattle.raft_log_purge_copy.specs.raft_log_engine_laws.specs.Shows.{shows};
+ghost use Rattle.raft_log_purge_copy.specs.raft_log_engine_laws.specs.EngineState.{shows};
 ghost use Rattle.raft_log_memtables.specs.Tables.{IsAtRest};
 ghost use Rattle.raft_log_purge_copy.specs.Groups.{StopsAtGroups, StopsRewriting};
 ghost use Rattle.raft_log_purge_copy.specs.Owed.{AddsNoMarks};
@@ -130,7 +130,7 @@ fn go_on<P: PipeLog, L: Log>(
     if ends_after(2, exit_after_step) {
         return Ok(());
     }
-    purge_past(alloc, rt, pipes, tables, cache, gate)
+    delete_through(alloc, rt, pipes, tables, cache, gate)
 }
 
 /// Rewrites all groups up to a file, and syncs Rewrite.
@@ -181,7 +181,7 @@ pub(crate) fn rewrite_synced<P: PipeLog, L: Log>(
 /// - with `Other` if the file after the gate isn't in the live range
 /// - with `NumberRange` if there is no next number
 /// - with `Failed` if a file call failed
-fn purge_past<P: PipeLog, L: Log>(
+fn delete_through<P: PipeLog, L: Log>(
     alloc: Global,
     rt: &L,
     pipes: &mut P,

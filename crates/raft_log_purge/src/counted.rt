@@ -5,7 +5,7 @@
 ghost use Rattle.std.specs.Prelude.{◌≤◌, IfErr, IfOk, OnErr, OnOk};
 ghost use Rattle.raft_log_record_base.specs.declared.pipe_log.LogQueue.TheVariants.{Append};
 ghost use Rattle.raft_log_dual_pipes.specs.HoldingBack.{PipesHoldBack};
-ghost use Rattle.raft_log_purge_copy.specs.raft_log_engine_laws.specs.Shows.{shows};
+ghost use Rattle.raft_log_purge_copy.specs.raft_log_engine_laws.specs.EngineState.{shows};
 ghost use Rattle.raft_log_memtables.specs.Tables.{IsAtRest};
 ghost use Rattle.raft_log_purge_copy.specs.Owed.{AddsNoMarks};
 ghost use Rattle.raft_log_purge.specs.Append.{FailsToRewriteAppend, RewritesAppend};
@@ -83,7 +83,7 @@ pub fn rewrite_and_count<P: PipeLog, L: Log>(
     ensures owes { AddsNoMarks tables.old tables.new }
     ensures numbered { counts.old.number ≤ counts.new.number }
 {
-    counts.count_standing(tables);
+    counts.count_live(tables);
     let PurgeCounts { stats, number, .. } = counts;
     sync_and_rewrite(alloc, rt, pipes, tables, cache, stats, number)
 }
@@ -110,7 +110,7 @@ pub fn rewrite_append_and_count<P: PipeLog, L: Log>(
     ensures rests { IsAtRest tables.old → IsAtRest tables.new }
     ensures owes { AddsNoMarks tables.old tables.new }
 {
-    counts.count_standing(tables);
+    counts.count_live(tables);
     let rewritten = rewrite_append_queue(
         alloc,
         rt,
@@ -121,7 +121,7 @@ pub fn rewrite_append_and_count<P: PipeLog, L: Log>(
         exit_after_step,
     );
     if rewritten.is_ok() {
-        counts.count_standing(tables);
+        counts.count_live(tables);
     }
     rewritten
 }

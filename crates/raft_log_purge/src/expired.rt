@@ -3,7 +3,7 @@
 
 ghost use Rattle.std.specs.Prelude.{◌≡◌, ◌==◌, false, IfErr, IfOk, IsSome, OnErr, OnOk};
 ghost use Rattle.std.specs.List.{list_any};
-ghost use Rattle.raft_log_purge_copy.specs.raft_log_engine_laws.specs.Shows.{shows};
+ghost use Rattle.raft_log_purge_copy.specs.raft_log_engine_laws.specs.EngineState.{shows};
 ghost use Rattle.raft_log_memtables.specs.Owing.{AreOwed};
 ghost use Rattle.raft_log_memtables.specs.Tables.{IsAtRest};
 ghost use Rattle.raft_log_memtables.specs.Walking.{Stand};
@@ -25,7 +25,7 @@ ghost use Rattle.raft_log_purge.specs.Expired.{
 use crate::append::{rewrite_synced, up_to};
 use log::Log;
 use raft_log_dual_pipes::PipeLog;
-use raft_log_purge_copy::carry_marks;
+use raft_log_purge_copy::write_tombstones;
 use raft_log_purge_copy::raft_log_block_cache::BlockCache;
 use raft_log_purge_policy::{
     GroupLists, Rounds, Survey, Thresholds, Watermarks, answered_groups, append_watermarks,
@@ -223,16 +223,16 @@ fn rewrite_picked<P: PipeLog, L: Log>(
     ensures rests { IsAtRest tables.old → IsAtRest tables.new }
     ensures owes { AddsNoMarks tables.old tables.new }
 {
-    carry_marks(alloc, rt, pipes, tables, marks)?;
+    write_tombstones(alloc, rt, pipes, tables, marks)?;
     rewrite_synced(alloc, rt, pipes, tables, cache, groups, gate)?;
-    purge_below(alloc, rt, pipes, tables, cache, held)
+    delete_unreferenced_files(alloc, rt, pipes, tables, cache, held)
 }
 
 /// Takes Append's files below the least in use out of its live range; none from the last one on, or from the first
 /// pinned one. Returns how many entries and values are live in Rewrite, counted by the same walk.
 ///
 /// Fails with `Memory`, with `NumberRange` if a queue is at its last number, or with `Failed` if a file call failed.
-fn purge_below<P: PipeLog, L: Log>(
+fn delete_unreferenced_files<P: PipeLog, L: Log>(
     alloc: Global,
     rt: &L,
     pipes: &mut P,
@@ -247,7 +247,7 @@ fn purge_below<P: PipeLog, L: Log>(
     ensures standing { IfOk result (Stand tables.now) }
 {
     let (first, last) = pipes.file_span(LogQueue::Append);
-    let (least, standing) = tables.least_and_standing(LogQueue::Append, up_to(held, last));
+    let (least, standing) = tables.min_file_and_live_count(LogQueue::Append, up_to(held, last));
     if least <= first {
         return Ok(standing);
     }

@@ -3,7 +3,7 @@
 ghost use Rattle.std.specs.Prelude.{◌≡◌, ◌≤◌, ℕ, IfErr, IfOk, OnErr, OnOk};
 ghost use Rattle.raft_log_record_base.specs.declared.pipe_log.LogQueue.TheVariants.{Append};
 ghost use Rattle.raft_log_dual_pipes.specs.HoldingBack.{PipesHoldBack};
-ghost use Rattle.raft_log_purge_copy.specs.raft_log_engine_laws.specs.Shows.{shows};
+ghost use Rattle.raft_log_purge_copy.specs.raft_log_engine_laws.specs.EngineState.{shows};
 ghost use Rattle.raft_log_memtables.specs.Tables.{IsAtRest};
 ghost use Rattle.raft_log_purge_copy.specs.Owed.{AddsNoMarks};
 ghost use Rattle.raft_log_purge_policy.specs.Picking.{count_of};
@@ -67,7 +67,7 @@ impl PurgeCounts {
 
     /// Brings the counts to what is live in Rewrite. What is live there and wasn't counted was written; what was
     /// counted and isn't live is garbage.
-    pub fn count_standing(&mut self, tables: &MemTables)
+    pub fn count_live(&mut self, tables: &MemTables)
         ensures { CountsStanding tables.now self.old self.new }
     {
         let standing = tables.standing_count();
@@ -92,7 +92,7 @@ impl PurgeCounts {
         ensures { CountsIf wanted tables.now self.old self.new }
     {
         if wanted {
-            self.count_standing(tables);
+            self.count_live(tables);
         }
     }
 

@@ -1,7 +1,7 @@
 //! Whole purges, put together from their parts. The map is kept at every exit.
 //!
 //! Each works on a log's pipes and the tables of its groups. Its contract holds for every map that the log had, with
-//! whatever batches were pending (`Holds`): it asks nothing of the caller.
+//! whatever batches were pending (`Represents`): it asks nothing of the caller.
 #![tactic(auto)]
 
 pub mod append;

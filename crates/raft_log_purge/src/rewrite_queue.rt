@@ -1,7 +1,7 @@
 //! Rewrite is rewritten: what is live there is written again, and its old files go.
 
 ghost use Rattle.std.specs.Prelude.{◌≡◌, ◌≤◌, IfErr, OnErr, OnOk};
-ghost use Rattle.raft_log_purge_copy.specs.raft_log_engine_laws.specs.Shows.{shows};
+ghost use Rattle.raft_log_purge_copy.specs.raft_log_engine_laws.specs.EngineState.{shows};
 ghost use Rattle.raft_log_memtables.specs.Tables.{IsAtRest, has_table};
 ghost use Rattle.raft_log_memtables.specs.Walking.{ListsGroups};
 ghost use Rattle.raft_log_purge_copy.specs.Owed.{AddsNoMarks};
@@ -11,9 +11,9 @@ ghost use Rattle.raft_log_purge.specs.RewriteQueue.{FailsToRewriteRewrite, Resta
 use crate::garbage::count_restated;
 use log::Log;
 use raft_log_dual_pipes::PipeLog;
-use raft_log_purge_copy::purge_stale;
+use raft_log_purge_copy::delete_stale_files;
 use raft_log_purge_copy::raft_log_block_cache::BlockCache;
-use raft_log_purge_copy::restating::restate_groups;
+use raft_log_purge_copy::restating::compact_rewrite_groups;
 use raft_log_record_base::{LogQueue, Result};
 use raft_log_memtables::MemTables;
 use raft_log_memtable::GlobalStats;
@@ -24,7 +24,7 @@ use std::alloc::Global;
 ///
 /// The map is kept only if nothing of Append is pending: the caller has synced it.
 ///
-/// Fails with `Memory` before anything is done, or as a rotation, `restate_groups`, a sync or `purge_stale` does. If
+/// Fails with `Memory` before anything is done, or as a rotation, `compact_rewrite_groups`, a sync or `delete_stale_files` does. If
 /// it fails, the map is kept too. If all was synced, the garbage is off the counts. Else the old copies of the groups
 /// that were restated are counted as garbage; what was written of a group that wasn't restated isn't counted.
 pub fn rewrite_rewrite_queue<P: PipeLog, L: Log>(
@@ -57,7 +57,7 @@ pub fn rewrite_rewrite_queue<P: PipeLog, L: Log>(
     }
     stats.reset_rewrite_counters();
     let (_first, last) = pipes.file_span(LogQueue::Rewrite);
-    purge_stale(alloc, rt, pipes, tables, cache, LogQueue::Rewrite, last)?;
+    delete_stale_files(alloc, rt, pipes, tables, cache, LogQueue::Rewrite, last)?;
     Ok(())
 }
 
@@ -80,6 +80,6 @@ fn restate_all<P: PipeLog, L: Log>(
     ensures owes { AddsNoMarks tables.old tables.new }
     ensures counted { number.old ≤ number.new }
 {
-    restate_groups(alloc, rt, pipes, tables, cache, groups, number)?;
+    compact_rewrite_groups(alloc, rt, pipes, tables, cache, groups, number)?;
     pipes.sync(rt, LogQueue::Rewrite)
 }

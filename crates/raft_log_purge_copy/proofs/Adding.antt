@@ -18,7 +18,7 @@ use Rattle.raft_log_memtables.specs.declared.mem_tables.MemTables.{MemTables}
 use Rattle.raft_log_memtables.specs.Joining.{noted_in}
 use Rattle.raft_log_memtables.specs.Rewriting.{TakesRewritten, all_rewritten, rewritten_item}
 use Rattle.raft_log_memtables.specs.Tables.{ShowsSame, raw_of, replayed_of, shown_in, shown_of}
-use Rattle.raft_log_engine_laws.specs.Shows.{Shows}
+use Rattle.raft_log_engine_laws.specs.EngineState.{EngineState}
 use Rattle.raft_log_engine_laws.proofs.Taking.{shows_read}
 use Rattle.raft_log_purge_copy.specs.Groups.{RewritesPart}
 use Rattle.raft_log_purge_copy.specs.Owed.{AddsNoMarks, OweNoMore, OwesNoMore}
@@ -63,7 +63,7 @@ noted_adds old new group files noted others v h g =
     (λ _ is. subst (OwesNoMore (v g)) (sym (sym (shows_read (get nat_cmp new.groups g)) ∙ ap (λ (z : Replayed). z.table) (others g is) ∙ shows_read (get nat_cmp old.groups g))) (h g)) refl
 
 -- a part of a group that was rewritten
-pub part_adds : (test : ℕ → Bool) (gate : ℕ) (s t : Shows) → RewritesPart test gate s t → (v : ℕ → Shown) → OweNoMore v s.tables → OweNoMore v t.tables
+pub part_adds : (test : ℕ → Bool) (gate : ℕ) (s t : EngineState) → RewritesPart test gate s t → (v : ℕ → Shown) → OweNoMore v s.tables → OweNoMore v t.tables
 part_adds test gate s t part v h g =
     let p = part.parts g in
     let before = h g in

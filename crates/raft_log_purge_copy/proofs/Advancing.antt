@@ -17,18 +17,18 @@ use Rattle.raft_log_memtable_index.specs.Shown.{Shown}
 use Rattle.raft_log_memtable_index.specs.Bridge.{moved_run}
 use Rattle.raft_log_memtables.specs.Rewriting.{all_rewritten}
 use Rattle.raft_log_memtables.proofs.Copies.{run_moves}
-use Rattle.raft_log_engine_laws.specs.Shows.{Shows}
+use Rattle.raft_log_engine_laws.specs.EngineState.{EngineState}
 use Rattle.raft_log_engine_laws.specs.Writing.{items_at}
 use Rattle.raft_log_purge_copy.specs.Copies.{MovesCopies}
 use Rattle.raft_log_purge_copy.specs.Moving.{Advances}
 use Rattle.raft_log_purge_copy.proofs.OneRun.{items_there, run_places}
 
 -- what shows of each group
-shows_then : (gate : ℕ) (s t : Shows) (b : Batch) (moved : MovesCopies (Some gate) b s t) (h : ℕ) (xs : List (Item Place (List ℕ))) → of_group h (items_at moved.block b) ≡ xs
+shows_then : (gate : ℕ) (s t : EngineState) (b : Batch) (moved : MovesCopies (Some gate) b s t) (h : ℕ) (xs : List (Item Place (List ℕ))) → of_group h (items_at moved.block b) ≡ xs
     → t.tables h ≡ all_rewritten (Some gate) moved.block.id.seq (s.tables h) xs
 shows_then gate s t b moved h xs is = ap (λ (f : ℕ → Shown). f h) moved.tables ∙ ap (all_rewritten (Some gate) moved.block.id.seq (s.tables h)) is
 
-pub moved_on : (g gate : ℕ) (s t : Shows) (b : Batch) (e : EntryIndex) (es : List EntryIndex) → b.items ≡ item_of g (contents.EntryIndexes (e ∷ es)) ∷ [] → e.index ≡ (s.tables g).first + (s.tables g).rewritten
+pub moved_on : (g gate : ℕ) (s t : EngineState) (b : Batch) (e : EntryIndex) (es : List EntryIndex) → b.items ≡ item_of g (contents.EntryIndexes (e ∷ es)) ∷ [] → e.index ≡ (s.tables g).first + (s.tables g).rewritten
     → length (e ∷ es) ≤ passing gate (drop (s.tables g).rewritten (s.tables g).places) → MovesCopies (Some gate) b s t → Advances g (length (e ∷ es)) s.tables t.tables
 moved_on g gate s t b e es is first fits moved =
     let ps = run_places b e es moved.block in

@@ -10,8 +10,8 @@ use Rattle.raft_log_memtables.specs.declared.mem_tables.MemTables.{MemTables}
 use Rattle.raft_log_dual_pipes.specs.Pipes.{LogPipes, is_failed}
 use Rattle.raft_log_dual_pipes.specs.Calls.{FailsToSyncQueue}
 use Rattle.raft_log_block_cache.specs.declared.block_cache.BlockCache.{BlockCache}
-use Rattle.raft_log_engine_laws.specs.Shows.{Home, LogMap, Shows, shows}
-use Rattle.raft_log_engine_laws.specs.Holding.{Holds}
+use Rattle.raft_log_engine_laws.specs.EngineState.{LogDirectories, LogMap, EngineState, shows}
+use Rattle.raft_log_engine_laws.specs.Holding.{Represents}
 use Rattle.raft_log_engine_laws.proofs.Keeping.{holds_runs}
 use Rattle.raft_log_engine_laws.proofs.Settling.{failed_sync, settled_held, sync_settles_log}
 use Rattle.raft_log_purge_copy.specs.Parts.{Remains, StaysInFile}
@@ -22,8 +22,8 @@ use Rattle.raft_log_purge_copy.proofs.Reasons.{overlong_after, sync_reason}
 use Rattle.raft_log_purge_copy.proofs.Staying.{stays_on, stays_same, sync_stays}
 
 -- the log stays through the sync
-held_synced : (home : Home) (v mid : LogPipes) (tables : MemTables) (cache : BlockCache) (m : LogMap) → MaySync v mid → Holds home (shows v tables cache) m [] → Holds home (shows mid tables cache) m []
-held_synced home v mid tables cache m (inl same) h = subst (λ (w : LogPipes). Holds home (shows w tables cache) m []) (sym same) h
+held_synced : (home : LogDirectories) (v mid : LogPipes) (tables : MemTables) (cache : BlockCache) (m : LogMap) → MaySync v mid → Represents home (shows v tables cache) m [] → Represents home (shows mid tables cache) m []
+held_synced home v mid tables cache m (inl same) h = subst (λ (w : LogPipes). Represents home (shows w tables cache) m []) (sym same) h
 held_synced home v mid tables cache m (inr call) h =
     settled_held home (shows mid tables cache) m (sync_settles_log home (shows v tables cache) (shows mid tables cache) m h (record { tables = refl; cache = inl refl }) call)
 
@@ -33,7 +33,7 @@ synced_stays v mid (inl same) = subst (StaysInFile v) (sym same) (stays_same v)
 synced_stays v mid (inr call) = sync_stays v mid call
 
 module _ (gate : Option ℕ) (b : Batch) (v mid : LogPipes) (old : MemTables) (syncs : MaySync v mid) (alive : StaysAlive v mid) (before : IsLater v.disk mid.disk) (cache : BlockCache) where
-  moved_behind : (t : Shows) → MovesCopies gate b (shows mid old cache) t → MovesCopies gate b (shows v old cache) t
+  moved_behind : (t : EngineState) → MovesCopies gate b (shows mid old cache) t → MovesCopies gate b (shows v old cache) t
   moved_behind t k = record {
     block = k.block;
     alive = k.alive;
@@ -45,7 +45,7 @@ module _ (gate : Option ℕ) (b : Batch) (v mid : LogPipes) (old : MemTables) (s
     holds = λ plain home m h copies. k.holds plain home m (held_synced home v mid old cache m syncs h) copies;
   }
 
-  refused_behind : (error : Error) (t : Shows) → FailsToCopy gate b error (shows mid old cache) t → FailsToCopy gate b error (shows v old cache) t
+  refused_behind : (error : Error) (t : EngineState) → FailsToCopy gate b error (shows mid old cache) t → FailsToCopy gate b error (shows v old cache) t
   refused_behind error t k = record {
     same = k.same;
     tells = λ lived. k.tells (alive lived);

@@ -27,8 +27,8 @@ use Rattle.raft_log_memtables.specs.declared.mem_tables.MemTables.{MemTables}
 use Rattle.raft_log_memtables.specs.Tables.{counts, has_table, shown_in, shown_of}
 use Rattle.raft_log_dual_pipes.specs.Pipes.{LogPipes}
 use Rattle.raft_log_block_cache.specs.declared.block_cache.BlockCache.{BlockCache}
-use Rattle.raft_log_engine_laws.specs.Shows.{Home, IsLaidOut, LogMap, Shows, shows}
-use Rattle.raft_log_engine_laws.specs.Holding.{Holds}
+use Rattle.raft_log_engine_laws.specs.EngineState.{LogDirectories, IsLaidOut, LogMap, EngineState, shows}
+use Rattle.raft_log_engine_laws.specs.Holding.{Represents}
 use Rattle.raft_log_engine_laws.specs.Parts.{FilesGoUp, HoldsInGroup, IsGroupPart, UnendedGroup, WrittenPart, parts_of, said_items}
 use Rattle.raft_log_engine_laws.specs.Whole.{batches_of, parts_moved}
 use Rattle.raft_log_engine_laws.specs.Restating.{RestatesGroup, entries_of_pieces, said_of_group}
@@ -88,9 +88,9 @@ nothing_restated k bs v m none = record {
   held = tt;
 }
 
-module _ (g number done : ℕ) (parts : List RestatedPart) (pairs : List (List ℕ × List ℕ)) (b : Batch) (s : Shows) (v : LogPipes) (old : MemTables) (cache : BlockCache) (has : HasParts g number done parts s (shows v old cache)) (last : IsLastPart g number done pairs b s)
+module _ (g number done : ℕ) (parts : List RestatedPart) (pairs : List (List ℕ × List ℕ)) (b : Batch) (s : EngineState) (v : LogPipes) (old : MemTables) (cache : BlockCache) (has : HasParts g number done parts s (shows v old cache)) (last : IsLastPart g number done pairs b s)
     (lists : ListsAll (rewritten_values (s.tables g)) pairs) where
-  abbrev e : Shows
+  abbrev e : EngineState
   e = shows v old cache
 
   abbrev o : UnendedGroup
@@ -104,16 +104,16 @@ module _ (g number done : ℕ) (parts : List RestatedPart) (pairs : List (List �
 
   -- the tables show what they showed
   tabled : shown_of old ≡ s.tables
-  tabled = ap (λ (x : Shows). x.tables) has.same
+  tabled = ap (λ (x : EngineState). x.tables) has.same
 
   -- the last piece begins behind the others
   last_piece : IsPiece g (f + length (entries_of_pieces has.pieces)) last.bytes pairs b
   last_piece = subst (λ (n : ℕ). IsPiece g (f + n) last.bytes pairs b) (sym has.many) last.is.piece
 
-  few_there : (home : Home) (m : LogMap) → Holds home s m [] → length (entries_of_pieces has.pieces) + length last.bytes ≡ (s.tables g).rewritten
+  few_there : (home : LogDirectories) (m : LogMap) → Represents home s m [] → length (entries_of_pieces has.pieces) + length last.bytes ≡ (s.tables g).rewritten
   few_there home m h = (let many = has.many in let all = last.all home m h in omega (arith, many, all))
 
-  restates_it : (home : Home) (m : LogMap) → Holds home s m [] → RestatesGroup g bs (s.tables g) (m g)
+  restates_it : (home : LogDirectories) (m : LogMap) → Represents home s m [] → RestatesGroup g bs (s.tables g) (m g)
   restates_it home m h =
       let xs : List (List ℕ) = entries_of_pieces has.pieces in
       let all = few_there home m h in
@@ -133,14 +133,14 @@ module _ (g number done : ℕ) (parts : List RestatedPart) (pairs : List (List �
   alone : (k : ℕ) → (g == k) ≡ false → said_of_group k bs ≡ []
   alone k apart = no_others_said g k f (f + length (entries_of_pieces has.pieces)) has.pieces (parts_of o) has.are last.bytes pairs b last_piece apart
 
-  restates_each : (home : Home) (m : LogMap) → Holds home s m [] → (k : ℕ) → RestatesGroup k bs (shown_of old k) (m k)
+  restates_each : (home : LogDirectories) (m : LogMap) → Represents home s m [] → (k : ℕ) → RestatesGroup k bs (shown_of old k) (m k)
   restates_each home m h k =
       subst (λ (u : ℕ → Shown). RestatesGroup k bs (u k) (m k)) (sym tabled)
       (at_bool (g == k) (λ t. (g == k) ≡ t → RestatesGroup k bs (s.tables k) (m k))
       (λ _ same. subst (λ (j : ℕ). RestatesGroup j bs (s.tables j) (m j)) (from_eq_true g k same) (restates_it home m h))
       (λ _ apart. nothing_restated k bs (s.tables k) m (alone k apart)) refl)
 
-  end_part : (home : Home) (m : LogMap) → Holds home s m [] → SaysItself (signed_for b) b → IsLaidOut b → IsGroupPart o.number statuses.End b
+  end_part : (home : LogDirectories) (m : LogMap) → Represents home s m [] → SaysItself (signed_for b) b → IsLaidOut b → IsGroupPart o.number statuses.End b
   end_part home m h says laid =
       subst (λ (n : ℕ). IsGroupPart n statuses.End b) (sym has.numbered)
       (part_fits home s m g done number statuses.End last.bytes pairs b h last.is (let all = last.all home m h in omega (arith, all)) says laid)
@@ -150,7 +150,7 @@ module _ (g number done : ℕ) (parts : List RestatedPart) (pairs : List (List �
   pub not_ended : MakeOnePiece (drop done (rewritten_entries (s.tables g))) → (error : Error) (w : LogPipes) (new : MemTables) → FailsToWriteLast b error v old w new → FailsToRestate error s (shows w new cache)
   not_ended one error w new refused =
       let same = same_but_pipes v w old new cache refused.same in record {
-        same = same ∙ ap (λ (x : Shows). record x { pipes = w }) has.same;
+        same = same ∙ ap (λ (x : EngineState). record x { pipes = w }) has.same;
         tells = λ lived. refused.fails.tells has.alive;
         later = later_on s.pipes.disk v.disk w.disk has.later refused.fails.later;
         remains = λ home m h.
@@ -176,7 +176,7 @@ module _ (g number done : ℕ) (parts : List RestatedPart) (pairs : List (List �
     abbrev ps : List WrittenPart
     ps = parts_of o ++ record { block = block; batch = b } ∷ []
 
-    abbrev t : Shows
+    abbrev t : EngineState
     t = shows w new cache
 
     moved : MovedParts None ps old mid
@@ -193,9 +193,9 @@ module _ (g number done : ℕ) (parts : List RestatedPart) (pairs : List (List �
         ∙ ap (λ (u : ℕ → Shown). u k) tabled
 
     counts_stay : counts new ≡ s.counts
-    counts_stay = fun_ext (λ k. counted k ∙ wrote.stay.counts k) ∙ ap (λ (x : Shows). x.counts) has.same
+    counts_stay = fun_ext (λ k. counted k ∙ wrote.stay.counts k) ∙ ap (λ (x : EngineState). x.counts) has.same
 
-    module _ (home : Home) (m : LogMap) (h : Holds home s m []) where
+    module _ (home : LogDirectories) (m : LogMap) (h : Represents home s m []) where
       abbrev synced : LogPipes
       synced = wrote.wrote.synced
 
@@ -216,7 +216,7 @@ module _ (g number done : ℕ) (parts : List RestatedPart) (pairs : List (List �
           let all = few_there home m h in
           let same : (shown_of old g).rewritten ≡ (s.tables g).rewritten = ap (λ (u : ℕ → Shown). (u g).rewritten) tabled in omega (arith, some, all, same))
 
-      pub ended_holds : Holds home t m []
+      pub ended_holds : Represents home t m []
       ended_holds =
           end_over_tables home synced w old mid new cache cache None o b block m g behind part (restates_each home m h) alone wrote.wrote.call table_there moved
           (subst (λ (x : GroupFiles). NotesFiles g x mid new) the_files notes) (inl refl)
@@ -263,7 +263,7 @@ module _ (g number done : ℕ) (parts : List RestatedPart) (pairs : List (List �
 -- The exits of an atomic group, from its first part on.
 
 -- nothing was done, for want of memory
-pub nothing_done : (error : Error) (s : Shows) → error ≡ errors.Memory → FailsToRestate error s s
+pub nothing_done : (error : Error) (s : EngineState) → error ≡ errors.Memory → FailsToRestate error s s
 nothing_done error s memory = record {
   same = refl;
   tells = λ lived. tells_nothing error s.pipes lived (memory_is_none error memory);
@@ -272,32 +272,32 @@ nothing_done error s memory = record {
   cause = λ home m h. memory_reason home m error s s memory;
 }
 
-pub ended_then : (r : Result (Unit {0}) Error) (g number done : ℕ) (parts : List RestatedPart) (pairs : List (List ℕ × List ℕ)) (b : Batch) (s : Shows) (v w : LogPipes) (old new : MemTables) (cache : BlockCache)
+pub ended_then : (r : Result (Unit {0}) Error) (g number done : ℕ) (parts : List RestatedPart) (pairs : List (List ℕ × List ℕ)) (b : Batch) (s : EngineState) (v w : LogPipes) (old new : MemTables) (cache : BlockCache)
     → HasParts g number done parts s (shows v old cache) → IsLastPart g number done pairs b s → ListsAll (rewritten_values (s.tables g)) pairs → OnOk r (EndsParts g parts b v old w new) → OnOk r (RestatesOne g s (shows w new cache))
 ended_then (Ok x) g number done parts pairs b s v w old new cache has last lists ends = ends cache s number done pairs has last lists
 ended_then (Err e) g number done parts pairs b s v w old new cache has last lists ends = tt
 
-pub not_ended_then : (r : Result (Unit {0}) Error) (g number done : ℕ) (parts : List RestatedPart) (pairs : List (List ℕ × List ℕ)) (b : Batch) (s : Shows) (v w : LogPipes) (old new : MemTables) (cache : BlockCache)
+pub not_ended_then : (r : Result (Unit {0}) Error) (g number done : ℕ) (parts : List RestatedPart) (pairs : List (List ℕ × List ℕ)) (b : Batch) (s : EngineState) (v w : LogPipes) (old new : MemTables) (cache : BlockCache)
     → HasParts g number done parts s (shows v old cache) → MakeOnePiece (drop done (rewritten_entries (s.tables g))) → IsLastPart g number done pairs b s → ListsAll (rewritten_values (s.tables g)) pairs → IfErr r (λ error. FailsToEnd g parts b error v old w new)
     → IfErr r (λ error. FailsToRestate error s (shows w new cache))
 not_ended_then (Ok x) g number done parts pairs b s v w old new cache has one last lists fails = tt
 not_ended_then (Err e) g number done parts pairs b s v w old new cache has one last lists fails = fails cache s number done pairs has one last lists
 
 -- what was said of a group with these entries and keys in Rewrite
-pub these_restated : (r : Result (Unit {0}) Error) (g : ℕ) (es : List EntryIndex) (pairs : List (List ℕ × List ℕ)) (s t : Shows) → StandsInRewrite g es pairs s → OnOk r (RestatesThese g es pairs s t) → OnOk r (RestatesOne g s t)
+pub these_restated : (r : Result (Unit {0}) Error) (g : ℕ) (es : List EntryIndex) (pairs : List (List ℕ × List ℕ)) (s t : EngineState) → StandsInRewrite g es pairs s → OnOk r (RestatesThese g es pairs s t) → OnOk r (RestatesOne g s t)
 these_restated (Ok x) g es pairs s t stands done = done stands
 these_restated (Err e) g es pairs s t stands done = tt
 
-pub these_not_restated : (r : Result (Unit {0}) Error) (g : ℕ) (es : List EntryIndex) (pairs : List (List ℕ × List ℕ)) (s t : Shows) → StandsInRewrite g es pairs s → IfErr r (λ error. FailsToRestateThese g es pairs error s t)
+pub these_not_restated : (r : Result (Unit {0}) Error) (g : ℕ) (es : List EntryIndex) (pairs : List (List ℕ × List ℕ)) (s t : EngineState) → StandsInRewrite g es pairs s → IfErr r (λ error. FailsToRestateThese g es pairs error s t)
     → IfErr r (λ error. FailsToRestate error s t)
 these_not_restated (Ok x) g es pairs s t stands fails = tt
 these_not_restated (Err e) g es pairs s t stands fails = fails stands
 
-pub restated_then : (r : Result (Unit {0}) Error) (g : ℕ) (es : List EntryIndex) (pairs : List (List ℕ × List ℕ)) (s t : Shows) → (StandsInRewrite g es pairs s → OnOk r (RestatesOne g s t)) → OnOk r (RestatesThese g es pairs s t)
+pub restated_then : (r : Result (Unit {0}) Error) (g : ℕ) (es : List EntryIndex) (pairs : List (List ℕ × List ℕ)) (s t : EngineState) → (StandsInRewrite g es pairs s → OnOk r (RestatesOne g s t)) → OnOk r (RestatesThese g es pairs s t)
 restated_then (Ok x) g es pairs s t done = done
 restated_then (Err e) g es pairs s t done = tt
 
-pub not_restated_then : (r : Result (Unit {0}) Error) (g : ℕ) (es : List EntryIndex) (pairs : List (List ℕ × List ℕ)) (s t : Shows) → (StandsInRewrite g es pairs s → IfErr r (λ error. FailsToRestate error s t))
+pub not_restated_then : (r : Result (Unit {0}) Error) (g : ℕ) (es : List EntryIndex) (pairs : List (List ℕ × List ℕ)) (s t : EngineState) → (StandsInRewrite g es pairs s → IfErr r (λ error. FailsToRestate error s t))
     → IfErr r (λ error. FailsToRestateThese g es pairs error s t)
 not_restated_then (Ok x) g es pairs s t fails = tt
 not_restated_then (Err e) g es pairs s t fails = fails

@@ -26,7 +26,7 @@ use Rattle.raft_log_dual_pipes.specs.Calls.{AppendsTo, FailsToAppendTo, TellsFai
 use Rattle.raft_log_dual_pipes.specs.Numbers.{EndsNumbersAt}
 use Rattle.raft_log_dual_pipes.specs.PipeCalls.{PipeFailsToAppend}
 use Rattle.raft_log_block_cache.specs.declared.block_cache.BlockCache.{BlockCache}
-use Rattle.raft_log_engine_laws.specs.Shows.{Home, LogMap, Shows, shows}
+use Rattle.raft_log_engine_laws.specs.EngineState.{LogDirectories, LogMap, EngineState, shows}
 use Rattle.raft_log_engine_laws.specs.Rewriting.{CountsAlone}
 use Rattle.raft_log_engine_laws.proofs.Copying.{copies_refused, copies_written}
 use Rattle.raft_log_purge_copy.specs.Parts.{IsRecordMade, Remains}
@@ -49,7 +49,7 @@ may_move_there m b block items may is =
     subst (λ (l : List LogItem). MayMove m (tagged_items (λ e. e) l)) (sym is) (written_may_move m (block_place block b.entries) b.items may)
 
 -- tables that show the same
-abbrev over : LogPipes → BlockCache → (ℕ → Shown) → (ℕ → Bool) → Shows
+abbrev over : LogPipes → BlockCache → (ℕ → Shown) → (ℕ → Bool) → EngineState
 over w cache tables counts = record { tables = tables; counts = counts; pipes = w; cache = cache }
 
 pub same_but_pipes : (v w : LogPipes) (old new : MemTables) (cache : BlockCache) → ShowsSame old new → shows w new cache ≡ record (shows v old cache) { pipes = w }
@@ -93,7 +93,7 @@ module _ (gate : ℕ) (b made : Batch) (v w : LogPipes) (old new : MemTables) (s
 
 -- Before that: the record is made, and room in the tables.
 
-overlong_or_memory : (home : Home) (m : LogMap) (b : Batch) (error : Error) (s t : Shows) → IsUnrecorded b error → IsOverlong b error ⊎ HasReason home m error s t
+overlong_or_memory : (home : LogDirectories) (m : LogMap) (b : Batch) (error : Error) (s t : EngineState) → IsUnrecorded b error → IsOverlong b error ⊎ HasReason home m error s t
 overlong_or_memory home m b error s t (inl memory) = inr (memory_reason home m error s t memory)
 overlong_or_memory home m b error s t (inr long) = inl long
 
@@ -110,11 +110,11 @@ not_copied gate b error v old new cache why same =
     }
 
 -- what is said of a batch whose record was made is said of the batch
-moves_kept : (gate : Option ℕ) (b kept : Batch) (s t : Shows) → kept ≡ record b { state = kept.state; buffer = kept.buffer } → MovesCopies gate kept s t → MovesCopies gate b s t
+moves_kept : (gate : Option ℕ) (b kept : Batch) (s t : EngineState) → kept ≡ record b { state = kept.state; buffer = kept.buffer } → MovesCopies gate kept s t → MovesCopies gate b s t
 moves_kept gate b kept s t is w =
     let k = subst (λ (x : Batch). MovesCopies gate x s t) is w in record { block = k.block; alive = k.alive; tables = k.tables; counts = k.counts; cache = k.cache; later = k.later; stays = k.stays; holds = k.holds }
 
-fails_kept : (gate : Option ℕ) (b kept : Batch) (error : Error) (s t : Shows) → kept ≡ record b { state = kept.state; buffer = kept.buffer } → FailsToCopy gate kept error s t → FailsToCopy gate b error s t
+fails_kept : (gate : Option ℕ) (b kept : Batch) (error : Error) (s t : EngineState) → kept ≡ record b { state = kept.state; buffer = kept.buffer } → FailsToCopy gate kept error s t → FailsToCopy gate b error s t
 fails_kept gate b kept error s t is f =
     let k = subst (λ (x : Batch). FailsToCopy gate x error s t) is f in record { same = k.same; tells = k.tells; later = k.later; remains = k.remains; cause = k.cause }
 

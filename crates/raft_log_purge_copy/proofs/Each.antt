@@ -6,8 +6,8 @@ use Rattle.raft_log_model_laws.proofs.Cases.{at_bool, eq_true}
 use Rattle.raft_log_record_base.specs.declared.errors.Error.{Error}
 use Rattle.raft_log_extents.specs.declared.place.Place.{Place}
 use Rattle.raft_log_memtable_index.specs.Shown.{Shown}
-use Rattle.raft_log_engine_laws.specs.Shows.{Home, LogMap, Shows}
-use Rattle.raft_log_engine_laws.specs.Holding.{Holds}
+use Rattle.raft_log_engine_laws.specs.EngineState.{LogDirectories, LogMap, EngineState}
+use Rattle.raft_log_engine_laws.specs.Holding.{Represents}
 use Rattle.raft_log_purge_copy.proofs.Grouping.{among}
 use Rattle.raft_log_purge_copy.proofs.Leasts.{among_more}
 use Rattle.raft_log_purge_copy.proofs.PartExits.{later_on, same_later}
@@ -52,7 +52,7 @@ among_none g xs i d x lt is none = by (take i xs) (ap (λ l. among l g) (sym (ta
     by [] h = (refl, at_bool (x == g) (λ b. (b || false) ≡ false → b ≡ false) (λ _ e. e) (λ _ e. refl) h)
     by (y ∷ ys) h = at_bool (y == g) (λ b. (b || among (ys ++ x ∷ []) g) ≡ false → ((b || among ys g) ≡ false) × ((x == g) ≡ false)) (λ _ e. absurd (false≢true (sym e))) (λ _ e. by ys e) h
 
-pub none_restated : (s : Shows) → Restates (among []) s s
+pub none_restated : (s : EngineState) → Restates (among []) s s
 none_restated s = record {
   others = λ g apart. refl;
   counts = refl;
@@ -63,7 +63,7 @@ none_restated s = record {
   from = λ home m h g none. absurd (false≢true none);
 }
 
-module _ (groups : List ℕ) (i d x : ℕ) (s t u : Shows) (lt : i < length groups) (is : x ≡ get_or groups i d) (so_far : Restates (among (take i groups)) s t) where
+module _ (groups : List ℕ) (i d x : ℕ) (s t u : EngineState) (lt : i < length groups) (is : x ≡ get_or groups i d) (so_far : Restates (among (take i groups)) s t) where
   pub one_more_restated : RestatesOne x t u → Restates (among (take (i + 1) groups)) s u
   one_more_restated one = record {
     others = λ g apart. (let none = among_none g groups i d x lt is apart in one.others g none.1 ∙ so_far.others g none.0);
@@ -75,7 +75,7 @@ module _ (groups : List ℕ) (i d x : ℕ) (s t u : Shows) (lt : i < length grou
     from = λ home m h g these. restated home m h g (x == g) refl (among (take i groups) g) refl these;
   }
     where
-      restated : (home : Home) (m : LogMap) → Holds home s m [] → (g : ℕ) (b : Bool) → (x == g) ≡ b → (c : Bool) → among (take i groups) g ≡ c → among (take (i + 1) groups) g ≡ true
+      restated : (home : LogDirectories) (m : LogMap) → Represents home s m [] → (g : ℕ) (b : Bool) → (x == g) ≡ b → (c : Bool) → among (take i groups) g ≡ c → among (take (i + 1) groups) g ≡ true
           → IsRestatedFrom (last_file s) (s.tables g) (u.tables g)
       restated home m h g true here true before these =
           from_twice (last_file s) (last_file t) (s.tables g) (t.tables g) (u.tables g) (so_far.rises home m h) (so_far.from home m h g before) (one.from home m (so_far.holds home m h) g here)
@@ -90,8 +90,8 @@ module _ (groups : List ℕ) (i d x : ℕ) (s t u : Shows) (lt : i < length grou
 
   pub one_stopped : (error : Error) → FailsToRestate error t u → StopsRestating groups error s u
   one_stopped error fails = record {
-    others = λ g apart. ap (λ (e : Shows). e.tables g) fails.same ∙ so_far.others g (none_of_first g apart);
-    counts = ap (λ (e : Shows). e.counts) fails.same ∙ so_far.counts;
+    others = λ g apart. ap (λ (e : EngineState). e.tables g) fails.same ∙ so_far.others g (none_of_first g apart);
+    counts = ap (λ (e : EngineState). e.counts) fails.same ∙ so_far.counts;
     tells = λ lived. fails.tells (so_far.alive lived);
     later = later_on s.pipes.disk t.pipes.disk u.pipes.disk so_far.later fails.later;
     remains = λ home m h. fails.remains home m (so_far.holds home m h);
@@ -107,5 +107,5 @@ module _ (groups : List ℕ) (i d x : ℕ) (s t u : Shows) (lt : i < length grou
       none_of_first : (g : ℕ) → among groups g ≡ false → among (take i groups) g ≡ false
       none_of_first g h = none_of groups i g h
 
-pub all_restated : (groups : List ℕ) (i : ℕ) (s t : Shows) → length groups ≤ i → Restates (among (take i groups)) s t → RestatesEach groups s t
+pub all_restated : (groups : List ℕ) (i : ℕ) (s t : EngineState) → length groups ≤ i → Restates (among (take i groups)) s t → RestatesEach groups s t
 all_restated groups i s t all done = subst (λ (l : List ℕ). Restates (among l) s t) (take_all i groups all) done

@@ -17,8 +17,8 @@ use Rattle.raft_log_engine_laws.specs.raft_log_memtable.specs.Reads.{entries_fro
 use Rattle.raft_log_dual_pipes.specs.Pipes.{LogPipes}
 use Rattle.raft_log_block_cache.specs.declared.block_cache.BlockCache.{BlockCache}
 use Rattle.raft_log_block_cache.specs.Blocks.{AreUnread, IsOfLog, ReadsEntries}
-use Rattle.raft_log_engine_laws.specs.Shows.{Home, LogMap, Shows}
-use Rattle.raft_log_engine_laws.specs.Holding.{Holds}
+use Rattle.raft_log_engine_laws.specs.EngineState.{LogDirectories, LogMap, EngineState}
+use Rattle.raft_log_engine_laws.specs.Holding.{Represents}
 use Rattle.raft_log_engine_laws.specs.Fetching.{AreEntriesOf}
 use Rattle.raft_log_engine_laws.proofs.Fetching.{all_told, all_untold}
 use Rattle.raft_log_engine_laws.specs.Parts.{HoldsInGroup, UnendedGroup}
@@ -94,13 +94,13 @@ bytes_of_read m g i (x ∷ xs) ((bytes, maps, is), rest) =
 -- What is read.
 
 -- with another block
-abbrev pub caching : Shows → BlockCache → Shows
+abbrev pub caching : EngineState → BlockCache → EngineState
 caching e new = record e { cache = new }
 
-pub held_caching : (home : Home) (e : Shows) (m : LogMap) (new : BlockCache) (h : Holds home e m []) → IsOfLog h.state new → Holds home (caching e new) m []
+pub held_caching : (home : LogDirectories) (e : EngineState) (m : LogMap) (new : BlockCache) (h : Represents home e m []) → IsOfLog h.state new → Represents home (caching e new) m []
 held_caching home e m new h cached = record { state = h.state; map = h.map; runs = h.runs; stored = h.stored; rises = h.rises; noted = h.noted; meant = h.meant; cached = cached; at = h.at }
 
-pub open_caching : (home : Home) (e : Shows) (m : LogMap) (o : UnendedGroup) (new : BlockCache) (h : HoldsInGroup home e m o) → IsOfLog h.holds.state new → HoldsInGroup home (caching e new) m o
+pub open_caching : (home : LogDirectories) (e : EngineState) (m : LogMap) (o : UnendedGroup) (new : BlockCache) (h : HoldsInGroup home e m o) → IsOfLog h.holds.state new → HoldsInGroup home (caching e new) m o
 open_caching home e m o new k cached =
     let h = k.holds in record {
       holds = record { state = h.state; map = h.map; runs = h.runs; stored = h.stored; rises = h.rises; noted = h.noted; meant = h.meant; cached = cached; at = h.at };
@@ -110,7 +110,7 @@ open_caching home e m o new k cached =
       rises = k.rises;
     }
 
-module _ (e : Shows) (g done count : ℕ) (es : List EntryIndex) (is : es ≡ take count (drop done (rewritten_entries (e.tables g)))) (new : BlockCache) (home : Home) (m : LogMap) (h : Holds home e m []) where
+module _ (e : EngineState) (g done count : ℕ) (es : List EntryIndex) (is : es ≡ take count (drop done (rewritten_entries (e.tables g)))) (new : BlockCache) (home : LogDirectories) (m : LogMap) (h : Represents home e m []) where
   abbrev v : Shown
   v = e.tables g
 
@@ -168,7 +168,7 @@ unbuilt_is_none g u es pairs old new error (inl unread) = unread_is_none u es ol
 unbuilt_is_none g u es pairs old new error (inr (xs, reads, inl why)) = unmade_is_none error (entries_unmade error 0 (indexes_of es) (map (λ x. x.bytes) xs) why)
 unbuilt_is_none g u es pairs old new error (inr (xs, reads, inr why)) = unmade_is_none error (keys_unmade error g pairs why)
 
-pub read_len : (v : Shown) (es : List EntryIndex) (reading : List ℕ → Option RawMessage) (e : Shows) (old new : BlockCache) (xs : List RawMessage) → ReadsEntries reading e.pipes es old new xs → length xs ≡ length es
+pub read_len : (v : Shown) (es : List EntryIndex) (reading : List ℕ → Option RawMessage) (e : EngineState) (old new : BlockCache) (xs : List RawMessage) → ReadsEntries reading e.pipes es old new xs → length xs ≡ length es
 read_len v [] reading e old new xs (same, none) = ap length none
 read_len v (x ∷ es) reading e old new [] never = absurd never
 read_len v (x ∷ es) reading e old new (y ∷ xs) (next, one, rest) = (let more = read_len v es reading e next new xs rest in omega (arith, more))

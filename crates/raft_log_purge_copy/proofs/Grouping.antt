@@ -12,7 +12,7 @@ use Rattle.raft_log_memtable_index.specs.Shown.{Shown}
 use Rattle.raft_log_memtable_index.specs.Noted.{file_at, place_file}
 use Rattle.raft_log_engine_laws.specs.raft_log_memtable.specs.Files.{FrontIsLeast, IsLeastInAppend}
 use Rattle.raft_log_engine_laws.specs.raft_log_memtable.proofs.Leasts.{place_there}
-use Rattle.raft_log_engine_laws.specs.Shows.{Shows, has_failed}
+use Rattle.raft_log_engine_laws.specs.EngineState.{EngineState, has_failed}
 use Rattle.raft_log_engine_laws.specs.Raising.{AppendMayBegin}
 use Rattle.raft_log_record_batches.specs.Entries.{indexes_of}
 use Rattle.raft_log_purge_copy.specs.Parts.{StaysInFile}
@@ -32,10 +32,10 @@ use Rattle.raft_log_purge_copy.proofs.Reasons.{reason_after}
 
 -- Parts.
 
-pub part_same : (test : ℕ → Bool) (gate : ℕ) (s : Shows) → RewritesPart test gate s s
+pub part_same : (test : ℕ → Bool) (gate : ℕ) (s : EngineState) → RewritesPart test gate s s
 part_same test gate s = record { parts = λ g. partly_same gate (s.tables g); others = λ g apart. refl; counts = refl; later = same_later s.pipes.disk }
 
-pub part_then : (test : ℕ → Bool) (gate : ℕ) (s t u : Shows) → RewritesPart test gate s t → RewritesPart test gate t u → RewritesPart test gate s u
+pub part_then : (test : ℕ → Bool) (gate : ℕ) (s t u : EngineState) → RewritesPart test gate s t → RewritesPart test gate t u → RewritesPart test gate s u
 part_then test gate s t u p q = record {
   parts = λ g. partly_then gate (s.tables g) (t.tables g) (u.tables g) (p.parts g) (q.parts g);
   others = λ g apart. q.others g apart ∙ p.others g apart;
@@ -44,7 +44,7 @@ part_then test gate s t u p q = record {
 }
 
 -- of more groups
-pub part_wider : (few many : ℕ → Bool) (gate : ℕ) (s t : Shows) → ((g : ℕ) → few g ≡ true → many g ≡ true) → RewritesPart few gate s t → RewritesPart many gate s t
+pub part_wider : (few many : ℕ → Bool) (gate : ℕ) (s t : EngineState) → ((g : ℕ) → few g ≡ true → many g ≡ true) → RewritesPart few gate s t → RewritesPart many gate s t
 part_wider few many gate s t more p = record {
   parts = p.parts;
   others = λ g apart. p.others g (at_bool (few g) (λ b. few g ≡ b → b ≡ false) (λ _ is. absurd (false≢true (sym apart ∙ more g is))) (λ _ _. refl) refl);
@@ -53,17 +53,17 @@ part_wider few many gate s t more p = record {
 }
 
 -- what is owed stays
-pub owe_then : (test : ℕ → Bool) (gate : ℕ) (s t : Shows) → RewritesPart test gate s t → OweNothing s.tables → OweNothing t.tables
+pub owe_then : (test : ℕ → Bool) (gate : ℕ) (s t : EngineState) → RewritesPart test gate s t → OweNothing s.tables → OweNothing t.tables
 owe_then test gate s t p owes g = ((p.parts g).cleaned ∙ (owes g).0, (p.parts g).compacted ∙ (owes g).1, λ k. ap (λ (f : List ℕ → Bool). f k) (p.parts g).deleted ∙ (owes g).2 k)
 
-pub held_then : (test : ℕ → Bool) (gate : ℕ) (s t u : Shows) → RewritesPart test gate s t → StaysHeld s t → StaysHeld t u → StaysHeld s u
+pub held_then : (test : ℕ → Bool) (gate : ℕ) (s t u : EngineState) → RewritesPart test gate s t → StaysHeld s t → StaysHeld t u → StaysHeld s u
 held_then test gate s t u p h k owes home m held = k (owe_then test gate s t p owes) home m (h owes home m held)
 
-left_then : (test : ℕ → Bool) (gate : ℕ) (error : Error) (s t u : Shows) → RewritesPart test gate s t → StaysHeld s t → StaysOrIsLeft error t u → StaysOrIsLeft error s u
+left_then : (test : ℕ → Bool) (gate : ℕ) (error : Error) (s t u : EngineState) → RewritesPart test gate s t → StaysHeld s t → StaysOrIsLeft error t u → StaysOrIsLeft error s u
 left_then test gate error s t u p h k owes home m held = k (owe_then test gate s t p owes) home m (h owes home m held)
 
 -- what a later part is refused for
-pub reason_then : (test : ℕ → Bool) (gate : ℕ) (error : Error) (s t u : Shows) → RewritesPart test gate s t → StaysHeld s t → (OweNothing t.tables → GivesReason error t u) → OweNothing s.tables → GivesReason error s u
+pub reason_then : (test : ℕ → Bool) (gate : ℕ) (error : Error) (s t u : EngineState) → RewritesPart test gate s t → StaysHeld s t → (OweNothing t.tables → GivesReason error t u) → OweNothing s.tables → GivesReason error s u
 reason_then test gate error s t u p h reason owes home m held = reason_after home m error s t u p.later (reason (owe_then test gate s t p owes) home m (h owes home m held))
 
 -- One group's entries.
@@ -79,7 +79,7 @@ some_entries : {A : Type 0} (es : List A) → (es ≡ [] → ⊥) → 0 < length
 some_entries [] some = absurd (some refl)
 some_entries (e ∷ es) some = omega arith
 
-pub entries_part : (group gate : ℕ) (s t : Shows) → CopiesEntries group gate s t → RewritesPart (λ g. group == g) gate s t
+pub entries_part : (group gate : ℕ) (s t : EngineState) → CopiesEntries group gate s t → RewritesPart (λ g. group == g) gate s t
 entries_part group gate s t copied =
     let a = copied.advances in
     let v = s.tables group in
@@ -94,14 +94,14 @@ entries_part group gate s t copied =
     }
 
 -- Append goes on in its file
-entries_stay : (group gate : ℕ) (s t : Shows) → CopiesEntries group gate s t → StaysInFile s.pipes t.pipes
+entries_stay : (group gate : ℕ) (s t : EngineState) → CopiesEntries group gate s t → StaysInFile s.pipes t.pipes
 entries_stay group gate s t copied = copied.moved.stays (run_plain group copied.run (indexes_of copied.entries) copied.bytes copied.is)
 
 -- how many entries are left in Append, and whether there may be more to be copied
 abbrev pub left_in : Shown → Bool → ℕ
 left_in v more = (length v.places - v.rewritten) + (if more then 1 else 0)
 
-pub fewer_left : (group gate : ℕ) (some : Bool) (s t : Shows) → CopiesIfAny group gate some s t → left_in (t.tables group) some < left_in (s.tables group) true
+pub fewer_left : (group gate : ℕ) (some : Bool) (s t : EngineState) → CopiesIfAny group gate some s t → left_in (t.tables group) some < left_in (s.tables group) true
 fewer_left group gate true s t copied =
     let a = copied.advances in
     let v = s.tables group in
@@ -114,20 +114,20 @@ fewer_left group gate true s t copied =
     let most = passing_all gate (drop v.rewritten v.places) in
     let long = length-drop v.rewritten v.places in
     omega (arith, moved, all, many, some, low, most, long)
-fewer_left group gate false s t (same, next) = let now : length (t.tables group).places - (t.tables group).rewritten ≡ length (s.tables group).places - (s.tables group).rewritten = ap (λ (e : Shows). length (e.tables group).places - (e.tables group).rewritten) same in omega (arith, now)
+fewer_left group gate false s t (same, next) = let now : length (t.tables group).places - (t.tables group).rewritten ≡ length (s.tables group).places - (s.tables group).rewritten = ap (λ (e : EngineState). length (e.tables group).places - (e.tables group).rewritten) same in omega (arith, now)
 
 -- the entries so far
-pub record EntriesSoFar (group gate : ℕ) (more : Bool) (s t : Shows) : Type 0 where
+pub record EntriesSoFar (group gate : ℕ) (more : Bool) (s t : EngineState) : Type 0 where
   pub part : RewritesPart (λ g. group == g) gate s t
   pub none : more ≡ false → passing gate (drop (t.tables group).rewritten (t.tables group).places) ≡ 0
   pub alive : has_failed s ≡ false → has_failed t ≡ false
   pub stays : StaysInFile s.pipes t.pipes
   pub holds : StaysHeld s t
 
-pub none_so_far : (group gate : ℕ) (s : Shows) → EntriesSoFar group gate true s s
+pub none_so_far : (group gate : ℕ) (s : EngineState) → EntriesSoFar group gate true s s
 none_so_far group gate s = record { part = part_same (λ g. group == g) gate s; none = λ is. absurd (false≢true (sym is)); alive = λ lived. lived; stays = stays_same s.pipes; holds = λ owes home m h. h }
 
-pub one_more : (group gate : ℕ) (some : Bool) (s t u : Shows) → EntriesSoFar group gate true s t → CopiesIfAny group gate some t u → EntriesSoFar group gate some s u
+pub one_more : (group gate : ℕ) (some : Bool) (s t u : EngineState) → EntriesSoFar group gate true s t → CopiesIfAny group gate some t u → EntriesSoFar group gate some s u
 one_more group gate true s t u so_far copied =
     let part = entries_part group gate t u copied in record {
       part = part_then (λ g. group == g) gate s t u so_far.part part;
@@ -139,15 +139,15 @@ one_more group gate true s t u so_far copied =
 one_more group gate false s t u so_far (same, next) =
     subst (EntriesSoFar group gate false s) (sym same) (record { part = so_far.part; none = λ is. none_passes gate (t.tables group) next; alive = so_far.alive; stays = so_far.stays; holds = so_far.holds })
 
-pub all_entries_copied : (group gate : ℕ) (more : Bool) (s t : Shows) → more ≡ false → EntriesSoFar group gate more s t → RewritesEntries group gate s t
+pub all_entries_copied : (group gate : ℕ) (more : Bool) (s t : EngineState) → more ≡ false → EntriesSoFar group gate more s t → RewritesEntries group gate s t
 all_entries_copied group gate more s t ended so_far = record { part = so_far.part; none = so_far.none ended; alive = so_far.alive; stays = so_far.stays; holds = so_far.holds }
 
-pub entries_stopped : (group gate : ℕ) (more : Bool) (error : Error) (s t u : Shows) → EntriesSoFar group gate more s t → FailsToCopyEntries error t u → StopsRewriting (λ g. group == g) gate error s u
+pub entries_stopped : (group gate : ℕ) (more : Bool) (error : Error) (s t u : EngineState) → EntriesSoFar group gate more s t → FailsToCopyEntries error t u → StopsRewriting (λ g. group == g) gate error s u
 entries_stopped group gate more error s t u so_far fails = record {
   part = part_then (λ g. group == g) gate s t u so_far.part (record {
-    parts = λ g. subst (IsPartlyRewritten gate (t.tables g)) (sym (ap (λ (e : Shows). e.tables g) fails.same)) (partly_same gate (t.tables g));
-    others = λ g apart. ap (λ (e : Shows). e.tables g) fails.same;
-    counts = ap (λ (e : Shows). e.counts) fails.same;
+    parts = λ g. subst (IsPartlyRewritten gate (t.tables g)) (sym (ap (λ (e : EngineState). e.tables g) fails.same)) (partly_same gate (t.tables g));
+    others = λ g apart. ap (λ (e : EngineState). e.tables g) fails.same;
+    counts = ap (λ (e : EngineState). e.counts) fails.same;
     later = fails.later;
   });
   tells = λ lived. fails.tells (so_far.alive lived);
@@ -157,7 +157,7 @@ entries_stopped group gate more error s t u so_far fails = record {
 
 -- One group.
 
-pub keys_part : (group gate : ℕ) (s t : Shows) → CopiesKeys group gate s t → RewritesPart (λ g. group == g) gate s t
+pub keys_part : (group gate : ℕ) (s t : EngineState) → CopiesKeys group gate s t → RewritesPart (λ g. group == g) gate s t
 keys_part group gate s t copied =
     let m = copied.moves in record {
       parts = one_changed group gate s.tables t.tables m.others (subst (IsPartlyRewritten gate (s.tables group)) (sym m.moved) (values_are_part gate m.file (s.tables group)));
@@ -167,13 +167,13 @@ keys_part group gate s t copied =
     }
 
 -- Append goes on in its file
-keys_stay : (group gate : ℕ) (s t : Shows) → CopiesKeys group gate s t → StaysInFile s.pipes t.pipes
+keys_stay : (group gate : ℕ) (s t : EngineState) → CopiesKeys group gate s t → StaysInFile s.pipes t.pipes
 keys_stay group gate s t copied = elim copied.wrote as (λ _. StaysInFile s.pipes t.pipes) [
-  | inl none ↦ subst (λ (e : Shows). StaysInFile s.pipes e.pipes) (sym none.1) (stays_same s.pipes)
+  | inl none ↦ subst (λ (e : EngineState). StaysInFile s.pipes e.pipes) (sym none.1) (stays_same s.pipes)
   | inr some ↦ some.1.stays (plain_items copied.batch.items copied.is.plain)
 ]
 
-pub group_rewritten : (group gate : ℕ) (s t u : Shows) → RewritesEntries group gate s t → CopiesKeys group gate t u → Rewrites (λ g. group == g) gate s u
+pub group_rewritten : (group gate : ℕ) (s t u : EngineState) → RewritesEntries group gate s t → CopiesKeys group gate t u → Rewrites (λ g. group == g) gate s u
 group_rewritten group gate s t u entries copied =
     let m = copied.moves in record {
       part = part_then (λ g. group == g) gate s t u entries.part (keys_part group gate t u copied);
@@ -185,12 +185,12 @@ group_rewritten group gate s t u entries copied =
       holds = held_then (λ g. group == g) gate s t u entries.part entries.holds copied.holds;
     }
 
-pub keys_stopped : (group gate : ℕ) (error : Error) (s t u : Shows) → RewritesEntries group gate s t → FailsToCopyKeys error t u → StopsRewriting (λ g. group == g) gate error s u
+pub keys_stopped : (group gate : ℕ) (error : Error) (s t u : EngineState) → RewritesEntries group gate s t → FailsToCopyKeys error t u → StopsRewriting (λ g. group == g) gate error s u
 keys_stopped group gate error s t u entries fails = record {
   part = part_then (λ g. group == g) gate s t u entries.part (record {
-    parts = λ g. subst (IsPartlyRewritten gate (t.tables g)) (sym (ap (λ (e : Shows). e.tables g) fails.same)) (partly_same gate (t.tables g));
-    others = λ g apart. ap (λ (e : Shows). e.tables g) fails.same;
-    counts = ap (λ (e : Shows). e.counts) fails.same;
+    parts = λ g. subst (IsPartlyRewritten gate (t.tables g)) (sym (ap (λ (e : EngineState). e.tables g) fails.same)) (partly_same gate (t.tables g));
+    others = λ g apart. ap (λ (e : EngineState). e.tables g) fails.same;
+    counts = ap (λ (e : EngineState). e.counts) fails.same;
     later = fails.later;
   });
   tells = λ lived. fails.tells (entries.alive lived);
@@ -221,10 +221,10 @@ among_next g groups i d x lt is h =
 among_all : (g : ℕ) (groups : List ℕ) (i d x : ℕ) → i < length groups → x ≡ get_or groups i d → (x == g) ≡ true → among groups g ≡ true
 among_all g groups i d x lt is h = any_front (λ k. k == g) (i + 1) groups (among_next g groups i d x lt is (inr h))
 
-pub none_rewritten : (gate : ℕ) (s : Shows) → Rewrites (among []) gate s s
+pub none_rewritten : (gate : ℕ) (s : EngineState) → Rewrites (among []) gate s s
 none_rewritten gate s = record { part = part_same (among []) gate s; whole = λ g is. absurd (false≢true is); alive = λ lived. lived; stays = stays_same s.pipes; holds = λ owes home m h. h }
 
-pub group_more : (groups : List ℕ) (i d x gate : ℕ) (s t u : Shows) → i < length groups → x ≡ get_or groups i d → Rewrites (among (take i groups)) gate s t → Rewrites (λ g. x == g) gate t u → Rewrites (among (take (i + 1) groups)) gate s u
+pub group_more : (groups : List ℕ) (i d x gate : ℕ) (s t u : EngineState) → i < length groups → x ≡ get_or groups i d → Rewrites (among (take i groups)) gate s t → Rewrites (λ g. x == g) gate t u → Rewrites (among (take (i + 1) groups)) gate s u
 group_more groups i d x gate s t u lt is so_far one =
     let front = part_wider (among (take i groups)) (among (take (i + 1) groups)) gate s t (λ g h. among_next g groups i d x lt is (inl h)) so_far.part in record {
       part = part_then (among (take (i + 1) groups)) gate s t u front (part_wider (λ g. x == g) (among (take (i + 1) groups)) gate t u (λ g h. among_next g groups i d x lt is (inr h)) one.part);
@@ -241,7 +241,7 @@ group_more groups i d x gate s t u lt is so_far one =
       holds = held_then (among (take i groups)) gate s t u so_far.part so_far.holds one.holds;
     }
 
-pub group_stopped : (groups : List ℕ) (i d x gate : ℕ) (error : Error) (s t u : Shows) → i < length groups → x ≡ get_or groups i d → Rewrites (among (take i groups)) gate s t → StopsRewriting (λ g. x == g) gate error t u
+pub group_stopped : (groups : List ℕ) (i d x gate : ℕ) (error : Error) (s t u : EngineState) → i < length groups → x ≡ get_or groups i d → Rewrites (among (take i groups)) gate s t → StopsRewriting (λ g. x == g) gate error t u
     → StopsRewriting (among groups) gate error s u
 group_stopped groups i d x gate error s t u lt is so_far stops = record {
   part = part_then (among groups) gate s t u (part_wider (among (take i groups)) (among groups) gate s t (λ g h. any_front (λ k. k == g) i groups h) so_far.part)
@@ -251,7 +251,7 @@ group_stopped groups i d x gate error s t u lt is so_far stops = record {
   cause = reason_then (among (take i groups)) gate error s t u so_far.part so_far.holds stops.cause;
 }
 
-pub groups_rewritten : (groups : List ℕ) (i gate : ℕ) (s t : Shows) → length groups ≤ i → Rewrites (among (take i groups)) gate s t → Rewrites (among groups) gate s t
+pub groups_rewritten : (groups : List ℕ) (i gate : ℕ) (s t : EngineState) → length groups ≤ i → Rewrites (among (take i groups)) gate s t → Rewrites (among groups) gate s t
 groups_rewritten groups i gate s t all h = subst (λ (l : List ℕ). Rewrites (among l) gate s t) (take_all i groups all) h
 
 -- Nothing in use lies up to the gate.

@@ -18,10 +18,10 @@ use Rattle.raft_log_dual_pipes.specs.Own.{log_layout}
 use Rattle.raft_log_dual_pipes.specs.Queues.{SaysRecord}
 use Rattle.raft_log_dual_pipes.specs.Steps.{next_log}
 use Rattle.raft_log_block_cache.proofs.Keeping.{calls_keep_bytes}
-use Rattle.raft_log_dual_pipes.specs.Pipes.{LogPipes, RunsOn, Said, State}
+use Rattle.raft_log_dual_pipes.specs.Pipes.{LogPipes, RunsOn, LogRecordValue, State}
 use Rattle.raft_log_dual_pipes.specs.Calls.{AppendsTo, FailsToSyncQueue, SyncsQueue}
-use Rattle.raft_log_engine_laws.specs.Shows.{Home, LogMap, Shows, said_by, sense}
-use Rattle.raft_log_engine_laws.specs.Holding.{Holds, IsLeftAt}
+use Rattle.raft_log_engine_laws.specs.EngineState.{LogDirectories, LogMap, EngineState, said_by, sense}
+use Rattle.raft_log_engine_laws.specs.Holding.{Represents, IsRecoverableAs}
 use Rattle.raft_log_engine_laws.proofs.Keeping.{holds_runs}
 use Rattle.raft_log_engine_laws.specs.Rewriting.{RewriteLeaves}
 use Rattle.raft_log_engine_laws.proofs.Rewriting.{IsTaken, record_taken}
@@ -38,18 +38,18 @@ use Rattle.raft_log_purge_copy.specs.Restated.{last_file}
 
 -- The last file.
 
-pub last_told : (home : Home) (v : LogPipes) (s : State) → RunsOn (sense home) v s → written_file Rewrite v ≡ s.rewrite.files.last
+pub last_told : (home : LogDirectories) (v : LogPipes) (s : State) → RunsOn (sense home) v s → written_file Rewrite v ≡ s.rewrite.files.last
 last_told home v s runs = runs.run.rewrite.pipe.number
 
-pub last_is : (home : Home) (e : Shows) (m : LogMap) (h : Holds home e m []) → last_file e ≡ h.state.rewrite.files.last
+pub last_is : (home : LogDirectories) (e : EngineState) (m : LogMap) (h : Represents home e m []) → last_file e ≡ h.state.rewrite.files.last
 last_is home e m h = last_told home e.pipes h.state h.runs
 
 -- with the same tables and block
-abbrev pub over : Shows → LogPipes → Shows
+abbrev pub over : EngineState → LogPipes → EngineState
 over e w = record e { pipes = w }
 
 -- a sync leaves it
-pub synced_last : (home : Home) (e : Shows) (m : LogMap) (w : LogPipes) → Holds home e m [] → SyncsQueue InRewrite e.pipes w → last_file e ≤ written_file Rewrite w
+pub synced_last : (home : LogDirectories) (e : EngineState) (m : LogMap) (w : LogPipes) → Represents home e m [] → SyncsQueue InRewrite e.pipes w → last_file e ≤ written_file Rewrite w
 synced_last home e m w h call =
     let s = h.state in
     let (runs, step) = call (sense home) s h.runs in
@@ -58,12 +58,12 @@ synced_last home e m w h call =
     let before = last_is home e m h in
     let after = last_told home w (next_log InRewrite s (synced s.rewrite.files) w.disk) runs in omega (arith, up, before, after)
 
-pub may_sync_last : (home : Home) (e : Shows) (m : LogMap) (w : LogPipes) → Holds home e m [] → MaySync e.pipes w → last_file e ≤ written_file Rewrite w
+pub may_sync_last : (home : LogDirectories) (e : EngineState) (m : LogMap) (w : LogPipes) → Represents home e m [] → MaySync e.pipes w → last_file e ≤ written_file Rewrite w
 may_sync_last home e m w h (inl same) = subst (λ x. last_file e ≤ written_file Rewrite x) (sym same) (let low : last_file e ≤ last_file e = omega arith in low)
 may_sync_last home e m w h (inr call) = synced_last home e m w h call
 
 -- a record lies in the last file, no earlier
-pub taken_last : (home : Home) (e t : Shows) (m : LogMap) (h : Holds home e m []) (signed : LogFileContext → List ℕ) (y : Said) (block : FileBlockHandle) → IsTaken home e t m h signed y block
+pub taken_last : (home : LogDirectories) (e t : EngineState) (m : LogMap) (h : Represents home e m []) (signed : LogFileContext → List ℕ) (y : LogRecordValue) (block : FileBlockHandle) → IsTaken home e t m h signed y block
     → (last_file e ≤ block.id.seq) × (block.id.seq ≡ last_file t)
 taken_last home e t m h signed y block k =
     let up = k.keeps.rewrite.last in
@@ -73,20 +73,20 @@ taken_last home e t m h signed y block k =
 
 -- Behind what may have been a sync.
 
-pub may_sync_held : (home : Home) (e : Shows) (m : LogMap) (w : LogPipes) → Holds home e m [] → MaySync e.pipes w → Holds home (over e w) m []
-may_sync_held home e m w h (inl same) = subst (λ x. Holds home (over e x) m []) (sym same) h
+pub may_sync_held : (home : LogDirectories) (e : EngineState) (m : LogMap) (w : LogPipes) → Represents home e m [] → MaySync e.pipes w → Represents home (over e w) m []
+may_sync_held home e m w h (inl same) = subst (λ x. Represents home (over e x) m []) (sym same) h
 may_sync_held home e m w h (inr call) = sync_keeps home e (over e w) m [] h (record { tables = refl; cache = inl refl }) call
 
-pub may_sync_open : (home : Home) (e : Shows) (o : UnendedGroup) (m : LogMap) (w : LogPipes) → HoldsInGroup home e m o → MaySync e.pipes w → HoldsInGroup home (over e w) m o
+pub may_sync_open : (home : LogDirectories) (e : EngineState) (o : UnendedGroup) (m : LogMap) (w : LogPipes) → HoldsInGroup home e m o → MaySync e.pipes w → HoldsInGroup home (over e w) m o
 may_sync_open home e o m w h (inl same) = subst (λ x. HoldsInGroup home (over e x) m o) (sym same) h
 may_sync_open home e o m w h (inr call) = sync_leaves_open home e (over e w) o m h (record { tables = refl; cache = inl refl }) call
 
 -- What wasn't written.
 
-abbrev pub IsLeft : Home → LogMap → Error → Shows → Type 0
-IsLeft home m error t = Holds home t m [] ⊎ ((error ≡ errors.Failed) × IsLeftAt home t.pipes.disk m [])
+abbrev pub IsLeft : LogDirectories → LogMap → Error → EngineState → Type 0
+IsLeft home m error t = Represents home t m [] ⊎ ((error ≡ errors.Failed) × IsRecoverableAs home t.pipes.disk m [])
 
-refused_left : (home : Home) (m : LogMap) (t : Shows) (error : Error) → RewriteLeaves home m t error → IsLeft home m error t
+refused_left : (home : LogDirectories) (m : LogMap) (t : EngineState) (error : Error) → RewriteLeaves home m t error → IsLeft home m error t
 refused_left home m t (errors.Io kind) h = inl (settled_held home t m h)
 refused_left home m t (errors.TryAgain text) h = inl (settled_held home t m h)
 refused_left home m t errors.NumberRange h = inl h
@@ -94,22 +94,22 @@ refused_left home m t errors.Memory h = inl h
 refused_left home m t errors.Failed h = inr (refl, h)
 refused_left home m t _ h = absurd h
 
-unsynced_left : (home : Home) (e : Shows) (m : LogMap) (error : Error) (w : LogPipes) → Holds home e m [] → error ≡ errors.Failed → FailsToSyncQueue InRewrite e.pipes w → IsLeft home m error (over e w)
+unsynced_left : (home : LogDirectories) (e : EngineState) (m : LogMap) (error : Error) (w : LogPipes) → Represents home e m [] → error ≡ errors.Failed → FailsToSyncQueue InRewrite e.pipes w → IsLeft home m error (over e w)
 unsynced_left home e m error w h is call = inr (is, (failed_sync InRewrite home e.pipes w m [] (holds_runs home e m [] h) call).1)
 
 -- whatever is refused of a record, where a refusal by Rewrite leaves the log so
-pub unwritten_left : (home : Home) (e : Shows) (m : LogMap) (b : Batch) (error : Error) (w : LogPipes) → Holds home e m []
+pub unwritten_left : (home : LogDirectories) (e : EngineState) (m : LogMap) (b : Batch) (error : Error) (w : LogPipes) → Represents home e m []
     → ((r : RefusesRecord b error e.pipes w) → RewriteLeaves home m (over e w) error) → IsUnwritten b error e.pipes w → IsLeft home m error (over e w)
-unwritten_left home e m b error w h leaves (inl (why, same)) = inl (subst (λ x. Holds home (over e x) m []) (sym same) h)
+unwritten_left home e m b error w h leaves (inl (why, same)) = inl (subst (λ x. Represents home (over e x) m []) (sym same) h)
 unwritten_left home e m b error w h leaves (inr (inl (is, call))) = unsynced_left home e m error w h is call
 unwritten_left home e m b error w h leaves (inr (inr r)) = refused_left home m (over e w) error (leaves r)
 
 -- what the record of a batch says
-abbrev pub Speaks : Home → Batch → Type 0
-Speaks home b = (y : Said) × SaysRecord said_by (log_layout Rewrite home.rewrite) Rewrite (signed_for b) y
+abbrev pub Speaks : LogDirectories → Batch → Type 0
+Speaks home b = (y : LogRecordValue) × SaysRecord said_by (log_layout Rewrite home.rewrite) Rewrite (signed_for b) y
 
 -- why it wasn't written, where a record that Rewrite refused says something, and one that is too long is a reason
-pub unwritten_reason : (home : Home) (e : Shows) (m : LogMap) (b : Batch) (error : Error) (w : LogPipes) → Holds home e m [] → ((r : RefusesRecord b error e.pipes w) → Speaks home b)
+pub unwritten_reason : (home : LogDirectories) (e : EngineState) (m : LogMap) (b : Batch) (error : Error) (w : LogPipes) → Represents home e m [] → ((r : RefusesRecord b error e.pipes w) → Speaks home b)
     → (IsOverlong b error → HasReason home m error e (over e w)) → IsUnwritten b error e.pipes w → HasReason home m error e (over e w)
 unwritten_reason home e m b error w h says long (inl (inl memory, same)) = memory_reason home m error e (over e w) memory
 unwritten_reason home e m b error w h says long (inl (inr over_long, same)) = long over_long
@@ -120,7 +120,7 @@ unwritten_reason home e m b error w h says long (inr (inr r)) =
     reason_after home m error e (over e r.synced) (over e w) r.before (record_reason home m error (over e r.synced) (over e w) behind.state y b behind.runs speaks r.call r.range r.told)
 
 -- a part of a group says that it is one
-pub part_speaks : (home : Home) (number : ℕ) (status : AtomicGroupStatus) (b : Batch) → IsGroupPart number status b → Speaks home b
+pub part_speaks : (home : LogDirectories) (number : ℕ) (status : AtomicGroupStatus) (b : Batch) → IsGroupPart number status b → Speaks home b
 part_speaks home number status b part = (Part (part_of number status) (said_items b), says_part home number status b part)
 
 -- the part of a group
@@ -129,20 +129,20 @@ group_part number status b = IsGroupPart number status b
 
 -- Records of a group.
 
-pub begin_left : (home : Home) (e : Shows) (m : LogMap) (number : ℕ) (b : Batch) (error : Error) (w : LogPipes) → Holds home e m []
+pub begin_left : (home : LogDirectories) (e : EngineState) (m : LogMap) (number : ℕ) (b : Batch) (error : Error) (w : LogPipes) → Represents home e m []
     → ((r : RefusesRecord b error e.pipes w) → IsGroupPart number statuses.Begin b) → FailsToWriteRecord b error e.pipes w → IsLeft home m error (over e w)
 begin_left home e m number b error w h part fails =
     unwritten_left home e m b error w h
     (λ r. begin_refused home (over e r.synced) (over e w) number b m error (may_sync_held home e m r.synced h r.syncs) (part r) (record { tables = refl; cache = inl refl }) r.call) fails.why
 
-pub middle_left : (home : Home) (e : Shows) (m : LogMap) (o : UnendedGroup) (b : Batch) (error : Error) (w : LogPipes) → HoldsInGroup home e m o
+pub middle_left : (home : LogDirectories) (e : EngineState) (m : LogMap) (o : UnendedGroup) (b : Batch) (error : Error) (w : LogPipes) → HoldsInGroup home e m o
     → ((r : RefusesRecord b error e.pipes w) → IsGroupPart o.number statuses.Middle b) → FailsToWriteRecord b error e.pipes w → IsLeft home m error (over e w)
 middle_left home e m o b error w h part fails =
     unwritten_left home e m b error w h.holds
     (λ r. middle_refused home (over e r.synced) (over e w) o b m error (may_sync_open home e o m r.synced h r.syncs) (part r) (record { tables = refl; cache = inl refl }) r.call) fails.why
 
 -- the group begins
-pub begun : (home : Home) (e : Shows) (m : LogMap) (number : ℕ) (b : Batch) (block : FileBlockHandle) (mid w : LogPipes) → Holds home e m [] → MaySync e.pipes mid → IsGroupPart number statuses.Begin b
+pub begun : (home : LogDirectories) (e : EngineState) (m : LogMap) (number : ℕ) (b : Batch) (block : FileBlockHandle) (mid w : LogPipes) → Represents home e m [] → MaySync e.pipes mid → IsGroupPart number statuses.Begin b
     → AppendsTo InRewrite (signed_for b) block mid w → HoldsInGroup home (over e w) m (begun_by number (record { block = block; batch = b })) × (last_file e ≤ block.id.seq)
 begun home e m number b block mid w h syncs part call =
     let there = may_sync_held home e m mid h syncs in
@@ -152,7 +152,7 @@ begun home e m number b block mid w h syncs part call =
     (part_begins home (over e mid) (over e w) number b block m there part call (record { tables = refl; cache = inl refl }), omega (arith, up, low))
 
 -- it goes on
-pub gone_on : (home : Home) (e : Shows) (m : LogMap) (o : UnendedGroup) (b : Batch) (block : FileBlockHandle) (mid w : LogPipes) → HoldsInGroup home e m o → MaySync e.pipes mid → IsGroupPart o.number statuses.Middle b
+pub gone_on : (home : LogDirectories) (e : EngineState) (m : LogMap) (o : UnendedGroup) (b : Batch) (block : FileBlockHandle) (mid w : LogPipes) → HoldsInGroup home e m o → MaySync e.pipes mid → IsGroupPart o.number statuses.Middle b
     → AppendsTo InRewrite (signed_for b) block mid w → HoldsInGroup home (over e w) m (gone_on_by o (record { block = block; batch = b }))
 gone_on home e m o b block mid w h syncs part call =
     part_goes_on home (over e mid) (over e w) o b block m (may_sync_open home e o m mid h syncs) part call (record { tables = refl; cache = inl refl })

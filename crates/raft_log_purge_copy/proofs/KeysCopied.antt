@@ -28,8 +28,8 @@ use Rattle.raft_log_memtables.specs.declared.group_table.GroupTable.{GroupTable}
 use Rattle.raft_log_memtables.specs.declared.mem_tables.MemTables.{MemTables}
 use Rattle.raft_log_memtables.specs.Rewriting.{AreCopies, all_rewritten}
 use Rattle.raft_log_memtables.specs.Tables.{raw_of, shown_in, shown_of}
-use Rattle.raft_log_engine_laws.specs.Shows.{Home, LogMap, Shows, has_failed}
-use Rattle.raft_log_engine_laws.specs.Holding.{Holds}
+use Rattle.raft_log_engine_laws.specs.EngineState.{LogDirectories, LogMap, EngineState, has_failed}
+use Rattle.raft_log_engine_laws.specs.Holding.{Represents}
 use Rattle.raft_log_engine_laws.specs.Writing.{items_at}
 use Rattle.raft_log_engine_laws.specs.Rewriting.{HasCopies}
 use Rattle.raft_log_purge_copy.specs.Lengths.{AreOfGroup}
@@ -119,7 +119,7 @@ module _ (g gate : ℕ) (pairs : List (List ℕ × List ℕ)) (b : Batch) (is : 
       (values_are_copies at gate block.id.seq (v g) pairs (owes g).0 (owes g).2 lists)))
       (λ _ apart. subst (AreCopies at (Some gate) block.id.seq (v h)) (sym (there_of block h false apart)) tt) refl
 
-  module _ (s t : Shows) (lists : ListsAll (appended_values gate (s.tables g)) pairs) where
+  module _ (s t : EngineState) (lists : ListsAll (appended_values gate (s.tables g)) pairs) where
     moves_keys : MovesCopies (Some gate) b s t → MovesKeys g gate s.tables t.tables
     moves_keys moved = record {
       others = λ h apart. shows_then moved h [] (there_of moved.block h false apart);
@@ -139,7 +139,7 @@ module _ (g gate : ℕ) (pairs : List (List ℕ × List ℕ)) (b : Batch) (is : 
         by (e ∷ es) h = absurd (let never : ⊥ = cc h in never)
 
     none_moves : b.items ≡ [] → t ≡ s → MovesKeys g gate s.tables t.tables
-    none_moves none same = subst (λ (e : Shows). MovesKeys g gate s.tables e.tables) (sym same) (record {
+    none_moves none same = subst (λ (e : EngineState). MovesKeys g gate s.tables e.tables) (sym same) (record {
       others = λ h apart. refl;
       file = 0;
       moved = sym (no_values gate 0 (s.tables g) (subst (ListsAll (appended_values gate (s.tables g))) (no_pairs none) lists));
@@ -153,10 +153,10 @@ module _ (g gate : ℕ) (pairs : List (List ℕ × List ℕ)) (b : Batch) (is : 
       is = is;
       wrote = inl (none, same);
       moves = none_moves none same;
-      counts = ap (λ (e : Shows). e.counts) same;
-      alive = λ lived. ap (λ (e : Shows). has_failed e) same ∙ lived;
-      later = subst (λ (e : Shows). IsLater s.pipes.disk e.pipes.disk) (sym same) (same_later s.pipes.disk);
-      holds = λ owes home m h. subst (λ (e : Shows). Holds home e m []) (sym same) h;
+      counts = ap (λ (e : EngineState). e.counts) same;
+      alive = λ lived. ap (λ (e : EngineState). has_failed e) same ∙ lived;
+      later = subst (λ (e : EngineState). IsLater s.pipes.disk e.pipes.disk) (sym same) (same_later s.pipes.disk);
+      holds = λ owes home m h. subst (λ (e : EngineState). Represents home e m []) (sym same) h;
     }
     keys_copied (inr (some, moved)) = record {
       pairs = pairs;
@@ -175,7 +175,7 @@ module _ (g gate : ℕ) (pairs : List (List ℕ × List ℕ)) (b : Batch) (is : 
     keys_made : AreOfGroup g 0 [] pairs [] b.items b.entries
     keys_made = record { indexes = []; rise = tt; are = is.items ∙ sym (append-nil (map (λ (e : List ℕ × List ℕ). put_item g e.0 e.1) pairs)); joins = is.none }
 
-    keys_cause : (error : Error) (home : Home) (m : LogMap) → Holds home s m [] → IsOverlong b error ⊎ HasReason home m error s t → HasReason home m error s t
+    keys_cause : (error : Error) (home : LogDirectories) (m : LogMap) → Represents home s m [] → IsOverlong b error ⊎ HasReason home m error s t → HasReason home m error s t
     keys_cause error home m h (inl long) = long_reason home m error s t g 0 [] pairs [] b (inl refl) keys_made (inl (omega arith)) tt (values_in home m s h g (Some gate) pairs lists) lists.rising long
     keys_cause error home m h (inr reason) = reason
 
@@ -190,7 +190,7 @@ module _ (g gate : ℕ) (pairs : List (List ℕ × List ℕ)) (b : Batch) (is : 
 
 -- nothing was written
 
-pub no_memory_for_keys : (error : Error) (s : Shows) → error ≡ errors.Memory → FailsToCopyKeys error s s
+pub no_memory_for_keys : (error : Error) (s : EngineState) → error ≡ errors.Memory → FailsToCopyKeys error s s
 no_memory_for_keys error s memory = record {
   same = refl;
   tells = λ lived. tells_nothing error s.pipes lived (memory_is_none error memory);
@@ -199,7 +199,7 @@ no_memory_for_keys error s memory = record {
   cause = λ home m h. memory_reason home m error s s memory;
 }
 
-pub keys_not_written : (g gate : ℕ) (pairs : List (List ℕ × List ℕ)) (error : Error) (s : Shows) → ListsAll (appended_values gate (s.tables g)) pairs → AreUnput g pairs error → FailsToCopyKeys error s s
+pub keys_not_written : (g gate : ℕ) (pairs : List (List ℕ × List ℕ)) (error : Error) (s : EngineState) → ListsAll (appended_values gate (s.tables g)) pairs → AreUnput g pairs error → FailsToCopyKeys error s s
 keys_not_written g gate pairs error s lists why = record {
   same = refl;
   tells = λ lived. tells_nothing error s.pipes lived (unmade_is_none error (keys_unmade error g pairs why));

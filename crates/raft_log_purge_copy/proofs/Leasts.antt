@@ -33,7 +33,7 @@ use Rattle.raft_log_dual_pipes.specs.Calls.{FailsToPurgeQueue, PurgesQueue, Tell
 use Rattle.raft_log_dual_pipes.specs.Numbers.{EndsNumbersBelow}
 use Rattle.raft_log_block_cache.specs.declared.block_cache.BlockCache.{BlockCache}
 use Rattle.raft_log_block_cache.proofs.KeptBlocks.{none_kept}
-use Rattle.raft_log_engine_laws.specs.Shows.{Home, LogMap, Shows, sense, shows}
+use Rattle.raft_log_engine_laws.specs.EngineState.{LogDirectories, LogMap, EngineState, sense, shows}
 use Rattle.raft_log_engine_laws.specs.Settled.{HoldsSettled}
 use Rattle.raft_log_engine_laws.specs.Raising.{MayBegin, PurgeLeavesHeld}
 use Rattle.raft_log_engine_laws.proofs.Raising.{raise_refused, raised}
@@ -141,7 +141,7 @@ queue_may_begin Rewrite limit least m is orderly fronts owes = λ g. rewrite_gro
 
 -- The exits.
 
-remains_settled : (home : Home) (m : LogMap) (t : Shows) (error : Error) → PurgeLeavesHeld home m t error → RemainsSettled home m t error
+remains_settled : (home : LogDirectories) (m : LogMap) (t : EngineState) (error : Error) → PurgeLeavesHeld home m t error → RemainsSettled home m t error
 remains_settled home m t errors.Memory h = h
 remains_settled home m t (errors.Other fault) h = h
 remains_settled home m t errors.NumberRange h = h
@@ -149,15 +149,15 @@ remains_settled home m t errors.Failed h = h
 remains_settled home m t _ h = absurd h
 
 -- where a span begins whose first files went
-span_begins : (queue : LogQueue) (home : Home) (v w : LogPipes) (n : ℕ) (s : State) → RunsOn (sense home) v s → PurgesQueue (which_of queue) n v w → (pipe_at (which_of queue) (files_of w)).first_seq ≡ n
+span_begins : (queue : LogQueue) (home : LogDirectories) (v w : LogPipes) (n : ℕ) (s : State) → RunsOn (sense home) v s → PurgesQueue (which_of queue) n v w → (pipe_at (which_of queue) (files_of w)).first_seq ≡ n
 span_begins Append home v w n s runs call = (let (on, step) = call (sense home) s runs in on.run.append.first)
 span_begins Rewrite home v w n s runs call = (let (on, step) = call (sense home) s runs in on.run.rewrite.first)
 
 module _ (queue : LogQueue) (limit : ℕ) (m : MemTables) (v w : LogPipes) (old new : BlockCache) (none : new.place ≡ None) (least : ℕ) (is : IsLeastOf queue limit m least) (later : IsLater v.disk w.disk) where
-  begins : (home : Home) (log : LogMap) → HoldsSettled home (shows v m old) log → MayLoseFiles (which_of queue) (shown_of m) → MayBegin (which_of queue) least (shown_of m)
+  begins : (home : LogDirectories) (log : LogMap) → HoldsSettled home (shows v m old) log → MayLoseFiles (which_of queue) (shown_of m) → MayBegin (which_of queue) least (shown_of m)
   begins home log h owes = queue_may_begin queue limit least m is h.meant.orderly (λ g. front_is_least h.state.append.files.last h.state.rewrite.files.last (shown_of m g) (h.rises g)) owes
 
-  begins_there : (pipe_at (which_of queue) (files_of v)).first_seq ≤ least → PurgesQueue (which_of queue) least v w → (home : Home) (log : LogMap) → HoldsSettled home (shows v m old) log
+  begins_there : (pipe_at (which_of queue) (files_of v)).first_seq ≤ least → PurgesQueue (which_of queue) least v w → (home : LogDirectories) (log : LogMap) → HoldsSettled home (shows v m old) log
       → (pipe_at (which_of queue) (files_of w)).first_seq ≡ max (pipe_at (which_of queue) (files_of v)).first_seq least
   begins_there above call home log h = (let there = span_begins queue home v w least h.state h.runs call in omega (arith, above, there))
 

@@ -30,8 +30,8 @@ use Rattle.raft_log_memtables.specs.Tables.{shown_of}
 use Rattle.raft_log_dual_pipes.specs.Pipes.{LogPipes}
 use Rattle.raft_log_block_cache.specs.declared.block_cache.BlockCache.{BlockCache}
 use Rattle.raft_log_block_cache.specs.Blocks.{IsOfLog}
-use Rattle.raft_log_engine_laws.specs.Shows.{Home, IsLaidOut, LogMap, Shows, shows}
-use Rattle.raft_log_engine_laws.specs.Holding.{Holds}
+use Rattle.raft_log_engine_laws.specs.EngineState.{LogDirectories, IsLaidOut, LogMap, EngineState, shows}
+use Rattle.raft_log_engine_laws.specs.Holding.{Represents}
 use Rattle.raft_log_engine_laws.specs.Writing.{items_at}
 use Rattle.raft_log_engine_laws.specs.Rewriting.{CountsAlone, HasCopies, SaysAt, moved_to}
 use Rattle.raft_log_engine_laws.proofs.Copying.{copies_refused, copies_written}
@@ -80,7 +80,7 @@ run_read f i [] (e ∷ es) pairs long said = absurd (omega (arith, long))
 run_read f i (p ∷ ps) [] pairs long said = absurd (omega (arith, long))
 run_read f i (p ∷ ps) (e ∷ es) pairs long said = let same : ◌≡◌ {A = List (List ℕ)} (map f (p ∷ ps)) (e ∷ es) = cc in same
 
-module _ (g : ℕ) (bytes : List (List ℕ)) (pairs : List (List ℕ × List ℕ)) (b : Batch) (s : Shows) (piece : IsPiece g ((s.tables g).first + 0) bytes pairs b) where
+module _ (g : ℕ) (bytes : List (List ℕ)) (pairs : List (List ℕ × List ℕ)) (b : Batch) (s : EngineState) (piece : IsPiece g ((s.tables g).first + 0) bytes pairs b) where
   abbrev v : Shown
   v = s.tables g
 
@@ -116,7 +116,7 @@ module _ (g : ℕ) (bytes : List (List ℕ)) (pairs : List (List ℕ × List ℕ
 -- One record.
 
 module _ (g : ℕ) (es : List EntryIndex) (pairs : List (List ℕ × List ℕ)) (v : LogPipes) (old : MemTables) (cache new : BlockCache) (stands : StandsInRewrite g es pairs (shows v old cache)) where
-  abbrev s : Shows
+  abbrev s : EngineState
   s = shows v old cache
 
   whole_piece : es ≡ take (length es) (drop 0 (rewritten_entries (s.tables g)))
@@ -133,17 +133,17 @@ module _ (g : ℕ) (es : List EntryIndex) (pairs : List (List ℕ × List ℕ)) 
     piece : IsPiece g ((s.tables g).first + 0) read pairs b
     piece = built_piece g es pairs v cache new b built (s.tables g) 0 (length es) whole_piece
 
-    all_read : (home : Home) (m : LogMap) → Holds home s m [] → length read ≡ (s.tables g).rewritten
+    all_read : (home : LogDirectories) (m : LogMap) → Represents home s m [] → length read ≡ (s.tables g).rewritten
     all_read home m h = built_len g es pairs v cache new b built ∙ ap length stands.entries ∙ rewritten_len (s.tables g) (h.meant.orderly g)
 
-    read_there : (home : Home) (m : LogMap) (h : Holds home s m []) → IsOfLog h.state new × AreEntryBytes m g ((s.tables g).first + 0) read
+    read_there : (home : LogDirectories) (m : LogMap) (h : Represents home s m []) → IsOfLog h.state new × AreEntryBytes m g ((s.tables g).first + 0) read
     read_there home m h = piece_read s g 0 (length es) es whole_piece new home m h built.read built.reads
 
-    held : (home : Home) (m : LogMap) → Holds home s m [] → Holds home (caching s new) m []
+    held : (home : LogDirectories) (m : LogMap) → Represents home s m [] → Represents home (caching s new) m []
     held home m h = held_caching home s m new h (read_there home m h).0
 
     -- room wasn't made, or it isn't written
-    copies : (home : Home) (m : LogMap) → Holds home s m [] → HasCopies None b s.tables m
+    copies : (home : LogDirectories) (m : LogMap) → Represents home s m [] → HasCopies None b s.tables m
     copies home m h = all_copies g read pairs b s piece m (h.meant.orderly g) (read_there home m h).1 (all_read home m h) stands.keys
 
     -- nothing is there
@@ -223,7 +223,7 @@ module _ (g : ℕ) (es : List EntryIndex) (pairs : List (List ℕ × List ℕ)) 
         abbrev ps : List WrittenPart
         ps = record { block = block; batch = b } ∷ []
 
-        abbrev t : Shows
+        abbrev t : EngineState
         t = shows w after new
 
         moved : MovedParts None ps old after
@@ -235,14 +235,14 @@ module _ (g : ℕ) (es : List EntryIndex) (pairs : List (List ℕ × List ℕ)) 
         others_stay : (k : ℕ) → (g == k) ≡ false → shown_of after k ≡ shown_of old k
         others_stay k apart = moved k ∙ nothing_moved None k ps (shown_of old k) (no_others_filed g k (s.tables g).first ((s.tables g).first + 0) [] [] tt read pairs b piece apart block)
 
-        module _ (home : Home) (m : LogMap) (h : Holds home s m []) where
+        module _ (home : LogDirectories) (m : LogMap) (h : Represents home s m []) where
           abbrev synced : LogPipes
           synced = wrote.wrote.synced
 
-          behind : Holds home (over (caching s new) synced) m []
+          behind : Represents home (over (caching s new) synced) m []
           behind = may_sync_held home (caching s new) m synced (held home m h) wrote.wrote.syncs
 
-          once_holds : Holds home t m []
+          once_holds : Represents home t m []
           once_holds = copies_written home (over (caching s new) synced) t None b block m behind (alone wrote.wrote.says wrote.wrote.laid) (copies home m h) wrote.wrote.call tables_moved (inl refl)
 
           lowest : (last_file s ≤ block.id.seq) × (block.id.seq ≡ last_file t)

@@ -25,7 +25,7 @@ use Rattle.raft_log_memtable_index.specs.Bridge.{IsMeant, Located, in_queue, loc
 use Rattle.raft_log_memtables.specs.Rewriting.{AreCopies, IsCopy}
 use Rattle.raft_log_memtables.proofs.Ready.{by_group, same_or_apart}
 use Rattle.raft_log_memtables.specs.Views.{AreMeant}
-use Rattle.raft_log_engine_laws.specs.Shows.{LogMap}
+use Rattle.raft_log_engine_laws.specs.EngineState.{LogMap}
 use Rattle.raft_log_engine_laws.specs.Writing.{items_at}
 use Rattle.raft_log_engine_laws.specs.Rewriting.{HasCopies, SaysAt}
 use Rattle.raft_log_purge_copy.specs.Entries.{AreEntryBytes}

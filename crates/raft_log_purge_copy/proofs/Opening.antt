@@ -27,8 +27,8 @@ use Rattle.raft_log_memtables.specs.declared.mem_tables.MemTables.{MemTables}
 use Rattle.raft_log_dual_pipes.specs.Pipes.{LogPipes, is_failed}
 use Rattle.raft_log_block_cache.specs.declared.block_cache.BlockCache.{BlockCache}
 use Rattle.raft_log_block_cache.specs.Blocks.{IsOfLog}
-use Rattle.raft_log_engine_laws.specs.Shows.{Home, IsLaidOut, LogMap, Shows, has_failed, shows}
-use Rattle.raft_log_engine_laws.specs.Holding.{Holds}
+use Rattle.raft_log_engine_laws.specs.EngineState.{LogDirectories, IsLaidOut, LogMap, EngineState, has_failed, shows}
+use Rattle.raft_log_engine_laws.specs.Holding.{Represents}
 use Rattle.raft_log_engine_laws.specs.Parts.{HoldsInGroup, IsGroupPart, WrittenPart, begun_by, gone_on_by, parts_of}
 use Rattle.raft_log_engine_laws.specs.Restating.{entries_of_pieces}
 use Rattle.raft_log_purge_copy.specs.Entries.{AreEntryBytes}
@@ -120,10 +120,10 @@ all_fit {E = E} g f [] pairs low = keys_fit E g pairs
 all_fit {E = E} g f (e ∷ es) pairs low = (low, keys_fit E g pairs)
 
 -- an engine that shows what this one shows, with these pipes and this block
-abbrev pub at_pipes : Shows → LogPipes → BlockCache → Shows
+abbrev pub at_pipes : EngineState → LogPipes → BlockCache → EngineState
 at_pipes s v c = record s { pipes = v; cache = c }
 
-pub part_fits : (home : Home) (s : Shows) (m : LogMap) (g done number : ℕ) (status : AtomicGroupStatus) (bytes : List (List ℕ)) (pairs : List (List ℕ × List ℕ)) (made : Batch) → Holds home s m []
+pub part_fits : (home : LogDirectories) (s : EngineState) (m : LogMap) (g done number : ℕ) (status : AtomicGroupStatus) (bytes : List (List ℕ)) (pairs : List (List ℕ × List ℕ)) (made : Batch) → Represents home s m []
     → IsMarkedPiece g ((s.tables g).first + done) number status bytes pairs made → done + length bytes ≤ (s.tables g).rewritten → SaysItself (signed_for made) made → IsLaidOut made → IsGroupPart number status made
 part_fits home s m g done number status bytes pairs made h marked few says laid =
     let o = h.meant.orderly g in
@@ -138,13 +138,13 @@ part_fits home s m g done number status bytes pairs made h marked few says laid 
 
 -- Refused.
 
-module _ (g done count : ℕ) (s : Shows) (v : LogPipes) (old new : BlockCache) (es : List EntryIndex) (is : es ≡ take count (drop done (rewritten_entries (s.tables g)))) (held : (home : Home) (m : LogMap) → Holds home s m [] → Holds home (at_pipes s v old) m [])
+module _ (g done count : ℕ) (s : EngineState) (v : LogPipes) (old new : BlockCache) (es : List EntryIndex) (is : es ≡ take count (drop done (rewritten_entries (s.tables g)))) (held : (home : LogDirectories) (m : LogMap) → Represents home s m [] → Represents home (at_pipes s v old) m [])
     (alive : has_failed s ≡ false → is_failed v ≡ false) (before : IsLater s.pipes.disk v.disk) where
-  stopped : (error : Error) → (error ≡ errors.Failed → ⊥) → ((home : Home) (m : LogMap) → Holds home s m [] → Holds home (at_pipes s v new) m []) → GivesReason error s (at_pipes s v new)
+  stopped : (error : Error) → (error ≡ errors.Failed → ⊥) → ((home : LogDirectories) (m : LogMap) → Represents home s m [] → Represents home (at_pipes s v new) m []) → GivesReason error s (at_pipes s v new)
       → FailsToRestate error s (at_pipes s v new)
   stopped error other stays reason = record { same = refl; tells = λ lived. tells_nothing error v (alive lived) other; later = before; remains = λ home m h. inl (stays home m h); cause = reason }
 
-  pub stopped_reading : MakeOnePiece es → (pairs : List (List ℕ × List ℕ)) → ((home : Home) (m : LogMap) → Holds home s m [] → AreValuesIn m g pairs) → (error : Error) → FailsToBuildPiece g es pairs v old new error → FailsToRestate error s (at_pipes s v new)
+  pub stopped_reading : MakeOnePiece es → (pairs : List (List ℕ × List ℕ)) → ((home : LogDirectories) (m : LogMap) → Represents home s m [] → AreValuesIn m g pairs) → (error : Error) → FailsToBuildPiece g es pairs v old new error → FailsToRestate error s (at_pipes s v new)
   stopped_reading piece pairs values error fails =
       stopped error (unbuilt_is_none g v es pairs old new error fails)
       (λ home m h.
@@ -158,8 +158,8 @@ module _ (g done count : ℕ) (s : Shows) (v : LogPipes) (old new : BlockCache) 
       let k = held home m h in held_caching home (at_pipes s v old) m new k (piece_read (at_pipes s v old) g done count es is new home m k built.read built.reads).0)
       (λ home m h. memory_reason home m error s (at_pipes s v new) memory)
 
-  pub stopped_writing : (error : Error) (made : Batch) (w : LogPipes) → ((home : Home) (m : LogMap) → Holds home s m [] → IsLeft home m error (at_pipes s w new))
-      → ((home : Home) (m : LogMap) → Holds home s m [] → HasReason home m error (at_pipes s v new) (at_pipes s w new)) → FailsToWriteRecord made error v w → FailsToRestate error s (at_pipes s w new)
+  pub stopped_writing : (error : Error) (made : Batch) (w : LogPipes) → ((home : LogDirectories) (m : LogMap) → Represents home s m [] → IsLeft home m error (at_pipes s w new))
+      → ((home : LogDirectories) (m : LogMap) → Represents home s m [] → HasReason home m error (at_pipes s v new) (at_pipes s w new)) → FailsToWriteRecord made error v w → FailsToRestate error s (at_pipes s w new)
   stopped_writing error made w left reason fails = record {
     same = refl;
     tells = λ lived. fails.tells (alive lived);
@@ -170,20 +170,20 @@ module _ (g done count : ℕ) (s : Shows) (v : LogPipes) (old new : BlockCache) 
 
 -- Begun.
 
-pub begin_unread : (g count : ℕ) (s : Shows) (new : BlockCache) (all es : List EntryIndex) → all ≡ rewritten_entries (s.tables g) → es ≡ take count all → MakeOnePiece es → (pairs : List (List ℕ × List ℕ))
-    → ((home : Home) (m : LogMap) → Holds home s m [] → AreValuesIn m g pairs) → (error : Error) → FailsToBuildPiece g es pairs s.pipes s.cache new error → FailsToRestate error s (at_pipes s s.pipes new)
+pub begin_unread : (g count : ℕ) (s : EngineState) (new : BlockCache) (all es : List EntryIndex) → all ≡ rewritten_entries (s.tables g) → es ≡ take count all → MakeOnePiece es → (pairs : List (List ℕ × List ℕ))
+    → ((home : LogDirectories) (m : LogMap) → Represents home s m [] → AreValuesIn m g pairs) → (error : Error) → FailsToBuildPiece g es pairs s.pipes s.cache new error → FailsToRestate error s (at_pipes s s.pipes new)
 begin_unread g count s new all es is_all is piece pairs values error fails =
     stopped_reading g 0 count s s.pipes s.cache new es (is ∙ ap (take count) is_all) (λ home m h. h) (λ lived. lived) (same_later s.pipes.disk) piece pairs values error fails
 
-pub begin_unmarked : (g count : ℕ) (s : Shows) (new : BlockCache) (all es : List EntryIndex) → all ≡ rewritten_entries (s.tables g) → es ≡ take count all → (error : Error) → error ≡ errors.Memory → (pairs : List (List ℕ × List ℕ)) (b : Batch)
+pub begin_unmarked : (g count : ℕ) (s : EngineState) (new : BlockCache) (all es : List EntryIndex) → all ≡ rewritten_entries (s.tables g) → es ≡ take count all → (error : Error) → error ≡ errors.Memory → (pairs : List (List ℕ × List ℕ)) (b : Batch)
     → BuildsPiece g es pairs s.pipes s.cache new b → FailsToRestate error s (at_pipes s s.pipes new)
 begin_unmarked g count s new all es is_all is error memory pairs b built =
     stopped_marking g 0 count s s.pipes s.cache new es (is ∙ ap (take count) is_all) (λ home m h. h) (λ lived. lived) (same_later s.pipes.disk) error memory pairs b built
 
-few_rewritten : (home : Home) (s : Shows) (m : LogMap) (g done n : ℕ) (es : List EntryIndex) → Holds home s m [] → es ≡ rewritten_entries (s.tables g) → done + n ≤ length es → done + n ≤ (s.tables g).rewritten
+few_rewritten : (home : LogDirectories) (s : EngineState) (m : LogMap) (g done n : ℕ) (es : List EntryIndex) → Represents home s m [] → es ≡ rewritten_entries (s.tables g) → done + n ≤ length es → done + n ≤ (s.tables g).rewritten
 few_rewritten home s m g done n es h is few = (let long = ap length is ∙ rewritten_len (s.tables g) (h.meant.orderly g) in omega (arith, few, long))
 
-module _ (g number count : ℕ) (s : Shows) (new : BlockCache) (all es : List EntryIndex) (is_all : all ≡ rewritten_entries (s.tables g)) (is : es ≡ take count all) (few : count ≤ length all) (some : 0 < count) (b made : Batch)
+module _ (g number count : ℕ) (s : EngineState) (new : BlockCache) (all es : List EntryIndex) (is_all : all ≡ rewritten_entries (s.tables g)) (is : es ≡ take count all) (few : count ≤ length all) (some : 0 < count) (b made : Batch)
     (built : BuildsPiece g es [] s.pipes s.cache new b) (marked : IsMarkedPiece g ((s.tables g).first + 0) number statuses.Begin (map (λ e. e.bytes) built.read) [] made) where
   abbrev first_bytes : List (List ℕ)
   first_bytes = map (λ e. e.bytes) built.read
@@ -194,11 +194,11 @@ module _ (g number count : ℕ) (s : Shows) (new : BlockCache) (all es : List En
   first_len : length first_bytes ≡ count
   first_len = (let long = built_len g es [] s.pipes s.cache new b built in let cut = ap length is ∙ length-take count all in omega (arith, long, cut, few))
 
-  part_of_group : (home : Home) (m : LogMap) → Holds home s m [] → SaysItself (signed_for made) made → IsLaidOut made → IsGroupPart number statuses.Begin made
+  part_of_group : (home : LogDirectories) (m : LogMap) → Represents home s m [] → SaysItself (signed_for made) made → IsLaidOut made → IsGroupPart number statuses.Begin made
   part_of_group home m h says laid =
       part_fits home s m g 0 number statuses.Begin first_bytes [] made h marked (few_rewritten home s m g 0 (length first_bytes) all h is_all (let long = first_len in omega (arith, long, few))) says laid
 
-  read_here : (home : Home) (m : LogMap) → (h : Holds home s m []) → IsOfLog h.state new × AreEntryBytes m g ((s.tables g).first + 0) first_bytes
+  read_here : (home : LogDirectories) (m : LogMap) → (h : Represents home s m []) → IsOfLog h.state new × AreEntryBytes m g ((s.tables g).first + 0) first_bytes
   read_here home m h = piece_read s g 0 count es here new home m h built.read built.reads
 
   pub begin_stopped : MakeOnePiece es → (error : Error) (w : LogPipes) → FailsToWriteRecord made error s.pipes w → FailsToRestate error s (at_pipes s w new)
@@ -214,7 +214,7 @@ module _ (g number count : ℕ) (s : Shows) (new : BlockCache) (all es : List En
   pub parts_begun : (w : LogPipes) (part : RestatedPart) → WritesToRewrite made part.block part.items.items s.pipes w → HasParts g number count (part ∷ []) s (at_pipes s w new)
   parts_begun w part wrote =
       let zero_off : (s.tables g).first + 0 ≡ (s.tables g).first = omega arith in
-      let done = λ (home : Home) (m : LogMap) (h : Holds home s m []).
+      let done = λ (home : LogDirectories) (m : LogMap) (h : Represents home s m []).
       begun home (caching s new) m number made part.block wrote.synced w (held_caching home s m new h (read_here home m h).0) wrote.syncs (part_of_group home m h wrote.says wrote.laid) wrote.call in
       record {
         group = begun_by number (record { block = part.block; batch = made });
@@ -257,15 +257,15 @@ kept_more [] (q ∷ ps) x p kept block items = absurd kept
 kept_more (y ∷ ys) [] x p kept block items = absurd kept
 kept_more (y ∷ ys) (q ∷ ps) x p (one, other, rest) block items = (one, other, kept_more ys ps x p rest block items)
 
-module _ (g number done count : ℕ) (parts : List RestatedPart) (s : Shows) (v : LogPipes) (old new : BlockCache) (has : HasParts g number done parts s (at_pipes s v old)) (all es : List EntryIndex) (is_all : all ≡ rewritten_entries (s.tables g))
+module _ (g number done count : ℕ) (parts : List RestatedPart) (s : EngineState) (v : LogPipes) (old new : BlockCache) (has : HasParts g number done parts s (at_pipes s v old)) (all es : List EntryIndex) (is_all : all ≡ rewritten_entries (s.tables g))
     (is : es ≡ take count (drop done all)) (few : done + count ≤ length all) where
   there : es ≡ take count (drop done (rewritten_entries (s.tables g)))
   there = is ∙ ap (λ l. take count (drop done l)) is_all
 
-  held_open : (home : Home) (m : LogMap) → Holds home s m [] → Holds home (at_pipes s v old) m []
+  held_open : (home : LogDirectories) (m : LogMap) → Represents home s m [] → Represents home (at_pipes s v old) m []
   held_open home m h = (has.stands home m h).holds
 
-  pub more_unread : MakeOnePiece es → (pairs : List (List ℕ × List ℕ)) → ((home : Home) (m : LogMap) → Holds home s m [] → AreValuesIn m g pairs) → (error : Error) → FailsToBuildPiece g es pairs v old new error → FailsToRestate error s (at_pipes s v new)
+  pub more_unread : MakeOnePiece es → (pairs : List (List ℕ × List ℕ)) → ((home : LogDirectories) (m : LogMap) → Represents home s m [] → AreValuesIn m g pairs) → (error : Error) → FailsToBuildPiece g es pairs v old new error → FailsToRestate error s (at_pipes s v new)
   more_unread piece pairs values error fails = stopped_reading g done count s v old new es there held_open (λ lived. has.alive) has.later piece pairs values error fails
 
   pub more_unmarked : (error : Error) → error ≡ errors.Memory → (pairs : List (List ℕ × List ℕ)) (b : Batch) → BuildsPiece g es pairs v old new b → FailsToRestate error s (at_pipes s v new)
@@ -278,7 +278,7 @@ module _ (g number done count : ℕ) (parts : List RestatedPart) (s : Shows) (v 
     pub more_len : length more_bytes ≡ count
     more_len = (let long = built_len g es pairs v old new b built in let cut = ap length is ∙ length-take count (drop done all) in let left = length-drop done all in omega (arith, long, cut, left, few))
 
-    pub more_read : (home : Home) (m : LogMap) → (h : Holds home s m []) → HoldsInGroup home (at_pipes s v new) m has.group × AreEntryBytes m g ((s.tables g).first + done) more_bytes
+    pub more_read : (home : LogDirectories) (m : LogMap) → (h : Represents home s m []) → HoldsInGroup home (at_pipes s v new) m has.group × AreEntryBytes m g ((s.tables g).first + done) more_bytes
     more_read home m h =
         let k = has.stands home m h in
         let (cached, said) = piece_read (at_pipes s v old) g done count es there new home m k.holds built.read built.reads in (open_caching home (at_pipes s v old) m has.group new k cached, said)
@@ -287,7 +287,7 @@ module _ (g number done count : ℕ) (parts : List RestatedPart) (s : Shows) (v 
     abbrev these : List (List ℕ)
     these = map (λ e. e.bytes) built.read
 
-    middle_part : (home : Home) (m : LogMap) → Holds home s m [] → SaysItself (signed_for made) made → IsLaidOut made → IsGroupPart has.group.number statuses.Middle made
+    middle_part : (home : LogDirectories) (m : LogMap) → Represents home s m [] → SaysItself (signed_for made) made → IsLaidOut made → IsGroupPart has.group.number statuses.Middle made
     middle_part home m h says laid =
         subst (λ (n : ℕ). IsGroupPart n statuses.Middle made) (sym has.numbered)
         (part_fits home s m g done number statuses.Middle these [] made h marked (few_rewritten home s m g done (length these) all h is_all (let long = more_len [] b built in omega (arith, long, few))) says laid)
@@ -338,14 +338,14 @@ err_map (Err e) f p = f e p
 -- The batch that ends the group.
 
 -- it has all entries that are left
-there_left : (g done count : ℕ) (s : Shows) (all es : List EntryIndex) → all ≡ rewritten_entries (s.tables g) → es ≡ take count (drop done all) → done + count ≡ length all → es ≡ drop done (rewritten_entries (s.tables g))
+there_left : (g done count : ℕ) (s : EngineState) (all es : List EntryIndex) → all ≡ rewritten_entries (s.tables g) → es ≡ take count (drop done all) → done + count ≡ length all → es ≡ drop done (rewritten_entries (s.tables g))
 there_left g done count s all es is_all is rest =
     is ∙ take_all count (drop done all) (let left = length-drop done all in omega (arith, left, rest)) ∙ ap (drop done) is_all
 
-module _ (g number done count : ℕ) (parts : List RestatedPart) (s : Shows) (v : LogPipes) (old new : BlockCache) (has : HasParts g number done parts s (at_pipes s v old)) (all es : List EntryIndex) (is_all : all ≡ rewritten_entries (s.tables g))
+module _ (g number done count : ℕ) (parts : List RestatedPart) (s : EngineState) (v : LogPipes) (old new : BlockCache) (has : HasParts g number done parts s (at_pipes s v old)) (all es : List EntryIndex) (is_all : all ≡ rewritten_entries (s.tables g))
     (is : es ≡ take count (drop done all)) (rest : done + count ≡ length all) (some : 0 < count) (pairs : List (List ℕ × List ℕ)) (b made : Batch) (built : BuildsPiece g es pairs v old new b)
     (marked : IsMarkedPiece g ((s.tables g).first + done) number statuses.End (map (λ e. e.bytes) built.read) pairs made) where
-  read_last : (home : Home) (m : LogMap) → Holds home s m [] → HoldsInGroup home (at_pipes s v new) m has.group × AreEntryBytes m g ((s.tables g).first + done) (map (λ e. e.bytes) built.read)
+  read_last : (home : LogDirectories) (m : LogMap) → Represents home s m [] → HoldsInGroup home (at_pipes s v new) m has.group × AreEntryBytes m g ((s.tables g).first + done) (map (λ e. e.bytes) built.read)
   read_last home m h = more_read g number done count parts s v old new has all es is_all is (omega (arith, rest)) pairs b built home m h
 
   pub last_made : HasParts g number done parts s (at_pipes s v new) × IsLastPart g number done pairs made s
@@ -378,10 +378,10 @@ module _ (g number done count : ℕ) (parts : List RestatedPart) (s : Shows) (v 
 
 -- Whatever the tables.
 
-pub at_shown : (g number done : ℕ) (parts : List RestatedPart) (s : Shows) (v : LogPipes) (m : MemTables) (old : BlockCache) → HasParts g number done parts s (shows v m old) → HasParts g number done parts s (at_pipes s v old)
+pub at_shown : (g number done : ℕ) (parts : List RestatedPart) (s : EngineState) (v : LogPipes) (m : MemTables) (old : BlockCache) → HasParts g number done parts s (shows v m old) → HasParts g number done parts s (at_pipes s v old)
 at_shown g number done parts s v m old has = subst (HasParts g number done parts s) has.same has
 
-module _ (g number done : ℕ) (parts : List RestatedPart) (s : Shows) (v w : LogPipes) (m : MemTables) (old new : BlockCache) (has : HasParts g number done parts s (shows v m old)) where
+module _ (g number done : ℕ) (parts : List RestatedPart) (s : EngineState) (v w : LogPipes) (m : MemTables) (old new : BlockCache) (has : HasParts g number done parts s (shows v m old)) where
   shown_same : at_pipes s w new ≡ shows w m new
   shown_same = sym (ap (λ x. at_pipes x w new) has.same)
 
@@ -392,7 +392,7 @@ module _ (g number done : ℕ) (parts : List RestatedPart) (s : Shows) (v w : Lo
   fails_shown error h = subst (FailsToRestate error s) shown_same h
 
 -- a group that stands open may be given up at any time, for want of memory
-pub given_up : (g number done : ℕ) (parts : List RestatedPart) (s t : Shows) → HasParts g number done parts s t → (error : Error) → error ≡ errors.Memory → FailsToRestate error s t
+pub given_up : (g number done : ℕ) (parts : List RestatedPart) (s t : EngineState) → HasParts g number done parts s t → (error : Error) → error ≡ errors.Memory → FailsToRestate error s t
 given_up g number done parts s t has error memory = record {
   same = has.same;
   tells = λ lived. tells_nothing error t.pipes has.alive (memory_is_none error memory);

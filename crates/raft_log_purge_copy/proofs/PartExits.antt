@@ -32,8 +32,8 @@ use Rattle.raft_log_dual_pipes.specs.Calls.{AppendsTo, FailsToAppendTo, FailsToS
 use Rattle.raft_log_dual_pipes.specs.Numbers.{EndsNumbersAt}
 use Rattle.raft_log_dual_pipes.specs.PipeCalls.{PipeFailsToAppend}
 use Rattle.raft_log_block_cache.specs.declared.block_cache.BlockCache.{BlockCache}
-use Rattle.raft_log_engine_laws.specs.Shows.{Home, LogMap, Shows, shows}
-use Rattle.raft_log_engine_laws.specs.Holding.{Holds}
+use Rattle.raft_log_engine_laws.specs.EngineState.{LogDirectories, LogMap, EngineState, shows}
+use Rattle.raft_log_engine_laws.specs.Holding.{Represents}
 use Rattle.raft_log_engine_laws.proofs.Keeping.{holds_runs}
 use Rattle.raft_log_engine_laws.specs.Rewriting.{RewriteLeaves, SaysOwed}
 use Rattle.raft_log_engine_laws.proofs.Settling.{failed_sync, settled_held, sync_settles_log}
@@ -74,14 +74,14 @@ tells_err {A} error w tells = (λ hit. ap (λ (r : Result A Error). err_of r err
 pub unmade_is_none : (error : Error) → IsUnmade error → error ≡ errors.Failed → ⊥
 unmade_is_none error why is = subst IsUnmade is why
 
-pub remains_same : (home : Home) (m : LogMap) (e : Shows) (error : Error) → IsUnmade error → Holds home e m [] → Remains home m e error
+pub remains_same : (home : LogDirectories) (m : LogMap) (e : EngineState) (error : Error) → IsUnmade error → Represents home e m [] → Remains home m e error
 remains_same home m e errors.Full why h = h
 remains_same home m e errors.Memory why h = h
 remains_same home m e (errors.InvalidArgument text) why h = h
 remains_same home m e _ why h = absurd why
 
 -- nothing was done
-pub refused_unmade : (error : Error) (e : Shows) → IsUnmade error → ((home : Home) (m : LogMap) → Holds home e m [] → HasPurgeReason home m error e e) → PartIsRefused error e e
+pub refused_unmade : (error : Error) (e : EngineState) → IsUnmade error → ((home : LogDirectories) (m : LogMap) → Represents home e m [] → HasPurgeReason home m error e e) → PartIsRefused error e e
 refused_unmade error e why reason = record {
   tells = λ lived. tells_nothing error e.pipes lived (unmade_is_none error why);
   later = same_later e.pipes.disk;
@@ -109,7 +109,7 @@ record_is_made b made items entries says laid adds = record {
 }
 
 -- what Rewrite refused
-pub rewrite_remains : (home : Home) (m : LogMap) (t : Shows) (error : Error) → RewriteLeaves home m t error → Remains home m t error
+pub rewrite_remains : (home : LogDirectories) (m : LogMap) (t : EngineState) (error : Error) → RewriteLeaves home m t error → Remains home m t error
 rewrite_remains home m t (errors.Io kind) h = settled_held home t m h
 rewrite_remains home m t (errors.TryAgain text) h = settled_held home t m h
 rewrite_remains home m t errors.NumberRange h = h
@@ -141,7 +141,7 @@ no_marks tables b v says none =
       alive = λ lived. lived;
       later = same_later v.disk;
       stays = stays_same v;
-      holds = λ counts cache home m h. subst (λ (f : ℕ → Shown). Holds home (showing v f counts cache) m []) (sym same) h;
+      holds = λ counts cache home m h. subst (λ (f : ℕ → Shown). Represents home (showing v f counts cache) m []) (sym same) h;
     }
 
 says_owed : (tables : ℕ → Shown) (b made : Batch) → SaysMarks tables b → (b.items ≡ [] → ⊥) → IsRecordMade b made → SaysOwed b tables

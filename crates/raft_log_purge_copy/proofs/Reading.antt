@@ -27,8 +27,8 @@ use Rattle.raft_log_block_cache.specs.declared.block_cache.BlockCache.{BlockCach
 use Rattle.raft_log_block_cache.specs.Blocks.{AreUnread, IsOfLog, ReadsEntries, ReadsEntry}
 use Rattle.raft_log_block_cache.specs.Stored.{part}
 use Rattle.raft_log_dual_pipes.specs.Pipes.{LogPipes}
-use Rattle.raft_log_engine_laws.specs.Shows.{Home, LogMap, Shows}
-use Rattle.raft_log_engine_laws.specs.Holding.{Holds, IsLeftAt}
+use Rattle.raft_log_engine_laws.specs.EngineState.{LogDirectories, LogMap, EngineState}
+use Rattle.raft_log_engine_laws.specs.Holding.{Represents, IsRecoverableAs}
 use Rattle.raft_log_engine_laws.specs.Fetching.{AreEntriesOf}
 use Rattle.raft_log_engine_laws.proofs.Fetching.{all_told, all_untold}
 use Rattle.raft_log_engine_laws.specs.Rewriting.{HasCopies}
@@ -56,7 +56,7 @@ bytes_of_read m g i (x ∷ xs) ((bytes, maps, is), rest) =
     (subst (λ (l : List ℕ). m g (Index i) ≡ Some (Entry l)) same maps, bytes_of_read m g (i + 1) xs rest)
 
 -- the engine is what it was, with another block
-with_block : (home : Home) (s : Shows) (m : LogMap) (new : BlockCache) (h : Holds home s m []) → IsOfLog h.state new → Holds home (record s { cache = new }) m []
+with_block : (home : LogDirectories) (s : EngineState) (m : LogMap) (new : BlockCache) (h : Represents home s m []) → IsOfLog h.state new → Represents home (record s { cache = new }) m []
 with_block home s m new h cached = record { state = h.state; map = h.map; runs = h.runs; stored = h.stored; rises = h.rises; noted = h.noted; meant = h.meant; cached = cached; at = h.at }
 
 -- as many were read
@@ -136,7 +136,7 @@ pub from_rises : (v : Shown) (k : ℕ) (ps : List Place) → RisesFrom (v.first 
 from_rises v k [] = tt
 from_rises v k (p ∷ ps) = (refl, subst (λ (n : ℕ). RisesFrom n (indexes_of (entries_from v (k + 1) ps))) (let same : v.first + (k + 1) ≡ (v.first + k) + 1 = omega arith in same) (from_rises v (k + 1) ps))
 
-module _ (s : Shows) (g gate : ℕ) (es : List EntryIndex) (next : AreNext gate (s.tables g) es) (new : BlockCache) where
+module _ (s : EngineState) (g gate : ℕ) (es : List EntryIndex) (next : AreNext gate (s.tables g) es) (new : BlockCache) where
   abbrev v : Shown
   v = s.tables g
 
@@ -147,14 +147,14 @@ module _ (s : Shows) (g gate : ℕ) (es : List EntryIndex) (next : AreNext gate 
   stands_from j p is = dropped_at v.rewritten v.places j p (taken_at (copied_count gate (drop v.rewritten v.places)) (drop v.rewritten v.places) j p is)
 
   -- what was read is the map's
-  pub read_is_held : (home : Home) (m : LogMap) → Holds home s m [] → (xs : List RawMessage) → ReadsEntries as_bytes s.pipes es s.cache new xs
-      → Holds home (record s { cache = new }) m [] × AreEntryBytes m g (v.first + v.rewritten) (map (λ e. e.bytes) xs)
+  pub read_is_held : (home : LogDirectories) (m : LogMap) → Represents home s m [] → (xs : List RawMessage) → ReadsEntries as_bytes s.pipes es s.cache new xs
+      → Represents home (record s { cache = new }) m [] × AreEntryBytes m g (v.first + v.rewritten) (map (λ e. e.bytes) xs)
   read_is_held home m h xs reads =
       let (cached, told) = all_told s g home m [] h as_bytes v.rewritten ps s.cache new xs stands_from h.cached (subst (λ l. ReadsEntries as_bytes s.pipes l s.cache new xs) next reads) in
       (with_block home s m new h cached, bytes_of_read m g (v.first + v.rewritten) xs told)
 
   -- what wasn't read changed nothing
-  unread_is_held : (home : Home) (m : LogMap) → Holds home s m [] → (error : Error) → AreUnread as_bytes s.pipes es s.cache new error → Holds home (record s { cache = new }) m []
+  unread_is_held : (home : LogDirectories) (m : LogMap) → Represents home s m [] → (error : Error) → AreUnread as_bytes s.pipes es s.cache new error → Represents home (record s { cache = new }) m []
   unread_is_held home m h error unread =
       with_block home s m new h
       (all_untold s g home m [] h as_bytes v.rewritten ps (v.first + v.rewritten) (v.first + v.rewritten + length ps) s.cache new error stands_from (omega arith) (omega arith) h.cached
@@ -185,7 +185,7 @@ module _ (s : Shows) (g gate : ℕ) (es : List EntryIndex) (next : AreNext gate 
   next_rises = subst (λ l. RisesFrom (v.first + v.rewritten) (indexes_of l)) (sym next) (from_rises v v.rewritten ps)
 
   -- and ends where the group's entries end, or before
-  next_low : (home : Home) (m : LogMap) → Holds home s m [] → v.first + v.rewritten + length (indexes_of es) ≤ top
+  next_low : (home : LogDirectories) (m : LogMap) → Represents home s m [] → v.first + v.rewritten + length (indexes_of es) ≤ top
   next_low home m h =
       let o = h.meant.orderly g in
       let parts = o.parts in
@@ -238,7 +238,7 @@ run_copies g gate tables m b (i ∷ indexes) (x ∷ bytes) some first fits owes 
     (subst (AreEntryBytes m g ((tables g).first + (tables g).rewritten)) (sym has) maps)
 
 -- the entries of a run that was copied lie in Rewrite, behind those that lay there
-run_advances : (g gate : ℕ) (s t : Shows) (b : Batch) (indexes : List ℕ) (bytes : List (List ℕ)) → (indexes ≡ [] → ⊥) → ((i : ℕ) (is : List ℕ) → indexes ≡ i ∷ is → i ≡ (s.tables g).first + (s.tables g).rewritten)
+run_advances : (g gate : ℕ) (s t : EngineState) (b : Batch) (indexes : List ℕ) (bytes : List (List ℕ)) → (indexes ≡ [] → ⊥) → ((i : ℕ) (is : List ℕ) → indexes ≡ i ∷ is → i ≡ (s.tables g).first + (s.tables g).rewritten)
     → length indexes ≤ passing gate (drop (s.tables g).rewritten (s.tables g).places) → IsRunBatch g indexes bytes b → MovesCopies (Some gate) b s t → Advances g (length indexes) s.tables t.tables
 run_advances g gate s t b [] bytes some first fits is moved = absurd (some refl)
 run_advances g gate s t b (i ∷ indexes) [] some first fits is moved = absurd (let same = is.same in omega (arith, same))
@@ -257,17 +257,17 @@ run_plain g b indexes [] is = ap marking_of_items is.items
 run_plain g b indexes (x ∷ bytes) is = ap marking_of_items is.items ∙ plain_items (entries_items g 0 indexes (x ∷ bytes)) (entries_count g (laid_run 0 (entries_of indexes (x ∷ bytes))), tt)
 
 -- what remains, in two cases
-pub remains_or : (home : Home) (m : LogMap) (t : Shows) (error : Error) → Remains home m t error → Holds home t m [] ⊎ ((error ≡ errors.Failed) × IsLeftAt home t.pipes.disk m [])
+pub remains_or : (home : LogDirectories) (m : LogMap) (t : EngineState) (error : Error) → Remains home m t error → Represents home t m [] ⊎ ((error ≡ errors.Failed) × IsRecoverableAs home t.pipes.disk m [])
 remains_or home m t errors.Failed h = inr (refl, h)
 remains_or home m t _ h = inl h
 
-module _ (s : Shows) (g gate : ℕ) (es : List EntryIndex) (next : AreNext gate (s.tables g) es) (some : es ≡ [] → ⊥) (new : BlockCache) (xs : List RawMessage) (reads : ReadsEntries as_bytes s.pipes es s.cache new xs)
+module _ (s : EngineState) (g gate : ℕ) (es : List EntryIndex) (next : AreNext gate (s.tables g) es) (some : es ≡ [] → ⊥) (new : BlockCache) (xs : List RawMessage) (reads : ReadsEntries as_bytes s.pipes es s.cache new xs)
     (b : Batch) (is : IsRunBatch g (indexes_of es) (map (λ e. e.bytes) xs) b) where
   none_indexes : (l : List EntryIndex) → indexes_of l ≡ [] → l ≡ []
   none_indexes [] h = refl
   none_indexes (e ∷ l) h = absurd (let never : ⊥ = cc h in never)
 
-  copies : (home : Home) (m : LogMap) → Holds home s m [] → OweNothing s.tables → HasCopies (Some gate) b s.tables m
+  copies : (home : LogDirectories) (m : LogMap) → Represents home s m [] → OweNothing s.tables → HasCopies (Some gate) b s.tables m
   copies home m h owes =
       let v = s.tables g in
       let ps = next_places gate v in
@@ -287,7 +287,7 @@ module _ (s : Shows) (g gate : ℕ) (es : List EntryIndex) (next : AreNext gate 
           none_long (e ∷ l) h = absurd (omega (arith, h))
       lacking (x ∷ bytes) long same items = (let never : ⊥ = cc (sym none ∙ items) in never)
 
-  advances : (t : Shows) → MovesCopies (Some gate) b (record s { cache = new }) t → Advances g (length es) s.tables t.tables
+  advances : (t : EngineState) → MovesCopies (Some gate) b (record s { cache = new }) t → Advances g (length es) s.tables t.tables
   advances t moved =
       let v = s.tables g in
       let ps = next_places gate v in
@@ -297,7 +297,7 @@ module _ (s : Shows) (g gate : ℕ) (es : List EntryIndex) (next : AreNext gate 
       (run_advances g gate (record s { cache = new }) t b (indexes_of es) (map (λ e. e.bytes) xs) (λ none. some (none_indexes es none)) (λ i rest h. first_is v ps i rest (ap indexes_of (sym next) ∙ h))
       (omega (arith, count, low)) is moved)
 
-  pub entries_copied : (t : Shows) → WritesCopies (Some gate) b (record s { cache = new }) t → t.cache ≡ new → CopiesEntries g gate s t
+  pub entries_copied : (t : EngineState) → WritesCopies (Some gate) b (record s { cache = new }) t → t.cache ≡ new → CopiesEntries g gate s t
   entries_copied t (inl (none, same)) cache = absurd (some_items none)
   entries_copied t (inr (there, moved)) cache = record {
     entries = es;
@@ -312,7 +312,7 @@ module _ (s : Shows) (g gate : ℕ) (es : List EntryIndex) (next : AreNext gate 
   }
 
   -- with the block that was kept before
-  reason_on : (home : Home) (m : LogMap) (error : Error) (t : Shows) → HasReason home m error (record s { cache = new }) t → HasReason home m error s t
+  reason_on : (home : LogDirectories) (m : LogMap) (error : Error) (t : EngineState) → HasReason home m error (record s { cache = new }) t → HasReason home m error s t
   reason_on home m error t reason = reason_after home m error s (record s { cache = new }) t (same_later s.pipes.disk) reason
 
   -- what the record says
@@ -321,14 +321,14 @@ module _ (s : Shows) (g gate : ℕ) (es : List EntryIndex) (next : AreNext gate 
       let run : List LogItem = entries_items g 0 (indexes_of es) (map (λ e. e.bytes) xs) in
       record { indexes = indexes_of es; rise = next_rises s g gate es next new; are = is.items ∙ sym (append-nil run) ∙ sym (append-nil (run ++ [])); joins = is.joins }
 
-  entries_cause : (home : Home) (m : LogMap) → Holds home s m [] → (error : Error) (t : Shows) → IsOverlong b error ⊎ HasReason home m error (record s { cache = new }) t → HasReason home m error s t
+  entries_cause : (home : LogDirectories) (m : LogMap) → Represents home s m [] → (error : Error) (t : EngineState) → IsOverlong b error ⊎ HasReason home m error (record s { cache = new }) t → HasReason home m error s t
   entries_cause home m h error t (inl long) =
       long_reason home m error s t g ((s.tables g).first + (s.tables g).rewritten) (map (λ e. e.bytes) xs) [] [] b (inl refl) entries_made (read_piece s.pipes es s.cache new xs (next_piece s g gate es next new) reads) (read_is_held s g gate es next new home m h xs reads).1 tt none_twice long
   entries_cause home m h error t (inr reason) = reason_on home m error t reason
 
-  pub entries_not_copied : (error : Error) (t : Shows) → FailsToCopy (Some gate) b error (record s { cache = new }) t → FailsToCopyEntries error s t
+  pub entries_not_copied : (error : Error) (t : EngineState) → FailsToCopy (Some gate) b error (record s { cache = new }) t → FailsToCopyEntries error s t
   entries_not_copied error t fails = record {
-    same = fails.same ∙ ap (λ (c : BlockCache). record s { cache = c; pipes = t.pipes }) (sym (ap (λ (e : Shows). e.cache) fails.same));
+    same = fails.same ∙ ap (λ (c : BlockCache). record s { cache = c; pipes = t.pipes }) (sym (ap (λ (e : EngineState). e.cache) fails.same));
     tells = fails.tells;
     later = fails.later;
     remains = λ owes home m h.
@@ -339,7 +339,7 @@ module _ (s : Shows) (g gate : ℕ) (es : List EntryIndex) (next : AreNext gate 
   }
 
 -- nothing was written, for want of memory
-pub none_written : (error : Error) (s : Shows) → error ≡ errors.Memory → FailsToCopyEntries error s s
+pub none_written : (error : Error) (s : EngineState) → error ≡ errors.Memory → FailsToCopyEntries error s s
 none_written error s memory = record {
   same = refl;
   tells = λ lived. tells_nothing error s.pipes lived (memory_is_none error memory);

@@ -47,14 +47,14 @@ use Rattle.raft_log_dual_pipes.specs.Own.{log_layout}
 use Rattle.raft_log_dual_pipes.specs.Queues.{SaysRecord}
 use Rattle.raft_log_dual_pipes.specs.State.{pipe_at}
 use Rattle.raft_log_block_cache.specs.Stored.{entries_at, part}
-use Rattle.raft_log_dual_pipes.specs.Pipes.{LogPipes, LogSense, RunsOn, Said, State, files_of, is_failed, which_of}
+use Rattle.raft_log_dual_pipes.specs.Pipes.{LogPipes, LogSense, RunsOn, LogRecordValue, State, files_of, is_failed, which_of}
 use Rattle.raft_log_dual_pipes.specs.Calls.{FailsToAppendTo, FailsToPurgeQueue, FailsToRotateQueue, FailsToSyncQueue}
 use Rattle.raft_log_dual_pipes.specs.Numbers.{EndsNumbers, EndsNumbersAt, EndsNumbersBelow, HasLastNumber}
 use Rattle.raft_log_dual_pipes.specs.PipeCalls.{PipeFailsToAppend}
 use Rattle.raft_log_block_cache.specs.declared.block_cache.BlockCache.{BlockCache}
 use Rattle.raft_log_block_cache.specs.Blocks.{AreUnread, IsBlockUnread, IsEntryUnread, IsFileUnread, IsNoEntry, IsUnplaced}
-use Rattle.raft_log_engine_laws.specs.Shows.{Home, LogMap, Shows, said_by, sense}
-use Rattle.raft_log_engine_laws.specs.Holding.{Holds}
+use Rattle.raft_log_engine_laws.specs.EngineState.{LogDirectories, LogMap, EngineState, said_by, sense}
+use Rattle.raft_log_engine_laws.specs.Holding.{Represents}
 use Rattle.raft_log_engine_laws.specs.Fetching.{IsOneUntold, IsUntold}
 use Rattle.raft_log_engine_laws.specs.Rewriting.{CountsAlone}
 use Rattle.raft_log_engine_laws.proofs.Rewriting.{bytes_of, says_marked}
@@ -68,7 +68,7 @@ use Rattle.raft_log_purge_copy.proofs.KeyCopies.{EachOf, each_listed}
 
 -- What came before takes no cause away.
 
-record_after : (error : Error) (s t u : Shows) → IsLater s.pipes.disk t.pipes.disk → FailsAtARecord error t u → FailsAtARecord error s u
+record_after : (error : Error) (s t u : EngineState) → IsLater s.pipes.disk t.pipes.disk → FailsAtARecord error t u → FailsAtARecord error s u
 record_after error s t u later (fails, refused) = (
   fails_after s.pipes.disk t.pipes.disk u.pipes.disk later fails,
   record {
@@ -80,7 +80,7 @@ record_after error s t u later (fails, refused) = (
   },
 )
 
-pub reason_after : (home : Home) (m : LogMap) (error : Error) (s t u : Shows) → IsLater s.pipes.disk t.pipes.disk → HasReason home m error t u → HasReason home m error s u
+pub reason_after : (home : LogDirectories) (m : LogMap) (error : Error) (s t u : EngineState) → IsLater s.pipes.disk t.pipes.disk → HasReason home m error t u → HasReason home m error s u
 reason_after home m (errors.Io kind) s t u later (inl fails) = inl (record_after (errors.Io kind) s t u later fails)
 reason_after home m (errors.Io kind) s t u later (inr unread) = inr unread
 reason_after home m (errors.TryAgain text) s t u later fails = record_after (errors.TryAgain text) s t u later fails
@@ -92,22 +92,22 @@ reason_after home m errors.Memory s t u later reason = reason
 reason_after home m _ s t u later never = absurd never
 
 -- of a purge, where no more is owed behind it
-pub purge_reason_after : (home : Home) (m : LogMap) (error : Error) (s t u : Shows) → IsLater s.pipes.disk t.pipes.disk → (OwesTooMuch t.tables → OwesTooMuch s.tables) → HasPurgeReason home m error t u → HasPurgeReason home m error s u
+pub purge_reason_after : (home : LogDirectories) (m : LogMap) (error : Error) (s t u : EngineState) → IsLater s.pipes.disk t.pipes.disk → (OwesTooMuch t.tables → OwesTooMuch s.tables) → HasPurgeReason home m error t u → HasPurgeReason home m error s u
 purge_reason_after home m error s t u later owes (inl reason) = inl (reason_after home m error s t u later reason)
 purge_reason_after home m error s t u later owes (inr (full, long)) = inr (full, owes long)
 
-pub overlong_after : (home : Home) (m : LogMap) (b : Batch) (error : Error) (s t u : Shows) → IsLater s.pipes.disk t.pipes.disk → IsOverlong b error ⊎ HasReason home m error t u → IsOverlong b error ⊎ HasReason home m error s u
+pub overlong_after : (home : LogDirectories) (m : LogMap) (b : Batch) (error : Error) (s t u : EngineState) → IsLater s.pipes.disk t.pipes.disk → IsOverlong b error ⊎ HasReason home m error t u → IsOverlong b error ⊎ HasReason home m error s u
 overlong_after home m b error s t u later (inl long) = inl long
 overlong_after home m b error s t u later (inr reason) = inr (reason_after home m error s t u later reason)
 
-pub file_reason_after : (error : Error) (s t u : Shows) → IsLater s.pipes.disk t.pipes.disk → HasFileReason error t u → HasFileReason error s u
+pub file_reason_after : (error : Error) (s t u : EngineState) → IsLater s.pipes.disk t.pipes.disk → HasFileReason error t u → HasFileReason error s u
 file_reason_after errors.Failed s t u later fails = fails_after s.pipes.disk t.pipes.disk u.pipes.disk later fails
 file_reason_after errors.NumberRange s t u later ends = ends
 file_reason_after errors.Memory s t u later reason = reason
 file_reason_after _ s t u later never = absurd never
 
 -- a reason of files is one
-pub reason_of_files : (home : Home) (m : LogMap) (error : Error) (s t : Shows) → HasFileReason error s t → HasReason home m error s t
+pub reason_of_files : (home : LogDirectories) (m : LogMap) (error : Error) (s t : EngineState) → HasFileReason error s t → HasReason home m error s t
 reason_of_files home m errors.Failed s t fails = fails
 reason_of_files home m errors.NumberRange s t ends = ends
 reason_of_files home m errors.Memory s t reason = tt
@@ -116,7 +116,7 @@ reason_of_files home m _ s t never = absurd never
 -- What isn't made.
 
 -- memory ran out
-pub memory_reason : (home : Home) (m : LogMap) (error : Error) (s t : Shows) → error ≡ errors.Memory → HasReason home m error s t
+pub memory_reason : (home : LogDirectories) (m : LogMap) (error : Error) (s t : EngineState) → error ≡ errors.Memory → HasReason home m error s t
 memory_reason home m error s t is = subst (λ (e : Error). HasReason home m e s t) (sym is) tt
 
 pub memory_unmade : (error : Error) → error ≡ errors.Memory → IsUnmade error
@@ -138,14 +138,14 @@ keys_unmade (errors.InvalidArgument text) g pairs why = tt
 keys_unmade _ g pairs why = absurd why
 
 -- a record of what a group has in the map is too long
-pub long_reason : (home : Home) (m : LogMap) (error : Error) (s t : Shows) (g first : ℕ) (bytes : List (List ℕ)) (pairs : List (List ℕ × List ℕ)) (mark : List LogItem) (b : Batch) → IsOneMark mark
+pub long_reason : (home : LogDirectories) (m : LogMap) (error : Error) (s t : EngineState) (g first : ℕ) (bytes : List (List ℕ)) (pairs : List (List ℕ × List ℕ)) (mark : List LogItem) (b : Batch) → IsOneMark mark
     → AreOfGroup g first bytes pairs mark b.items b.entries → AreOnePiece bytes → AreEntryBytes m g first bytes → AreValuesIn m g pairs → IsStrictlySortedBy (slice_cmp nat_cmp) (keys_of pairs) → IsOverlong b error → HasReason home m error s t
 long_reason home m error s t g first bytes pairs mark b one made piece run values once (is, long) =
     subst (λ (e : Error). HasReason home m e s t) (sym is)
     (b.items, b.entries, record { group = g; first = first; bytes = bytes; pairs = pairs; mark = mark; one = one; made = made; piece = piece; run = run; values = values; once = once }, inr long)
 
 -- that of the marks that are owed
-pub marks_long_reason : (home : Home) (m : LogMap) (error : Error) (s t : Shows) (b : Batch) → SaysMarks s.tables b → IsUnrecorded b error → HasPurgeReason home m error s t
+pub marks_long_reason : (home : LogDirectories) (m : LogMap) (error : Error) (s t : EngineState) (b : Batch) → SaysMarks s.tables b → IsUnrecorded b error → HasPurgeReason home m error s t
 marks_long_reason home m error s t b says (inl memory) = inl (memory_reason home m error s t memory)
 marks_long_reason home m error s t b says (inr (is, long)) = inr (is, (b, says, long))
 
@@ -156,7 +156,7 @@ mark_value_of m g (e ∷ es) (value, rest) (inl (here, key)) =
     (e.1, subst (λ (k : List ℕ). m 0 (Key k) ≡ Some (Value e.1)) key (subst (λ (h : ℕ). m h (Key e.0) ≡ Some (Value e.1)) here value))
 mark_value_of m g (e ∷ es) (value, rest) (inr mark) = mark_value_of m g es rest mark
 
-pub keys_reason : (home : Home) (m : LogMap) (error : Error) (s t : Shows) (g : ℕ) (pairs : List (List ℕ × List ℕ)) → AreValuesIn m g pairs → AreUnput g pairs error → HasReason home m error s t
+pub keys_reason : (home : LogDirectories) (m : LogMap) (error : Error) (s t : EngineState) (g : ℕ) (pairs : List (List ℕ × List ℕ)) → AreValuesIn m g pairs → AreUnput g pairs error → HasReason home m error s t
 keys_reason home m errors.Memory s t g pairs values why = tt
 keys_reason home m (errors.InvalidArgument text) s t g pairs values why = mark_value_of m g pairs values why
 keys_reason home m _ s t g pairs values why = absurd why
@@ -172,7 +172,7 @@ index_run first [] rise low = tt
 index_run first (i ∷ is) (same, rise) low = ((refl, subst (λ (n : ℕ). RisesFrom (n + 1) is) (sym same) rise), (let end = low (omega arith) in omega (arith, same, end)))
 
 -- entries aren't added
-pub entries_reason : (home : Home) (m : LogMap) (error : Error) (s t : Shows) (g first : ℕ) (indexes : List ℕ) (bytes : List (List ℕ)) → RisesFrom first indexes → (0 < length indexes → first + length indexes ≤ top) → length indexes ≡ length bytes
+pub entries_reason : (home : LogDirectories) (m : LogMap) (error : Error) (s t : EngineState) (g first : ℕ) (indexes : List ℕ) (bytes : List (List ℕ)) → RisesFrom first indexes → (0 < length indexes → first + length indexes ≤ top) → length indexes ≡ length bytes
     → AreOnePiece bytes → AreEntryBytes m g first bytes → IsEntriesRefusal error 0 indexes bytes → HasReason home m error s t
 entries_reason home m errors.Memory s t g first indexes bytes rise low same piece run why = tt
 entries_reason home m (errors.InvalidArgument text) s t g first indexes bytes rise low same piece run (none, told) = absurd (none (same, index_run first indexes rise low))
@@ -204,7 +204,7 @@ value_stands : (at : Located → List ℕ) (o : Option (List ℕ)) → option_ma
 value_stands at None = refl
 value_stands at (Some w) = refl
 
-value_held : (home : Home) (m : LogMap) (e : Shows) → Holds home e m [] → (g : ℕ) (k w : List ℕ) → bytes_held ((e.tables g).held k) ≡ Some w → m g (Key k) ≡ Some (Value w)
+value_held : (home : LogDirectories) (m : LogMap) (e : EngineState) → Represents home e m [] → (g : ℕ) (k w : List ℕ) → bytes_held ((e.tables g).held k) ≡ Some w → m g (Key k) ≡ Some (Value w)
 value_held home m e h g k w is =
     subst (λ (n : LogMap). n g (Key k) ≡ Some (Value w)) h.at.stands.map
     (sym (h.meant.meant g (Key k)) ∙ value_stands (entries_at h.state) (bytes_held ((e.tables g).held k)) ∙ ap (option_map Value) is)
@@ -213,11 +213,11 @@ asked_held : (gate : Option ℕ) (o : Option KeyValue) (w : List ℕ) → asked_
 asked_held gate None w is = is
 asked_held gate (Some h) w is = at_bool (is_asked gate h) (λ b. (if b then Some h.bytes else None) ≡ Some w → Some h.bytes ≡ Some w) (λ _ e. e) (λ _ e. no_word w e) is
 
-each_value : (home : Home) (m : LogMap) (e : Shows) → Holds home e m [] → (g : ℕ) (gate : Option ℕ) (pairs : List (List ℕ × List ℕ)) → EachOf (λ k. asked_bytes gate ((e.tables g).held k)) pairs → AreValuesIn m g pairs
+each_value : (home : LogDirectories) (m : LogMap) (e : EngineState) → Represents home e m [] → (g : ℕ) (gate : Option ℕ) (pairs : List (List ℕ × List ℕ)) → EachOf (λ k. asked_bytes gate ((e.tables g).held k)) pairs → AreValuesIn m g pairs
 each_value home m e h g gate [] all = tt
 each_value home m e h g gate (p ∷ ps) (one, rest) = (value_held home m e h g p.0 p.1 (asked_held gate ((e.tables g).held p.0) p.1 one), each_value home m e h g gate ps rest)
 
-pub values_in : (home : Home) (m : LogMap) (e : Shows) → Holds home e m [] → (g : ℕ) (gate : Option ℕ) (pairs : List (List ℕ × List ℕ)) → ListsAll (λ k. asked_bytes gate ((e.tables g).held k)) pairs → AreValuesIn m g pairs
+pub values_in : (home : LogDirectories) (m : LogMap) (e : EngineState) → Represents home e m [] → (g : ℕ) (gate : Option ℕ) (pairs : List (List ℕ × List ℕ)) → ListsAll (λ k. asked_bytes gate ((e.tables g).held k)) pairs → AreValuesIn m g pairs
 values_in home m e h g gate pairs lists = each_value home m e h g gate pairs (each_listed (λ k. asked_bytes gate ((e.tables g).held k)) pairs lists.rising lists.exact)
 
 -- that isn't told as a failure, and nothing has failed
@@ -232,14 +232,14 @@ memory_is_none error memory failed = (let never : ⊥ = cc in never)
 alive_of : (log : LogSense) (v : LogPipes) (s : State) → RunsOn log v s → is_failed v ≡ false
 alive_of log v s runs = ap (λ b. b || v.rewrite.failed) runs.append.alive ∙ runs.rewrite.alive
 
-refused_now : (home : Home) (error : Error) (s t : Shows) (log : State) (b : Batch) → RunsOn (sense home) s.pipes log → Fails s.pipes.disk t.pipes.disk → PipeFailsToAppend InRewrite (signed_for b) error s.pipes t.pipes
+refused_now : (home : LogDirectories) (error : Error) (s t : EngineState) (log : State) (b : Batch) → RunsOn (sense home) s.pipes log → Fails s.pipes.disk t.pipes.disk → PipeFailsToAppend InRewrite (signed_for b) error s.pipes t.pipes
     → FailsAtARecord error s t
 refused_now home error s t log b runs fails told = (
   fails,
   record { before = s.pipes; batch = b; earlier = later_same s.pipes.disk; alive = alive_of (sense home) s.pipes log runs; call = told },
 )
 
-pub record_reason : (home : Home) (m : LogMap) (error : Error) (s t : Shows) (log : State) (y : Said) (b : Batch) → RunsOn (sense home) s.pipes log
+pub record_reason : (home : LogDirectories) (m : LogMap) (error : Error) (s t : EngineState) (log : State) (y : LogRecordValue) (b : Batch) → RunsOn (sense home) s.pipes log
     → SaysRecord said_by (log_layout Rewrite home.rewrite) Rewrite (signed_for b) y → FailsToAppendTo InRewrite (signed_for b) error s.pipes t.pipes → EndsNumbersAt InRewrite (signed_for b) error s.pipes t.pipes
     → PipeFailsToAppend InRewrite (signed_for b) error s.pipes t.pipes → HasReason home m error s t
 record_reason home m (errors.Io kind) s t log y b runs says call ends told = inl (refused_now home (errors.Io kind) s t log b runs (call (sense home) log y runs says).0 told)
@@ -250,12 +250,12 @@ record_reason home m errors.Failed s t log y b runs says call ends told = (call 
 record_reason home m _ s t log y b runs says call ends told = absurd (call (sense home) log y runs says)
 
 -- of a batch that counts by itself
-pub alone_reason : (home : Home) (m : LogMap) (error : Error) (s t : Shows) (log : State) (b : Batch) → CountsAlone b → RunsOn (sense home) s.pipes log → FailsToAppendTo InRewrite (signed_for b) error s.pipes t.pipes
+pub alone_reason : (home : LogDirectories) (m : LogMap) (error : Error) (s t : EngineState) (log : State) (b : Batch) → CountsAlone b → RunsOn (sense home) s.pipes log → FailsToAppendTo InRewrite (signed_for b) error s.pipes t.pipes
     → EndsNumbersAt InRewrite (signed_for b) error s.pipes t.pipes → PipeFailsToAppend InRewrite (signed_for b) error s.pipes t.pipes → HasReason home m error s t
 alone_reason home m error s t log b alone runs call ends told =
     record_reason home m error s t log (Plain (bytes_of b)) b runs (says_marked home b Unmarked (Plain (bytes_of b)) alone.some alone.plain refl alone.says alone.laid) call ends told
 
-pub sync_reason : (which : Which) (home : Home) (m : LogMap) (error : Error) (s t : Shows) (log : State) → RunsOn (sense home) s.pipes log → error ≡ errors.Failed → FailsToSyncQueue which s.pipes t.pipes → HasReason home m error s t
+pub sync_reason : (which : Which) (home : LogDirectories) (m : LogMap) (error : Error) (s t : EngineState) (log : State) → RunsOn (sense home) s.pipes log → error ≡ errors.Failed → FailsToSyncQueue which s.pipes t.pipes → HasReason home m error s t
 sync_reason which home m error s t log runs is call = subst (λ (e : Error). HasReason home m e s t) (sym is) (call (sense home) log runs).0
 
 -- the last file of a queue is the log's
@@ -263,14 +263,14 @@ still_last : (which : Which) (log : LogSense) (v w : LogPipes) (s : State) → R
 still_last InAppend log v w s runs still last = subst (λ (n : ℕ). 10 ^ 16 ≤ suc n) (runs.run.append.pipe.number ∙ sym still.run.append.pipe.number) last
 still_last InRewrite log v w s runs still last = subst (λ (n : ℕ). 10 ^ 16 ≤ suc n) (runs.run.rewrite.pipe.number ∙ sym still.run.rewrite.pipe.number) last
 
-pub turn_reason : (which : Which) (home : Home) (error : Error) (s t : Shows) (log : State) → RunsOn (sense home) s.pipes log → FailsToRotateQueue which error s.pipes t.pipes → EndsNumbers which error s.pipes → HasFileReason error s t
+pub turn_reason : (which : Which) (home : LogDirectories) (error : Error) (s t : EngineState) (log : State) → RunsOn (sense home) s.pipes log → FailsToRotateQueue which error s.pipes t.pipes → EndsNumbers which error s.pipes → HasFileReason error s t
 turn_reason which home errors.Memory s t log runs call ends = tt
 turn_reason which home errors.NumberRange s t log runs call ends = (which, still_last which (sense home) s.pipes t.pipes log runs (call (sense home) log runs).0 (ends refl (sense home) log runs))
 turn_reason which home errors.Failed s t log runs call ends = (call (sense home) log runs).0
 turn_reason which home _ s t log runs call ends = absurd (call (sense home) log runs)
 
 -- a file of the span is one
-pub purge_reason : (which : Which) (n : ℕ) (home : Home) (error : Error) (s t : Shows) (log : State) → RunsOn (sense home) s.pipes log → IsInSpan n (pipe_at which (files_of s.pipes)) → FailsToPurgeQueue which n error s.pipes t.pipes
+pub purge_reason : (which : Which) (n : ℕ) (home : LogDirectories) (error : Error) (s t : EngineState) (log : State) → RunsOn (sense home) s.pipes log → IsInSpan n (pipe_at which (files_of s.pipes)) → FailsToPurgeQueue which n error s.pipes t.pipes
     → EndsNumbersBelow which error s.pipes → HasFileReason error s t
 purge_reason which n home errors.Memory s t log runs within call ends = tt
 purge_reason which n home (errors.Other fault) s t log runs within call ends = absurd ((call (sense home) log runs).0 within)
@@ -371,7 +371,7 @@ pub unread_is_none : (v : LogPipes) (es : List EntryIndex) (old new : BlockCache
 unread_is_none v es old new error unread is = subst IsOfReading is (unread_entries v es old new error unread)
 
 -- an entry of the map isn't told: its file wasn't read, or memory ran out
-of_untold : (home : Home) (m : LogMap) (error : Error) (s t : Shows) (block : FileBlockHandle) (bytes : List ℕ) → IsFileUnread t.pipes block error ⊎ Parses {M = RawMessage} (Err error) (as_bytes bytes) → IsOneUnread home m t error
+of_untold : (home : LogDirectories) (m : LogMap) (error : Error) (s t : EngineState) (block : FileBlockHandle) (bytes : List ℕ) → IsFileUnread t.pipes block error ⊎ Parses {M = RawMessage} (Err error) (as_bytes bytes) → IsOneUnread home m t error
     → HasReason home m error s t
 of_untold home m (errors.Io kind) s t block bytes why unread = inr unread
 of_untold home m errors.Memory s t block bytes why unread = tt
@@ -381,11 +381,11 @@ of_untold home m _ s t block bytes (inl file) unread = absurd file
 of_untold home m _ s t block bytes (inr none) unread = absurd none
 
 -- with another block it is so still
-with_block : (g i : ℕ) (s : Shows) (new : BlockCache) (m : LogMap) (error : Error) → IsUntold as_bytes g i s m error → IsUntold as_bytes g i (record s { cache = new }) m error
+with_block : (g i : ℕ) (s : EngineState) (new : BlockCache) (m : LogMap) (error : Error) → IsUntold as_bytes g i s m error → IsUntold as_bytes g i (record s { cache = new }) m error
 with_block g i s new m error u = record { entry = u.entry; block = u.block; bytes = u.bytes; stands = u.stands; placed = u.placed; maps = u.maps; why = u.why }
 
 -- of entries of the map one isn't read: nothing was done but that
-pub untold_reason : (home : Home) (m : LogMap) (error : Error) (s : Shows) (new : BlockCache) → Holds home (record s { cache = new }) m [] → (g begin end : ℕ) → IsOneUntold as_bytes g begin end s m error
+pub untold_reason : (home : LogDirectories) (m : LogMap) (error : Error) (s : EngineState) (new : BlockCache) → Represents home (record s { cache = new }) m [] → (g begin end : ℕ) → IsOneUntold as_bytes g begin end s m error
     → HasReason home m error s (record s { cache = new })
 untold_reason home m error s new h g begin end (inl memory) = memory_reason home m error s (record s { cache = new }) memory
 untold_reason home m error s new h g begin end (inr (i, low, high, untold)) =

@@ -9,13 +9,13 @@ use Rattle.raft_log_directory_laws.specs.Calls.Which.{InRewrite}
 use Rattle.raft_log_dual_pipes.specs.Steps.{next_log}
 use Rattle.raft_log_dual_pipes.specs.Pipes.{LogPipes, RunsOn, State}
 use Rattle.raft_log_dual_pipes.specs.Calls.{AppendsTo, SyncsQueue}
-use Rattle.raft_log_engine_laws.specs.Shows.{Home, sense}
+use Rattle.raft_log_engine_laws.specs.EngineState.{LogDirectories, sense}
 use Rattle.raft_log_engine_laws.specs.Rewriting.{CountsAlone}
 use Rattle.raft_log_engine_laws.proofs.Rewriting.{bytes_of, says_marked}
 use Rattle.raft_log_purge_copy.specs.Parts.{StaysInFile, append_file}
 
 -- the file that Append is written in is the last one of its span
-file_is_last : (home : Home) (v : LogPipes) (s : State) → RunsOn (sense home) v s → append_file v ≡ s.append.files.last
+file_is_last : (home : LogDirectories) (v : LogPipes) (s : State) → RunsOn (sense home) v s → append_file v ≡ s.append.files.last
 file_is_last home v s runs = runs.run.append.pipe.number
 
 pub stays_same : (v : LogPipes) → StaysInFile v v

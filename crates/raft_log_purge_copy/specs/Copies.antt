@@ -7,8 +7,8 @@ use Rattle.raft_log_record_base.specs.declared.pipe_log.FileBlockHandle.{FileBlo
 use Rattle.raft_log_record_frames.specs.declared.marking.Marking.TheVariants.{Unmarked}
 use Rattle.raft_log_record_frames.specs.Marking.{marking_of_items}
 use Rattle.raft_log_record_batches.specs.Batch.{Batch}
-use Rattle.raft_log_engine_laws.specs.Shows.{Home, LogMap, Shows, has_failed}
-use Rattle.raft_log_engine_laws.specs.Holding.{Holds}
+use Rattle.raft_log_engine_laws.specs.EngineState.{LogDirectories, LogMap, EngineState, has_failed}
+use Rattle.raft_log_engine_laws.specs.Holding.{Represents}
 use Rattle.raft_log_engine_laws.specs.Rewriting.{HasCopies, moved_to}
 use Rattle.raft_log_purge_copy.specs.Parts.{Remains, StaysInFile}
 use Rattle.raft_log_purge_copy.specs.Reasons.{HasReason}
@@ -16,7 +16,7 @@ use Rattle.raft_log_purge_copy.specs.Refusals.{IsOverlong}
 
 -- A batch that isn't empty was written to Rewrite, and the tables applied it in the file of its place. The map stays
 -- held with nothing pending, if the batch has copies of it, and is no part of an atomic group.
-pub record MovesCopies (gate : Option ℕ) (b : Batch) (s t : Shows) : Type 0 where
+pub record MovesCopies (gate : Option ℕ) (b : Batch) (s t : EngineState) : Type 0 where
   pub block : FileBlockHandle
   pub alive : has_failed t ≡ false
   pub tables : t.tables ≡ moved_to gate block b s.tables
@@ -24,21 +24,21 @@ pub record MovesCopies (gate : Option ℕ) (b : Batch) (s t : Shows) : Type 0 wh
   pub cache : t.cache ≡ s.cache
   pub later : IsLater s.pipes.disk t.pipes.disk
   pub stays : marking_of_items b.items ≡ Unmarked → StaysInFile s.pipes t.pipes
-  pub holds : marking_of_items b.items ≡ Unmarked → (home : Home) (m : LogMap) → Holds home s m []
-      → HasCopies gate b s.tables m → Holds home t m []
+  pub holds : marking_of_items b.items ≡ Unmarked → (home : LogDirectories) (m : LogMap) → Represents home s m []
+      → HasCopies gate b s.tables m → Represents home t m []
 
 -- the batch was written, or it is empty, and nothing was done
-abbrev pub WritesCopies : Option ℕ → Batch → Shows → Shows → Type 0
+abbrev pub WritesCopies : Option ℕ → Batch → EngineState → EngineState → Type 0
 WritesCopies gate b s t = ((b.items ≡ []) × (t ≡ s)) ⊎ (((b.items ≡ []) → ⊥) × MovesCopies gate b s t)
 
 -- A batch of copies wasn't written: the tables are unchanged. If it is no part of an atomic group:
 -- - if it has copies, the map is kept with nothing pending, or the engine has failed and left its log on the disk
 -- - its record is too long, or the reason is one of any part
-pub record FailsToCopy (gate : Option ℕ) (b : Batch) (error : Error) (s t : Shows) : Type 0 where
+pub record FailsToCopy (gate : Option ℕ) (b : Batch) (error : Error) (s t : EngineState) : Type 0 where
   pub same : t ≡ record s { pipes = t.pipes }
   pub tells : has_failed s ≡ false → IsTrue (has_failed t) ↔ (error ≡ errors.Failed)
   pub later : IsLater s.pipes.disk t.pipes.disk
-  pub remains : marking_of_items b.items ≡ Unmarked → (home : Home) (m : LogMap) → Holds home s m []
+  pub remains : marking_of_items b.items ≡ Unmarked → (home : LogDirectories) (m : LogMap) → Represents home s m []
       → HasCopies gate b s.tables m → Remains home m t error
-  pub cause : marking_of_items b.items ≡ Unmarked → (home : Home) (m : LogMap) → Holds home s m []
+  pub cause : marking_of_items b.items ≡ Unmarked → (home : LogDirectories) (m : LogMap) → Represents home s m []
       → IsOverlong b error ⊎ HasReason home m error s t

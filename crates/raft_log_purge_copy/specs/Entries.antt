@@ -11,7 +11,7 @@ use Rattle.raft_log_extents.specs.Counts.{passing, sized}
 use Rattle.raft_log_extents.specs.declared.place.Place.{Place}
 use Rattle.raft_log_memtable_index.specs.Shown.{Shown}
 use Rattle.raft_log_engine_laws.specs.raft_log_memtable.specs.Reads.{entries_from}
-use Rattle.raft_log_engine_laws.specs.Shows.{LogMap}
+use Rattle.raft_log_engine_laws.specs.EngineState.{LogMap}
 use Rattle.raft_log_record_items.specs.declared.raw_message.RawMessage.{RawMessage}
 
 -- the most bytes of entries in a record that is written to Rewrite, unless it has a single longer entry

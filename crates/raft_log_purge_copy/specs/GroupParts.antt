@@ -8,8 +8,8 @@ use Rattle.raft_log_record_frames.specs.declared.marking.Marking.TheVariants.{Pa
 use Rattle.raft_log_record_frames.specs.Marking.{mark_item, marking_of_items}
 use Rattle.raft_log_record_batches.specs.declared.log_batch.BatchState.TheVariants.{Filling}
 use Rattle.raft_log_record_batches.specs.Batch.{Batch, block_place}
-use Rattle.raft_log_engine_laws.specs.Shows.{Home, LogMap, Shows, has_failed}
-use Rattle.raft_log_engine_laws.specs.Holding.{Holds}
+use Rattle.raft_log_engine_laws.specs.EngineState.{LogDirectories, LogMap, EngineState, has_failed}
+use Rattle.raft_log_engine_laws.specs.Holding.{Represents}
 use Rattle.raft_log_engine_laws.specs.Parts.{HoldsInGroup, UnendedGroup, WrittenPart, parts_of}
 use Rattle.raft_log_engine_laws.specs.Restating.{entries_of_pieces}
 use Rattle.raft_log_purge_copy.specs.Entries.{AreEntryBytes}
@@ -49,7 +49,7 @@ pub record IsMarkedPiece (g f number : ℕ) (status : AtomicGroupStatus) (bytes 
 
 -- An atomic group is open, and its parts say the first `done` rewritten entries of a group. Nothing of it counts yet,
 -- and the tables are unchanged.
-pub record HasParts (g number done : ℕ) (parts : List RestatedPart) (s t : Shows) : Type 0 where
+pub record HasParts (g number done : ℕ) (parts : List RestatedPart) (s t : EngineState) : Type 0 where
   pub group : UnendedGroup
   pub numbered : group.number ≡ number
   pub pieces : List (List (List ℕ))
@@ -59,7 +59,7 @@ pub record HasParts (g number done : ℕ) (parts : List RestatedPart) (s t : Sho
   pub same : t ≡ record s { pipes = t.pipes; cache = t.cache }
   pub alive : has_failed t ≡ false
   pub later : IsLater s.pipes.disk t.pipes.disk
-  pub stands : (home : Home) (m : LogMap) → Holds home s m [] → HoldsInGroup home t m group
-  pub bytes : (home : Home) (m : LogMap) → Holds home s m []
+  pub stands : (home : LogDirectories) (m : LogMap) → Represents home s m [] → HoldsInGroup home t m group
+  pub bytes : (home : LogDirectories) (m : LogMap) → Represents home s m []
       → AreEntryBytes m g (s.tables g).first (entries_of_pieces pieces)
-  pub low : (home : Home) (m : LogMap) → Holds home s m [] → last_file s ≤ group.first.block.id.seq
+  pub low : (home : LogDirectories) (m : LogMap) → Represents home s m [] → last_file s ≤ group.first.block.id.seq

@@ -7,7 +7,7 @@ use Rattle.raft_log_record_base.specs.declared.errors.Error.TheVariants as error
 use Rattle.raft_log_extents.specs.Counts.{passing}
 use Rattle.raft_log_memtable_index.specs.Shown.{Shown}
 use Rattle.raft_log_engine_laws.specs.raft_log_memtable.specs.Files.{FrontIsLeast, IsLeastInAppend}
-use Rattle.raft_log_engine_laws.specs.Shows.{Shows, has_failed}
+use Rattle.raft_log_engine_laws.specs.EngineState.{EngineState, has_failed}
 use Rattle.raft_log_engine_laws.specs.Raising.{AppendMayBegin}
 use Rattle.raft_log_purge_copy.specs.Parts.{StaysInFile}
 use Rattle.raft_log_purge_copy.specs.Moving.{IsPartlyRewritten, IsRewrittenTo}
@@ -16,14 +16,14 @@ use Rattle.raft_log_purge_copy.specs.Rewriting.{OweNothing, StaysHeld, StaysOrIs
 
 -- A part of what each group that passes the test had in Append, in files up to the gate, is in Rewrite now. Other
 -- groups are unchanged.
-pub record RewritesPart (test : ℕ → Bool) (gate : ℕ) (s t : Shows) : Type 0 where
+pub record RewritesPart (test : ℕ → Bool) (gate : ℕ) (s t : EngineState) : Type 0 where
   pub parts : (g : ℕ) → IsPartlyRewritten gate (s.tables g) (t.tables g)
   pub others : (g : ℕ) → test g ≡ false → t.tables g ≡ s.tables g
   pub counts : t.counts ≡ s.counts
   pub later : IsLater s.pipes.disk t.pipes.disk
 
 -- each group that passes the test was rewritten, whole: nothing of it is left in Append up to the gate
-pub record Rewrites (test : ℕ → Bool) (gate : ℕ) (s t : Shows) : Type 0 where
+pub record Rewrites (test : ℕ → Bool) (gate : ℕ) (s t : EngineState) : Type 0 where
   pub part : RewritesPart test gate s t
   pub whole : (g : ℕ) → test g ≡ true → IsRewrittenTo gate (t.tables g)
   pub alive : has_failed s ≡ false → has_failed t ≡ false
@@ -31,14 +31,14 @@ pub record Rewrites (test : ℕ → Bool) (gate : ℕ) (s t : Shows) : Type 0 wh
   pub holds : StaysHeld s t
 
 -- rewriting failed, with a part done; and why, if no tombstone is owed
-pub record StopsRewriting (test : ℕ → Bool) (gate : ℕ) (error : Error) (s t : Shows) : Type 0 where
+pub record StopsRewriting (test : ℕ → Bool) (gate : ℕ) (error : Error) (s t : EngineState) : Type 0 where
   pub part : RewritesPart test gate s t
   pub tells : has_failed s ≡ false → IsTrue (has_failed t) ↔ (error ≡ errors.Failed)
   pub remains : StaysOrIsLeft error s t
   pub cause : OweNothing s.tables → GivesReason error s t
 
 -- all entries of a group in Append, in files up to the gate, were copied
-pub record RewritesEntries (group gate : ℕ) (s t : Shows) : Type 0 where
+pub record RewritesEntries (group gate : ℕ) (s t : EngineState) : Type 0 where
   pub part : RewritesPart (λ g. group == g) gate s t
   pub none : passing gate (drop (t.tables group).rewritten (t.tables group).places) ≡ 0
   pub alive : has_failed s ≡ false → has_failed t ≡ false
@@ -46,19 +46,19 @@ pub record RewritesEntries (group gate : ℕ) (s t : Shows) : Type 0 where
   pub holds : StaysHeld s t
 
 -- one group was rewritten
-abbrev pub RewritesGroup : ℕ → ℕ → Shows → Shows → Type 0
+abbrev pub RewritesGroup : ℕ → ℕ → EngineState → EngineState → Type 0
 RewritesGroup group gate s t = Rewrites (λ g. group == g) gate s t
 
 -- rewriting one group failed, with a part done
-abbrev pub StopsAtGroup : ℕ → ℕ → Error → Shows → Shows → Type 0
+abbrev pub StopsAtGroup : ℕ → ℕ → Error → EngineState → EngineState → Type 0
 StopsAtGroup group gate error s t = StopsRewriting (λ g. group == g) gate error s t
 
 -- each of these groups was rewritten
-abbrev pub RewritesGroups : List ℕ → ℕ → Shows → Shows → Type 0
+abbrev pub RewritesGroups : List ℕ → ℕ → EngineState → EngineState → Type 0
 RewritesGroups groups gate s t = Rewrites (λ g. list_any (λ k. k == g) groups) gate s t
 
 -- rewriting these groups failed, with a part done
-abbrev pub StopsAtGroups : List ℕ → ℕ → Error → Shows → Shows → Type 0
+abbrev pub StopsAtGroups : List ℕ → ℕ → Error → EngineState → EngineState → Type 0
 StopsAtGroups groups gate error s t = StopsRewriting (λ g. list_any (λ k. k == g) groups) gate error s t
 
 -- No entry and no value in use is in Append up to a file, and Append may begin after it, if:

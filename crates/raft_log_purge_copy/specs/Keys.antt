@@ -7,7 +7,7 @@ use Rattle.raft_log_record_items.specs.Items.{put_item}
 use Rattle.raft_log_record_batches.specs.declared.log_batch.BatchState.TheVariants.{Filling}
 use Rattle.raft_log_record_batches.specs.Batch.{Batch}
 use Rattle.raft_log_memtable_index.specs.Listing.{ListsAll, appended_values}
-use Rattle.raft_log_engine_laws.specs.Shows.{Shows, has_failed}
+use Rattle.raft_log_engine_laws.specs.EngineState.{EngineState, has_failed}
 use Rattle.raft_log_purge_copy.specs.Copies.{WritesCopies}
 use Rattle.raft_log_purge_copy.specs.Owed.{AreNoMarks}
 use Rattle.raft_log_purge_copy.specs.Moving.{MovesKeys}
@@ -23,7 +23,7 @@ pub record IsKeysBatch (g : ℕ) (pairs : List (List ℕ × List ℕ)) (b : Batc
 
 -- All values that the group has in Append in files up to the gate were copied as one record, and are in Rewrite.
 -- Nothing else changed in the tables. If there are no such values, nothing was written.
-pub record CopiesKeys (group gate : ℕ) (s t : Shows) : Type 0 where
+pub record CopiesKeys (group gate : ℕ) (s t : EngineState) : Type 0 where
   pub pairs : List (List ℕ × List ℕ)
   pub all : ListsAll (appended_values gate (s.tables group)) pairs
   pub batch : Batch
@@ -36,7 +36,7 @@ pub record CopiesKeys (group gate : ℕ) (s t : Shows) : Type 0 where
   pub holds : StaysHeld s t
 
 -- the group's values weren't copied, and why: the tables are unchanged
-pub record FailsToCopyKeys (error : Error) (s t : Shows) : Type 0 where
+pub record FailsToCopyKeys (error : Error) (s t : EngineState) : Type 0 where
   pub same : t ≡ record s { pipes = t.pipes }
   pub tells : has_failed s ≡ false → IsTrue (has_failed t) ↔ (error ≡ errors.Failed)
   pub later : IsLater s.pipes.disk t.pipes.disk

@@ -16,7 +16,7 @@ use Rattle.raft_log_record_batches.specs.Batch.{Batch, max_entries_len}
 use Rattle.raft_log_record_batches.specs.Entries.{RisesFrom, bytes_len, entries_items, joined}
 use Rattle.raft_log_record_batches.specs.Places.{bytes_in}
 use Rattle.raft_log_memtable_index.specs.Shown.{Shown}
-use Rattle.raft_log_engine_laws.specs.Shows.{LogMap}
+use Rattle.raft_log_engine_laws.specs.EngineState.{LogMap}
 use Rattle.raft_log_purge_copy.specs.Entries.{AreEntryBytes, max_piece}
 use Rattle.raft_log_purge_copy.specs.Owed.{SaysMarks}
 

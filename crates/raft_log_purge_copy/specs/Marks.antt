@@ -10,13 +10,13 @@ use Rattle.raft_log_memtables.specs.Owing.{AreOwed}
 use Rattle.raft_log_memtables.specs.Tables.{shown_of}
 use Rattle.raft_log_dual_pipes.specs.Pipes.{LogPipes, is_failed}
 use Rattle.raft_log_block_cache.specs.declared.block_cache.BlockCache.{BlockCache}
-use Rattle.raft_log_engine_laws.specs.Shows.{Home, LogMap, Shows, has_failed, shows}
-use Rattle.raft_log_engine_laws.specs.Holding.{Holds}
+use Rattle.raft_log_engine_laws.specs.EngineState.{LogDirectories, LogMap, EngineState, has_failed, shows}
+use Rattle.raft_log_engine_laws.specs.Holding.{Represents}
 use Rattle.raft_log_engine_laws.specs.Settled.{HoldsSettled}
 use Rattle.raft_log_purge_copy.specs.Parts.{PartIsRefused, StaysInFile}
 
 -- an engine with these pipes, tables that show this, these groups that count, and this block
-abbrev pub showing : LogPipes → (ℕ → Shown) → (ℕ → Bool) → BlockCache → Shows
+abbrev pub showing : LogPipes → (ℕ → Shown) → (ℕ → Bool) → BlockCache → EngineState
 showing v tables counts cache = record { tables = tables; counts = counts; pipes = v; cache = cache }
 
 -- The tombstones are in Rewrite: if the log's map was held with nothing pending, it is with tables that owe none.
@@ -24,9 +24,9 @@ pub record WritesMarks (tables : ℕ → Shown) (v w : LogPipes) : Type 0 where
   pub alive : is_failed v ≡ false → is_failed w ≡ false
   pub later : IsLater v.disk w.disk
   pub stays : StaysInFile v w
-  pub holds : (counts : ℕ → Bool) (cache : BlockCache) (home : Home) (m : LogMap)
-      → Holds home (showing v tables counts cache) m []
-      → Holds home (showing w (λ g. unmarked (tables g)) counts cache) m []
+  pub holds : (counts : ℕ → Bool) (cache : BlockCache) (home : LogDirectories) (m : LogMap)
+      → Represents home (showing v tables counts cache) m []
+      → Represents home (showing w (λ g. unmarked (tables g)) counts cache) m []
 
 -- the tombstones of tables that owe just these are in Rewrite
 abbrev pub WritesItems : List LogItem → LogPipes → LogPipes → Type 0
@@ -39,11 +39,11 @@ ItemsAreRefused items error v w = (m : MemTables) → AreOwed m items → (cache
 
 -- The tombstones are in Rewrite, synced, and no group owes one any more. The map is kept, and nothing of the log is
 -- pending.
-pub record CarriesMarks (s t : Shows) : Type 0 where
+pub record CarriesMarks (s t : EngineState) : Type 0 where
   pub alive : has_failed t ≡ false
   pub tables : t.tables ≡ (λ g. unmarked (s.tables g))
   pub counts : t.counts ≡ s.counts
   pub cache : t.cache ≡ s.cache
   pub later : IsLater s.pipes.disk t.pipes.disk
   pub stays : StaysInFile s.pipes t.pipes
-  pub settles : (home : Home) (m : LogMap) → Holds home s m [] → HoldsSettled home t m
+  pub settles : (home : LogDirectories) (m : LogMap) → Represents home s m [] → HoldsSettled home t m

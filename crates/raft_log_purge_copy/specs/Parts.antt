@@ -8,23 +8,23 @@ use Rattle.raft_log_block_cache.specs.Signing.{SaysItself, signed_for}
 use Rattle.raft_log_directory_laws.specs.Calls.Which.{InAppend}
 use Rattle.raft_log_dual_pipes.specs.State.{pipe_at}
 use Rattle.raft_log_dual_pipes.specs.Pipes.{LogPipes, RunsOn, State, files_of}
-use Rattle.raft_log_engine_laws.specs.Shows.{Home, IsLaidOut, LogMap, Shows, has_failed, sense}
-use Rattle.raft_log_engine_laws.specs.Holding.{Holds, IsLeftAt}
+use Rattle.raft_log_engine_laws.specs.EngineState.{LogDirectories, IsLaidOut, LogMap, EngineState, has_failed, sense}
+use Rattle.raft_log_engine_laws.specs.Holding.{Represents, IsRecoverableAs}
 use Rattle.raft_log_purge_copy.specs.Reasons.{HasPurgeReason}
 
 -- What is true after a part failed, by the error. The engine's log keeps its map, with nothing pending; or the engine
 -- has failed, and left its log on the disk.
-abbrev pub Remains : Home → LogMap → Shows → Error → Type 0
-Remains home m t errors.Failed = IsLeftAt home t.pipes.disk m []
-Remains home m t _ = Holds home t m []
+abbrev pub Remains : LogDirectories → LogMap → EngineState → Error → Type 0
+Remains home m t errors.Failed = IsRecoverableAs home t.pipes.disk m []
+Remains home m t _ = Represents home t m []
 
 -- The part that writes the owed tombstones failed, and why. The engine has failed now exactly if the error is
 -- `Failed`. The log keeps its map.
-pub record PartIsRefused (error : Error) (s t : Shows) : Type 0 where
+pub record PartIsRefused (error : Error) (s t : EngineState) : Type 0 where
   pub tells : has_failed s ≡ false → IsTrue (has_failed t) ↔ (error ≡ errors.Failed)
   pub later : IsLater s.pipes.disk t.pipes.disk
-  pub remains : (home : Home) (m : LogMap) → Holds home s m [] → Remains home m t error
-  pub cause : (home : Home) (m : LogMap) → Holds home s m [] → HasPurgeReason home m error s t
+  pub remains : (home : LogDirectories) (m : LogMap) → Represents home s m [] → Remains home m t error
+  pub cause : (home : LogDirectories) (m : LogMap) → Represents home s m [] → HasPurgeReason home m error s t
 
 -- the record of this batch was made: whichever file it is signed for, it says the batch
 pub record IsRecordMade (b made : Batch) : Type 0 where
@@ -39,5 +39,5 @@ append_file v = (pipe_at InAppend (files_of v)).active.seq
 
 -- Append's active file is the same, and pipes that ran over a log still run over one.
 abbrev pub StaysInFile : LogPipes → LogPipes → Type 0
-StaysInFile v w = (home : Home) (s : State) → RunsOn (sense home) v s
+StaysInFile v w = (home : LogDirectories) (s : State) → RunsOn (sense home) v s
     → ((next : State) × RunsOn (sense home) w next) × (append_file w ≡ append_file v)

@@ -13,7 +13,7 @@ use Rattle.raft_log_dual_pipes.specs.Pipes.{LogPipes, is_failed}
 use Rattle.raft_log_dual_pipes.specs.Calls.{AppendsTo, FailsToAppendTo, FailsToSyncQueue}
 use Rattle.raft_log_dual_pipes.specs.Numbers.{EndsNumbersAt}
 use Rattle.raft_log_dual_pipes.specs.PipeCalls.{PipeFailsToAppend}
-use Rattle.raft_log_engine_laws.specs.Shows.{IsLaidOut}
+use Rattle.raft_log_engine_laws.specs.EngineState.{IsLaidOut}
 use Rattle.raft_log_purge_copy.specs.Refusals.{IsUnrecorded}
 use Rattle.raft_log_purge_copy.specs.Syncing.{MaySync}
 

@@ -9,8 +9,8 @@ use Rattle.raft_log_extents.specs.declared.place.Place.{Place}
 use Rattle.raft_log_memtable_index.specs.declared.group_files.GroupFiles.{GroupFiles}
 use Rattle.raft_log_memtable_index.specs.Shown.{KeyValue, Shown}
 use Rattle.raft_log_engine_laws.specs.raft_log_memtable.specs.Files.{ArePast}
-use Rattle.raft_log_engine_laws.specs.Shows.{Home, LogMap, Shows, has_failed}
-use Rattle.raft_log_engine_laws.specs.Holding.{Holds, IsLeftAt}
+use Rattle.raft_log_engine_laws.specs.EngineState.{LogDirectories, LogMap, EngineState, has_failed}
+use Rattle.raft_log_engine_laws.specs.Holding.{Represents, IsRecoverableAs}
 use Rattle.raft_log_purge_copy.specs.Owed.{OwesSame}
 use Rattle.raft_log_purge_copy.specs.Reasons.{GivesReason}
 use Rattle.raft_log_purge_copy.specs.Stale.{written_file}
@@ -37,36 +37,36 @@ pub record IsRestatedFrom (n : ℕ) (v w : Shown) : Type 0 where
   pub owes : OwesSame v w
 
 -- the active file of Rewrite
-abbrev pub last_file : Shows → ℕ
+abbrev pub last_file : EngineState → ℕ
 last_file s = written_file Rewrite s.pipes
 
 -- if the log's map was held with nothing pending, it still is
-abbrev pub StaysHeld : Shows → Shows → Type 0
-StaysHeld s t = (home : Home) (m : LogMap) → Holds home s m [] → Holds home t m []
+abbrev pub StaysHeld : EngineState → EngineState → Type 0
+StaysHeld s t = (home : LogDirectories) (m : LogMap) → Represents home s m [] → Represents home t m []
 
 -- if the log's map was held with nothing pending, it still is; or the engine has failed, and left its log on the disk
-abbrev pub StaysOrIsLeft : Error → Shows → Shows → Type 0
-StaysOrIsLeft error s t = (home : Home) (m : LogMap) → Holds home s m []
-    → Holds home t m [] ⊎ ((error ≡ errors.Failed) × IsLeftAt home t.pipes.disk m [])
+abbrev pub StaysOrIsLeft : Error → EngineState → EngineState → Type 0
+StaysOrIsLeft error s t = (home : LogDirectories) (m : LogMap) → Represents home s m []
+    → Represents home t m [] ⊎ ((error ≡ errors.Failed) × IsRecoverableAs home t.pipes.disk m [])
 
 -- Each group that passes the test was restated: all that it has in Rewrite is in the file active at the start, or in
 -- later ones. Other groups are unchanged.
-pub record Restates (test : ℕ → Bool) (s t : Shows) : Type 0 where
+pub record Restates (test : ℕ → Bool) (s t : EngineState) : Type 0 where
   pub others : (g : ℕ) → test g ≡ false → t.tables g ≡ s.tables g
   pub counts : t.counts ≡ s.counts
   pub alive : has_failed s ≡ false → has_failed t ≡ false
   pub later : IsLater s.pipes.disk t.pipes.disk
   pub holds : StaysHeld s t
-  pub rises : (home : Home) (m : LogMap) → Holds home s m [] → last_file s ≤ last_file t
-  pub from : (home : Home) (m : LogMap) → Holds home s m [] → (g : ℕ) → test g ≡ true
+  pub rises : (home : LogDirectories) (m : LogMap) → Represents home s m [] → last_file s ≤ last_file t
+  pub from : (home : LogDirectories) (m : LogMap) → Represents home s m [] → (g : ℕ) → test g ≡ true
       → IsRestatedFrom (last_file s) (s.tables g) (t.tables g)
 
 -- one group was restated
-abbrev pub RestatesOne : ℕ → Shows → Shows → Type 0
+abbrev pub RestatesOne : ℕ → EngineState → EngineState → Type 0
 RestatesOne group s t = Restates (λ g. group == g) s t
 
 -- Groups weren't restated, and why: the tables are unchanged.
-pub record FailsToRestate (error : Error) (s t : Shows) : Type 0 where
+pub record FailsToRestate (error : Error) (s t : EngineState) : Type 0 where
   pub same : t ≡ record s { pipes = t.pipes; cache = t.cache }
   pub tells : has_failed s ≡ false → IsTrue (has_failed t) ↔ (error ≡ errors.Failed)
   pub later : IsLater s.pipes.disk t.pipes.disk
@@ -74,11 +74,11 @@ pub record FailsToRestate (error : Error) (s t : Shows) : Type 0 where
   pub cause : GivesReason error s t
 
 -- each of these groups was restated
-abbrev pub RestatesEach : List ℕ → Shows → Shows → Type 0
+abbrev pub RestatesEach : List ℕ → EngineState → EngineState → Type 0
 RestatesEach groups s t = Restates (λ g. list_any (λ k. k == g) groups) s t
 
 -- not all of these groups were restated, and why
-pub record StopsRestating (groups : List ℕ) (error : Error) (s t : Shows) : Type 0 where
+pub record StopsRestating (groups : List ℕ) (error : Error) (s t : EngineState) : Type 0 where
   pub others : (g : ℕ) → list_any (λ k. k == g) groups ≡ false → t.tables g ≡ s.tables g
   pub counts : t.counts ≡ s.counts
   pub tells : has_failed s ≡ false → IsTrue (has_failed t) ↔ (error ≡ errors.Failed)

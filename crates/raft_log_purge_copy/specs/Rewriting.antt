@@ -8,8 +8,8 @@ use Rattle.raft_log_machine_laws.specs.Whereabouts.{OwesNothing}
 use Rattle.raft_log_memtable_index.specs.Shown.{Shown, whereabouts}
 use Rattle.raft_log_record_batches.specs.Batch.{Batch}
 use Rattle.raft_log_record_batches.specs.Entries.{indexes_of}
-use Rattle.raft_log_engine_laws.specs.Shows.{Home, LogMap, Shows, has_failed}
-use Rattle.raft_log_engine_laws.specs.Holding.{Holds, IsLeftAt}
+use Rattle.raft_log_engine_laws.specs.EngineState.{LogDirectories, LogMap, EngineState, has_failed}
+use Rattle.raft_log_engine_laws.specs.Holding.{Represents, IsRecoverableAs}
 use Rattle.raft_log_purge_copy.specs.Copies.{MovesCopies}
 use Rattle.raft_log_purge_copy.specs.Entries.{AreNext, IsRunBatch}
 use Rattle.raft_log_purge_copy.specs.Moving.{Advances}
@@ -20,18 +20,18 @@ abbrev pub OweNothing : (ℕ → Shown) → Type 0
 OweNothing v = (g : ℕ) → OwesNothing (whereabouts (v g))
 
 -- if the log's map was held with nothing pending and no tombstone owed, it still is held
-abbrev pub StaysHeld : Shows → Shows → Type 0
-StaysHeld s t = OweNothing s.tables → (home : Home) (m : LogMap) → Holds home s m [] → Holds home t m []
+abbrev pub StaysHeld : EngineState → EngineState → Type 0
+StaysHeld s t = OweNothing s.tables → (home : LogDirectories) (m : LogMap) → Represents home s m [] → Represents home t m []
 
 -- if the log's map was held with nothing pending and no tombstone owed, it still is; or the failed engine left its
 -- log on the disk
-abbrev pub StaysOrIsLeft : Error → Shows → Shows → Type 0
-StaysOrIsLeft error s t = OweNothing s.tables → (home : Home) (m : LogMap) → Holds home s m []
-    → Holds home t m [] ⊎ ((error ≡ errors.Failed) × IsLeftAt home t.pipes.disk m [])
+abbrev pub StaysOrIsLeft : Error → EngineState → EngineState → Type 0
+StaysOrIsLeft error s t = OweNothing s.tables → (home : LogDirectories) (m : LogMap) → Represents home s m []
+    → Represents home t m [] ⊎ ((error ≡ errors.Failed) × IsRecoverableAs home t.pipes.disk m [])
 
 -- The group's first entries in Append, at least one and all in files up to the gate, were copied, and are in Rewrite
 -- now. Nothing else changed in the tables.
-pub record CopiesEntries (group gate : ℕ) (s t : Shows) : Type 0 where
+pub record CopiesEntries (group gate : ℕ) (s t : EngineState) : Type 0 where
   pub entries : List EntryIndex
   pub next : AreNext gate (s.tables group) entries
   pub some : entries ≡ [] → ⊥
@@ -44,12 +44,12 @@ pub record CopiesEntries (group gate : ℕ) (s t : Shows) : Type 0 where
 
 -- the group's first entries in Append, all in files up to the gate, were copied; or there were none, and nothing was
 -- done
-abbrev pub CopiesIfAny : ℕ → ℕ → Bool → Shows → Shows → Type 0
+abbrev pub CopiesIfAny : ℕ → ℕ → Bool → EngineState → EngineState → Type 0
 CopiesIfAny group gate true s t = CopiesEntries group gate s t
 CopiesIfAny group gate false s t = (t ≡ s) × AreNext gate (s.tables group) []
 
 -- The group's entries weren't copied, and why: the tables are unchanged.
-pub record FailsToCopyEntries (error : Error) (s t : Shows) : Type 0 where
+pub record FailsToCopyEntries (error : Error) (s t : EngineState) : Type 0 where
   pub same : t ≡ record s { pipes = t.pipes; cache = t.cache }
   pub tells : has_failed s ≡ false → IsTrue (has_failed t) ↔ (error ≡ errors.Failed)
   pub later : IsLater s.pipes.disk t.pipes.disk

@@ -9,10 +9,10 @@ use Rattle.raft_log_record_base.specs.declared.pipe_log.LogQueue.TheVariants.{Ap
 use Rattle.raft_log_directory_laws.specs.Calls.Which.{InAppend}
 use Rattle.raft_log_memtables.specs.declared.mem_tables.MemTables.{MemTables}
 use Rattle.raft_log_dual_pipes.specs.State.{pipe_at}
-use Rattle.raft_log_dual_pipes.specs.Pipes.{LogPipes, Said, files_of, which_of}
+use Rattle.raft_log_dual_pipes.specs.Pipes.{LogPipes, LogRecordValue, files_of, which_of}
 use Rattle.raft_log_dual_pipes.specs.Calls.{RotatesQueue, SyncsQueue}
-use Rattle.raft_log_engine_laws.specs.Shows.{Home, LogMap, Shows, has_failed}
-use Rattle.raft_log_engine_laws.specs.Holding.{Holds, IsLeftAt}
+use Rattle.raft_log_engine_laws.specs.EngineState.{LogDirectories, LogMap, EngineState, has_failed}
+use Rattle.raft_log_engine_laws.specs.Holding.{Represents, IsRecoverableAs}
 use Rattle.raft_log_engine_laws.specs.Settled.{HoldsSettled}
 use Rattle.raft_log_purge_copy.specs.Parts.{Remains}
 use Rattle.raft_log_purge_copy.specs.Marks.{CarriesMarks}
@@ -24,48 +24,48 @@ abbrev pub written_file : LogQueue → LogPipes → ℕ
 written_file queue v = (pipe_at (which_of queue) (files_of v)).active.seq
 
 -- A queue rotated, and then lost the files before that aren't in use. A settled log stays settled, with its map.
-pub record TurnsAndLoses (queue : LogQueue) (m : MemTables) (count : ℕ) (s t : Shows) : Type 0 where
+pub record TurnsAndLoses (queue : LogQueue) (m : MemTables) (count : ℕ) (s t : EngineState) : Type 0 where
   pub turned : LogPipes
   pub turns : RotatesQueue (which_of queue) s.pipes turned
   pub loses : LosesFiles queue (written_file queue turned) m count (record s { pipes = turned }) t
   pub alive : has_failed t ≡ false
   pub later : IsLater s.pipes.disk t.pipes.disk
-  pub keeps : (home : Home) (log : LogMap) → HoldsSettled home s log
+  pub keeps : (home : LogDirectories) (log : LogMap) → HoldsSettled home s log
       → MayLoseFiles (which_of queue) s.tables → HoldsSettled home t log
 
 -- A queue didn't rotate and lose files, and why. The log keeps its map; or the engine has failed, and left it on the
 -- disk.
-pub record FailsToTurn (queue : LogQueue) (error : Error) (s t : Shows) : Type 0 where
+pub record FailsToTurn (queue : LogQueue) (error : Error) (s t : EngineState) : Type 0 where
   pub tells : has_failed s ≡ false → IsTrue (has_failed t) ↔ (error ≡ errors.Failed)
   pub later : IsLater s.pipes.disk t.pipes.disk
-  pub remains : (home : Home) (log : LogMap) → HoldsSettled home s log
+  pub remains : (home : LogDirectories) (log : LogMap) → HoldsSettled home s log
       → MayLoseFiles (which_of queue) s.tables → Remains home log t error
-  pub cause : (home : Home) (log : LogMap) → HoldsSettled home s log → HasFileReason error s t
+  pub cause : (home : LogDirectories) (log : LogMap) → HoldsSettled home s log → HasFileReason error s t
 
 -- All stale files are purged. Append was synced, then the owed tombstones were written. Then each queue rotated and
 -- lost the files before that aren't in use, Rewrite first. The map is kept, and nothing is pending.
-pub record PurgesAllStale (m : MemTables) (s t : Shows) : Type 0 where
+pub record PurgesAllStale (m : MemTables) (s t : EngineState) : Type 0 where
   pub synced : LogPipes
   pub syncs : SyncsQueue InAppend s.pipes synced
-  pub carried : Shows
+  pub carried : EngineState
   pub carries : CarriesMarks (record s { pipes = synced }) carried
-  pub rewritten : Shows
+  pub rewritten : EngineState
   pub from_rewrite : ℕ
   pub rewrite : TurnsAndLoses Rewrite m from_rewrite carried rewritten
   pub from_append : ℕ
   pub append : TurnsAndLoses Append m from_append rewritten t
   pub alive : has_failed t ≡ false
   pub later : IsLater s.pipes.disk t.pipes.disk
-  pub settles : (home : Home) (log : LogMap) (pending : List Said) → Holds home s log pending
+  pub settles : (home : LogDirectories) (log : LogMap) (pending : List LogRecordValue) → Represents home s log pending
       → HoldsSettled home t (taken log pending)
 
 -- A purge of all stale files failed, and why. The map is kept; or the engine has failed, and left its log on the
 -- disk, with the batches in the map or still pending.
-pub record FailsToPurgeAll (error : Error) (s t : Shows) : Type 0 where
+pub record FailsToPurgeAll (error : Error) (s t : EngineState) : Type 0 where
   pub tells : has_failed s ≡ false → IsTrue (has_failed t) ↔ (error ≡ errors.Failed)
   pub later : IsLater s.pipes.disk t.pipes.disk
-  pub remains : (home : Home) (log : LogMap) (pending : List Said) → Holds home s log pending
+  pub remains : (home : LogDirectories) (log : LogMap) (pending : List LogRecordValue) → Represents home s log pending
       → Remains home (taken log pending) t error
-      ⊎ ((error ≡ errors.Failed) × IsLeftAt home t.pipes.disk log pending)
-  pub cause : (home : Home) (log : LogMap) (pending : List Said) → Holds home s log pending
+      ⊎ ((error ≡ errors.Failed) × IsRecoverableAs home t.pipes.disk log pending)
+  pub cause : (home : LogDirectories) (log : LogMap) (pending : List LogRecordValue) → Represents home s log pending
       → HasPurgeReason home (taken log pending) error s t

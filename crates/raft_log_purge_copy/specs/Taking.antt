@@ -14,7 +14,7 @@ use Rattle.raft_log_memtables.specs.Tables.{ShowsSame}
 use Rattle.raft_log_engine_laws.specs.raft_log_memtable.specs.Reads.{rewritten_entries}
 use Rattle.raft_log_dual_pipes.specs.Pipes.{LogPipes}
 use Rattle.raft_log_block_cache.specs.declared.block_cache.BlockCache.{BlockCache}
-use Rattle.raft_log_engine_laws.specs.Shows.{Shows, shows}
+use Rattle.raft_log_engine_laws.specs.EngineState.{EngineState, shows}
 use Rattle.raft_log_engine_laws.specs.Parts.{WrittenPart}
 use Rattle.raft_log_engine_laws.specs.Taking.{MovedParts}
 use Rattle.raft_log_purge_copy.specs.declared.parts.RestatedPart.{RestatedPart}
@@ -57,7 +57,7 @@ first_file_of (x ∷ xs) last = x.block.id.seq
 
 -- An atomic group was ended: if it was open with these parts, and the batch has the rest, the group is restated.
 abbrev pub EndsParts : ℕ → List RestatedPart → Batch → LogPipes → MemTables → LogPipes → MemTables → Type 0
-EndsParts g parts b v old w new = (cache : BlockCache) (s : Shows) (number done : ℕ)
+EndsParts g parts b v old w new = (cache : BlockCache) (s : EngineState) (number done : ℕ)
     (pairs : List (List ℕ × List ℕ)) → HasParts g number done parts s (shows v old cache)
     → IsLastPart g number done pairs b s → ListsAll (rewritten_values (s.tables g)) pairs
     → RestatesOne g s (shows w new cache)
@@ -66,21 +66,21 @@ EndsParts g parts b v old w new = (cache : BlockCache) (s : Shows) (number done 
 -- record
 abbrev pub FailsToEnd : ℕ → List RestatedPart → Batch → Error → LogPipes → MemTables → LogPipes → MemTables
     → Type 0
-FailsToEnd g parts b error v old w new = (cache : BlockCache) (s : Shows) (number done : ℕ)
+FailsToEnd g parts b error v old w new = (cache : BlockCache) (s : EngineState) (number done : ℕ)
     (pairs : List (List ℕ × List ℕ)) → HasParts g number done parts s (shows v old cache)
     → MakeOnePiece (drop done (rewritten_entries (s.tables g)))
     → IsLastPart g number done pairs b s → ListsAll (rewritten_values (s.tables g)) pairs
     → FailsToRestate error s (shows w new cache)
 
 -- these are the entries and the keys that a group has in Rewrite
-pub record StandsInRewrite (g : ℕ) (es : List EntryIndex) (pairs : List (List ℕ × List ℕ)) (s : Shows) : Type 0 where
+pub record StandsInRewrite (g : ℕ) (es : List EntryIndex) (pairs : List (List ℕ × List ℕ)) (s : EngineState) : Type 0 where
   pub entries : es ≡ rewritten_entries (s.tables g)
   pub keys : ListsAll (rewritten_values (s.tables g)) pairs
 
 -- a group with these entries and keys in Rewrite was restated
-abbrev pub RestatesThese : ℕ → List EntryIndex → List (List ℕ × List ℕ) → Shows → Shows → Type 0
+abbrev pub RestatesThese : ℕ → List EntryIndex → List (List ℕ × List ℕ) → EngineState → EngineState → Type 0
 RestatesThese g es pairs s t = StandsInRewrite g es pairs s → RestatesOne g s t
 
 -- a group with these entries and keys in Rewrite wasn't restated
-abbrev pub FailsToRestateThese : ℕ → List EntryIndex → List (List ℕ × List ℕ) → Error → Shows → Shows → Type 0
+abbrev pub FailsToRestateThese : ℕ → List EntryIndex → List (List ℕ × List ℕ) → Error → EngineState → EngineState → Type 0
 FailsToRestateThese g es pairs error s t = StandsInRewrite g es pairs s → FailsToRestate error s t

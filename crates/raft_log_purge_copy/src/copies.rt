@@ -3,7 +3,7 @@
 ghost use Rattle.std.specs.Prelude.{◌≡◌, ◌+◌, ◌-◌, ◌^◌, ℕ, [], Some, min, IfErr, IfOk, OnOk};
 ghost use Rattle.raft_log_record_frames.specs.Meaning.{tagged_items};
 ghost use Rattle.raft_log_block_cache.specs.declared.block_cache.BlockCache.{BlockCache};
-ghost use Rattle.raft_log_engine_laws.specs.Shows.{shows};
+ghost use Rattle.raft_log_engine_laws.specs.EngineState.{shows};
 ghost use Rattle.raft_log_record_batches.specs.declared.log_batch.BatchState.TheVariants.{Filling, Populated};
 ghost use Rattle.raft_log_record_batches.specs.Batch.{emptied, IsButBuffer, IsReadyForEach};
 ghost use Rattle.raft_log_record_items.specs.declared.entry.EntryIndex.{EntryIndex};

@@ -1,7 +1,7 @@
 //! Files that are no longer needed leave a queue.
 
 ghost use Rattle.std.specs.Prelude.{IfErr, IfOk};
-ghost use Rattle.raft_log_engine_laws.specs.Shows.{shows};
+ghost use Rattle.raft_log_engine_laws.specs.EngineState.{shows};
 ghost use Rattle.raft_log_purge_copy.specs.Files.{FailsToLoseFiles, LosesFiles};
 
 use log::Log;
@@ -21,7 +21,7 @@ use std::alloc::Global;
 /// - with `Failed` if a file call failed
 ///
 /// After `Failed` the engine has failed; after any other error the log is as it was.
-pub fn purge_stale<P: PipeLog, L: Log>(
+pub fn delete_stale_files<P: PipeLog, L: Log>(
     alloc: Global,
     rt: &L,
     pipes: &mut P,

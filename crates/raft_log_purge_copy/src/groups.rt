@@ -1,7 +1,7 @@
 //! Groups are rewritten: all that they have in Append in files up to a gate is copied to Rewrite.
 
 ghost use Rattle.std.specs.Prelude.{IfErr, OnOk};
-ghost use Rattle.raft_log_engine_laws.specs.Shows.{shows};
+ghost use Rattle.raft_log_engine_laws.specs.EngineState.{shows};
 ghost use Rattle.raft_log_memtables.specs.Tables.{IsAtRest};
 ghost use Rattle.raft_log_purge_copy.specs.Groups.{
   RewritesEntries,

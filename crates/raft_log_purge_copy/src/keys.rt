@@ -2,7 +2,7 @@
 
 ghost use Rattle.std.specs.Prelude.{◌≡◌, IfErr, IfOk, OnOk};
 ghost use Rattle.raft_log_block_cache.specs.declared.block_cache.BlockCache.{BlockCache};
-ghost use Rattle.raft_log_engine_laws.specs.Shows.{shows};
+ghost use Rattle.raft_log_engine_laws.specs.EngineState.{shows};
 ghost use Rattle.raft_log_memtable_index.specs.Listing.{ListsAll, appended_values};
 ghost use Rattle.raft_log_memtables.specs.Tables.{IsAtRest, shown_of};
 ghost use Rattle.raft_log_purge_copy.specs.Keys.{CopiesKeys, FailsToCopyKeys, IsKeysBatch};

@@ -2,7 +2,7 @@
 //! The map is kept at every exit.
 //!
 //! Each part works on a log's pipes and the tables of its groups. Its contract holds for every map that the log had
-//! (`Holds`), with nothing pending: it asks nothing of the caller.
+//! (`Represents`), with nothing pending: it asks nothing of the caller.
 #![tactic(auto)]
 
 pub mod copies;
@@ -23,10 +23,10 @@ pub mod syncing;
 pub mod taking;
 
 pub use copies::write_copies;
-pub use files::purge_stale;
+pub use files::delete_stale_files;
 pub use groups::{rewrite_group, rewrite_groups};
 pub use keys::copy_keys;
-pub use marks::{carry_marks, rewrite_marks};
+pub use marks::{write_tombstones, rewrite_marks};
 pub use raft_log_block_cache;
 pub use rewriting::copy_entries;
 pub use stale::purge_all_stale;

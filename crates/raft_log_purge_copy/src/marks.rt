@@ -2,7 +2,7 @@
 
 ghost use Rattle.std.specs.Prelude.{◌≡◌, ◌∷◌, [], IfErr, IfOk, OnErr, OnOk};
 ghost use Rattle.raft_log_record_frames.specs.Meaning.{tagged_items};
-ghost use Rattle.raft_log_engine_laws.specs.Shows.{shows};
+ghost use Rattle.raft_log_engine_laws.specs.EngineState.{shows};
 ghost use Rattle.raft_log_block_cache.specs.declared.block_cache.BlockCache.{BlockCache};
 ghost use Rattle.raft_log_record_batches.specs.declared.log_batch.BatchState.TheVariants.{Filling};
 ghost use Rattle.raft_log_memtables.specs.Owing.{AreOwed};
@@ -40,15 +40,15 @@ pub fn rewrite_marks<P: PipeLog, L: Log>(
     ensures rests { IsAtRest tables.old → IsAtRest tables.new }
     ensures owes { AddsNoMarks tables.old tables.new }
 {
-    let marks = tables.owed_marks()?;
-    carry_marks(alloc, rt, pipes, tables, marks.as_slice())
+    let marks = tables.pending_tombstones()?;
+    write_tombstones(alloc, rt, pipes, tables, marks.as_slice())
 }
 
 /// Writes the owed tombstones to Rewrite, as `rewrite_marks` does; the caller read them from the tables.
 ///
 /// Fails with `Memory` or `Full` before the write, or as the write or the sync does. If it fails, the tables still
 /// owe them. After `Failed` the engine has failed.
-pub fn carry_marks<P: PipeLog, L: Log>(
+pub fn write_tombstones<P: PipeLog, L: Log>(
     alloc: Global,
     rt: &L,
     pipes: &mut P,

@@ -2,7 +2,7 @@
 //! it is more than one record may have.
 
 ghost use Rattle.std.specs.Prelude.{◌≡◌, ◌≤◌, ◌<◌, IfErr, IfOk, None, OnOk, length, take};
-ghost use Rattle.raft_log_engine_laws.specs.Shows.{shows};
+ghost use Rattle.raft_log_engine_laws.specs.EngineState.{shows};
 ghost use Rattle.raft_log_record_batches.specs.declared.log_batch.BatchState.TheVariants.{Filling};
 ghost use Rattle.raft_log_engine_laws.specs.raft_log_memtable.specs.Reads.{rewritten_entries};
 ghost use Rattle.raft_log_memtables.specs.Tables.{IsAtRest, shown_of};
@@ -35,7 +35,7 @@ use std::alloc::Global;
 /// when this began. `number` is the number of the next atomic group, and is counted up.
 ///
 /// Fails as `restate_group` does. Then the groups before are restated, and that one is unchanged.
-pub fn restate_groups<P: PipeLog, L: Log>(
+pub fn compact_rewrite_groups<P: PipeLog, L: Log>(
     alloc: Global,
     rt: &L,
     pipes: &mut P,

@@ -1,7 +1,7 @@
 //! A group's entries in Append are copied to Rewrite, as many at once as a batch may have.
 
 ghost use Rattle.std.specs.Prelude.{◌≡◌, IfErr, IfOk, OnOk};
-ghost use Rattle.raft_log_engine_laws.specs.Shows.{shows};
+ghost use Rattle.raft_log_engine_laws.specs.EngineState.{shows};
 ghost use Rattle.raft_log_memtables.specs.Tables.{IsAtRest};
 ghost use Rattle.raft_log_purge_copy.specs.Rewriting.{CopiesIfAny, FailsToCopyEntries};
 ghost use Rattle.raft_log_purge_copy.specs.Promised.{PromisesNoMoves};

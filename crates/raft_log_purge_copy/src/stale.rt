@@ -1,12 +1,12 @@
 //! Both queues lose all files that have nothing in use.
 
 ghost use Rattle.std.specs.Prelude.{◌≡◌, IfErr, IfOk, OnOk};
-ghost use Rattle.raft_log_engine_laws.specs.Shows.{shows};
+ghost use Rattle.raft_log_engine_laws.specs.EngineState.{shows};
 ghost use Rattle.raft_log_memtables.specs.Tables.{IsAtRest};
 ghost use Rattle.raft_log_purge_copy.specs.Owed.{AddsNoMarks};
 ghost use Rattle.raft_log_purge_copy.specs.Stale.{FailsToPurgeAll, FailsToTurn, PurgesAllStale, TurnsAndLoses};
 
-use crate::files::purge_stale;
+use crate::files::delete_stale_files;
 use crate::marks::rewrite_marks;
 use log::Log;
 use raft_log_block_cache::BlockCache;
@@ -18,7 +18,7 @@ use std::alloc::Global;
 /// Takes all files that have nothing in use out of both queues. Syncs Append, writes the owed tombstones, and then
 /// each queue rotates and loses the files before, Rewrite first.
 ///
-/// Fails as a sync, `rewrite_marks`, a rotation or `purge_stale` does. If it fails, the map is kept.
+/// Fails as a sync, `rewrite_marks`, a rotation or `delete_stale_files` does. If it fails, the map is kept.
 pub fn purge_all_stale<P: PipeLog, L: Log>(
     alloc: Global,
     rt: &L,
@@ -56,5 +56,5 @@ fn turn_and_purge<P: PipeLog, L: Log>(
 {
     pipes.rotate(alloc, rt, queue)?;
     let (_first, last) = pipes.file_span(queue);
-    purge_stale(alloc, rt, pipes, tables, cache, queue, last)
+    delete_stale_files(alloc, rt, pipes, tables, cache, queue, last)
 }

@@ -39,7 +39,7 @@ impl Numbered {
 }
 
 impl ReactiveBytes for Numbered {
-    type Said = usize;
+    type Content = usize;
 
     ghost said = { λ numbered. vec_len numbered.bytes };
 

@@ -23,7 +23,7 @@ struct Plain {
 }
 
 impl ReactiveBytes for Plain {
-    type Said = Vec<u8>;
+    type Content = Vec<u8>;
 
     ghost said = { λ plain. plain.bytes };
 

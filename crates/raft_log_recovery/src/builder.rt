@@ -10,7 +10,7 @@ use crate::reading::recover_both;
 use crate::ready_reserved;
 use crate::recovered_queue::RecoveredQueue;
 use crate::syncing::sync_files;
-use crate::unaligned::{aligned, are_unaligned};
+use crate::unaligned::{aligned, have_no_padding};
 use log::Log;
 use raft_log_fs::FileSystem;
 use raft_log_active_file::{File, LogLayout};
@@ -168,7 +168,7 @@ impl DualPipesBuilder {
         ensures same { OnErr result (self.new ≡ self.old) }
     {
         let (append, rewrite) = self.read_both(rt, alloc, threads, file_system, factory)?;
-        if !are_unaligned(&append.endings) || !are_unaligned(&rewrite.endings) {
+        if !have_no_padding(&append.endings) || !have_no_padding(&rewrite.endings) {
             return Err(aligned(alloc));
         }
         self.cut_both(rt, file_system, &append.endings, &rewrite.endings)?;

@@ -5,7 +5,7 @@ ghost use Rattle.raft_log_recovery.specs.RecoveringQueue.{FailsToRecoverFiles, R
 
 use crate::cutting::cut_files;
 use crate::reading::recover_files;
-use crate::unaligned::{aligned, are_unaligned};
+use crate::unaligned::{aligned, have_no_padding};
 use log::Log;
 use raft_log_fs::FileSystem;
 use raft_log_active_file::File;
@@ -83,7 +83,7 @@ impl RecoveredQueue {
             &self.files,
             factory,
         )?;
-        if !are_unaligned(&read.endings) {
+        if !have_no_padding(&read.endings) {
             return Err(aligned(alloc));
         }
         cut_files(rt, file_system, &self.files, &read.endings)?;

@@ -8,7 +8,7 @@ use raft_log_record_base::Error;
 use std::alloc::Global;
 
 /// Whether none of the files has an alignment.
-pub(crate) fn are_unaligned(endings: &[FileEnding]) -> bool
+pub(crate) fn have_no_padding(endings: &[FileEnding]) -> bool
     ensures { IsTrue result ↔ AreUnaligned endings.now }
 {
     for ending in endings {

@@ -31,11 +31,11 @@ use Rattle.raft_log_engine_laws.specs.raft_log_memtables.specs.declared.mem_tabl
 use Rattle.raft_log_recovery_scan.specs.Directories.{FailsToHave, HasDirectories}
 use Rattle.raft_log_recovery_scan.specs.Metadata.{ChangesNoFile}
 use Rattle.raft_log_recovery_scan.specs.Scanned.{FailsToScan}
-use Rattle.raft_log_dual_pipes.specs.OnDisk.{LogRestsOn}
+use Rattle.raft_log_dual_pipes.specs.OnDisk.{IsDurableAs}
 use Rattle.raft_log_dual_pipes.proofs.OnDiskLaws.{logs_go_on_disks}
 use Rattle.raft_log_dual_pipes.specs.Pipes.{LogPipes}
-use Rattle.raft_log_engine_laws.specs.Shows.{log_in}
-use Rattle.raft_log_engine_laws.specs.Holding.{IsLeftAt}
+use Rattle.raft_log_engine_laws.specs.EngineState.{log_in}
+use Rattle.raft_log_engine_laws.specs.Holding.{IsRecoverableAs}
 use Rattle.raft_log_recovery.specs.Directories.{paths_of}
 use Rattle.raft_log_recovery.specs.Scanning.{FailsToScanLog}
 use Rattle.raft_log_recovery.specs.Scanning.FailsToScanLog.{uncleared, unready as scan_unready, unscanned as scan_refused}
@@ -156,7 +156,7 @@ module _ (config : Config) (d : Disk) (bare : IsBare config d) (there : (path : 
     others = record { directories = refl; names = λ path other. refl; files = λ path id other is. refl };
   }
 
-  rests_first : LogRestsOn (log_in (home_of config)) d nothing_stands
+  rests_first : IsDurableAs (log_in (home_of config)) d nothing_stands
   rests_first = (logs_go_on_disks (log_in (home_of config)) (two_queues (home_of config) (some_directory config) (some_directory config))).nothing d (fresh Append) (fresh Rewrite)
 
 -- What was found there is found again once the directories are made.
@@ -228,7 +228,7 @@ module _ {S : Type 0} (disk : S → Disk) (tells : S → List ℕ → ℕ → Ty
         comes = r.comes;
       })
 
-  first_refused : (new : Disk) → FailsToOpenByCalls disk tells config d new → IsBare config new ⊎ IsLeftAt (home_of config) new nothing_stands []
+  first_refused : (new : Disk) → FailsToOpenByCalls disk tells config d new → IsBare config new ⊎ IsRecoverableAs (home_of config) new nothing_stands []
   first_refused new (undone same) = inl (subst (IsBare config) (sym same) bare)
   first_refused new (unscanned b error begun fails) = inl (bare_unfound config begun.sound b begun error d new fails bare)
   first_refused new (unrecovered found scanned error finds fails) =

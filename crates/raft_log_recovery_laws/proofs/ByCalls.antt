@@ -19,13 +19,13 @@ use Rattle.raft_log_replay_context.specs.declared.context.MemTableRecoverContext
 use Rattle.raft_log_dual_pipes.specs.Queues.{AreTwoQueues}
 use Rattle.raft_log_dual_pipes.specs.State.{Spanned}
 use Rattle.raft_log_dual_pipes.specs.Own.{log_layout}
-use Rattle.raft_log_dual_pipes.specs.OnDisk.{LogRestsOn}
+use Rattle.raft_log_dual_pipes.specs.OnDisk.{IsDurableAs}
 use Rattle.raft_log_dual_pipes.specs.Opening.{IsFoundAs, OpensLog, RestsAsFound}
 use Rattle.raft_log_dual_pipes.specs.declared.opening.FoundPipe.{FoundPipe}
 use Rattle.raft_log_recovery.specs.declared.builder.DualPipesBuilder.{DualPipesBuilder}
 use Rattle.raft_log_recovery.specs.Finishing.{IsPipeRecovered, IsAllRead, OpensRecovered, SyncsLog}
 use Rattle.raft_log_dual_pipes.specs.Pipes.{LogPipes, State}
-use Rattle.raft_log_engine_laws.specs.Shows.{log_in, sense, Home, LogMap}
+use Rattle.raft_log_engine_laws.specs.EngineState.{log_in, sense, LogDirectories, LogMap}
 use Rattle.raft_log_recovery.specs.Directories.{paths_of}
 use Rattle.raft_log_recovery.specs.Endings.{as_read, end_of_last}
 use Rattle.raft_log_recovery.specs.Reading.{HasReadFiles}
@@ -56,7 +56,7 @@ use Rattle.raft_log_recovery.specs.Scanning.{ScansLog}
 use Rattle.raft_log_recovery_laws.proofs.Told.{of_queue, told_found}
 use Rattle.raft_log_recovery_laws.proofs.Stays.{stays_first, stays_kept, stays_named, stays_synced, told_rests, StaysAt}
 
-pub two_queues : (home : Home) → 0 < length home.append → 0 < length home.rewrite → AreTwoQueues (log_in home)
+pub two_queues : (home : LogDirectories) → 0 < length home.append → 0 < length home.rewrite → AreTwoQueues (log_in home)
 two_queues home one other = record {
   append = record { lawful = is_layout Append home.append one; told = formats_are_told Append home.append };
   rewrite = record { lawful = is_layout Rewrite home.rewrite other; told = formats_are_told Rewrite home.rewrite };
@@ -108,7 +108,7 @@ module _ (queue : LogQueue) (directories : List (List ℕ)) (some : 0 < length d
       some_told earlier last t.front t.ending are t.ends t.long t.sound all t.told
   told_of (none_made are unbegun) = none_told are (no_length endings (long ∙ ap length are)) unbegun
 
-module _ {S : Type 0} (disk : S → Disk) (tells : S → List ℕ → ℕ → Type 0) (home : Home) (one : 0 < length home.append) (other : 0 < length home.rewrite) (d : Disk) (m : LogMap) (sound : IsSound d) (h : LogRestsOn (log_in home) d m) (a_context r_context : MemTableRecoverContext) (ready : DualPipesBuilder) (readied : Disk)
+module _ {S : Type 0} (disk : S → Disk) (tells : S → List ℕ → ℕ → Type 0) (home : LogDirectories) (one : 0 < length home.append) (other : 0 < length home.rewrite) (d : Disk) (m : LogMap) (sound : IsSound d) (h : IsDurableAs (log_in home) d m) (a_context r_context : MemTableRecoverContext) (ready : DualPipesBuilder) (readied : Disk)
     (r : IsRecoveredFrom disk tells home h.state d a_context r_context ready readied)
     (o : CanOpen ready readied) where
   abbrev s : State
@@ -328,7 +328,7 @@ opened_so ready readied v opens = record {
   rewrite_is = opens.rewrite_is;
 }
 
-pub recovered_reopens : {S : Type 0} (disk : S → Disk) (tells : S → List ℕ → ℕ → Type 0) (home : Home) (one : 0 < length home.append) (other : 0 < length home.rewrite) (d : Disk) (m : LogMap) (sound : IsSound d) (h : LogRestsOn (log_in home) d m)
+pub recovered_reopens : {S : Type 0} (disk : S → Disk) (tells : S → List ℕ → ℕ → Type 0) (home : LogDirectories) (one : 0 < length home.append) (other : 0 < length home.rewrite) (d : Disk) (m : LogMap) (sound : IsSound d) (h : IsDurableAs (log_in home) d m)
     (append rewrite : MemTableRecoverContext) (ready : DualPipesBuilder) (readied : Disk) → IsRecoveredFrom disk tells home h.state d append rewrite ready readied → (v : LogPipes) (tables : MemTables) (opens : OpensRecovered ready readied v)
     → SparesStay home ready readied → ComeOver append rewrite tables → HoldsFresh home v tables m
 unfolding opened_so

@@ -6,8 +6,8 @@ use Rattle.raft_log_fs.specs.Disk.{Disk}
 use Rattle.raft_log_file_settings.specs.declared.config.Config.{Config}
 use Rattle.raft_log_engine_laws.specs.raft_log_memtables.specs.declared.mem_tables.MemTables.{MemTables}
 use Rattle.raft_log_dual_pipes.specs.Pipes.{LogPipes}
-use Rattle.raft_log_dual_pipes.specs.OnDisk.{LogRestsOn}
-use Rattle.raft_log_engine_laws.specs.Shows.{log_in, Home, LogMap}
+use Rattle.raft_log_dual_pipes.specs.OnDisk.{IsDurableAs}
+use Rattle.raft_log_engine_laws.specs.EngineState.{log_in, LogDirectories, LogMap}
 use Rattle.raft_log_recovery.specs.declared.builder.DualPipesBuilder.{DualPipesBuilder}
 use Rattle.raft_log_recovery.specs.Finding.{FindsLog}
 use Rattle.raft_log_open.specs.Finding.{FindsUnpadded}
@@ -82,5 +82,5 @@ crashed_directories_open disk tells home one other d old m pending sound left cr
       within,
       rests,
       λ config named. opens_as disk tells config old
-          (resting_plain config (disk old) now sound (subst (λ (h : Home). LogRestsOn (log_in h) (disk old) now) (sym named) rests)) now (outcome config named),
+          (resting_plain config (disk old) now sound (subst (λ (h : LogDirectories). IsDurableAs (log_in h) (disk old) now) (sym named) rests)) now (outcome config named),
     )

@@ -37,7 +37,7 @@ use Rattle.raft_log_replay_context.specs.Noting.{AreWhereRead, ItemsLieIn}
 use Rattle.raft_log_replay_context.specs.Opened.{told_record, told_records, told_tagged, AllReadIn}
 use Rattle.raft_log_engine_laws.specs.raft_log_block_cache.specs.Stored.{part}
 use Rattle.raft_log_recovery_laws.specs.Records.{AreBatchesOf, IsBatchOf}
-use Rattle.raft_log_dual_pipes.specs.Pipes.{Said}
+use Rattle.raft_log_dual_pipes.specs.Pipes.{LogRecordValue}
 use Rattle.raft_log_recovery_laws.specs.Entries.{EntriesHave, ItemsHave, RecordsHave}
 use Rattle.raft_log_recovery_laws.specs.Reading.{as_counted, batches_in}
 use Rattle.raft_log_recovery_laws.proofs.Placed.{items_alike, read_has, read_lies, read_told, same_marking}
@@ -79,7 +79,7 @@ entries_fit items signature bytes block entries frame (inr (checksum, spelled, i
     ]
 
 -- what a record says that has this mark and these items; a broken mark is none
-abbrev pub said_as : Marking → List (Tagged (List ℕ) (List ℕ)) → Said
+abbrev pub said_as : Marking → List (Tagged (List ℕ) (List ℕ)) → LogRecordValue
 said_as marking xs = unwrap_or (marked marking xs) (Plain xs)
 
 items_said : (marking : Marking) (xs : List (Tagged (List ℕ) (List ℕ))) → items_of (said_as marking xs) ≡ xs
@@ -91,14 +91,14 @@ items_said markings.Broken xs = refl
 
 module _ (at : Located → List ℕ) (P : Located → Type 0) (n : ℕ) where
   -- the record was read in that file, says this, and its entries lie there
-  pub record IsReadAs (r : ReadRecord) (y : Said) : Type 0 where
+  pub record IsReadAs (r : ReadRecord) (y : LogRecordValue) : Type 0 where
     pub file : r.file ≡ n
     pub says : y ≡ told_record at r.taken
     pub lies : ItemsLieIn r.file (items_of r.taken)
     pub has : ItemsHave (EntriesHave P) (items_of r.taken)
 
   -- so are these records
-  pub record AreReadAs (rs : List ReadRecord) (ys : List Said) : Type 0 where
+  pub record AreReadAs (rs : List ReadRecord) (ys : List LogRecordValue) : Type 0 where
     pub file : AllReadIn n rs
     pub says : ys ≡ told_records at rs
     pub lie : AreWhereRead rs
@@ -118,16 +118,16 @@ module _ (at : Located → List ℕ) (P : Located → Type 0) (n : ℕ) where
       subst (λ (x : ReadRecord). IsReadAs x y) same (record { file = refl; says = ap (λ l. said_as (markings.Part id status) l) (sym says); lies = lies; has = has })
   read_as markings.Broken said xs says lies has r is = cc
 
-  more_read : (r : ReadRecord) (rs : List ReadRecord) (y : Said) (ys : List Said) → IsReadAs r y → AreReadAs rs ys → AreReadAs (r ∷ rs) (y ∷ ys)
+  more_read : (r : ReadRecord) (rs : List ReadRecord) (y : LogRecordValue) (ys : List LogRecordValue) → IsReadAs r y → AreReadAs rs ys → AreReadAs (r ∷ rs) (y ∷ ys)
   more_read r rs y ys one more = record {
     file = (one.file, more.file);
-    says = ap₂ (λ (x : Said) (l : List Said). x ∷ l) one.says more.says;
+    says = ap₂ (λ (x : LogRecordValue) (l : List LogRecordValue). x ∷ l) one.says more.says;
     lie = (one.lies, more.lie);
     has = (one.has, more.has);
   }
 
 -- A file.
-module _ (says : LogRecord → Said) (none : FileBlockHandle) (sense : (r : LogRecord) → says r ≡ said_as (marking_of_items (placed none r.items)) (tagged_items (entry_bytes (block_bytes r.entries)) (placed none r.items)))
+module _ (says : LogRecord → LogRecordValue) (none : FileBlockHandle) (sense : (r : LogRecord) → says r ≡ said_as (marking_of_items (placed none r.items)) (tagged_items (entry_bytes (block_bytes r.entries)) (placed none r.items)))
     (at : Located → List ℕ) (P : Located → Type 0) (queue : LogQueue) (n : ℕ) (content : List ℕ)
     (at_is : (p : Place) → p.file ≡ n → at (in_queue (in_append queue) p) ≡ part p.entry_offset p.entry_len (part p.offset p.len content))
     (lies : (p : Place) → p.file ≡ n → p.offset + p.len ≤ length content → IsOk (block_of (part p.offset p.len content)) → p.entry_offset + p.entry_len ≤ p.len - 4 → P (in_queue (in_append queue) p))
@@ -206,7 +206,7 @@ module _ (says : LogRecord → Said) (none : FileBlockHandle) (sense : (r : LogR
         let given : option_map (in_file n) (taken_as markings.Unmarked said) ≡ Some r = ap (λ (b : Bool). Some (in_file n (Plain (said_in b n (placed handle w.value.items))))) (sym same) ∙ is in
         let counts : as_counted appended (says w.value) ≡ Plain xs =
         ap (λ (b : Bool). as_counted b (says w.value)) (sym same) ∙ ap Plain (ap items_of (sense w.value) ∙ items_said (marking_of_items (placed none w.value.items)) xs) in
-        subst (λ (y : Said). IsReadAs at P n r y) (sym counts)
+        subst (λ (y : LogRecordValue). IsReadAs at P n r y) (sym counts)
         (read_as at P n markings.Unmarked said xs told_is (read_lies appended n handle number (laid_out 0 w.value.items))
         (read_has P appended n handle (length entries) has_place 0 w.value.items fit) r given)
     placed_read Rewrite same r is =
@@ -215,7 +215,7 @@ module _ (says : LogRecord → Said) (none : FileBlockHandle) (sense : (r : LogR
         let given : option_map (in_file n) (taken_as marking said) ≡ Some r =
         ap₂ (λ (m : Marking) (b : Bool). option_map (in_file n) (taken_as m (said_in b n (placed handle w.value.items)))) (same_marking none handle w.value.items) (sym same) ∙ is in
         let counts : as_counted appended (says w.value) ≡ said_as marking xs = ap (λ (b : Bool). as_counted b (says w.value)) (sym same) ∙ sense w.value in
-        subst (λ (y : Said). IsReadAs at P n r y) (sym counts)
+        subst (λ (y : LogRecordValue). IsReadAs at P n r y) (sym counts)
         (read_as at P n marking said xs told_is (read_lies appended n handle number (laid_out 0 w.value.items))
         (read_has P appended n handle (length entries) has_place 0 w.value.items fit) r given)
 

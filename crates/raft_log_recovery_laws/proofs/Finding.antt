@@ -26,10 +26,10 @@ use Rattle.raft_log_recovery_scan.specs.Scanned.{IsQueueIn}
 use Rattle.raft_log_recovery_laws.specs.Scanned.{kind_of}
 use Rattle.raft_log_recovery_laws.proofs.AllFiles.{no_files_are_scanned, scanned_files_are_all}
 use Rattle.raft_log_dual_pipes.specs.Own.{log_layout}
-use Rattle.raft_log_dual_pipes.specs.OnDisk.{LogRestsOn}
+use Rattle.raft_log_dual_pipes.specs.OnDisk.{IsDurableAs}
 use Rattle.raft_log_dual_pipes.specs.Reopening.{RestsQueue}
 use Rattle.raft_log_dual_pipes.specs.State.{Spanned}
-use Rattle.raft_log_engine_laws.specs.Shows.{log_in, LogMap}
+use Rattle.raft_log_engine_laws.specs.EngineState.{log_in, LogMap}
 use Rattle.raft_log_recovery.specs.Directories.{paths_of}
 use Rattle.raft_log_recovery.specs.Recovering.{append_files, rewrite_files}
 use Rattle.raft_log_recovery.specs.Scanning.{ScansLog}
@@ -94,7 +94,7 @@ module _ (queue : LogQueue) (directories : List (List ℕ)) (distinct : AreDisti
   files_of (inr unbegun) = none_made (no_files_are_scanned queue directories mode mid unbegun.fresh.none files are) (unbegun_kept (log_layout queue directories) mid cleared keeps q unbegun)
 
 -- Both.
-module _ (config : Config) (d : Disk) (m : LogMap) (sound : IsSound d) (h : LogRestsOn (log_in (home_of config)) d m) (found : DualPipesBuilder) (scanned : Disk) (finds : FindsLog config found d scanned) where
+module _ (config : Config) (d : Disk) (m : LogMap) (sound : IsSound d) (h : IsDurableAs (log_in (home_of config)) d m) (found : DualPipesBuilder) (scanned : Disk) (finds : FindsLog config found d scanned) where
   abbrev ds : List (List ℕ)
   ds = paths_of config
 

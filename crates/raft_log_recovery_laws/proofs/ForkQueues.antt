@@ -14,7 +14,7 @@ use Rattle.raft_log_engine_laws.specs.raft_log_active_file.specs.Layout.{log_for
 use Rattle.raft_log_engine_laws.specs.raft_log_active_file.specs.declared.record.LogRecord.{LogRecord}
 use Rattle.raft_log_dual_pipes.specs.Own.{log_layout}
 use Rattle.raft_log_dual_pipes.specs.State.{AreThere, IsStopped, Spanned}
-use Rattle.raft_log_dual_pipes.specs.Lying.{IsUnbegun}
+use Rattle.raft_log_dual_pipes.specs.OpenOrClosed.{IsUnbegun}
 use Rattle.raft_log_dual_pipes.specs.Reopening.{RestsQueue}
 use Rattle.raft_log_recovery_laws.proofs.Sources.{path_in, path_is}
 use Rattle.raft_log_recovery_laws.proofs.Copies.{ForksQueue, absent_copied}

@@ -10,12 +10,12 @@ use Rattle.raft_log_engine_laws.specs.raft_log_memtables.specs.declared.mem_tabl
 use Rattle.raft_log_recovery_read.specs.declared.file_ending.FileEnding.{FileEnding}
 use Rattle.raft_log_replay_context.specs.declared.context.MemTableRecoverContext.{MemTableRecoverContext}
 use Rattle.raft_log_dual_pipes.specs.Queues.{AreTwoQueues}
-use Rattle.raft_log_dual_pipes.specs.Lying.{LiesQueue}
-use Rattle.raft_log_dual_pipes.specs.OnDisk.{LogRestsOn}
-use Rattle.raft_log_dual_pipes.proofs.LyingQueues.{lies}
-use Rattle.raft_log_dual_pipes.specs.Pipes.{LogPipes, Said, State}
-use Rattle.raft_log_engine_laws.specs.Shows.{log_in, Home, LogMap}
-use Rattle.raft_log_engine_laws.specs.Holding.{IsLeftAt}
+use Rattle.raft_log_dual_pipes.specs.OpenOrClosed.{LiesQueue}
+use Rattle.raft_log_dual_pipes.specs.OnDisk.{IsDurableAs}
+use Rattle.raft_log_dual_pipes.proofs.ClosedQueues.{lies}
+use Rattle.raft_log_dual_pipes.specs.Pipes.{LogPipes, LogRecordValue, State}
+use Rattle.raft_log_engine_laws.specs.EngineState.{log_in, LogDirectories, LogMap}
+use Rattle.raft_log_engine_laws.specs.Holding.{IsRecoverableAs}
 use Rattle.raft_log_recovery.specs.Cutting.{CutsEach, CutsIf}
 use Rattle.raft_log_recovery.specs.Directories.{paths_of}
 use Rattle.raft_log_recovery.specs.Finishing.{OpensRecovered, SyncsLog}
@@ -71,8 +71,8 @@ one_of : (a b : Bool) → (a || b) ≡ true → (a ≡ true) ⊎ (b ≡ true)
 one_of true b is = inl refl
 one_of false b is = inr is
 
-module _ (config : Config) (d : Disk) (m : LogMap) (pending : List Said) (sound : IsSound d) (left : IsLeftAt (home_of config) d m pending) (map : LogMap) (rests : LogRestsOn (log_in (home_of config)) (as_it_stands d) map) where
-  abbrev home : Home
+module _ (config : Config) (d : Disk) (m : LogMap) (pending : List LogRecordValue) (sound : IsSound d) (left : IsRecoverableAs (home_of config) d m pending) (map : LogMap) (rests : IsDurableAs (log_in (home_of config)) (as_it_stands d) map) where
+  abbrev home : LogDirectories
   home = home_of config
 
   pub one : 0 < length (paths_of config)
@@ -126,7 +126,7 @@ module _ (config : Config) (d : Disk) (m : LogMap) (pending : List Said) (sound 
     rewrite = stands_keeps (log_in home).rewrite d lasts rewrite_last s.rewrite rewrite_lies;
   })).rests map rests
 
-  pub there : LogRestsOn (log_in home) standing map
+  pub there : IsDurableAs (log_in home) standing map
   there = stays.0
 
   pub standing_sound : IsSound standing
@@ -235,5 +235,5 @@ module _ (config : Config) (d : Disk) (m : LogMap) (pending : List Said) (sound 
     pub answered_in_place : (v : LogPipes) (tables : MemTables) → OpensByCalls disk tells config d v tables → HoldsFresh home v tables map
     answered_in_place v tables it = (resting_logs_open_by_calls settled_disk tells config standing map standing_sound there).answered v tables (reopens v tables it)
 
-    pub synced_in_place : (new : Disk) → StopsSynced disk tells config d new → IsLeftAt home new map []
+    pub synced_in_place : (new : Disk) → StopsSynced disk tells config d new → IsRecoverableAs home new map []
     synced_in_place new stops = (resting_logs_open_by_calls settled_disk tells config standing map standing_sound there).refused new (not_opened new stops)

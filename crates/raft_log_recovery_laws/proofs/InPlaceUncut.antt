@@ -26,14 +26,14 @@ use Rattle.raft_log_engine_laws.specs.raft_log_active_file.specs.declared.record
 use Rattle.raft_log_recovery_scan.specs.Directories.{FailsToHave, HasDirectories}
 use Rattle.raft_log_recovery_scan.specs.Metadata.{ChangesNoFile}
 use Rattle.raft_log_recovery_scan.specs.Scanned.{FailsToScan}
-use Rattle.raft_log_dual_pipes.specs.Lying.{none_open, LiesQueue}
+use Rattle.raft_log_dual_pipes.specs.OpenOrClosed.{none_open, LiesQueue}
 use Rattle.raft_log_dual_pipes.specs.Own.{log_layout}
 use Rattle.raft_log_dual_pipes.specs.Queues.{AreTwoQueues}
 use Rattle.raft_log_dual_pipes.specs.State.{Spanned}
-use Rattle.raft_log_dual_pipes.proofs.LyingQueues.{lies, lying_logs_are_logs}
-use Rattle.raft_log_dual_pipes.specs.Pipes.{Said}
-use Rattle.raft_log_engine_laws.specs.Shows.{log_in, Home, LogMap}
-use Rattle.raft_log_engine_laws.specs.Holding.{IsLeftAt}
+use Rattle.raft_log_dual_pipes.proofs.ClosedQueues.{lies, lying_logs_are_logs}
+use Rattle.raft_log_dual_pipes.specs.Pipes.{LogRecordValue}
+use Rattle.raft_log_engine_laws.specs.EngineState.{log_in, LogDirectories, LogMap}
+use Rattle.raft_log_engine_laws.specs.Holding.{IsRecoverableAs}
 use Rattle.raft_log_recovery.specs.Directories.{paths_of}
 use Rattle.raft_log_recovery.specs.Scanning.{FailsToScanLog}
 use Rattle.raft_log_recovery.specs.Scanning.FailsToScanLog.{uncleared, unready, unscanned as scan_refused}
@@ -114,8 +114,8 @@ module _ (queue : LogQueue) (directories : List (List ℕ)) (some : 0 < length d
       let joined : directory ++ 47 ∷ first.name ≡ place.home.directory ++ 47 ∷ first.name = inside.joined ∙ ap (λ (l : List ℕ). place.home.directory ++ 47 ∷ l) (sym same) in
       ap d.directories (append_cancel_right directory place.home.directory (47 ∷ first.name) joined) ∙ place.home.there
 
-module _ (config : Config) (d : Disk) (m : LogMap) (pending : List Said) (left : IsLeftAt (home_of config) d m pending) where
-  abbrev home : Home
+module _ (config : Config) (d : Disk) (m : LogMap) (pending : List LogRecordValue) (left : IsRecoverableAs (home_of config) d m pending) where
+  abbrev home : LogDirectories
   home = home_of config
 
   two : AreTwoQueues (log_in home)
@@ -127,7 +127,7 @@ module _ (config : Config) (d : Disk) (m : LogMap) (pending : List Said) (left :
       directory_there Append (paths_of config) (some_directory config) s.append d
       (subst (LiesQueue (log_in home).append s.append) left.1.lies.disk (lies (log_in home).append two.append left.0.append s.append s.disk left.1.lies.stands.append))
 
-  stays : (new : Disk) → ((F : Format LogRecord) → KeepsNumbered F d new) → IsLeftAt home new m pending
+  stays : (new : Disk) → ((F : Format LogRecord) → KeepsNumbered F d new) → IsRecoverableAs home new m pending
   stays new keeps = (
     none_open,
     record {
@@ -154,7 +154,7 @@ module _ (config : Config) (d : Disk) (m : LogMap) (pending : List Said) (left :
       let was : IsSound s.scanned = subst IsSound (sym (same_made (paths_of config) d dirs_there (paths_of config) (λ path listed. listed) s.scanned made)) sound in
       subst IsSound (sym s.cleared.rest) (record { named = was.named; one_name = was.one_name; apart = was.apart; home = was.home; fresh = was.fresh; files = was.files })
 
-  pub stops_uncut : (new : Disk) → StopsUncut config d new → IsLeftAt home new m pending
+  pub stops_uncut : (new : Disk) → StopsUncut config d new → IsRecoverableAs home new m pending
   stops_uncut new (undone same) = stays new (λ F. keeps_equal (paths_of config) d dirs_there F new same)
   stops_uncut new (unscanned b error begun fails) = stays new (λ F. no_log_scan (paths_of config) d dirs_there F b (begun_directories config b begun) error new fails)
   stops_uncut new (unread found finds) = stays new (finds_keep found new finds)

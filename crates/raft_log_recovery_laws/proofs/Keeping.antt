@@ -12,9 +12,9 @@ use Rattle.raft_log_directory_laws.specs.Model.{Files}
 use Rattle.raft_log_directory_laws.specs.Log.{IsLog}
 use Rattle.raft_log_dual_pipes.specs.Queues.{AreTwoQueues, IsQueueLayout, QueueLayout, TwoQueues}
 use Rattle.raft_log_dual_pipes.specs.State.{AreThere, HoldsQueue, IsStopped, LogOnDisk, Spanned, Ties}
-use Rattle.raft_log_dual_pipes.specs.Lying.{IsUnbegun, LiesQueue, RunOrLie, none_open}
+use Rattle.raft_log_dual_pipes.specs.OpenOrClosed.{IsUnbegun, LiesQueue, IsOpenOrClosed, none_open}
 use Rattle.raft_log_dual_pipes.specs.Reopening.{RestBoth, RestsQueue}
-use Rattle.raft_log_dual_pipes.specs.OnDisk.{LogLiesOn, LogRestsOn}
+use Rattle.raft_log_dual_pipes.specs.OnDisk.{LogLiesOn, IsDurableAs}
 use Rattle.raft_log_dual_pipes.proofs.CrashSteps.{rests_lie}
 use Rattle.raft_log_recovery_laws.specs.Keeping.{KeepsBothQueues, KeepsNumbered, KeptLogsStay, RestsStill}
 
@@ -131,14 +131,14 @@ module _ {R E V : Type 0} (log : TwoQueues R E V) (two : AreTwoQueues log) where
   abbrev pub moved : LogOnDisk R → Disk → LogOnDisk R
   moved s new = record s { disk = new }
 
-  pub ties_kept : (s : LogOnDisk R) (new : Disk) → KeepsBothQueues log s.disk new → RunOrLie log none_open s → (f : Files E V) → Ties log s f → Ties log (moved s new) f
+  pub ties_kept : (s : LogOnDisk R) (new : Disk) → KeepsBothQueues log s.disk new → IsOpenOrClosed log none_open s → (f : Files E V) → Ties log s f → Ties log (moved s new) f
   ties_kept s new keeps lies f ties = record {
     append = numbered_kept log.append s.disk new keeps.append log.says s.append.files f.append_from s.append.first f.append (bounded log.append s.disk new keeps.append s.append (some_numbers log.append two.append) lies.append) ties.append;
     rewrite = numbered_kept log.rewrite s.disk new keeps.rewrite log.says s.rewrite.files f.rewrite_from s.rewrite.first f.rewrite
         (bounded log.rewrite s.disk new keeps.rewrite s.rewrite (some_numbers log.rewrite two.rewrite) lies.rewrite) ties.rewrite;
   }
 
-  pub log_kept : (s : LogOnDisk R) (new : Disk) (m : Map E V) (pending : List (Record E V)) → KeepsBothQueues log s.disk new → RunOrLie log none_open s → IsLog (Ties log s) m pending → IsLog (Ties log (moved s new)) m pending
+  pub log_kept : (s : LogOnDisk R) (new : Disk) (m : Map E V) (pending : List (Record E V)) → KeepsBothQueues log s.disk new → IsOpenOrClosed log none_open s → IsLog (Ties log s) m pending → IsLog (Ties log (moved s new)) m pending
   log_kept s new m pending keeps lies is = record {
     files = is.files;
     whereabouts = is.whereabouts;
@@ -154,10 +154,10 @@ module _ {R E V : Type 0} (log : TwoQueues R E V) (two : AreTwoQueues log) where
     rewrite = rests_kept log.rewrite s.disk new keeps.rewrite s.rewrite rests.rewrite;
   }
 
-  pub both_lie : (s : LogOnDisk R) → RestBoth log s → RunOrLie log none_open s
+  pub both_lie : (s : LogOnDisk R) → RestBoth log s → IsOpenOrClosed log none_open s
   both_lie s rests = record { append = rests_lie log.append s.append s.disk rests.append; rewrite = rests_lie log.rewrite s.rewrite s.disk rests.rewrite }
 
-  pub rests_there : (old new : Disk) (m : Map E V) → KeepsBothQueues log old new → LogRestsOn log old m → LogRestsOn log new m
+  pub rests_there : (old new : Disk) (m : Map E V) → KeepsBothQueues log old new → IsDurableAs log old m → IsDurableAs log new m
   rests_there old new m keeps h =
       let here : KeepsBothQueues log h.state.disk new = subst (λ (d : Disk). KeepsBothQueues log d new) (sym h.disk) keeps in
       record {
@@ -169,7 +169,7 @@ module _ {R E V : Type 0} (log : TwoQueues R E V) (two : AreTwoQueues log) where
         holds = log_kept h.state new m [] here (both_lie h.state h.rests) h.holds;
       }
 
-  pub still : (old new : Disk) (m : Map E V) → KeepsBothQueues log old new → (h : LogRestsOn log old m) → RestsStill log old m h new
+  pub still : (old new : Disk) (m : Map E V) → KeepsBothQueues log old new → (h : IsDurableAs log old m) → RestsStill log old m h new
   unfolding rests_there
   still old new m keeps h = (rests_there old new m keeps h, refl)
 

@@ -21,12 +21,12 @@ use Rattle.raft_log_engine_laws.specs.raft_log_active_file.specs.PathLaws.{one_n
 use Rattle.raft_log_engine_laws.specs.raft_log_active_file.specs.Paths.{IsPathWith}
 use Rattle.raft_log_file_settings.specs.Settings.{settings_of, directories_of}
 use Rattle.raft_log_file_settings.specs.declared.config.Config.{Config}
-use Rattle.raft_log_dual_pipes.specs.Lying.{none_open, OpenPipes}
+use Rattle.raft_log_dual_pipes.specs.OpenOrClosed.{none_open, OpenPipes}
 use Rattle.raft_log_dual_pipes.specs.OnDisk.{LogLiesOn}
 use Rattle.raft_log_dual_pipes.specs.Queues.{AreTwoQueues}
-use Rattle.raft_log_dual_pipes.proofs.LyingQueues.{lying_logs_are_logs}
-use Rattle.raft_log_dual_pipes.specs.Pipes.{Said}
-use Rattle.raft_log_engine_laws.specs.Shows.{log_in, LogMap}
+use Rattle.raft_log_dual_pipes.proofs.ClosedQueues.{lying_logs_are_logs}
+use Rattle.raft_log_dual_pipes.specs.Pipes.{LogRecordValue}
+use Rattle.raft_log_engine_laws.specs.EngineState.{log_in, LogMap}
 use Rattle.raft_log_recovery.specs.Directories as builder
 use Rattle.raft_log_recovery_scan.specs.Found.{found_path}
 use Rattle.raft_log_recovery_laws.specs.Bare.{IsBare}
@@ -227,7 +227,7 @@ abbrev pub two : (config : Config) → AreTwoQueues (log_in (home_of config))
 two config = two_queues (home_of config) (some_directory config) (some_directory config)
 
 -- what lies there whatever pipe is open, lies there with none
-lies_closed : (config : Config) (o : OpenPipes) (d : Disk) (m : LogMap) (pending : List Said) → LogLiesOn (log_in (home_of config)) o d m pending → LogLiesOn (log_in (home_of config)) none_open d m pending
+lies_closed : (config : Config) (o : OpenPipes) (d : Disk) (m : LogMap) (pending : List LogRecordValue) → LogLiesOn (log_in (home_of config)) o d m pending → LogLiesOn (log_in (home_of config)) none_open d m pending
 lies_closed config o d m pending h =
     record { state = h.state; disk = h.disk; stands = (lying_logs_are_logs (log_in (home_of config)) (two config)).dropped o h.state h.stands; holds = h.holds }
 

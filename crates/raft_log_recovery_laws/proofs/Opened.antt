@@ -42,9 +42,9 @@ use Rattle.raft_log_replay_context.proofs.Opening.{made_of, map_is, recovered, s
 use Rattle.raft_log_replay_context.proofs.OpenGroups.{records_append}
 use Rattle.raft_log_replay_context.proofs.Told.{appended_told, rewritten_told}
 use Rattle.raft_log_engine_laws.specs.raft_log_block_cache.specs.Stored.{entries_at, AreStored, Each, IsStored}
-use Rattle.raft_log_dual_pipes.specs.Pipes.{LogPipes, Said, State}
+use Rattle.raft_log_dual_pipes.specs.Pipes.{LogPipes, LogRecordValue, State}
 use Rattle.raft_log_engine_laws.specs.raft_log_block_cache.proofs.KeptBlocks.{none_kept}
-use Rattle.raft_log_engine_laws.specs.Shows.{log_in, said_by, Home, LogMap}
+use Rattle.raft_log_engine_laws.specs.EngineState.{log_in, said_by, LogDirectories, LogMap}
 use Rattle.raft_log_record_base.specs.Files.{no_block}
 use Rattle.raft_log_engine_laws.specs.Holding.{FilesRiseIn, NotesEndIn}
 use Rattle.raft_log_recovery_laws.specs.Entries.{EntriesHave, RecordsHave}
@@ -62,38 +62,38 @@ told_append at xs ys = ap (map (told_record at)) (records_append xs ys) ∙ map-
 held_records : (at : Located → List ℕ) (rs : List ReadRecord) (fs : List (LogFile (List ℕ) (List ℕ))) → FilesHold at rs fs → file_records fs ≡ told_records at rs
 held_records at rs [] h = ap (told_records at) (sym h)
 held_records at rs (f ∷ fs) h =
-    ap₂ (λ (a b : List Said). a ++ b) h.4 (held_records at h.1 fs h.5) ∙ sym (told_append at h.0 h.1) ∙ ap (told_records at) (sym h.2)
+    ap₂ (λ (a b : List LogRecordValue). a ++ b) h.4 (held_records at h.1 fs h.5) ∙ sym (told_append at h.0 h.1) ∙ ap (told_records at) (sym h.2)
 
 -- Records that count.
 
-same_items : (b : Bool) (y : Said) → items_of (as_counted b y) ≡ items_of y
+same_items : (b : Bool) (y : LogRecordValue) → items_of (as_counted b y) ≡ items_of y
 same_items true y = refl
 same_items false y = refl
 
-same_contents : (b : Bool) (ys : List Said) → contents (map (as_counted b) ys) ≡ contents ys
+same_contents : (b : Bool) (ys : List LogRecordValue) → contents (map (as_counted b) ys) ≡ contents ys
 same_contents b [] = refl
 same_contents b (y ∷ ys) = ap₂ (λ (x z : List (Tagged (List ℕ) (List ℕ))). x ++ z) (same_items b y) (same_contents b ys)
 
 file_records_counted : (b : Bool) (fs : List (LogFile (List ℕ) (List ℕ))) → file_records (map (counted_file b) fs) ≡ map (as_counted b) (file_records fs)
 file_records_counted b [] = refl
-file_records_counted b (f ∷ fs) = ap (λ (l : List Said). map (as_counted b) f.records ++ l) (file_records_counted b fs) ∙ sym (map-append (as_counted b) f.records (file_records fs))
+file_records_counted b (f ∷ fs) = ap (λ (l : List LogRecordValue). map (as_counted b) f.records ++ l) (file_records_counted b fs) ∙ sym (map-append (as_counted b) f.records (file_records fs))
 
 -- the files of a span that count
 counted_span : (b : Bool) (q : FileQueue (List ℕ) (List ℕ)) → span (counted_queue b q) (counted_queue b q).pending ≡ map (counted_file b) (span q q.pending)
 counted_span b q =
     let records : map (as_counted b) q.synced ++ map (as_counted b) q.pending ≡ map (as_counted b) (q.synced ++ q.pending) = sym (map-append (as_counted b) q.synced q.pending) in
-    ap (λ (l : List Said). map (counted_file b) q.full ++ record { number = q.last; records = l } ∷ []) records
+    ap (λ (l : List LogRecordValue). map (counted_file b) q.full ++ record { number = q.last; records = l } ∷ []) records
     ∙ sym (map-append (counted_file b) q.full (record { number = q.last; records = q.synced ++ q.pending } ∷ []))
 
 -- In Rewrite that changes nothing.
-nothing_counted : (ys : List Said) → map (as_counted false) ys ≡ ys
+nothing_counted : (ys : List LogRecordValue) → map (as_counted false) ys ≡ ys
 nothing_counted [] = refl
-nothing_counted (y ∷ ys) = ap (λ (l : List Said). y ∷ l) (nothing_counted ys)
+nothing_counted (y ∷ ys) = ap (λ (l : List LogRecordValue). y ∷ l) (nothing_counted ys)
 
 no_file_counted : (fs : List (LogFile (List ℕ) (List ℕ))) → map (counted_file false) fs ≡ fs
 no_file_counted [] = refl
 no_file_counted (f ∷ fs) =
-    ap₂ (λ (x : List Said) (l : List (LogFile (List ℕ) (List ℕ))). record { number = f.number; records = x } ∷ l) (nothing_counted f.records) (no_file_counted fs)
+    ap₂ (λ (x : List LogRecordValue) (l : List (LogFile (List ℕ) (List ℕ))). record { number = f.number; records = x } ∷ l) (nothing_counted f.records) (no_file_counted fs)
 
 same_queue : (q : FileQueue (List ℕ) (List ℕ)) → counted_queue false q ≡ q
 same_queue q =
@@ -103,12 +103,12 @@ same_queue q =
     λ i. record { behind = q.behind; gone = q.gone; full = full i; last = q.last; synced = synced i; pending = pending i }
 
 -- In Append what speaks of a slot does still.
-among_counted : (b : Bool) (ys : List Said) (y : Said) → IsAmong (map (as_counted b) ys) y → (x : Said) × IsAmong ys x × (items_of y ≡ items_of x)
+among_counted : (b : Bool) (ys : List LogRecordValue) (y : LogRecordValue) → IsAmong (map (as_counted b) ys) y → (x : LogRecordValue) × IsAmong ys x × (items_of y ≡ items_of x)
 among_counted b [] y h = absurd h
 among_counted b (x ∷ ys) y (inl is) = (x, inl refl, ap items_of is ∙ same_items b x)
 among_counted b (x ∷ ys) y (inr later) = (let (z, there, same) = among_counted b ys y later in (z, inr there, same))
 
-lies_counted : (b : Bool) (n : ℕ) (y : Said) (fs : List (LogFile (List ℕ) (List ℕ))) → RecordLiesIn n y (map (counted_file b) fs) → (x : Said) × RecordLiesIn n x fs × (items_of y ≡ items_of x)
+lies_counted : (b : Bool) (n : ℕ) (y : LogRecordValue) (fs : List (LogFile (List ℕ) (List ℕ))) → RecordLiesIn n y (map (counted_file b) fs) → (x : LogRecordValue) × RecordLiesIn n x fs × (items_of y ≡ items_of x)
 lies_counted b n y [] h = absurd h
 lies_counted b n y (f ∷ fs) (inl (number, among)) = (let (x, there, same) = among_counted b f.records y among in (x, inl (number, there), same))
 lies_counted b n y (f ∷ fs) (inr later) = (let (x, there, same) = lies_counted b n y fs later in (x, inr there, same))
@@ -134,10 +134,10 @@ module _ (at : Located → List ℕ) (P : Located → Type 0) (first behind : Li
     (rewrite_holds : FilesHold at first (span (counted_queue false d.files.rewrite) (counted_queue false d.files.rewrite).pending))
     (append_holds : FilesHold at behind (span (counted_queue true d.files.append) (counted_queue true d.files.append).pending))
     (plain : ArePlain behind) where
-  abbrev R : List Said
+  abbrev R : List LogRecordValue
   R = file_records (span d.files.rewrite d.files.rewrite.pending)
 
-  abbrev A : List Said
+  abbrev A : List LogRecordValue
   A = file_records (span d.files.append d.files.append.pending)
 
   rewrite_told : told_records at first ≡ R
@@ -247,7 +247,7 @@ module _ (at : Located → List ℕ) (P : Located → Type 0) (first behind : Li
     ends s upto g files is = subst (IsNotedTo s.rewrite.files.last) is ((over first_tidy behind_tidy g (first_healthy g) (behind_healthy fit g)).ends s.rewrite.files.last upto)
 
 -- The engine.
-module _ (home : Home) (was : State) (m : LogMap) (v : LogPipes) (tables : MemTables) (log : IsLog (Ties (log_in home) was) m []) (over : IsOpenedOver home was v tables) where
+module _ (home : LogDirectories) (was : State) (m : LogMap) (v : LogPipes) (tables : MemTables) (log : IsLog (Ties (log_in home) was) m []) (over : IsOpenedOver home was v tables) where
   abbrev state : State
   state = over.state
 
@@ -274,7 +274,7 @@ module _ (home : Home) (was : State) (m : LogMap) (v : LogPipes) (tables : MemTa
   none_waits : a.kept ≡ []
   none_waits = front_nil a.kept a.lost (a.image ∙ log.ends)
     where
-      front_nil : (xs ys : List Said) → xs ++ ys ≡ [] → xs ≡ []
+      front_nil : (xs ys : List LogRecordValue) → xs ++ ys ≡ [] → xs ≡ []
       front_nil [] ys is = refl
       front_nil (x ∷ xs) ys is = cc
 
@@ -320,27 +320,27 @@ module _ (home : Home) (was : State) (m : LogMap) (v : LogPipes) (tables : MemTa
   same_read : (q : FileQueue (List ℕ) (List ℕ)) (z : ReadAgain q) → file_records (span (read_files q z) []) ≡ records_read q z
   same_read q z =
       span_records (read_files q z) ∙ append-nil ((queue_of (read_files q z)).live)
-      ∙ ap (λ (l : List Said). l ++ (q.synced ++ z.kept)) (records_of_both z.again q.full)
+      ∙ ap (λ (l : List LogRecordValue). l ++ (q.synced ++ z.kept)) (records_of_both z.again q.full)
       ∙ append_assoc (file_records z.again) (file_records q.full) (q.synced ++ z.kept)
-      ∙ ap (λ (l : List Said). file_records z.again ++ l) (sym (append_assoc (file_records q.full) q.synced z.kept))
+      ∙ ap (λ (l : List LogRecordValue). file_records z.again ++ l) (sym (append_assoc (file_records q.full) q.synced z.kept))
 
   runs : (g : ℕ) → IsOneRun (directory_meaning (file_records (span files.rewrite [])) (file_records (span files.append [])) g)
   runs g =
-      subst (λ (l : List Said). IsOneRun (directory_meaning (file_records (span files.rewrite [])) l g)) (sym (same_read log.files.append a))
-      (subst (λ (l : List Said). IsOneRun (directory_meaning l (records_read log.files.append a) g)) (sym (same_read log.files.rewrite r)) (one_run was_model log.sound r a g))
+      subst (λ (l : List LogRecordValue). IsOneRun (directory_meaning (file_records (span files.rewrite [])) l g)) (sym (same_read log.files.append a))
+      (subst (λ (l : List LogRecordValue). IsOneRun (directory_meaning l (records_read log.files.append a) g)) (sym (same_read log.files.rewrite r)) (one_run was_model log.sound r a g))
 
   abbrev map_here : LogMap
   map_here = map_read at first behind
 
   is_made : IsMadeOf (view_of (shown_of tables) map_here) (records_read log.files.rewrite r) (records_read log.files.append a) files
   is_made =
-      subst (λ (l : List Said). IsMadeOf (view_of (shown_of tables) map_here) (records_read log.files.rewrite r) l files) (same_read log.files.append a)
-      (subst (λ (l : List Said). IsMadeOf (view_of (shown_of tables) map_here) l (file_records (span files.append [])) files) (same_read log.files.rewrite r)
+      subst (λ (l : List LogRecordValue). IsMadeOf (view_of (shown_of tables) map_here) (records_read log.files.rewrite r) l files) (same_read log.files.append a)
+      (subst (λ (l : List LogRecordValue). IsMadeOf (view_of (shown_of tables) map_here) l (file_records (span files.append [])) files) (same_read log.files.rewrite r)
       (made at (IsStored state) first behind tables over_read model is_sound rewrite_held.0 append_held.0 (merged.append_read.read.plain refl)
       (merged.append_read.read.fit refl) rewrite_held.1 append_held.1 rewrite_rises append_rises runs))
 
   stands : Stands (view_of (shown_of tables) map_here) files m []
-  stands = subst (λ (l : List Said). Stands (view_of (shown_of tables) map_here) files (taken m l) []) none_waits (read_stands was_model log.sound r a (view_of (shown_of tables) map_here) is_made)
+  stands = subst (λ (l : List LogRecordValue). Stands (view_of (shown_of tables) map_here) files (taken m l) []) none_waits (read_stands was_model log.sound r a (view_of (shown_of tables) map_here) is_made)
 
   all_stored : AreStored state (shown_of tables)
   all_stored =

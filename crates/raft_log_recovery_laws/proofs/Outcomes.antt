@@ -6,10 +6,10 @@ use Rattle.raft_log_fs.specs.Image.{IsSound}
 use Rattle.raft_log_file_settings.specs.declared.config.Config.{Config}
 use Rattle.raft_log_replay_context.specs.declared.context.MemTableRecoverContext.{MemTableRecoverContext}
 use Rattle.raft_log_engine_laws.specs.raft_log_memtables.specs.declared.mem_tables.MemTables.{MemTables}
-use Rattle.raft_log_dual_pipes.specs.OnDisk.{LogRestsOn}
+use Rattle.raft_log_dual_pipes.specs.OnDisk.{IsDurableAs}
 use Rattle.raft_log_dual_pipes.specs.Pipes.{LogPipes}
-use Rattle.raft_log_engine_laws.specs.Shows.{log_in, Home, LogMap}
-use Rattle.raft_log_engine_laws.specs.Holding.{IsLeftAt}
+use Rattle.raft_log_engine_laws.specs.EngineState.{log_in, LogDirectories, LogMap}
+use Rattle.raft_log_engine_laws.specs.Holding.{IsRecoverableAs}
 use Rattle.raft_log_recovery.specs.Directories.{paths_of}
 use Rattle.raft_log_recovery.specs.declared.builder.DualPipesBuilder.{DualPipesBuilder}
 use Rattle.raft_log_recovery_laws.proofs.Left.{crashed_logs_rest}
@@ -25,8 +25,8 @@ use Rattle.raft_log_recovery_laws.proofs.ByCalls.{recovered_reopens, two_queues}
 use Rattle.raft_log_recovery_laws.proofs.Spares.{synced_spares_can_be_used}
 use Rattle.raft_log_recovery_laws.proofs.Stays.{stays_first}
 
-module _ {S : Type 0} (disk : S → Disk) (tells : S → List ℕ → ℕ → Type 0) (config : Config) (d : Disk) (m : LogMap) (sound : IsSound d) (h : LogRestsOn (log_in (home_of config)) d m) where
-  abbrev home : Home
+module _ {S : Type 0} (disk : S → Disk) (tells : S → List ℕ → ℕ → Type 0) (config : Config) (d : Disk) (m : LogMap) (sound : IsSound d) (h : IsDurableAs (log_in (home_of config)) d m) where
+  abbrev home : LogDirectories
   home = home_of config
 
   one : 0 < length (paths_of config)
@@ -52,7 +52,7 @@ module _ {S : Type 0} (disk : S → Disk) (tells : S → List ℕ → ℕ → Ty
       recovered_reopens disk tells home one one d m sound h r.append r.rewrite r.ready r.readied (recovered_from r.append r.rewrite r.ready r.readied r.recovered) v tables r.opens
       (spares_stay r.append r.rewrite r.ready r.readied r.recovered) r.comes
 
-  refused : (new : Disk) → FailsToOpenByCalls disk tells config d new → IsLeftAt home new m []
+  refused : (new : Disk) → FailsToOpenByCalls disk tells config d new → IsRecoverableAs home new m []
   refused new (undone same) =
       stays_left home one one d m sound h new (stays_same home one one d m sound h d new same (stays_first (log_in home) (two_queues home one one) d m h))
   refused new (unscanned b error begun fails) =
@@ -83,5 +83,5 @@ crashed_logs_open_by_calls disk tells home one other d image m pending sound lef
       within,
       rests,
       λ config named.
-          reopens_as disk tells config image (taken m (take k pending)) sound (subst (λ (h : Home). LogRestsOn (log_in h) image (taken m (take k pending))) (sym named) rests),
+          reopens_as disk tells config image (taken m (take k pending)) sound (subst (λ (h : LogDirectories). IsDurableAs (log_in h) image (taken m (take k pending))) (sym named) rests),
     )

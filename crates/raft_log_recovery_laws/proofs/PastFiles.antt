@@ -28,21 +28,21 @@ use Rattle.raft_log_recovery_laws.proofs.LastFiles.{no_header}
 use Rattle.raft_log_recovery_laws.proofs.Places.{batch_comes, no_batch, no_padding, not_torn, same_record}
 
 -- what stands to the end of a file are these records
-record Holds (file : OpenFile) (header content : List ℕ) (at : ℕ) (ws : List (Written LogRecord)) : Type 0 where
+record Represents (file : OpenFile) (header content : List ℕ) (at : ℕ) (ws : List (Written LogRecord)) : Type 0 where
   says : IsFileHeader header file.format
   aligned : file.format.alignment ≡ 0
   frames : AreFrames (IsRecordIn file.id.seq header) ws
   all : drop at content ≡ spelled ws
 
 -- the same behind the first one
-holds_later : (file : OpenFile) (header content : List ℕ) (at next : ℕ) (items : List LogItem) (w : Written LogRecord) (ws : List (Written LogRecord)) → Holds file header content at (w ∷ ws) → HasBatch file content at items next
-    → Holds file header content next ws
+holds_later : (file : OpenFile) (header content : List ℕ) (at next : ℕ) (items : List LogItem) (w : Written LogRecord) (ws : List (Written LogRecord)) → Represents file header content at (w ∷ ws) → HasBatch file content at items next
+    → Represents file header content next ws
 holds_later file header content at next items w ws h has =
     let same = same_record file header content (spelled ws) at next items w h.says h.aligned h.frames.0 h.all has in
     record { says = h.says; aligned = h.aligned; frames = h.frames.1; all = same.2 }
 
 -- all batches are those of the records, and the last one ends where these do
-walked : (file : OpenFile) (header content : List ℕ) (at end : ℕ) (xs : List (List LogItem)) (ws : List (Written LogRecord)) → Holds file header content at ws → HasBatches file content at xs end → EndsBehind file content end
+walked : (file : OpenFile) (header content : List ℕ) (at end : ℕ) (xs : List (List LogItem)) (ws : List (Written LogRecord)) → Represents file header content at ws → HasBatches file content at xs end → EndsBehind file content end
     → AreBatchesOf (context_of file) at xs ws × (end ≡ at + length (spelled ws))
 walked file header content at end [] [] h has ends = (tt, omega (arith, has))
 walked file header content at end (x ∷ xs) [] h has ends = absurd (no_batch file content at has.0 x h.aligned h.all has.1)
@@ -55,7 +55,7 @@ walked file header content at end (x ∷ xs) (w ∷ ws) h has ends =
     )
 
 -- none of them is torn
-none_torn : (file : OpenFile) (header content : List ℕ) (at end next : ℕ) (items : List LogItem) (fault : Fault) (xs : List (List LogItem)) (ws : List (Written LogRecord)) → Holds file header content at ws
+none_torn : (file : OpenFile) (header content : List ℕ) (at end next : ℕ) (items : List LogItem) (fault : Fault) (xs : List (List LogItem)) (ws : List (Written LogRecord)) → Represents file header content at ws
     → HasBatches file content at xs end → HasBatch file content end items next → IsRecordTorn file content end fault → ⊥
 none_torn file header content at end next items fault [] [] h has one torn = no_batch file content at next items h.aligned h.all (subst (λ (k : ℕ). HasBatch file content k items next) has one)
 none_torn file header content at end next items fault (x ∷ xs) [] h has one torn = no_batch file content at has.0 x h.aligned h.all has.1
@@ -86,14 +86,14 @@ record IsRead (file : OpenFile) (content : List ℕ) (at : ℕ) (xs : List (List
   ends : end ≡ at + length (spelled ws)
   sound : fault ≡ None
 
-is_read : (file : OpenFile) (header content : List ℕ) (at end : ℕ) (xs : List (List LogItem)) (ws : List (Written LogRecord)) (fault : Option Fault) → Holds file header content at ws → at ≤ length content
+is_read : (file : OpenFile) (header content : List ℕ) (at end : ℕ) (xs : List (List LogItem)) (ws : List (Written LogRecord)) (fault : Option Fault) → Represents file header content at ws → at ≤ length content
     → HasBatches file content at xs end → StopsGood file content end fault → IsRead file content at xs ws end fault
 is_read file header content at end xs ws fault h inside has good =
     let all = walked file header content at end xs ws h has (stops file content end fault good) in
     let last : end ≡ length content = omega (arith, all.1, ap length h.all, length-drop at content, inside) in
     record { batches = all.0; ends = all.1; sound = sound_end file content end fault h.aligned last good }
 
-earlier_read : (file : OpenFile) (header content : List ℕ) (at end : ℕ) (xs : List (List LogItem)) (ws : List (Written LogRecord)) (fault : Option Fault) → Holds file header content at ws → at ≤ length content
+earlier_read : (file : OpenFile) (header content : List ℕ) (at end : ℕ) (xs : List (List LogItem)) (ws : List (Written LogRecord)) (fault : Option Fault) → Represents file header content at ws → at ≤ length content
     → ReadsEarlier file content at xs end fault → IsRead file content at xs ws end fault
 earlier_read file header content at end xs ws fault h inside (read_none nothing same good) =
     subst (λ (l : List (List LogItem)). IsRead file content at l ws end fault) (sym nothing) (is_read file header content at end [] ws fault h inside same good)
@@ -114,7 +114,7 @@ finished_file_is_read directories id past file read is (headed log_file start en
     let starts : start ≡ length past.header = begins.ends ∙ ap length one.0 in
     let numbered : id.seq ≡ log_file.id.seq = ap (λ (i : FileId). i.seq) (sym same) in
     let context : context_of log_file ≡ context_in id read.format = ap (λ (i : FileId). record { id = i; version = log_file.format.version }) same ∙ ap (λ (f : LogFileFormat). record { id = id; version = f.version }) (sym format) in
-    let h : Holds log_file past.header file.content start past.records = record {
+    let h : Represents log_file past.header file.content start past.records = record {
       says = subst (λ (l : List ℕ). IsFileHeader l log_file.format) one.0 begins.says;
       aligned = ap (λ (f : LogFileFormat). f.alignment) (sym format) ∙ aligned;
       frames = subst (λ (n : ℕ). AreFrames (IsRecordIn n past.header) past.records) numbered is.frames;

@@ -21,7 +21,7 @@ use Rattle.raft_log_active_file.proofs.Reopening.{stands_as}
 use Rattle.raft_log_active_file.proofs.Standing.{stands_rebased, stands_touched, stands_weaker}
 use Rattle.raft_log_active_file.specs.TakingUp.{TrimMakes, Trims}
 use Rattle.raft_log_engine_laws.specs.raft_log_active_file.specs.declared.record.LogRecord.{LogRecord}
-use Rattle.raft_log_dual_pipes.specs.Lying.{LiesQueue}
+use Rattle.raft_log_dual_pipes.specs.OpenOrClosed.{LiesQueue}
 use Rattle.raft_log_dual_pipes.specs.Queues.{IsQueueLayout, QueueLayout}
 use Rattle.raft_log_dual_pipes.specs.Reopening.{RestsQueue}
 use Rattle.raft_log_dual_pipes.specs.State.{HasSpan, IsStopped, Spanned}

@@ -33,7 +33,7 @@ use Rattle.raft_log_replay_context.specs.Opened.{AllReadIn, FilesHold}
 use Rattle.raft_log_replay_context.proofs.OpenGroups.{records_append as records_of_both}
 use Rattle.raft_log_engine_laws.specs.raft_log_block_cache.specs.Stored.{entries_at, file_bytes, part, queue_in, EntryLiesIn, IsStored}
 use Rattle.raft_log_recovery_laws.specs.FileReading.{context_in}
-use Rattle.raft_log_dual_pipes.specs.Pipes.{Said, State}
+use Rattle.raft_log_dual_pipes.specs.Pipes.{LogRecordValue, State}
 use Rattle.raft_log_recovery_laws.specs.Entries.{EntriesHave, RecordsHave}
 use Rattle.raft_log_recovery_laws.specs.Reading.{as_counted, counted_file, counted_queue, AreOfFile, AreOfFiles, AreOfQueue}
 use Rattle.raft_log_recovery_laws.proofs.Counting.{records_append}
@@ -76,7 +76,7 @@ past_is q n less = ap (λ (b : Bool). cond b (whole q) (past_bytes (q.older n)))
     ]
 
 -- A queue of a log.
-module _ (says : LogRecord → Said) (none : FileBlockHandle) (sense : (r : LogRecord) → says r ≡ said_as (marking_of_items (placed none r.items)) (tagged_items (entry_bytes (block_bytes r.entries)) (placed none r.items)))
+module _ (says : LogRecord → LogRecordValue) (none : FileBlockHandle) (sense : (r : LogRecord) → says r ≡ said_as (marking_of_items (placed none r.items)) (tagged_items (entry_bytes (block_bytes r.entries)) (placed none r.items)))
     (s : State) (queue : LogQueue) (q : Spanned LogRecord) (is_in : queue_in s (in_append queue) ≡ q) where
   abbrev appended : Bool
   appended = in_append queue
@@ -174,7 +174,7 @@ module _ (says : LogRecord → Said) (none : FileBlockHandle) (sense : (r : LogR
         let records : map (as_counted appended) (said_all says (recent q.files)) ≡ counted.synced ++ counted.pending =
         ap (map (as_counted appended)) (map-append (λ (w : Written LogRecord). says w.value) q.files.durable q.files.pending)
         ∙ map-append (as_counted appended) (said_all says q.files.durable) (said_all says q.files.pending)
-        ∙ ap₂ (λ (a b : List Said). map (as_counted appended) a ++ map (as_counted appended) b) (sym numbered.synced) (sym numbered.pending) in
+        ∙ ap₂ (λ (a b : List LogRecordValue). map (as_counted appended) a ++ map (as_counted appended) b) (sym numbered.synced) (sym numbered.pending) in
         let number : q.files.last ≡ files.last = sym numbered.last in
         let moved : map (counted_file appended) (filed says q.files.older q.first count) ++ record { number = q.files.last; records = map (as_counted appended) (said_all says (recent q.files)) } ∷ [] ≡ span counted counted.pending =
         λ i. map (counted_file appended) (full i) ++ record { number = number i; records = records i } ∷ [] in

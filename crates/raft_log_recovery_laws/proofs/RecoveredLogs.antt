@@ -24,7 +24,7 @@ use Rattle.raft_log_dual_pipes.specs.Own.{log_layout}
 use Rattle.raft_log_dual_pipes.specs.State.{Spanned}
 use Rattle.raft_log_dual_pipes.specs.Reopening.{GoesOnFound, IsFoundOf}
 use Rattle.raft_log_dual_pipes.specs.Reopening.IsFoundOf.{stopped, unbegun}
-use Rattle.raft_log_engine_laws.specs.Shows.{sense}
+use Rattle.raft_log_engine_laws.specs.EngineState.{sense}
 use Rattle.raft_log_recovery_laws.specs.Reading.{AreOfQueue}
 use Rattle.raft_log_recovery_laws.specs.Found.{ReadsQueue}
 use Rattle.raft_log_recovery_laws.specs.Recovered.{AreFoundAsRead, AreInFormats, CrashedLogsOpen, ReadLogsAreHeld}

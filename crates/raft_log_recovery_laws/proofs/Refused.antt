@@ -19,12 +19,12 @@ use Rattle.raft_log_replay_context.specs.declared.context.MemTableRecoverContext
 use Rattle.raft_log_dual_pipes.specs.Queues.{AreTwoQueues, IsQueueLayout, QueueLayout}
 use Rattle.raft_log_dual_pipes.specs.State.{Spanned}
 use Rattle.raft_log_dual_pipes.specs.Own.{log_layout}
-use Rattle.raft_log_dual_pipes.specs.Lying.{none_open}
+use Rattle.raft_log_dual_pipes.specs.OpenOrClosed.{none_open}
 use Rattle.raft_log_dual_pipes.specs.Reopening.{RestsQueue}
-use Rattle.raft_log_dual_pipes.specs.OnDisk.{LogLiesOn, LogRestsOn}
+use Rattle.raft_log_dual_pipes.specs.OnDisk.{LogLiesOn, IsDurableAs}
 use Rattle.raft_log_dual_pipes.specs.Pipes.{State}
-use Rattle.raft_log_engine_laws.specs.Shows.{log_in, Home, LogMap}
-use Rattle.raft_log_engine_laws.specs.Holding.{IsLeftAt}
+use Rattle.raft_log_engine_laws.specs.EngineState.{log_in, LogDirectories, LogMap}
+use Rattle.raft_log_engine_laws.specs.Holding.{IsRecoverableAs}
 use Rattle.raft_log_recovery.specs.Cutting.{CutsEach, FailsToCutEach}
 use Rattle.raft_log_recovery.specs.Directories.{paths_of}
 use Rattle.raft_log_recovery.specs.Finishing.{FailsToOpenRecovered, FailsToSyncLog}
@@ -117,7 +117,7 @@ no_syncs_keep F files kind old new rest fails =
     let first = syncs_keep F fails.before old fails.between rest fails.synced in
     keeps_then F old fails.between new first (no_sync_keeps F fails.between new fails.file.handle.file (WrongHandle fails.file.handle fails.between) kind (rest_then F old fails.between first rest) fails.fails)
 
-module _ (home : Home) (one : 0 < length home.append) (other : 0 < length home.rewrite) (d : Disk) (m : LogMap) (sound : IsSound d) (h : LogRestsOn (log_in home) d m) where
+module _ (home : LogDirectories) (one : 0 < length home.append) (other : 0 < length home.rewrite) (d : Disk) (m : LogMap) (sound : IsSound d) (h : IsDurableAs (log_in home) d m) where
   abbrev s : State
   s = h.state
 
@@ -127,10 +127,10 @@ module _ (home : Home) (one : 0 < length home.append) (other : 0 < length home.r
   abbrev Stays : Disk → Type 0
   Stays e = StaysAt (log_in home) two s m e
 
-  left_at : (e : Disk) → LogLiesOn (log_in home) none_open e m [] → IsLeftAt home e m []
+  left_at : (e : Disk) → LogLiesOn (log_in home) none_open e m [] → IsRecoverableAs home e m []
   left_at e lies = (none_open, record { done = []; rest = []; splits = refl; lies = lies })
 
-  pub stays_left : (e : Disk) → Stays e → IsLeftAt home e m []
+  pub stays_left : (e : Disk) → Stays e → IsRecoverableAs home e m []
   stays_left e at = left_at e (record {
     state = moved (log_in home) two s e;
     disk = refl;
@@ -142,7 +142,7 @@ module _ (home : Home) (one : 0 < length home.append) (other : 0 < length home.r
   stays_same old new same at = subst Stays (sym same) at
 
   -- a queue whose cut was refused is held, and the other one rests
-  held_append : (old new : Disk) → Stays old → IsHeld (log_in home).append (log_in home).rewrite s.append old new → IsLeftAt home new m []
+  held_append : (old new : Disk) → Stays old → IsHeld (log_in home).append (log_in home).rewrite s.append old new → IsRecoverableAs home new m []
   held_append old new at held =
       let t : State = record { append = record { first = s.append.first; files = held.next }; rewrite = s.rewrite; disk = new } in
       let there = rests_lie (log_in home).rewrite s.rewrite new (rests_kept (log_in home).rewrite old new held.others s.rewrite at.rests.rewrite) in
@@ -167,7 +167,7 @@ module _ (home : Home) (one : 0 < length home.append) (other : 0 < length home.r
         };
       })
 
-  held_rewrite : (old new : Disk) → Stays old → IsHeld (log_in home).rewrite (log_in home).append s.rewrite old new → IsLeftAt home new m []
+  held_rewrite : (old new : Disk) → Stays old → IsHeld (log_in home).rewrite (log_in home).append s.rewrite old new → IsRecoverableAs home new m []
   held_rewrite old new at held =
       let t : State = record { append = s.append; rewrite = record { first = s.rewrite.first; files = held.next }; disk = new } in
       let there = rests_lie (log_in home).append s.append new (rests_kept (log_in home).append old new held.others s.append at.rests.append) in
@@ -193,7 +193,7 @@ module _ (home : Home) (one : 0 < length home.append) (other : 0 < length home.r
       })
 
   -- The directories weren't scanned.
-  pub not_scanned : (b : DualPipesBuilder) (error : Error) (new : Disk) → LiesAsSet home b → FailsToScanLog b error d new → IsLeftAt home new m []
+  pub not_scanned : (b : DualPipesBuilder) (error : Error) (new : Disk) → LiesAsSet home b → FailsToScanLog b error d new → IsRecoverableAs home new m []
   not_scanned b error new set (scan_unready memory same) = stays_left new (stays_same d new same (stays_first (log_in home) two d m h))
   not_scanned b error new set (scan_refused fails) =
       let at = stays_first (log_in home) two d m h in
@@ -243,7 +243,7 @@ module _ (home : Home) (one : 0 < length home.append) (other : 0 < length home.r
       r_told : IsToldOrNot Rewrite home.rewrite s.rewrite scanned (rewrite_files b) fs
       r_told = told_or Rewrite home.rewrite other (rewrite_config b) refl scanned s.rewrite (rewrite_files b) fs rewrite both.rewrite_read both.rewrite_unaligned finds.rewrite
 
-      append_held : (kind : ErrorKind) (new : Disk) → FailsToCutEach (append_files b) es kind scanned new → IsLeftAt home new m []
+      append_held : (kind : ErrorKind) (new : Disk) → FailsToCutEach (append_files b) es kind scanned new → IsRecoverableAs home new m []
       append_held kind new fails = elim a_told [
         | inl none ↦ absurd (no_ending_uncut (append_files b) kind scanned new (subst (λ (l : List FileEnding). FailsToCutEach (append_files b) l kind scanned new) none fails))
         | inr told ↦ held_append scanned new at_scan
@@ -267,7 +267,7 @@ module _ (home : Home) (one : 0 < length home.append) (other : 0 < length home.r
           | inr told ↦ inr (told_kept (log_in home).rewrite two.rewrite s.rewrite (rewrite_files b) fs scanned between a_cut.others told)
         ]
 
-        rewrite_held : (kind : ErrorKind) (new : Disk) → FailsToCutEach (rewrite_files b) fs kind between new → IsLeftAt home new m []
+        rewrite_held : (kind : ErrorKind) (new : Disk) → FailsToCutEach (rewrite_files b) fs kind between new → IsRecoverableAs home new m []
         rewrite_held kind new fails = elim r_told_then [
           | inl none ↦ absurd (no_ending_uncut (rewrite_files b) kind between new (subst (λ (l : List FileEnding). FailsToCutEach (rewrite_files b) l kind between new) none fails))
           | inr told ↦ held_rewrite between new at_between
@@ -283,7 +283,7 @@ module _ (home : Home) (one : 0 < length home.append) (other : 0 < length home.r
             let c = r_cut cut more in
             (stays_named (log_in home) two s m between cut c.names (rests_kept (log_in home).append between cut c.others s.append a_cut.rests) c.rests at_between, c.sound)
 
-    pub not_recovered : (error : Error) (new : Disk) → FailsToRecoverLog reads declines b error scanned new → IsLeftAt home new m []
+    pub not_recovered : (error : Error) (new : Disk) → FailsToRecoverLog reads declines b error scanned new → IsRecoverableAs home new m []
     not_recovered error new (append_unread same why) = stays_left new (stays_same scanned new same at_scan)
     not_recovered error new (rewrite_unread append es read same why) = stays_left new (stays_same scanned new same at_scan)
     not_recovered error new (aligned append rewrite es fs read more same some tells) = stays_left new (stays_same scanned new same at_scan)
@@ -305,7 +305,7 @@ module _ (home : Home) (one : 0 < length home.append) (other : 0 < length home.r
       never_rewrite directory n k less at = two.apart _ (two.append.lawful.kept directory n) (two.rewrite.lawful.owns k _ less at)
 
       module _ {S : Type 0} (disk : S → Disk) (tells : S → List ℕ → ℕ → Type 0) where
-        unready_left : (error : Error) (from to : S) → Stays (disk from) → AreSoundNames (disk from) → FailsToReadyLog disk tells read error from to → IsLeftAt home (disk to) m []
+        unready_left : (error : Error) (from to : S) → Stays (disk from) → AreSoundNames (disk from) → FailsToReadyLog disk tells read error from to → IsRecoverableAs home (disk to) m []
         unready_left error from to at names (inl (memory, same)) = stays_left (disk to) (stays_same (disk from) (disk to) same at)
         unready_left error from to at names (inr fails) =
             let here = subst (λ (l : List (List ℕ)). FailsToReady disk tells (log_paths Append l) read.config.target_file_size.0 (wanted_files read) read.reserved.items error from to) paths_are fails in
@@ -314,8 +314,8 @@ module _ (home : Home) (one : 0 < length home.append) (other : 0 < length home.r
               rewrite = (unreadied_leaves (log_format Rewrite home.rewrite) (log_paths Append home.append) never_rewrite disk tells _ _ read.reserved.items error from to all_reserved names here).keeps;
             }) at)
 
-        pub not_readied : (error : Error) (new : Disk) → FailsToReadyOn disk tells read error cut new → IsLeftAt home new m []
-        not_readied error new f = subst (λ e. IsLeftAt home e m []) f.to_is
+        pub not_readied : (error : Error) (new : Disk) → FailsToReadyOn disk tells read error cut new → IsRecoverableAs home new m []
+        not_readied error new f = subst (λ e. IsRecoverableAs home e m []) f.to_is
             (unready_left error f.from f.to (subst Stays (sym f.from_is) cut_stays.0) (subst AreSoundNames (sym f.from_is) (sound_names cut cut_stays.1)) f.fails)
 
         ready_stays : (ready : DualPipesBuilder) (from to : S) → Stays (disk from) → AreSoundNames (disk from) → ReadiesLog disk tells read ready from to → Stays (disk to)
@@ -350,7 +350,7 @@ module _ (home : Home) (one : 0 < length home.append) (other : 0 < length home.r
       not_synced b.reserved.items kind behind new (synced_stays (rewrite_files b) between behind (synced_stays (append_files b) old between at syncs) more) fails
 
   pub not_opened : {S : Type 0} (disk : S → Disk) (tells : S → List ℕ → ℕ → Type 0) (append rewrite : MemTableRecoverContext) (ready : DualPipesBuilder) (readied : Disk) (error : Error) (new : Disk) → IsRecoveredFrom disk tells home s d append rewrite ready readied → SparesStay home ready readied
-      → FailsToOpenRecovered ready error readied new → IsLeftAt home new m []
+      → FailsToOpenRecovered ready error readied new → IsRecoverableAs home new m []
   not_opened disk tells append rewrite ready readied error new r spares (unready why same) = stays_left new (stays_same readied new same (recovered_stays disk tells append rewrite ready readied r))
   not_opened disk tells append rewrite ready readied error new r spares (unsynced kind is read fails) = stays_left new (log_unsynced ready kind readied new (recovered_stays disk tells append rewrite ready readied r) fails)
   not_opened disk tells append rewrite ready readied error new r spares (pipes_unopened synced a_pipe r_pipe read syncs a_is r_is fails) =

@@ -14,13 +14,13 @@ use Rattle.raft_log_engine_laws.specs.raft_log_active_file.specs.declared.record
 use Rattle.raft_log_recovery.specs.Readying.{FailsToReady, Readies}
 use Rattle.raft_log_recovery_read.specs.declared.file_ending.FileEnding.{FileEnding}
 use Rattle.raft_log_replay_context.specs.declared.context.MemTableRecoverContext.{MemTableRecoverContext}
-use Rattle.raft_log_dual_pipes.specs.Lying.{none_open, LiesQueue}
-use Rattle.raft_log_dual_pipes.specs.OnDisk.{LogRestsOn}
+use Rattle.raft_log_dual_pipes.specs.OpenOrClosed.{none_open, LiesQueue}
+use Rattle.raft_log_dual_pipes.specs.OnDisk.{IsDurableAs}
 use Rattle.raft_log_dual_pipes.specs.Queues.{AreTwoQueues, IsQueueLayout, QueueLayout}
-use Rattle.raft_log_dual_pipes.proofs.LyingQueues.{lies}
-use Rattle.raft_log_dual_pipes.specs.Pipes.{Said, State}
-use Rattle.raft_log_engine_laws.specs.Shows.{log_in, Home, LogMap}
-use Rattle.raft_log_engine_laws.specs.Holding.{IsLeftAt}
+use Rattle.raft_log_dual_pipes.proofs.ClosedQueues.{lies}
+use Rattle.raft_log_dual_pipes.specs.Pipes.{LogRecordValue, State}
+use Rattle.raft_log_engine_laws.specs.EngineState.{log_in, LogDirectories, LogMap}
+use Rattle.raft_log_engine_laws.specs.Holding.{IsRecoverableAs}
 use Rattle.raft_log_recovery.specs.Cutting.{CutsEach, FailsToCutEach}
 use Rattle.raft_log_recovery.specs.Directories.{paths_of}
 use Rattle.raft_log_recovery.specs.Finishing.{FailsToSyncLog}
@@ -60,8 +60,8 @@ SameNumbers F old new = (m : ℕ) (path : List ℕ) → m < F.limit → F.IsPath
 small : (layout : QueueLayout LogRecord) → IsQueueLayout layout → 1 < layout.format.limit
 small layout told = (let limit = told.lawful.limit in omega (arith, limit))
 
-module _ (config : Config) (d : Disk) (m : LogMap) (pending : List Said) (sound : IsSound d) (left : IsLeftAt (home_of config) d m pending) (chance : StandsWithoutChance (home_of config) left.1.lies.state d) (map : LogMap) (rests : LogRestsOn (log_in (home_of config)) (as_it_stands d) map) where
-  abbrev home : Home
+module _ (config : Config) (d : Disk) (m : LogMap) (pending : List LogRecordValue) (sound : IsSound d) (left : IsRecoverableAs (home_of config) d m pending) (chance : StandsWithoutChance (home_of config) left.1.lies.state d) (map : LogMap) (rests : IsDurableAs (log_in (home_of config)) (as_it_stands d) map) where
+  abbrev home : LogDirectories
   home = home_of config
 
   abbrev s : State
@@ -83,7 +83,7 @@ module _ (config : Config) (d : Disk) (m : LogMap) (pending : List Said) (sound 
   r_lies = subst (LiesQueue r s.rewrite) left.1.lies.disk (lies r both_queues.rewrite left.0.rewrite s.rewrite s.disk left.1.lies.stands.rewrite)
 
   -- both queues lie there with their records
-  left_as : (e : Disk) → IsLeftAs a both_queues.append s.append e → IsLeftAs r both_queues.rewrite s.rewrite e → SameNumbers a.format d e → SameNumbers r.format d e → IsLeftAt home e m pending
+  left_as : (e : Disk) → IsLeftAs a both_queues.append s.append e → IsLeftAs r both_queues.rewrite s.rewrite e → SameNumbers a.format d e → SameNumbers r.format d e → IsRecoverableAs home e m pending
   left_as e one_left other_left names others =
       let l = left.1.lies in
       let f = l.holds.files in
@@ -125,7 +125,7 @@ module _ (config : Config) (d : Disk) (m : LogMap) (pending : List Said) (sound 
     append_names : SameNumbers a.format d e
     rewrite_names : SameNumbers r.format d e
 
-  steadies_left : (e : Disk) → Steadies e → IsLeftAt home e m pending
+  steadies_left : (e : Disk) → Steadies e → IsRecoverableAs home e m pending
   steadies_left e at = left_as e (steady_left a both_queues.append s.append e at.append) (steady_left r both_queues.rewrite s.rewrite e at.rewrite) at.append_names at.rewrite_names
 
   steadies_kept : (old new : Disk) → KeepsNumbered a.format old new → KeepsNumbered r.format old new → Steadies old → Steadies new
@@ -179,7 +179,7 @@ module _ (config : Config) (d : Disk) (m : LogMap) (pending : List Said) (sound 
           (told_or Rewrite (paths_of config) (one config d m pending sound left map rests) (rewrite_config found) refl (settled_in E scanned) (there config d m pending sound left map rests).state.rewrite (rewrite_files found) fs rewrite
           (has_read E reads (rewrite_config found) (rewrite_files found) scanned rewrite fs both.rewrite_read) both.rewrite_unaligned files_found.1)
 
-      append_stays : (kind : ErrorKind) (new : Disk) → FailsToCutEach (append_files found) es kind scanned new → IsLeftAt home new m pending
+      append_stays : (kind : ErrorKind) (new : Disk) → FailsToCutEach (append_files found) es kind scanned new → IsRecoverableAs home new m pending
       append_stays kind new fails =
           let u = uncut_files a both_queues.append r both_queues.rewrite both_queues.apart s.append (append_files found) es scanned new sound_scan a_scan kind a_found fails in
           left_as new u.left (steady_left r both_queues.rewrite s.rewrite new (sure_steady r both_queues.rewrite s.rewrite new (sure_kept r both_queues.rewrite scanned new u.others s.rewrite r_scan)))
@@ -201,7 +201,7 @@ module _ (config : Config) (d : Disk) (m : LogMap) (pending : List Said) (sound 
         r_names : SameNumbers r.format d between
         r_names k path less is = a_cut.others.names k path less is ∙ (keeps r.format).names k path less is
 
-        rewrite_stays : (kind : ErrorKind) (new : Disk) → FailsToCutEach (rewrite_files found) fs kind between new → IsLeftAt home new m pending
+        rewrite_stays : (kind : ErrorKind) (new : Disk) → FailsToCutEach (rewrite_files found) fs kind between new → IsRecoverableAs home new m pending
         rewrite_stays kind new fails =
             let u = uncut_files r both_queues.rewrite a both_queues.append (λ path mine theirs. both_queues.apart path theirs mine) s.rewrite (rewrite_files found) fs between new a_cut.sound r_sure kind r_found_then fails in
             left_as new (steady_left a both_queues.append s.append new (steady_kept a both_queues.append between new u.others s.append a_cut.steady)) u.left
@@ -219,10 +219,10 @@ module _ (config : Config) (d : Disk) (m : LogMap) (pending : List Said) (sound 
               c.sound,
             )
 
-    scanned_stays : (new : Disk) → new ≡ scanned → IsLeftAt home new m pending
+    scanned_stays : (new : Disk) → new ≡ scanned → IsRecoverableAs home new m pending
     scanned_stays new same = stops_uncut config d m pending left new (unread found (subst (FindsLog config found d) (sym same) finds))
 
-    not_recovered : (error : Error) (new : Disk) → FailsToRecoverLog reads declines found error scanned new → IsLeftAt home new m pending
+    not_recovered : (error : Error) (new : Disk) → FailsToRecoverLog reads declines found error scanned new → IsRecoverableAs home new m pending
     not_recovered error new (append_unread same why) = scanned_stays new same
     not_recovered error new (rewrite_unread append es read same why) = scanned_stays new same
     not_recovered error new (aligned append rewrite es fs read more same some tells) = scanned_stays new same
@@ -244,7 +244,7 @@ module _ (config : Config) (d : Disk) (m : LogMap) (pending : List Said) (sound 
       never_rewrite directory n k less at = both_queues.apart _ (both_queues.append.lawful.kept directory n) (both_queues.rewrite.lawful.owns k _ less at)
 
       module _ {S : Type 0} (disk : S → Disk) (tells : S → List ℕ → ℕ → Type 0) where
-        unready_stays : (error : Error) (from to : S) → Steadies (disk from) → AreSoundNames (disk from) → FailsToReadyLog disk tells read error from to → IsLeftAt home (disk to) m pending
+        unready_stays : (error : Error) (from to : S) → Steadies (disk from) → AreSoundNames (disk from) → FailsToReadyLog disk tells read error from to → IsRecoverableAs home (disk to) m pending
         unready_stays error from to at names (inl (memory, same)) = steadies_left (disk to) (subst Steadies (sym same) at)
         unready_stays error from to at names (inr fails) =
             let here = subst (λ (l : List (List ℕ)). FailsToReady disk tells (log_paths Append l) read.config.target_file_size.0 (wanted_files read) read.reserved.items error from to) paths_are fails in
@@ -252,8 +252,8 @@ module _ (config : Config) (d : Disk) (m : LogMap) (pending : List Said) (sound 
             (unreadied_leaves (log_format Append home.append) (log_paths Append home.append) both_queues.append.lawful.apart disk tells _ _ read.reserved.items error from to all_reserved names here).keeps
             (unreadied_leaves (log_format Rewrite home.rewrite) (log_paths Append home.append) never_rewrite disk tells _ _ read.reserved.items error from to all_reserved names here).keeps at)
 
-        not_readied : (error : Error) (new : Disk) → FailsToReadyOn disk tells read error cut new → IsLeftAt home new m pending
-        not_readied error new f = subst (λ e. IsLeftAt home e m pending) f.to_is
+        not_readied : (error : Error) (new : Disk) → FailsToReadyOn disk tells read error cut new → IsRecoverableAs home new m pending
+        not_readied error new f = subst (λ e. IsRecoverableAs home e m pending) f.to_is
             (unready_stays error f.from f.to (subst Steadies (sym f.from_is) at_cut.0) (subst AreSoundNames (sym f.from_is) (sound_names cut at_cut.1)) f.fails)
 
         ready_steadies : (ready : DualPipesBuilder) (from to : S) → Steadies (disk from) → AreSoundNames (disk from) → ReadiesLog disk tells read ready from to → Steadies (disk to) × AreSoundNames (disk to)
@@ -273,7 +273,7 @@ module _ (config : Config) (d : Disk) (m : LogMap) (pending : List Said) (sound 
     recovered_steadies : (append rewrite : MemTableRecoverContext) (ready : DualPipesBuilder) (readied : Disk) → LogIsRecovered disk tells config d append rewrite ready readied → Steadies readied × AreSoundNames readied
     recovered_steadies append rewrite ready readied it = readied_steadies it.found it.scanned it.finds append rewrite it.read it.cut it.recovers disk tells ready readied it.readies
 
-    unsynced_stays : (ready : DualPipesBuilder) (kind : ErrorKind) (old new : Disk) → Steadies old → AreSoundNames old → FailsToSyncLog ready kind old new → IsLeftAt home new m pending
+    unsynced_stays : (ready : DualPipesBuilder) (kind : ErrorKind) (old new : Disk) → Steadies old → AreSoundNames old → FailsToSyncLog ready kind old new → IsRecoverableAs home new m pending
     unsynced_stays ready kind old new at names fails =
         let same = log_names ready kind old new fails in
         steadies_left new (record {
@@ -283,7 +283,7 @@ module _ (config : Config) (d : Disk) (m : LogMap) (pending : List Said) (sound 
           rewrite_names = λ k path less is. ap (λ (f : Names). f path) same ∙ at.rewrite_names k path less is;
         })
 
-    pub refused_in_place : (new : Disk) → FailsToOpenByCalls disk tells config d new → IsLeftAt home new m pending ⊎ IsLeftAt home new map []
+    pub refused_in_place : (new : Disk) → FailsToOpenByCalls disk tells config d new → IsRecoverableAs home new m pending ⊎ IsRecoverableAs home new map []
     refused_in_place new (undone same) = inl (stops_uncut config d m pending left new (stops_undone same))
     refused_in_place new (unscanned b error begun fails) = inl (stops_uncut config d m pending left new (stops_unscanned b error begun fails))
     refused_in_place new (unrecovered found scanned error finds fails) = inl (not_recovered found scanned finds error new fails)

@@ -11,8 +11,8 @@ use Rattle.raft_log_file_settings.specs.declared.config.Config.{Config}
 use Rattle.raft_log_dual_pipes.specs.Own.{log_layout}
 use Rattle.raft_log_dual_pipes.specs.State.{LogOnDisk, Ties}
 use Rattle.raft_log_dual_pipes.specs.Reopening.{RestsQueue}
-use Rattle.raft_log_dual_pipes.specs.OnDisk.{LogRestsOn}
-use Rattle.raft_log_engine_laws.specs.Shows.{log_in, Home, LogMap}
+use Rattle.raft_log_dual_pipes.specs.OnDisk.{IsDurableAs}
+use Rattle.raft_log_engine_laws.specs.EngineState.{log_in, LogDirectories, LogMap}
 use Rattle.raft_log_recovery.specs.Directories as builder
 use Rattle.raft_log_offline.specs.Forks.{Forks, HoldsLogFile}
 use Rattle.raft_log_offline.specs.Sources.{AreSources}
@@ -41,15 +41,15 @@ clear_free target d empty clear = record { bare = λ name plain is. by_home (d.d
         by_name (Some id) named = absurd (empty (record { home = e; name = name; is = is; plain = plain; there = λ none. none_is_some id (sym none ∙ named) }))
 
 -- the home of a log whose files lie in these directories
-abbrev pub lies_in : List (List ℕ) → Home
+abbrev pub lies_in : List (List ℕ) → LogDirectories
 lies_in directories = record { append = directories; rewrite = directories }
 
 -- the log in these directories rests on a disk with those files and records
 abbrev pub RestsIn : List (List ℕ) → LogOnDisk LogRecord → LogMap → Disk → Type 0
-RestsIn directories s m d = (t : LogRestsOn (log_in (lies_in directories)) d m) × (t.state ≡ record s { disk = d })
+RestsIn directories s m d = (t : IsDurableAs (log_in (lies_in directories)) d m) × (t.state ≡ record s { disk = d })
 
 module _ (directories : List (List ℕ)) (target : List ℕ) (old new : Disk) (append : ForksQueue Append directories target old new) (rewrite : ForksQueue Rewrite directories target old new) where
-  pub both_copied : (m : LogMap) (h : LogRestsOn (log_in (lies_in directories)) old m) → RestsIn (target ∷ []) h.state m new
+  pub both_copied : (m : LogMap) (h : IsDurableAs (log_in (lies_in directories)) old m) → RestsIn (target ∷ []) h.state m new
   both_copied m h =
       let ties : Ties (log_in (lies_in directories)) (record h.state { disk = old }) h.holds.files = subst (λ (d : Disk). Ties (log_in (lies_in directories)) (record h.state { disk = d }) h.holds.files) h.disk h.holds.there in (
         record {

@@ -10,16 +10,16 @@ use Rattle.raft_log_file_writer.specs.LogFormat.{Format, NoChanceInFile}
 use Rattle.raft_log_file_writer.specs.LogQueue.{NoChanceInLast, recent}
 use Rattle.raft_log_active_file.specs.Queue.{whole}
 use Rattle.raft_log_file_pipe.specs.declared.pipe_files.PipeFiles.{PipeFiles}
-use Rattle.raft_log_dual_pipes.specs.Lying.{both_open}
+use Rattle.raft_log_dual_pipes.specs.OpenOrClosed.{both_open}
 use Rattle.raft_log_dual_pipes.specs.OnDisk.{LogLiesOn}
-use Rattle.raft_log_dual_pipes.specs.Pipes.{Said, files_of}
+use Rattle.raft_log_dual_pipes.specs.Pipes.{LogRecordValue, files_of}
 use Rattle.raft_log_dual_pipes.specs.Queues.{QueueLayout}
 use Rattle.raft_log_dual_pipes.specs.State.{RunsQueue, Spanned, Ties}
 use Rattle.raft_log_directory_laws.proofs.CallLaws.{stands_log}
 use Rattle.raft_log_engine_laws.specs.raft_log_active_file.specs.declared.record.LogRecord.{LogRecord}
 use Rattle.raft_log_engine_laws.specs.raft_log_memtables.specs.Views.{view_of}
-use Rattle.raft_log_engine_laws.specs.Shows.{Home, LogMap, Shows, log_in}
-use Rattle.raft_log_engine_laws.specs.Holding.{Holds, IsLeftAt}
+use Rattle.raft_log_engine_laws.specs.EngineState.{LogDirectories, LogMap, EngineState, log_in}
+use Rattle.raft_log_engine_laws.specs.Holding.{Represents, IsRecoverableAs}
 use Rattle.raft_log_recovery_laws.specs.Left.{IsCrashOf}
 use Rattle.raft_log_recovery_laws.specs.Running.{CrashedEnginesOpen, LeavesNoChance, LeavesOwnAlone, MeetsOwnAlone, active_header, own_bytes}
 use Rattle.raft_log_recovery_laws.proofs.Directory.{crashed_directories_open}
@@ -52,7 +52,7 @@ chance_in_last layout files q d image runs leaves path id file after at named he
     (subst (λ (h : List ℕ). NoChanceInFile F q.files.last h q.files.stale (own_bytes files file) file after.content) (sym p.header)
     (subst (λ (n : ℕ). NoChanceInFile F n (active_header files) q.files.stale (own_bytes files file) file after.content) p.number met))
 
-module _ (home : Home) (e : Shows) (m : LogMap) (pending : List Said) (h : Holds home e m pending) (image : Disk) (is : IsImage e.pipes.disk image) (chance : LeavesNoChance home e.pipes image) where
+module _ (home : LogDirectories) (e : EngineState) (m : LogMap) (pending : List LogRecordValue) (h : Represents home e m pending) (image : Disk) (is : IsImage e.pipes.disk image) (chance : LeavesNoChance home e.pipes image) where
   -- its log lies on the disk
   lies : LogLiesOn (log_in home) (both_open (files_of e.pipes)) e.pipes.disk m pending
   lies = record {
@@ -62,7 +62,7 @@ module _ (home : Home) (e : Shows) (m : LogMap) (pending : List Said) (h : Holds
     holds = stands_log (Ties (log_in home) h.state) (view_of e.tables h.map) h.at.files m pending h.at.stands h.at.there;
   }
 
-  pub left : IsLeftAt home e.pipes.disk m pending
+  pub left : IsRecoverableAs home e.pipes.disk m pending
   left = (both_open (files_of e.pipes), record { done = []; rest = pending; splits = refl; lies = lies })
 
   pub crashed : IsCrashOf home left.1.lies.state e.pipes.disk image

@@ -24,8 +24,8 @@ use Rattle.raft_log_recovery_scan.specs.declared.file_kind.FileKind.TheVariants.
 use Rattle.raft_log_recovery_scan.specs.declared.scanning.found.FoundFile.{FoundFile}
 use Rattle.raft_log_replay_context.specs.declared.context.MemTableRecoverContext.{MemTableRecoverContext}
 use Rattle.raft_log_recovery.specs.Readying.{kept_of, next_number, Readies}
-use Rattle.raft_log_dual_pipes.specs.OnDisk.{LogRestsOn}
-use Rattle.raft_log_engine_laws.specs.Shows.{log_in, LogMap}
+use Rattle.raft_log_dual_pipes.specs.OnDisk.{IsDurableAs}
+use Rattle.raft_log_engine_laws.specs.EngineState.{log_in, LogMap}
 use Rattle.raft_log_recovery.specs.Directories.{paths_of}
 use Rattle.raft_log_recovery.specs.Finishing.{SyncsLog}
 use Rattle.raft_log_recovery.specs.Recovering.{append_files, rewrite_files}
@@ -108,7 +108,7 @@ each_both : {A : Type 0} (P Q : A → Type 0) (xs : List A) → Each P xs → Ea
 each_both P Q [] first next = tt
 each_both P Q (x ∷ xs) (one, first) (also, next) = ((one, also), each_both P Q xs first next)
 
-module _ {S : Type 0} (disk : S → Disk) (tells : S → List ℕ → ℕ → Type 0) (config : Config) (d : Disk) (m : LogMap) (sound : IsSound d) (h : LogRestsOn (log_in (home_of config)) d m) (append rewrite : MemTableRecoverContext)
+module _ {S : Type 0} (disk : S → Disk) (tells : S → List ℕ → ℕ → Type 0) (config : Config) (d : Disk) (m : LogMap) (sound : IsSound d) (h : IsDurableAs (log_in (home_of config)) d m) (append rewrite : MemTableRecoverContext)
     (ready : DualPipesBuilder) (readied synced : Disk) (r : LogIsRecovered disk tells config d append rewrite ready readied) (syncs : SyncsLog ready readied synced) where
   abbrev ds : List (List ℕ)
   ds = paths_of config

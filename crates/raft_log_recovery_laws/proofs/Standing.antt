@@ -15,7 +15,7 @@ use Rattle.raft_log_active_file.specs.Standing.{Names, Stands}
 use Rattle.raft_log_active_file.proofs.Standing.{place_moved}
 use Rattle.raft_log_dual_pipes.specs.Queues.{QueueLayout}
 use Rattle.raft_log_dual_pipes.specs.State.{Spanned}
-use Rattle.raft_log_dual_pipes.specs.Lying.{LiesQueue}
+use Rattle.raft_log_dual_pipes.specs.OpenOrClosed.{LiesQueue}
 use Rattle.raft_log_dual_pipes.specs.Reopening.{RestsQueue}
 use Rattle.raft_log_recovery_laws.specs.Keeping.{KeepsNumbered}
 use Rattle.raft_log_recovery_laws.proofs.Settling.{settled_if, settled_in}

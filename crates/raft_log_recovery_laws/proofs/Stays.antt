@@ -15,7 +15,7 @@ use Rattle.raft_log_directory_laws.specs.Log.{IsLog}
 use Rattle.raft_log_dual_pipes.specs.Queues.{AreTwoQueues, QueueLayout, TwoQueues}
 use Rattle.raft_log_dual_pipes.specs.State.{HasSpan, LogOnDisk, Spanned, Ties}
 use Rattle.raft_log_dual_pipes.specs.Reopening.{RestBoth, RestsQueue}
-use Rattle.raft_log_dual_pipes.specs.OnDisk.{LogRestsOn}
+use Rattle.raft_log_dual_pipes.specs.OnDisk.{IsDurableAs}
 use Rattle.raft_log_recovery.specs.Syncing.{SyncsEach}
 use Rattle.raft_log_recovery_laws.specs.Keeping.{KeepsBothQueues, KeepsNumbered}
 use Rattle.raft_log_recovery_laws.proofs.Keeping.{both_kept, both_lie, keeps_then, log_kept, moved}
@@ -67,7 +67,7 @@ module _ {E V : Type 0} (log : TwoQueues LogRecord E V) (two : AreTwoQueues log)
     pub rests : RestBoth log (moved log two s d)
     pub holds : IsLog (Ties log (moved log two s d)) m []
 
-  pub stays_first : (d : Disk) (m : Map E V) (h : LogRestsOn log d m) → StaysAt h.state m d
+  pub stays_first : (d : Disk) (m : Map E V) (h : IsDurableAs log d m) → StaysAt h.state m d
   stays_first d m h = subst (StaysAt h.state m) h.disk (record { rests = h.rests; holds = h.holds })
 
   pub stays_kept : (s : LogOnDisk LogRecord) (m : Map E V) (old new : Disk) → KeepsBothQueues log old new → StaysAt s m old → StaysAt s m new

@@ -21,7 +21,7 @@ use Rattle.raft_log_recovery_read.specs.declared.file_ending.FileEnding.{FileEnd
 use Rattle.raft_log_model_laws.specs.Item.{Record}
 use Rattle.raft_log_dual_pipes.specs.Queues.{IsQueueLayout, QueueLayout}
 use Rattle.raft_log_dual_pipes.specs.State.{HasSpan, Spanned}
-use Rattle.raft_log_dual_pipes.specs.Lying.{LiesQueue}
+use Rattle.raft_log_dual_pipes.specs.OpenOrClosed.{LiesQueue}
 use Rattle.raft_log_recovery.specs.Cutting.{CutsEach, CutsIf, FailsToCutEach}
 use Rattle.raft_log_recovery_laws.specs.Keeping.{KeepsNumbered}
 use Rattle.raft_log_recovery_laws.proofs.Calls.{keeps_touched}

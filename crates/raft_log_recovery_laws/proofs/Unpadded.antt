@@ -4,10 +4,10 @@ use Rattle.raft_log_record_base.specs.declared.pipe_log.LogQueue.TheVariants.{Ap
 use Rattle.raft_log_fs.specs.Disk.{Disk}
 use Rattle.raft_log_fs.specs.Image.{as_it_stands, IsSound}
 use Rattle.raft_log_file_settings.specs.declared.config.Config.{Config}
-use Rattle.raft_log_dual_pipes.specs.OnDisk.{LogRestsOn}
-use Rattle.raft_log_dual_pipes.specs.Pipes.{Said}
-use Rattle.raft_log_engine_laws.specs.Shows.{log_in, LogMap}
-use Rattle.raft_log_engine_laws.specs.Holding.{IsLeftAt}
+use Rattle.raft_log_dual_pipes.specs.OnDisk.{IsDurableAs}
+use Rattle.raft_log_dual_pipes.specs.Pipes.{LogRecordValue}
+use Rattle.raft_log_engine_laws.specs.EngineState.{log_in, LogMap}
+use Rattle.raft_log_engine_laws.specs.Holding.{IsRecoverableAs}
 use Rattle.raft_log_recovery.specs.Directories.{paths_of}
 use Rattle.raft_log_recovery.specs.Recovering.{append_config, append_files, rewrite_config, rewrite_files}
 use Rattle.raft_log_recovery_laws.specs.ByCalls.{home_of, reads}
@@ -29,7 +29,7 @@ resting_plain config d m sound rests b scanned padding =
     )
 
 -- in place it is read as it would be if all were synced
-pub standing_plain : (config : Config) (d : Disk) (m : LogMap) (pending : List Said) (sound : IsSound d) (left : IsLeftAt (home_of config) d m pending) (now : LogMap) → LogRestsOn (log_in (home_of config)) (as_it_stands d) now → FindsNoPadding config d
+pub standing_plain : (config : Config) (d : Disk) (m : LogMap) (pending : List LogRecordValue) (sound : IsSound d) (left : IsRecoverableAs (home_of config) d m pending) (now : LogMap) → IsDurableAs (log_in (home_of config)) (as_it_stands d) now → FindsNoPadding config d
 standing_plain config d m pending sound left now rests b scanned padding =
     let E = lasts config d m pending sound left now rests in
     let has = padding.has in

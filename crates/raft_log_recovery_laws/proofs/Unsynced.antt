@@ -23,14 +23,14 @@ use Rattle.raft_log_active_file.specs.Standing.{HaveOneName, Names, Stands}
 use Rattle.raft_log_active_file.proofs.Standing.{place_moved, stands_rebased, stands_synced}
 use Rattle.raft_log_active_file.specs.declared.format.File.{File}
 use Rattle.raft_log_engine_laws.specs.raft_log_active_file.specs.declared.record.LogRecord.{LogRecord}
-use Rattle.raft_log_dual_pipes.specs.Lying.{none_open, LiesQueue}
+use Rattle.raft_log_dual_pipes.specs.OpenOrClosed.{none_open, LiesQueue}
 use Rattle.raft_log_dual_pipes.specs.Queues.{AreTwoQueues, IsQueueLayout, QueueLayout}
 use Rattle.raft_log_dual_pipes.specs.State.{HasSpan, Spanned}
 use Rattle.raft_log_dual_pipes.specs.Reopening.{RestsQueue}
 use Rattle.raft_log_dual_pipes.proofs.CrashSteps.{rests_lie}
-use Rattle.raft_log_dual_pipes.proofs.LyingQueues.{lies}
+use Rattle.raft_log_dual_pipes.proofs.ClosedQueues.{lies}
 use Rattle.raft_log_dual_pipes.specs.Pipes.{State}
-use Rattle.raft_log_engine_laws.specs.Shows.{log_in}
+use Rattle.raft_log_engine_laws.specs.EngineState.{log_in}
 use Rattle.raft_log_recovery.specs.Finishing.{FailsToSyncLog}
 use Rattle.raft_log_recovery.specs.Finishing.FailsToSyncLog.{append_unsynced, reserved_unsynced, rewrite_unsynced}
 use Rattle.raft_log_recovery.specs.Recovering.{append_files, rewrite_files}

@@ -12,7 +12,7 @@ use Rattle.raft_log_file_settings.specs.declared.config.Config.{Config}
 use Rattle.raft_log_engine_laws.specs.raft_log_memtables.specs.declared.mem_tables.MemTables.{MemTables}
 use Rattle.raft_log_recovery_scan.specs.Directories.{IsFreePath}
 use Rattle.raft_log_dual_pipes.specs.Pipes.{LogPipes}
-use Rattle.raft_log_engine_laws.specs.Holding.{IsLeftAt}
+use Rattle.raft_log_engine_laws.specs.Holding.{IsRecoverableAs}
 use Rattle.raft_log_recovery.specs.Directories.{paths_of}
 use Rattle.raft_log_open.specs.Opening.{FailsToOpenDirectory, OpensDirectory}
 use Rattle.raft_log_recovery_laws.specs.Opened.{HoldsFresh}
@@ -34,7 +34,7 @@ pub record OpensFirst {F : Type 0} (disk : F → Disk) (tells : F → List ℕ �
   pub answered : (v : LogPipes) (tables : MemTables) → OpensDirectory disk tells config old v tables
       → HoldsFresh (home_of config) v tables nothing_stands
   pub refused : (error : Error) (new : F) → FailsToOpenDirectory disk tells config error old new
-      → IsBare config (disk new) ⊎ IsLeftAt (home_of config) (disk new) nothing_stands []
+      → IsBare config (disk new) ⊎ IsRecoverableAs (home_of config) (disk new) nothing_stands []
 
 -- an engine that is opened over bare directories holds the empty map; if the open fails, they are bare or have an empty
 -- log

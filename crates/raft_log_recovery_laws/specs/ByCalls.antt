@@ -13,9 +13,9 @@ use Rattle.raft_log_replay_context.specs.Records.{ReadRecord}
 use Rattle.raft_log_replay_context.specs.Context.{ComesOver, HasRead}
 use Rattle.raft_log_replay_context.specs.Batches.{HasReadBatches}
 use Rattle.raft_log_replay_context.specs.declared.context.MemTableRecoverContext.{MemTableRecoverContext}
-use Rattle.raft_log_dual_pipes.specs.OnDisk.{LogRestsOn}
+use Rattle.raft_log_dual_pipes.specs.OnDisk.{IsDurableAs}
 use Rattle.raft_log_dual_pipes.specs.Pipes.{LogPipes}
-use Rattle.raft_log_engine_laws.specs.Shows.{log_in, Home, LogMap}
+use Rattle.raft_log_engine_laws.specs.EngineState.{log_in, LogDirectories, LogMap}
 use Rattle.raft_log_recovery.specs.Directories.{paths_of}
 use Rattle.raft_log_recovery.specs.Finishing.{OpensRecovered, SyncsLog}
 use Rattle.raft_log_recovery.specs.Recovering.{RecoversLog, append_files, rewrite_files}
@@ -25,11 +25,11 @@ use Rattle.raft_log_recovery.specs.Finding.{FindsLog}
 use Rattle.raft_log_recovery_laws.specs.Files.{AreQueueFiles}
 
 -- the home of a log in the directories that the settings name
-abbrev pub home_of : Config → Home
+abbrev pub home_of : Config → LogDirectories
 home_of config = record { append = paths_of config; rewrite = paths_of config }
 
 -- this holds for all settings that name these directories, whatever else they have: for any number of workers, too
-abbrev pub ForAllNaming : Home → (Config → Type 0) → Type 0
+abbrev pub ForAllNaming : LogDirectories → (Config → Type 0) → Type 0
 ForAllNaming home P = (config : Config) → home_of config ≡ home → P config
 
 -- `HasReadBatches`, as a builder takes it
@@ -80,7 +80,7 @@ pub record OpensByCalls {F : Type 0} (disk : F → Disk) (tells : F → List ℕ
 -- on.
 abbrev pub ScansFindAllFiles : Type 0
 ScansFindAllFiles = (config : Config) (d : Disk) (m : LogMap) → IsSound d
-    → (rests : LogRestsOn (log_in (home_of config)) d m) → (found : DualPipesBuilder) (scanned : Disk)
+    → (rests : IsDurableAs (log_in (home_of config)) d m) → (found : DualPipesBuilder) (scanned : Disk)
     → FindsLog config found d scanned
     → AreQueueFiles (log_in (home_of config)).append rests.state.append scanned (append_files found)
     × AreQueueFiles (log_in (home_of config)).rewrite rests.state.rewrite scanned (rewrite_files found)
@@ -89,7 +89,7 @@ ScansFindAllFiles = (config : Config) (d : Disk) (m : LogMap) → IsSound d
 -- holds a record, whatever number it gets.
 abbrev pub SyncedSparesCanBeUsed : {F : Type 0} → (F → Disk) → (F → List ℕ → ℕ → Type 0) → Type 0
 SyncedSparesCanBeUsed disk tells = (config : Config) (d : Disk) (m : LogMap) → IsSound d
-    → LogRestsOn (log_in (home_of config)) d m
+    → IsDurableAs (log_in (home_of config)) d m
     → (append rewrite : MemTableRecoverContext) (ready : DualPipesBuilder) (readied synced : Disk)
     → LogIsRecovered disk tells config d append rewrite ready readied → SyncsLog ready readied synced
     → (first : ℕ) → AllKept (log_format Append (paths_of config))

@@ -5,10 +5,10 @@ use Rattle.raft_log_fs.specs.Disk.{Disk}
 use Rattle.raft_log_fs.specs.Image.{IsSound}
 use Rattle.raft_log_file_settings.specs.declared.config.Config.{Config}
 use Rattle.raft_log_engine_laws.specs.raft_log_memtables.specs.declared.mem_tables.MemTables.{MemTables}
-use Rattle.raft_log_dual_pipes.specs.OnDisk.{LogRestsOn}
-use Rattle.raft_log_dual_pipes.specs.Pipes.{LogPipes, Said}
-use Rattle.raft_log_engine_laws.specs.Shows.{log_in, Home, LogMap}
-use Rattle.raft_log_engine_laws.specs.Holding.{IsLeftAt}
+use Rattle.raft_log_dual_pipes.specs.OnDisk.{IsDurableAs}
+use Rattle.raft_log_dual_pipes.specs.Pipes.{LogPipes, LogRecordValue}
+use Rattle.raft_log_engine_laws.specs.EngineState.{log_in, LogDirectories, LogMap}
+use Rattle.raft_log_engine_laws.specs.Holding.{IsRecoverableAs}
 use Rattle.raft_log_open.specs.Opening.{FailsToOpenDirectory, OpensDirectory}
 use Rattle.raft_log_recovery_laws.specs.Left.{IsCrashOf, RestsAfterSome}
 use Rattle.raft_log_recovery_laws.specs.Opened.{HoldsFresh}
@@ -21,18 +21,18 @@ pub record OpensAs {F : Type 0} (disk : F → Disk) (tells : F → List ℕ → 
   pub answered : (v : LogPipes) (tables : MemTables) → OpensDirectory disk tells config old v tables
       → HoldsFresh (home_of config) v tables m
   pub refused : (error : Error) (new : F) → FailsToOpenDirectory disk tells config error old new
-      → IsLeftAt (home_of config) (disk new) m []
+      → IsRecoverableAs (home_of config) (disk new) m []
 
 -- Opening the directories of a log that rests there gives its map; if it fails, the log is left with the map.
 abbrev pub RestingDirectoriesOpen : {F : Type 0} → (F → Disk) → (F → List ℕ → ℕ → Type 0) → Type 0
 RestingDirectoriesOpen {F} disk tells = (config : Config) (old : F) (m : LogMap) → IsSound (disk old)
-    → LogRestsOn (log_in (home_of config)) (disk old) m → OpensAs disk tells config old m
+    → IsDurableAs (log_in (home_of config)) (disk old) m → OpensAs disk tells config old m
 
 -- After a crash of what an engine left, opening the directories gives the map after some first pending batches: the
 -- same ones for all settings that name the directories.
 abbrev pub CrashedDirectoriesOpen : {F : Type 0} → (F → Disk) → (F → List ℕ → ℕ → Type 0) → Type 0
-CrashedDirectoriesOpen {F} disk tells = (home : Home) → 0 < length home.append → 0 < length home.rewrite
-    → (d : Disk) (old : F) (m : LogMap) (pending : List Said) → IsSound (disk old)
-    → (left : IsLeftAt home d m pending) → IsCrashOf home left.1.lies.state d (disk old)
+CrashedDirectoriesOpen {F} disk tells = (home : LogDirectories) → 0 < length home.append → 0 < length home.rewrite
+    → (d : Disk) (old : F) (m : LogMap) (pending : List LogRecordValue) → IsSound (disk old)
+    → (left : IsRecoverableAs home d m pending) → IsCrashOf home left.1.lies.state d (disk old)
     → RestsAfterSome home (disk old) m pending
     (λ now. ForAllNaming home (λ config. OpensAs disk tells config old now))

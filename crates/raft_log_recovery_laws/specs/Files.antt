@@ -13,7 +13,7 @@ use Rattle.raft_log_file_pipe.specs.Opening.{first_number}
 use Rattle.raft_log_recovery_read.specs.declared.file_ending.FileEnding.{FileEnding}
 use Rattle.raft_log_dual_pipes.specs.Queues.{QueueLayout}
 use Rattle.raft_log_dual_pipes.specs.State.{IsStopped, Spanned}
-use Rattle.raft_log_dual_pipes.specs.Lying.{IsUnbegun}
+use Rattle.raft_log_dual_pipes.specs.OpenOrClosed.{IsUnbegun}
 use Rattle.raft_log_engine_laws.specs.raft_log_block_cache.specs.Stored.{Each}
 use Rattle.raft_log_recovery_laws.specs.Found.{AreListed}
 

@@ -5,10 +5,10 @@ use Rattle.raft_log_fs.specs.Disk.{Disk}
 use Rattle.raft_log_fs.specs.Image.{IsSound}
 use Rattle.raft_log_file_settings.specs.Settings.{settings_of}
 use Rattle.raft_log_file_settings.specs.declared.config.Config.{Config}
-use Rattle.raft_log_dual_pipes.specs.OnDisk.{LogRestsOn}
-use Rattle.raft_log_dual_pipes.specs.Pipes.{Said}
-use Rattle.raft_log_engine_laws.specs.Shows.{log_in, LogMap}
-use Rattle.raft_log_engine_laws.specs.Holding.{IsLeftAt}
+use Rattle.raft_log_dual_pipes.specs.OnDisk.{IsDurableAs}
+use Rattle.raft_log_dual_pipes.specs.Pipes.{LogRecordValue}
+use Rattle.raft_log_engine_laws.specs.EngineState.{log_in, LogMap}
+use Rattle.raft_log_engine_laws.specs.Holding.{IsRecoverableAs}
 use Rattle.raft_log_recovery_laws.specs.Bare.{IsBare}
 use Rattle.raft_log_recovery_laws.specs.Keeping.{RestsStill}
 use Rattle.raft_log_recovery_laws.specs.ByCalls.{home_of}
@@ -24,10 +24,10 @@ pub data EndsFork (config : Config) (target : List ℕ) (old new : Disk) : Type 
 -- What rested in the directories of these settings still rests there, with the same files and records. What an engine
 -- left there is still there, with the same map and the same pending batches. Bare directories are still bare.
 pub record LeavesSource (config : Config) (old new : Disk) : Type 0 where
-  pub rests : (m : LogMap) (h : LogRestsOn (log_in (home_of config)) old m)
+  pub rests : (m : LogMap) (h : IsDurableAs (log_in (home_of config)) old m)
       → RestsStill (log_in (home_of config)) old m h new
-  pub left : (m : LogMap) (pending : List Said) → IsLeftAt (home_of config) old m pending
-      → IsLeftAt (home_of config) new m pending
+  pub left : (m : LogMap) (pending : List LogRecordValue) → IsRecoverableAs (home_of config) old m pending
+      → IsRecoverableAs (home_of config) new m pending
   pub bare : IsBare config old → IsBare config new
 
 -- however a fork ends, it leaves its source as `LeavesSource` says

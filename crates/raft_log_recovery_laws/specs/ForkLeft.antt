@@ -4,10 +4,10 @@ use Rattle.raft_log_fs.specs.Disk.{Disk}
 use Rattle.raft_log_fs.specs.Image.{as_it_stands, IsSound}
 use Rattle.raft_log_file_settings.specs.Settings.{settings_of}
 use Rattle.raft_log_file_settings.specs.declared.config.Config.{Config}
-use Rattle.raft_log_dual_pipes.specs.OnDisk.{LogRestsOn}
-use Rattle.raft_log_dual_pipes.specs.Pipes.{Said}
-use Rattle.raft_log_engine_laws.specs.Shows.{log_in, Home, LogMap}
-use Rattle.raft_log_engine_laws.specs.Holding.{IsLeftAt}
+use Rattle.raft_log_dual_pipes.specs.OnDisk.{IsDurableAs}
+use Rattle.raft_log_dual_pipes.specs.Pipes.{LogRecordValue}
+use Rattle.raft_log_engine_laws.specs.EngineState.{log_in, LogDirectories, LogMap}
+use Rattle.raft_log_engine_laws.specs.Holding.{IsRecoverableAs}
 use Rattle.raft_log_recovery_laws.specs.Left.{RestsAfterSome}
 use Rattle.raft_log_recovery_laws.specs.ByCalls.{home_of, ForAllNaming}
 use Rattle.raft_log_recovery_laws.specs.Directory.{OpensAs}
@@ -18,7 +18,7 @@ use Rattle.raft_log_recovery_laws.specs.ForkResting.{IsClear, NamesOnly}
 -- The log that a fork left in its target rests there with this map, and opens with it.
 pub record ForkedAs {F : Type 0} (disk : F → Disk) (tells : F → List ℕ → ℕ → Type 0) (to : Config) (after : F)
     (m : LogMap) : Type 0 where
-  pub rests : LogRestsOn (log_in (home_of to)) (disk after) m
+  pub rests : IsDurableAs (log_in (home_of to)) (disk after) m
   pub opens : OpensAs disk tells to after m
 
 -- Any fork of the log that these settings name gives such a log, for settings that name only the target.
@@ -28,8 +28,8 @@ IsForkedAs {F} disk tells old m config = (to : Config) (target : List ℕ) (copi
     → Forks (settings_of config) target copied (disk old) (disk after) → ForkedAs disk tells to after m
 
 -- The log shows the same map opened in place and forked, by any settings that name its directories.
-pub record ShowsAlike {F : Type 0} (disk : F → Disk) (tells : F → List ℕ → ℕ → Type 0) (home : Home) (old : F)
-    (m : LogMap) (pending : List Said) (now : LogMap) : Type 0 where
+pub record ShowsAlike {F : Type 0} (disk : F → Disk) (tells : F → List ℕ → ℕ → Type 0) (home : LogDirectories) (old : F)
+    (m : LogMap) (pending : List LogRecordValue) (now : LogMap) : Type 0 where
   pub opens : ForAllNaming home (λ config. OpensStanding disk tells config old m pending now)
   pub forks : ForAllNaming home (IsForkedAs disk tells old now)
 
@@ -37,7 +37,7 @@ pub record ShowsAlike {F : Type 0} (disk : F → Disk) (tells : F → List ℕ �
 -- map after the same first pending batches; if nothing was pending, the map. As for a crash, this requires that there
 -- is no CRC collision in either queue's active file.
 abbrev pub LeftLogsShowAlike : {F : Type 0} → (F → Disk) → (F → List ℕ → ℕ → Type 0) → Type 0
-LeftLogsShowAlike {F} disk tells = (home : Home) → 0 < length home.append → 0 < length home.rewrite
-    → (old : F) (m : LogMap) (pending : List Said) → IsSound (disk old)
-    → (left : IsLeftAt home (disk old) m pending) → StandsWithoutChance home left.1.lies.state (disk old)
+LeftLogsShowAlike {F} disk tells = (home : LogDirectories) → 0 < length home.append → 0 < length home.rewrite
+    → (old : F) (m : LogMap) (pending : List LogRecordValue) → IsSound (disk old)
+    → (left : IsRecoverableAs home (disk old) m pending) → StandsWithoutChance home left.1.lies.state (disk old)
     → RestsAfterSome home (as_it_stands (disk old)) m pending (ShowsAlike disk tells home old m pending)

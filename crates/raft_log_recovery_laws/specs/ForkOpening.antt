@@ -4,8 +4,8 @@ use Rattle.raft_log_fs.specs.Disk.{Disk}
 use Rattle.raft_log_fs.specs.Image.{IsSound}
 use Rattle.raft_log_file_settings.specs.Settings.{settings_of}
 use Rattle.raft_log_file_settings.specs.declared.config.Config.{Config}
-use Rattle.raft_log_dual_pipes.specs.OnDisk.{LogRestsOn}
-use Rattle.raft_log_engine_laws.specs.Shows.{log_in, LogMap}
+use Rattle.raft_log_dual_pipes.specs.OnDisk.{IsDurableAs}
+use Rattle.raft_log_engine_laws.specs.EngineState.{log_in, LogMap}
 use Rattle.raft_log_recovery_laws.specs.ByCalls.{home_of}
 use Rattle.raft_log_recovery_laws.specs.Directory.{OpensAs}
 use Rattle.raft_log_offline.specs.Forks.{Forks}
@@ -23,6 +23,6 @@ pub record OpenAlike {F : Type 0} (disk : F → Disk) (tells : F → List ℕ �
 abbrev pub ForksOpenAsTheirSource : {F : Type 0} → (F → Disk) → (F → List ℕ → ℕ → Type 0) → Type 0
 ForksOpenAsTheirSource {F} disk tells = (config to : Config) (target : List ℕ) (copied : List (List ℕ))
     (old now : F) (m : LogMap) → IsSound (disk old) → IsSound (disk now) → NamesOnly to target
-    → IsClear target (disk old) → LogRestsOn (log_in (home_of config)) (disk old) m
+    → IsClear target (disk old) → IsDurableAs (log_in (home_of config)) (disk old) m
     → Forks (settings_of config) target copied (disk old) (disk now)
     → OpenAlike disk tells config to old now m

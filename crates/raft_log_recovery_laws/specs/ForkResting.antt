@@ -5,8 +5,8 @@ use Rattle.raft_log_fs.specs.Image.{IsSound}
 use Rattle.raft_log_file_settings.specs.Sanitized.{IsFileName}
 use Rattle.raft_log_file_settings.specs.Settings.{settings_of}
 use Rattle.raft_log_file_settings.specs.declared.config.Config.{Config}
-use Rattle.raft_log_dual_pipes.specs.OnDisk.{LogRestsOn}
-use Rattle.raft_log_engine_laws.specs.Shows.{log_in, LogMap}
+use Rattle.raft_log_dual_pipes.specs.OnDisk.{IsDurableAs}
+use Rattle.raft_log_engine_laws.specs.EngineState.{log_in, LogMap}
 use Rattle.raft_log_recovery.specs.Directories.{paths_of}
 use Rattle.raft_log_recovery_laws.specs.ByCalls.{home_of}
 use Rattle.raft_log_offline.specs.Forks.{Forks}
@@ -34,12 +34,12 @@ NamesOnly config directory = paths_of config ≡ directory ∷ []
 
 -- the log of the other settings rests on another disk with the same files and records, and has the same map
 abbrev pub RestsThere : (config to : Config) (old : Disk) (m : LogMap)
-    → LogRestsOn (log_in (home_of config)) old m → Disk → Type 0
+    → IsDurableAs (log_in (home_of config)) old m → Disk → Type 0
 RestsThere config to old m h new =
-    (t : LogRestsOn (log_in (home_of to)) new m) × (t.state ≡ record h.state { disk = new })
+    (t : IsDurableAs (log_in (home_of to)) new m) × (t.state ≡ record h.state { disk = new })
 
 -- If a log that rests is forked, the fork rests in the target, for settings that name only the target.
 abbrev pub ForkedLogsRest : Type 0
 ForkedLogsRest = (config to : Config) (target : List ℕ) (copied : List (List ℕ)) (old new : Disk) (m : LogMap)
-    → NamesOnly to target → IsClear target old → (h : LogRestsOn (log_in (home_of config)) old m)
+    → NamesOnly to target → IsClear target old → (h : IsDurableAs (log_in (home_of config)) old m)
     → Forks (settings_of config) target copied old new → RestsThere config to old m h new

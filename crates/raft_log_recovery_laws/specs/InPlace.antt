@@ -18,9 +18,9 @@ use Rattle.raft_log_engine_laws.specs.raft_log_memtables.specs.declared.mem_tabl
 use Rattle.raft_log_replay_context.specs.declared.context.MemTableRecoverContext.{MemTableRecoverContext}
 use Rattle.raft_log_dual_pipes.specs.Opening.{FailsToOpenLog}
 use Rattle.raft_log_dual_pipes.specs.declared.opening.FoundPipe.{FoundPipe}
-use Rattle.raft_log_dual_pipes.specs.Pipes.{LogPipes, Said, State}
-use Rattle.raft_log_engine_laws.specs.Shows.{Home, LogMap}
-use Rattle.raft_log_engine_laws.specs.Holding.{IsLeftAt}
+use Rattle.raft_log_dual_pipes.specs.Pipes.{LogPipes, LogRecordValue, State}
+use Rattle.raft_log_engine_laws.specs.EngineState.{LogDirectories, LogMap}
+use Rattle.raft_log_engine_laws.specs.Holding.{IsRecoverableAs}
 use Rattle.raft_log_recovery.specs.Finishing.{FailsToSyncLog, IsPipeRecovered, IsAllRead, SyncsLog}
 use Rattle.raft_log_recovery.specs.Scanning.{FailsToScanLog}
 use Rattle.raft_log_recovery.specs.declared.builder.DualPipesBuilder.{DualPipesBuilder}
@@ -33,7 +33,7 @@ use Rattle.raft_log_recovery_laws.specs.ByCalls.{home_of, ForAllNaming, LogIsRec
 
 -- There is no CRC collision in either queue's active file, with its bytes as they are. What is read there now is what a
 -- crash may leave that keeps all bytes.
-abbrev pub StandsWithoutChance : Home → State → Disk → Type 0
+abbrev pub StandsWithoutChance : LogDirectories → State → Disk → Type 0
 StandsWithoutChance home s d = IsCrashOf home s d (as_it_stands d)
 
 -- An open failed after the syncs: the log was recovered, all files were synced, and opening a pipe failed.
@@ -56,26 +56,26 @@ pub record StopsSynced {F : Type 0} (disk : F → Disk) (tells : F → List ℕ 
 
 -- The log is left unchanged, with the batches that were pending, or some first ones of them synced. Or it is left with
 -- the map that an open returns, and nothing pending.
-abbrev pub IsLeftEither : Home → Disk → LogMap → List Said → LogMap → Type 0
-IsLeftEither home d m pending now = IsLeftAt home d m pending ⊎ IsLeftAt home d now []
+abbrev pub IsLeftEither : LogDirectories → Disk → LogMap → List LogRecordValue → LogMap → Type 0
+IsLeftEither home d m pending now = IsRecoverableAs home d m pending ⊎ IsRecoverableAs home d now []
 
 -- The log is scanned, read, truncated, synced and opened call by call, without a crash.
 -- - If that succeeds, an engine of what was read holds this map, and nothing is pending.
 -- - If it fails after the syncs, the log is left with that map.
 -- - If it fails or is abandoned anywhere, the log is left with that map or unchanged.
 pub record OpensStandingByCalls {F : Type 0} (disk : F → Disk) (tells : F → List ℕ → ℕ → Type 0) (config : Config)
-    (d : Disk) (m : LogMap) (pending : List Said) (now : LogMap) : Type 0 where
+    (d : Disk) (m : LogMap) (pending : List LogRecordValue) (now : LogMap) : Type 0 where
   pub answered : (v : LogPipes) (tables : MemTables) → OpensByCalls disk tells config d v tables
       → HoldsFresh (home_of config) v tables now
-  pub synced : (new : Disk) → StopsSynced disk tells config d new → IsLeftAt (home_of config) new now []
+  pub synced : (new : Disk) → StopsSynced disk tells config d new → IsRecoverableAs (home_of config) new now []
   pub refused : (new : Disk) → FailsToOpenByCalls disk tells config d new
       → IsLeftEither (home_of config) new m pending now
 
 -- Opening a log that an engine left, call by call, gives its map after some first pending batches. They are those with
 -- which the log would rest if a crash kept all its bytes, the same ones for all settings that name its directories.
 abbrev pub StandingLogsOpenByCalls : {F : Type 0} → (F → Disk) → (F → List ℕ → ℕ → Type 0) → Type 0
-StandingLogsOpenByCalls {F} disk tells = (home : Home) → 0 < length home.append → 0 < length home.rewrite
-    → (d : Disk) (m : LogMap) (pending : List Said) → IsSound d → (left : IsLeftAt home d m pending)
+StandingLogsOpenByCalls {F} disk tells = (home : LogDirectories) → 0 < length home.append → 0 < length home.rewrite
+    → (d : Disk) (m : LogMap) (pending : List LogRecordValue) → IsSound d → (left : IsRecoverableAs home d m pending)
     → StandsWithoutChance home left.1.lies.state d
     → RestsAfterSome home (as_it_stands d) m pending
     (λ now. ForAllNaming home (λ config. OpensStandingByCalls disk tells config d m pending now))
@@ -83,7 +83,7 @@ StandingLogsOpenByCalls {F} disk tells = (home : Home) → 0 < length home.appen
 -- If opening the directories without a crash, with the one call, succeeds, the engine holds this map, and nothing is
 -- pending. If it fails, the log is left with the map or unchanged.
 pub record OpensStanding {F : Type 0} (disk : F → Disk) (tells : F → List ℕ → ℕ → Type 0) (config : Config)
-    (old : F) (m : LogMap) (pending : List Said) (now : LogMap) : Type 0 where
+    (old : F) (m : LogMap) (pending : List LogRecordValue) (now : LogMap) : Type 0 where
   pub answered : (v : LogPipes) (tables : MemTables) → OpensDirectory disk tells config old v tables
       → HoldsFresh (home_of config) v tables now
   pub refused : (error : Error) (new : F) → FailsToOpenDirectory disk tells config error old new
@@ -92,9 +92,9 @@ pub record OpensStanding {F : Type 0} (disk : F → Disk) (tells : F → List �
 -- opening the directories of a log that an engine left gives its map after some first pending batches: the same ones
 -- for all settings that name them
 abbrev pub StandingDirectoriesOpen : {F : Type 0} → (F → Disk) → (F → List ℕ → ℕ → Type 0) → Type 0
-StandingDirectoriesOpen {F} disk tells = (home : Home) → 0 < length home.append → 0 < length home.rewrite
-    → (old : F) (m : LogMap) (pending : List Said) → IsSound (disk old)
-    → (left : IsLeftAt home (disk old) m pending) → StandsWithoutChance home left.1.lies.state (disk old)
+StandingDirectoriesOpen {F} disk tells = (home : LogDirectories) → 0 < length home.append → 0 < length home.rewrite
+    → (old : F) (m : LogMap) (pending : List LogRecordValue) → IsSound (disk old)
+    → (left : IsRecoverableAs home (disk old) m pending) → StandsWithoutChance home left.1.lies.state (disk old)
     → RestsAfterSome home (as_it_stands (disk old)) m pending
     (λ now. ForAllNaming home (λ config. OpensStanding disk tells config old m pending now))
 
@@ -108,9 +108,9 @@ pub data StopsUncut (config : Config) (d new : Disk) : Type 0 where
 
 -- An open that truncated nothing leaves the log unchanged, whatever its bytes are, with the batches that were pending.
 abbrev pub UncutLogsStay : Type 0
-UncutLogsStay = (config : Config) (d : Disk) (m : LogMap) (pending : List Said)
-    → IsLeftAt (home_of config) d m pending → (new : Disk) → StopsUncut config d new
-    → IsLeftAt (home_of config) new m pending
+UncutLogsStay = (config : Config) (d : Disk) (m : LogMap) (pending : List LogRecordValue)
+    → IsRecoverableAs (home_of config) d m pending → (new : Disk) → StopsUncut config d new
+    → IsRecoverableAs (home_of config) new m pending
 
 -- Syncing a queue's active file, as it is and without a CRC collision, loses no record: the file still holds what was
 -- durable and what was pending, however much of that was read.
@@ -124,7 +124,7 @@ SyncedFilesHoldStill = (queue : LogQueue) (directories : List (List ℕ)) → 0 
 -- If one of the syncs of such files fails, with no truncation before it, the log is left with the batches that were
 -- pending.
 abbrev pub UnsyncedLogsStay : Type 0
-UnsyncedLogsStay = (home : Home) → 0 < length home.append → 0 < length home.rewrite → (d : Disk) (m : LogMap)
-    (pending : List Said) → IsSound d → (left : IsLeftAt home d m pending)
+UnsyncedLogsStay = (home : LogDirectories) → 0 < length home.append → 0 < length home.rewrite → (d : Disk) (m : LogMap)
+    (pending : List LogRecordValue) → IsSound d → (left : IsRecoverableAs home d m pending)
     → StandsWithoutChance home left.1.lies.state d → (b : DualPipesBuilder) (kind : ErrorKind) (new : Disk)
-    → FailsToSyncLog b kind d new → IsLeftAt home new m pending
+    → FailsToSyncLog b kind d new → IsRecoverableAs home new m pending

@@ -6,8 +6,8 @@ use Rattle.raft_log_fs.specs.Disk.{Disk}
 use Rattle.raft_log_file_writer.specs.LogFormat.{Format}
 use Rattle.raft_log_active_file.specs.Standing.{IsPlace}
 use Rattle.raft_log_dual_pipes.specs.Queues.{AreTwoQueues, TwoQueues}
-use Rattle.raft_log_dual_pipes.specs.Lying.{none_open}
-use Rattle.raft_log_dual_pipes.specs.OnDisk.{LogLiesOn, LogRestsOn}
+use Rattle.raft_log_dual_pipes.specs.OpenOrClosed.{none_open}
+use Rattle.raft_log_dual_pipes.specs.OnDisk.{LogLiesOn, IsDurableAs}
 
 -- The files of a queue are unchanged: each path of a number names the same file, or none, as before. Each such file is
 -- unchanged, and a file can still be created under each path that had a place before.
@@ -24,12 +24,12 @@ pub record KeepsBothQueues {R E V : Type 0} (log : TwoQueues R E V) (old new : D
 
 -- the log rests on another disk with the same files and records, and has the same map
 abbrev pub RestsStill : {R E V : Type 0} → (log : TwoQueues R E V) → (d : Disk) → (m : Map E V)
-    → LogRestsOn log d m → Disk → Type 0
-RestsStill log d m h new = (t : LogRestsOn log new m) × (t.state ≡ record h.state { disk = new })
+    → IsDurableAs log d m → Disk → Type 0
+RestsStill log d m h new = (t : IsDurableAs log new m) × (t.state ≡ record h.state { disk = new })
 
 -- A log at rest whose files are unchanged still rests there, and one that is left on the disk is still left there.
 pub record KeptLogStays {R E V : Type 0} (log : TwoQueues R E V) (old new : Disk) : Type 0 where
-  pub rests : (m : Map E V) (h : LogRestsOn log old m) → RestsStill log old m h new
+  pub rests : (m : Map E V) (h : IsDurableAs log old m) → RestsStill log old m h new
   pub lies : (m : Map E V) (pending : List (Record E V)) → LogLiesOn log none_open old m pending
       → LogLiesOn log none_open new m pending
 

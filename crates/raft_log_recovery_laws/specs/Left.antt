@@ -5,34 +5,34 @@ use Rattle.raft_log_fs.specs.Disk.{Disk}
 use Rattle.raft_log_fs.specs.Image.{IsImage}
 use Rattle.raft_log_file_writer.specs.LogQueue.{NoChanceInLast}
 use Rattle.raft_log_record_base.specs.declared.errors.Error.{Error}
-use Rattle.raft_log_dual_pipes.specs.OnDisk.{LogRestsOn}
+use Rattle.raft_log_dual_pipes.specs.OnDisk.{IsDurableAs}
 use Rattle.raft_log_dual_pipes.specs.Opening.{FailsToOpenLog, RestsAsFound}
-use Rattle.raft_log_dual_pipes.specs.Pipes.{Said, State}
+use Rattle.raft_log_dual_pipes.specs.Pipes.{LogRecordValue, State}
 use Rattle.raft_log_dual_pipes.specs.declared.opening.FoundPipe.{FoundPipe}
-use Rattle.raft_log_engine_laws.specs.Shows.{Home, LogMap, log_in, sense}
-use Rattle.raft_log_engine_laws.specs.Holding.{IsLeftAt}
+use Rattle.raft_log_engine_laws.specs.EngineState.{LogDirectories, LogMap, log_in, sense}
+use Rattle.raft_log_engine_laws.specs.Holding.{IsRecoverableAs}
 
 -- A crash of the disk of this log may leave that disk, and there is no CRC collision in either queue's active file.
-pub record IsCrashOf (home : Home) (s : State) (d image : Disk) : Type 0 where
+pub record IsCrashOf (home : LogDirectories) (s : State) (d image : Disk) : Type 0 where
   pub is : IsImage d image
   pub append : NoChanceInLast (log_in home).append.format s.append.files d image
   pub rewrite : NoChanceInLast (log_in home).rewrite.format s.rewrite.files d image
 
 -- Any crash image of what an engine left rests on the disk: its map after some first pending batches.
 abbrev pub CrashedLogsRest : Type 0
-CrashedLogsRest = (home : Home) → 0 < length home.append → 0 < length home.rewrite → (d image : Disk)
-    (m : LogMap) (pending : List Said) → (left : IsLeftAt home d m pending)
+CrashedLogsRest = (home : LogDirectories) → 0 < length home.append → 0 < length home.rewrite → (d image : Disk)
+    (m : LogMap) (pending : List LogRecordValue) → (left : IsRecoverableAs home d m pending)
     → IsCrashOf home left.1.lies.state d image
-    → (k : ℕ) × (k ≤ length pending) × LogRestsOn (log_in home) image (taken m (take k pending))
+    → (k : ℕ) × (k ≤ length pending) × IsDurableAs (log_in home) image (taken m (take k pending))
 
 -- The log rests on the disk with its map after some first pending batches, and this holds of that map. How many they
 -- are depends only on the files, not on the settings of the open.
-abbrev pub RestsAfterSome : Home → Disk → LogMap → List Said → (LogMap → Type 0) → Type 0
+abbrev pub RestsAfterSome : LogDirectories → Disk → LogMap → List LogRecordValue → (LogMap → Type 0) → Type 0
 RestsAfterSome home d m pending P = (k : ℕ) × (k ≤ length pending)
-    × LogRestsOn (log_in home) d (taken m (take k pending)) × P (taken m (take k pending))
+    × IsDurableAs (log_in home) d (taken m (take k pending)) × P (taken m (take k pending))
 
 -- If opening a log that rests fails, the log is left there with its map.
 abbrev pub RefusedOpensLeaveLogs : Type 0
-RefusedOpensLeaveLogs = (home : Home) (m : LogMap) (append rewrite : FoundPipe) (error : Error)
+RefusedOpensLeaveLogs = (home : LogDirectories) (m : LogMap) (append rewrite : FoundPipe) (error : Error)
     (old new : Disk) → FailsToOpenLog append rewrite error old new
-    → RestsAsFound (sense home) m append rewrite old → IsLeftAt home new m []
+    → RestsAsFound (sense home) m append rewrite old → IsRecoverableAs home new m []

@@ -12,8 +12,8 @@ use Rattle.raft_log_dual_pipes.specs.State.{Ties}
 use Rattle.raft_log_dual_pipes.specs.Reopening.{ReadsBothAgain}
 use Rattle.raft_log_dual_pipes.specs.Pipes.{LogPipes, RunsOn, State}
 use Rattle.raft_log_engine_laws.specs.raft_log_block_cache.specs.declared.block_cache.BlockCache.{BlockCache}
-use Rattle.raft_log_engine_laws.specs.Shows.{Home, LogMap, log_in, sense, shows}
-use Rattle.raft_log_engine_laws.specs.Holding.{Holds}
+use Rattle.raft_log_engine_laws.specs.EngineState.{LogDirectories, LogMap, log_in, sense, shows}
+use Rattle.raft_log_engine_laws.specs.Holding.{Represents}
 use Rattle.raft_log_recovery_laws.specs.Reading.{AreOfQueue}
 
 -- A context that had read these batches of Append was merged over one that had read those of Rewrite; the tables are
@@ -27,7 +27,7 @@ pub record AreMerged (append_batches rewrite_batches : List Batch) (tables : Mem
       → ComesOver first behind tables
 
 -- The pipes run over a log that was found again, and the tables are merged of all batches of its files.
-pub record IsOpenedOver (home : Home) (was : State) (v : LogPipes) (tables : MemTables) : Type 0 where
+pub record IsOpenedOver (home : LogDirectories) (was : State) (v : LogPipes) (tables : MemTables) : Type 0 where
   pub state : State
   pub runs : RunsOn (sense home) v state
   pub again : ReadsBothAgain (Ties (log_in home)) was state
@@ -38,11 +38,11 @@ pub record IsOpenedOver (home : Home) (was : State) (v : LogPipes) (tables : Mem
   pub merged : AreMerged append_batches rewrite_batches tables
 
 -- An engine of these pipes and tables that has cached no block yet holds the map, and nothing is pending.
-abbrev pub HoldsFresh : Home → LogPipes → MemTables → LogMap → Type 0
+abbrev pub HoldsFresh : LogDirectories → LogPipes → MemTables → LogMap → Type 0
 HoldsFresh home v tables m =
-    (cache : BlockCache) → cache.place ≡ None → Holds home (shows v tables cache) m []
+    (cache : BlockCache) → cache.place ≡ None → Represents home (shows v tables cache) m []
 
 -- An engine of the pipes and tables that a log was opened as holds the map of the log.
 abbrev pub OpenedEnginesHold : Type 0
-OpenedEnginesHold = (home : Home) (was : State) (m : LogMap) (v : LogPipes) (tables : MemTables)
+OpenedEnginesHold = (home : LogDirectories) (was : State) (m : LogMap) (v : LogPipes) (tables : MemTables)
     → IsLog (Ties (log_in home) was) m [] → IsOpenedOver home was v tables → HoldsFresh home v tables m

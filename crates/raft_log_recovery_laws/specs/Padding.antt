@@ -3,10 +3,10 @@ use Rattle.std.specs.Prelude.{◌<◌, List, length}
 use Rattle.raft_log_fs.specs.Disk.{Disk}
 use Rattle.raft_log_fs.specs.Image.{IsSound}
 use Rattle.raft_log_file_settings.specs.declared.config.Config.{Config}
-use Rattle.raft_log_dual_pipes.specs.OnDisk.{LogRestsOn}
-use Rattle.raft_log_dual_pipes.specs.Pipes.{Said}
-use Rattle.raft_log_engine_laws.specs.Shows.{Home, LogMap, log_in}
-use Rattle.raft_log_engine_laws.specs.Holding.{IsLeftAt}
+use Rattle.raft_log_dual_pipes.specs.OnDisk.{IsDurableAs}
+use Rattle.raft_log_dual_pipes.specs.Pipes.{LogRecordValue}
+use Rattle.raft_log_engine_laws.specs.EngineState.{LogDirectories, LogMap, log_in}
+use Rattle.raft_log_engine_laws.specs.Holding.{IsRecoverableAs}
 use Rattle.raft_log_recovery.specs.declared.builder.DualPipesBuilder.{DualPipesBuilder}
 use Rattle.raft_log_open.specs.Finding.{FindsPadding}
 use Rattle.raft_log_recovery_laws.specs.Bare.{IsBare}
@@ -24,10 +24,10 @@ BareDirectoriesHaveNoPadding = (config : Config) (d : Disk) → IsSound d → Is
 -- this is true if a log rests there, as any crash image of one without a CRC collision does
 abbrev pub RestingLogsHaveNoPadding : Type 0
 RestingLogsHaveNoPadding = (config : Config) (d : Disk) (m : LogMap) → IsSound d
-    → LogRestsOn (log_in (home_of config)) d m → FindsNoPadding config d
+    → IsDurableAs (log_in (home_of config)) d m → FindsNoPadding config d
 
 -- this is true if an engine left a log there, which is opened without a crash
 abbrev pub StandingLogsHaveNoPadding : Type 0
-StandingLogsHaveNoPadding = (home : Home) → 0 < length home.append → 0 < length home.rewrite → (d : Disk)
-    (m : LogMap) (pending : List Said) → IsSound d → (left : IsLeftAt home d m pending)
+StandingLogsHaveNoPadding = (home : LogDirectories) → 0 < length home.append → 0 < length home.rewrite → (d : Disk)
+    (m : LogMap) (pending : List LogRecordValue) → IsSound d → (left : IsRecoverableAs home d m pending)
     → StandsWithoutChance home left.1.lies.state d → ForAllNaming home (λ config. FindsNoPadding config d)

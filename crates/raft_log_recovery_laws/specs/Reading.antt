@@ -13,7 +13,7 @@ use Rattle.raft_log_replay.specs.Machines.{Batch}
 use Rattle.raft_log_dual_pipes.specs.State.{Spanned}
 use Rattle.raft_log_recovery_laws.specs.FileReading.{context_in}
 use Rattle.raft_log_recovery_laws.specs.Records.{AreBatchesOf}
-use Rattle.raft_log_dual_pipes.specs.Pipes.{Said}
+use Rattle.raft_log_dual_pipes.specs.Pipes.{LogRecordValue}
 
 -- the batches of these items, which were read in that file
 abbrev pub batches_in : ℕ → List (List LogItem) → List Batch
@@ -47,7 +47,7 @@ pub record AreOfQueue (queue : LogQueue) (q : Spanned LogRecord) (batches : List
   pub of_last : AreOfFile queue q.files.last q.files.header (recent q.files) last
 
 -- a record as it counts: in Append at once, whatever its mark
-abbrev pub as_counted : Bool → Said → Said
+abbrev pub as_counted : Bool → LogRecordValue → LogRecordValue
 as_counted true y = Plain (items_of y)
 as_counted false y = y
 

@@ -9,13 +9,13 @@ use Rattle.raft_log_file_pipe.specs.declared.found_files.FoundFiles.{FoundFiles}
 use Rattle.raft_log_engine_laws.specs.raft_log_memtables.specs.declared.mem_tables.MemTables.{MemTables}
 use Rattle.raft_log_replay.specs.Machines.{Batch}
 use Rattle.raft_log_recovery_read.specs.declared.file_ending.FileEnding.{FileEnding}
-use Rattle.raft_log_dual_pipes.specs.OnDisk.{LogRestsOn}
+use Rattle.raft_log_dual_pipes.specs.OnDisk.{IsDurableAs}
 use Rattle.raft_log_dual_pipes.specs.Reopening.{IsFoundOf}
 use Rattle.raft_log_dual_pipes.specs.Opening.{IsFoundAs, OpensLog, RestsAsFound}
-use Rattle.raft_log_dual_pipes.specs.Pipes.{LogPipes, Said, State}
+use Rattle.raft_log_dual_pipes.specs.Pipes.{LogPipes, LogRecordValue, State}
 use Rattle.raft_log_dual_pipes.specs.declared.opening.FoundPipe.{FoundPipe}
-use Rattle.raft_log_engine_laws.specs.Shows.{log_in, sense, Home, LogMap}
-use Rattle.raft_log_engine_laws.specs.Holding.{IsLeftAt}
+use Rattle.raft_log_engine_laws.specs.EngineState.{log_in, sense, LogDirectories, LogMap}
+use Rattle.raft_log_engine_laws.specs.Holding.{IsRecoverableAs}
 use Rattle.raft_log_recovery_laws.specs.Found.{ReadsQueue}
 use Rattle.raft_log_recovery_laws.specs.Left.{IsCrashOf}
 use Rattle.raft_log_recovery_laws.specs.Opened.{AreMerged, HoldsFresh}
@@ -51,29 +51,29 @@ pub record WereRead (mode : RecoveryMode) (append rewrite : FoundPipe) (d : Disk
 
 -- If a log that rests is opened, an engine of what was read of it holds its map, and nothing is pending.
 abbrev pub ReadLogsAreHeld : Type 0
-ReadLogsAreHeld = (home : Home) (m : LogMap) (mode : RecoveryMode) (append rewrite : FoundPipe) (old : Disk)
+ReadLogsAreHeld = (home : LogDirectories) (m : LogMap) (mode : RecoveryMode) (append rewrite : FoundPipe) (old : Disk)
     (v : LogPipes) (tables : MemTables) → OpensLog append rewrite old v
     → RestsAsFound (sense home) m append rewrite old → WereRead mode append rewrite old tables
     → HoldsFresh home v tables m
 
 -- both queues were found in these directories, as they rest there
-pub record AreFoundAt (home : Home) (s : State) (append rewrite : FoundPipe) (d : Disk) : Type 0 where
+pub record AreFoundAt (home : LogDirectories) (s : State) (append rewrite : FoundPipe) (d : Disk) : Type 0 where
   pub append_as : IsFoundAs Append home.append append
   pub rewrite_as : IsFoundAs Rewrite home.rewrite rewrite
   pub append_found : IsFoundOf (log_in home).append append.found s.append d
   pub rewrite_found : IsFoundOf (log_in home).rewrite rewrite.found s.rewrite d
 
 -- An engine that is made of what a log's files have there holds this map, and nothing is pending.
-abbrev pub OpensAs : Home → Disk → LogMap → State → Type 0
+abbrev pub OpensAs : LogDirectories → Disk → LogMap → State → Type 0
 OpensAs home d m s = (mode : RecoveryMode) (append rewrite : FoundPipe) (v : LogPipes) (tables : MemTables)
     → AreFoundAt home s append rewrite d → OpensLog append rewrite d v
     → WereRead mode append rewrite d tables → HoldsFresh home v tables m
 
 -- Opening any crash image of what an engine left gives the map after some first pending batches.
 abbrev pub CrashedLogsOpen : Type 0
-CrashedLogsOpen = (home : Home) → 0 < length home.append → 0 < length home.rewrite → (d image : Disk)
-    (m : LogMap) (pending : List Said) → (left : IsLeftAt home d m pending)
+CrashedLogsOpen = (home : LogDirectories) → 0 < length home.append → 0 < length home.rewrite → (d image : Disk)
+    (m : LogMap) (pending : List LogRecordValue) → (left : IsRecoverableAs home d m pending)
     → IsCrashOf home left.1.lies.state d image
     → (k : ℕ) × (k ≤ length pending)
-    × ((rests : LogRestsOn (log_in home) image (taken m (take k pending)))
+    × ((rests : IsDurableAs (log_in home) image (taken m (take k pending)))
     × OpensAs home image (taken m (take k pending)) rests.state)

@@ -8,10 +8,10 @@ use Rattle.raft_log_file_writer.specs.KeepsSynced.{IsHandedIn}
 use Rattle.raft_log_file_writer.specs.LogFormat.{Format, HasHeader}
 use Rattle.raft_log_file_format.specs.Header.{header_bytes}
 use Rattle.raft_log_file_pipe.specs.declared.pipe_files.PipeFiles.{PipeFiles}
-use Rattle.raft_log_dual_pipes.specs.Pipes.{LogPipes, Said}
+use Rattle.raft_log_dual_pipes.specs.Pipes.{LogPipes, LogRecordValue}
 use Rattle.raft_log_engine_laws.specs.raft_log_active_file.specs.declared.record.LogRecord.{LogRecord}
-use Rattle.raft_log_engine_laws.specs.Shows.{Home, LogMap, Shows, log_in}
-use Rattle.raft_log_engine_laws.specs.Holding.{Holds}
+use Rattle.raft_log_engine_laws.specs.EngineState.{LogDirectories, LogMap, EngineState, log_in}
+use Rattle.raft_log_engine_laws.specs.Holding.{Represents}
 use Rattle.raft_log_recovery_laws.specs.ByCalls.{ForAllNaming}
 use Rattle.raft_log_recovery_laws.specs.Directory.{OpensAs}
 use Rattle.raft_log_recovery_laws.specs.Left.{RestsAfterSome}
@@ -43,15 +43,15 @@ LeavesOwnAlone F files d image = (file after : File) → d.files files.writer.ha
     → image.files files.writer.handle.file ≡ Some after → MeetsOwnAlone F files file after.content
 
 -- There is no CRC collision in either queue's active file after a crash of an engine with these pipes.
-pub record LeavesNoChance (home : Home) (v : LogPipes) (image : Disk) : Type 0 where
+pub record LeavesNoChance (home : LogDirectories) (v : LogPipes) (image : Disk) : Type 0 where
   pub append : LeavesOwnAlone (log_in home).append.format v.append.files v.disk image
   pub rewrite : LeavesOwnAlone (log_in home).rewrite.format v.rewrite.files v.disk image
 
 -- Opening any crash image of a running engine gives the map after some first pending batches, whether it succeeds or
 -- fails: the same ones for all settings that name its directories. If nothing was pending, it gives the engine's map.
 abbrev pub CrashedEnginesOpen : {F : Type 0} → (F → Disk) → (F → List ℕ → ℕ → Type 0) → Type 0
-CrashedEnginesOpen {F} disk tells = (home : Home) (e : Shows) (m : LogMap) (pending : List Said)
-    → Holds home e m pending → (old : F) → IsSound (disk old) → IsImage e.pipes.disk (disk old)
+CrashedEnginesOpen {F} disk tells = (home : LogDirectories) (e : EngineState) (m : LogMap) (pending : List LogRecordValue)
+    → Represents home e m pending → (old : F) → IsSound (disk old) → IsImage e.pipes.disk (disk old)
     → LeavesNoChance home e.pipes (disk old)
     → RestsAfterSome home (disk old) m pending
     (λ now. ForAllNaming home (λ config. OpensAs disk tells config old now))

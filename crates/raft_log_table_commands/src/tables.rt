@@ -45,7 +45,7 @@ impl Tables {
             "groups" => self.groups()?,
             "owed-compact" => self.owed_compact(command)?,
             "owed-marks" => {
-                let marks = self.newest()?.owed_marks()?;
+                let marks = self.newest()?.pending_tombstones()?;
                 show_items(self.alloc, marks.as_slice())?
             }
             _ => return Ok(None),

@@ -23,10 +23,10 @@ use Rattle.raft_log_engine.specs.raft_log_record_batches.specs.Places.{entry_byt
 use Rattle.raft_log_engine.specs.raft_log_file_settings.specs.declared.config.Config.{Config}
 use Rattle.raft_log_engine.specs.raft_log_memtables.specs.declared.mem_tables.MemTables.{MemTables}
 use Rattle.raft_log_engine.specs.raft_log_block_cache.specs.declared.block_cache.BlockCache.{BlockCache}
-use Rattle.raft_log_engine.specs.raft_log_dual_pipes.specs.Pipes.{LogPipes, Said, is_failed}
+use Rattle.raft_log_engine.specs.raft_log_dual_pipes.specs.Pipes.{LogPipes, LogRecordValue, is_failed}
 use Rattle.raft_log_engine.specs.raft_log_dual_pipes.specs.ClosingCalls.{ClosesSettled}
-use Rattle.raft_log_engine.specs.raft_log_engine_laws.specs.Shows.{Home, LogMap, Shows, said_of, shows}
-use Rattle.raft_log_engine.specs.raft_log_engine_laws.specs.Holding.{Holds}
+use Rattle.raft_log_engine.specs.raft_log_engine_laws.specs.EngineState.{LogDirectories, LogMap, EngineState, said_of, shows}
+use Rattle.raft_log_engine.specs.raft_log_engine_laws.specs.Holding.{Represents}
 use Rattle.raft_log_engine.specs.raft_log_engine_laws.specs.Reading.{ReadsValue}
 use Rattle.raft_log_engine.specs.raft_log_engine_laws.specs.Writing.{Writes, WritesBytes}
 use Rattle.raft_log_engine.specs.raft_log_open.specs.Opening.{OpensDirectory}
@@ -42,7 +42,7 @@ users_key k internal = by (is_internal k) internal
 
 -- what a batch says that puts it
 put_said : (entry : EntryIndex → List ℕ) (g : ℕ) (k v : List ℕ) → is_internal k ≡ false
-    → ◌≡◌ {A = Said} (unwrap_or (record_of entry (put_item g k v ∷ [])) (Plain [])) (Plain (record { group = g; item = Put k v } ∷ []))
+    → ◌≡◌ {A = LogRecordValue} (unwrap_or (record_of entry (put_item g k v ∷ [])) (Plain [])) (Plain (record { group = g; item = Put k v } ∷ []))
 put_said entry g k v own =
     ap (λ (m : Marking). unwrap_or (marked m (tagged_items entry (put_item g k v ∷ []))) (Plain [])) (keeps_mark [] (put_item g k v) own)
     ∙ ap (λ (b : Bool). Plain (unless_mark b (tagged entry (put_item g k v)) [])) (no_mark_key (put_item g k v) own)
@@ -66,13 +66,13 @@ is_value v (Some w) same = ap Some (sym (ap value_in same))
 is_value v None same = absurd (let clash : Some (Value v) ≡ None = same in let never : ⊥ = cc in never)
 
 -- what is read behind the write is the value
-pub saved_value : (b : Batch) (g : ℕ) (k v : List ℕ) (s t : Shows) (found : Option (List ℕ)) → is_internal k ≡ false → b.items ≡ put_item g k v ∷ [] → Writes b true s t → ReadsValue t g k found
-    → (home : Home) (m : LogMap) → Holds home s m [] → found ≡ Some v
+pub saved_value : (b : Batch) (g : ℕ) (k v : List ℕ) (s t : EngineState) (found : Option (List ℕ)) → is_internal k ≡ false → b.items ≡ put_item g k v ∷ [] → Writes b true s t → ReadsValue t g k found
+    → (home : LogDirectories) (m : LogMap) → Represents home s m [] → found ≡ Some v
 saved_value b g k v s t found own items writes reads home m h =
     let says_it : said_of b ≡ Plain (record { group = g; item = Put k v } ∷ []) =
     ap (λ l. unwrap_or (record_of (entry_bytes b.entries) l) (Plain [])) items ∙ put_said (entry_bytes b.entries) g k v own in
     let told = reads.exact home (taken m (said_of b ∷ [])) [] (writes.synced refl home m [] h) in
-    is_value v found (sym (stands m g k v) ∙ ap (λ (r : Said). taken m (r ∷ []) g (Key k)) (sym says_it) ∙ told)
+    is_value v found (sym (stands m g k v) ∙ ap (λ (r : LogRecordValue). taken m (r ∷ []) g (Key k)) (sym says_it) ∙ told)
 
 -- a batch that was put into when it was empty
 pub only_put : (old new : Batch) (g : ℕ) (k v : List ℕ) → old ≡ empty_batch 0 0 → Puts old new g k v → new.items ≡ put_item g k v ∷ []
@@ -88,7 +88,7 @@ of_ok came v P is holds = subst (λ (r : Result (Unit {0}) Error). OnOk r P) is 
 
 -- opened, written, read, closed
 module _ {F : Type 0} (disk : F → Disk) (tells : F → List ℕ → ℕ → Type 0) (config : Config) (g : ℕ) (k v : List ℕ) (old new : F) (found : Option (List ℕ)) where
-  pub saves_in_log : (pipes : LogPipes) (tables : MemTables) (cache : BlockCache) (b : Batch) (len : ℕ) (t : Shows) → OpensDirectory disk tells config old pipes tables → is_internal k ≡ false → b.items ≡ put_item g k v ∷ []
+  pub saves_in_log : (pipes : LogPipes) (tables : MemTables) (cache : BlockCache) (b : Batch) (len : ℕ) (t : EngineState) → OpensDirectory disk tells config old pipes tables → is_internal k ≡ false → b.items ≡ put_item g k v ∷ []
       → WritesBytes b true len (shows pipes tables cache) t → ReadsValue t g k found → ClosesSettled t.pipes (disk new) → SavesInLog disk tells config g k v old new found
   saves_in_log pipes tables cache b len t opens own items wrote reads closes = elim wrote [
     | inl none ↦ absurd (some_items b g k v items none.0)

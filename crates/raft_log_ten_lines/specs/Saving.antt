@@ -8,8 +8,8 @@ use Rattle.raft_log_engine.specs.raft_log_memtables.specs.declared.mem_tables.Me
 use Rattle.raft_log_engine.specs.raft_log_block_cache.specs.declared.block_cache.BlockCache.{BlockCache}
 use Rattle.raft_log_engine.specs.raft_log_dual_pipes.specs.Pipes.{LogPipes}
 use Rattle.raft_log_engine.specs.raft_log_dual_pipes.specs.ClosingCalls.{ClosesSettled}
-use Rattle.raft_log_engine.specs.raft_log_engine_laws.specs.Shows.{Home, LogMap, Shows, shows}
-use Rattle.raft_log_engine.specs.raft_log_engine_laws.specs.Holding.{Holds}
+use Rattle.raft_log_engine.specs.raft_log_engine_laws.specs.EngineState.{LogDirectories, LogMap, EngineState, shows}
+use Rattle.raft_log_engine.specs.raft_log_engine_laws.specs.Holding.{Represents}
 use Rattle.raft_log_engine.specs.raft_log_engine_laws.specs.Reading.{ReadsValue}
 use Rattle.raft_log_engine.specs.raft_log_engine_laws.specs.Writing.{Writes}
 use Rattle.raft_log_engine.specs.raft_log_open.specs.Opening.{OpensDirectory}
@@ -24,8 +24,8 @@ pub record SavesInLog {F : Type 0} (disk : F → Disk) (tells : F → List ℕ �
   pub opens : OpensDirectory disk tells config old pipes tables
   pub batch : Batch
   pub says : batch.items ≡ put_item group key value ∷ []
-  pub written : Shows
+  pub written : EngineState
   pub writes : Writes batch true (shows pipes tables cache) written
   pub reads : ReadsValue written group key found
   pub closes : ClosesSettled written.pipes (disk new)
-  pub same : (home : Home) (m : LogMap) → Holds home (shows pipes tables cache) m [] → found ≡ Some value
+  pub same : (home : LogDirectories) (m : LogMap) → Represents home (shows pipes tables cache) m [] → found ≡ Some value

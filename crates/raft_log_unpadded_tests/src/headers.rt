@@ -1,6 +1,6 @@
 //! Logs whose last file says an alignment: a power cut tore its header's write, or another program wrote it.
 use raft_log_file_settings::RecoveryMode;
-use raft_log_open_player::acts::Act::{Holds, MakesDirectory, MakesFile, Refuses, Uses, Writes};
+use raft_log_open_player::acts::Act::{Represents, MakesDirectory, MakesFile, Refuses, Uses, Writes};
 use raft_log_open_player::acts::{Act, Cause, played};
 use raft_log_open_player::batches::Word::{Entries, Put};
 use raft_log_open_player::settings::{BY_ONE, Settings, USUAL};
@@ -43,7 +43,7 @@ const TORN: [Act; 7] = [
     MakesFile(FILE),
     Writes(FILE, 0, SPOILT),
     Refuses(STRICT, Cause::Corruption),
-    Holds(FILE, 69),
+    Represents(FILE, 69),
     Uses(USUAL, &[&[IsEmpty], &[SYNCED]]),
     Uses(BY_ONE, &[&HELD]),
 ];

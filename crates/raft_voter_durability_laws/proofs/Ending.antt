@@ -5,10 +5,10 @@ use Rattle.raft_log_fs.specs.Causes.{IsLater}
 use Rattle.raft_log_fs.proofs.CauseLaws.{fails_after}
 use Rattle.raft_log_model_laws.specs.Groups.{taken}
 use Rattle.raft_log_record_base.specs.declared.errors.Error.{Error}
-use Rattle.raft_log_engine_laws.specs.Shows.{Home, LogMap, Shows, has_failed}
-use Rattle.raft_log_engine_laws.specs.Holding.{EndsAt, Holds, IsLeftAt}
+use Rattle.raft_log_engine_laws.specs.EngineState.{LogDirectories, LogMap, EngineState, has_failed}
+use Rattle.raft_log_engine_laws.specs.Holding.{EndsAt, Represents, IsRecoverableAs}
 use Rattle.raft_log_engine_laws.specs.Syncing.{FailsToSyncAppend, NotSynced, SyncsAppend}
-use Rattle.raft_log_engine_laws.specs.raft_log_dual_pipes.specs.Pipes.{Said}
+use Rattle.raft_log_engine_laws.specs.raft_log_dual_pipes.specs.Pipes.{LogRecordValue}
 use Rattle.raft_log_engine_laws.proofs.Keeping.{holds_runs}
 use Rattle.raft_voter_messages.specs.declared.reply.Reply.{Reply}
 use Rattle.raft_voter_messages.specs.declared.request.Request.{Request}
@@ -28,12 +28,12 @@ use Rattle.raft_voter_durability_laws.proofs.Places.{passed_voters_took_first}
 use Rattle.raft_voter_durability_laws.proofs.Told.{Requests}
 
 -- a log that is left among voters is so among more of them
-pub left_wider : (home : Home) (d : Disk) (P Q : World → Type 0) → ((X : World) → P X → Q X) → IsLeftAmong home d P → IsLeftAmong home d Q
+pub left_wider : (home : LogDirectories) (d : Disk) (P Q : World → Type 0) → ((X : World) → P X → Q X) → IsLeftAmong home d P → IsLeftAmong home d Q
 left_wider home d P Q wider l = record { map = l.map; pending = l.pending; left = l.left; among = among_wider P Q l.map l.pending wider l.among }
 
 -- it was answered
-answered_by : (home : Home) (V : World) (qs : Requests) (told : List Reply) (wrote : Bool) (s t u : Shows) (os us : ℕ → State) → (k : Keeps home s V) → AreOutlines os V
-    → (w : Went qs told wrote s t os us) → has_failed u ≡ false → IsLater s.pipes.disk u.pipes.disk → Holds home u (taken k.map w.said) []
+answered_by : (home : LogDirectories) (V : World) (qs : Requests) (told : List Reply) (wrote : Bool) (s t u : EngineState) (os us : ℕ → State) → (k : Keeps home s V) → AreOutlines os V
+    → (w : Went qs told wrote s t os us) → has_failed u ≡ false → IsLater s.pipes.disk u.pipes.disk → Represents home u (taken k.map w.said) []
     → Answered home V qs told s u us
 answered_by home V qs told wrote s t u os us k outlines w alive later holds = record {
   alive = alive;
@@ -43,16 +43,16 @@ answered_by home V qs told wrote s t u os us k outlines w alive later holds = re
   tells = w.tells home k.map V k.holds k.means outlines;
 }
 
-unwritten : (home : Home) (V : World) (qs : Requests) (told : List Reply) (s t : Shows) (os us : ℕ → State) → Keeps home s V → AreOutlines os V
+unwritten : (home : LogDirectories) (V : World) (qs : Requests) (told : List Reply) (s t : EngineState) (os us : ℕ → State) → Keeps home s V → AreOutlines os V
     → Went qs told false s t os us → Answered home V qs told s t us
 unwritten home V qs told s t os us k outlines w =
     let e : EndsAt home t k.map w.said = w.holds home k.map [] k.holds in
     let none : w.said ≡ [] = w.silent refl in
-    let empty : EndsAt home t k.map [] = subst (λ (l : List Said). EndsAt home t k.map l) none e in
-    let held : Holds home t k.map [] = ends_empty home t k.map empty in
-    answered_by home V qs told false s t t os us k outlines w w.alive w.later (subst (λ (l : List Said). Holds home t (taken k.map l) []) (sym none) held)
+    let empty : EndsAt home t k.map [] = subst (λ (l : List LogRecordValue). EndsAt home t k.map l) none e in
+    let held : Represents home t k.map [] = ends_empty home t k.map empty in
+    answered_by home V qs told false s t t os us k outlines w w.alive w.later (subst (λ (l : List LogRecordValue). Represents home t (taken k.map l) []) (sym none) held)
 
-synced : (home : Home) (V : World) (qs : Requests) (told : List Reply) (wrote : Bool) (s t u : Shows) (os us : ℕ → State) → Keeps home s V → AreOutlines os V
+synced : (home : LogDirectories) (V : World) (qs : Requests) (told : List Reply) (wrote : Bool) (s t u : EngineState) (os us : ℕ → State) → Keeps home s V → AreOutlines os V
     → Went qs told wrote s t os us → SyncsAppend t u → Answered home V qs told s u us
 synced home V qs told wrote s t u os us k outlines w sync =
     answered_by home V qs told wrote s t u os us k outlines w sync.same.alive (later_twice s.pipes.disk t.pipes.disk u.pipes.disk w.later sync.later)
@@ -61,14 +61,14 @@ synced home V qs told wrote s t u os us k outlines w sync =
 -- The engine failed.
 
 -- what is left of a log that ended so
-ended_among : (home : Home) (t : Shows) (m : LogMap) (pending : List Said) (P : World → Type 0) (e : EndsAt home t m pending) → MeansAmong P m pending
+ended_among : (home : LogDirectories) (t : EngineState) (m : LogMap) (pending : List LogRecordValue) (P : World → Type 0) (e : EndsAt home t m pending) → MeansAmong P m pending
     → MeansAmong P (taken m e.done) e.rest
-ended_among home t m pending P e among = among_rest P m e.done e.rest (subst (λ (l : List Said). MeansAmong P m l) (sym e.splits) among)
+ended_among home t m pending P e among = among_rest P m e.done e.rest (subst (λ (l : List LogRecordValue). MeansAmong P m l) (sym e.splits) among)
 
-left_with : (home : Home) (V : World) (qs : Requests) (told : List Reply) (q : ℕ × Request) (t : Shows) (d : Disk) (m : LogMap) (said more : List Said) (e : EndsAt home t m said)
+left_with : (home : LogDirectories) (V : World) (qs : Requests) (told : List Reply) (q : ℕ × Request) (t : EngineState) (d : Disk) (m : LogMap) (said more : List LogRecordValue) (e : EndsAt home t m said)
     → MeansAmong (IsPassed V qs told) m said → length more ≤ 1 → slice_get qs (length told) ≡ Some q
     → Means (taken m (said ++ more)) (after_one (after V (took qs told)) q)
-    → IsLeftAt home d (taken m e.done) e.rest ⊎ IsLeftAt home d (taken m e.done) (e.rest ++ more) → IsLeftAmong home d (IsPassedOrOneMore V qs told)
+    → IsRecoverableAs home d (taken m e.done) e.rest ⊎ IsRecoverableAs home d (taken m e.done) (e.rest ++ more) → IsLeftAmong home d (IsPassedOrOneMore V qs told)
 left_with home V qs told q t d m said more e among short at means (inl without) = record {
   map = taken m e.done;
   pending = e.rest;
@@ -81,12 +81,12 @@ left_with home V qs told q t d m said more e among short at means (inr with) = r
   left = with;
   among =
       among_rest (IsPassedOrOneMore V qs told) m e.done (e.rest ++ more)
-      (subst (λ (l : List Said). MeansAmong (IsPassedOrOneMore V qs told) m l) (ap (λ (l : List Said). l ++ more) (sym e.splits) ∙ append_assoc e.done e.rest more)
+      (subst (λ (l : List LogRecordValue). MeansAmong (IsPassedOrOneMore V qs told) m l) (ap (λ (l : List LogRecordValue). l ++ more) (sym e.splits) ∙ append_assoc e.done e.rest more)
       (among_more (IsPassedOrOneMore V qs told) m said more (after_one (after V (took qs told)) q) short
       (among_wider (IsPassed V qs told) (IsPassedOrOneMore V qs told) m said (λ X p. inl p) among) (inr (q, at, refl)) means));
 }
 
-gave_up : (home : Home) (V : World) (qs : Requests) (told : List Reply) (q : ℕ × Request) (wrote : Bool) (s t u : Shows) (os us : ℕ → State) → Keeps home s V
+gave_up : (home : LogDirectories) (V : World) (qs : Requests) (told : List Reply) (q : ℕ × Request) (wrote : Bool) (s t u : EngineState) (os us : ℕ → State) → Keeps home s V
     → AreOutlines os V → Went qs told wrote s t os us → slice_get qs (length told) ≡ Some q → Broke q t u us → GaveUp home V qs told s u
 gave_up home V qs told q wrote s t u os us k outlines w at broke =
     let e : EndsAt home t k.map w.said = w.holds home k.map [] k.holds in
@@ -103,11 +103,11 @@ gave_up home V qs told q wrote s t u os us k outlines w at broke =
 
 -- The sync was refused.
 
-sync_failed : (error : Error) (t u : Shows) → has_failed t ≡ false → NotSynced error t u → FailsToSyncAppend t u
+sync_failed : (error : Error) (t u : EngineState) → has_failed t ≡ false → NotSynced error t u → FailsToSyncAppend t u
 sync_failed error t u alive (is, inl had) = let failed = had.0 in absurd (cc)
 sync_failed error t u alive (is, inr fails) = fails
 
-unsynced : (home : Home) (V : World) (qs : Requests) (told : List Reply) (wrote : Bool) (error : Error) (s t u : Shows) (os us : ℕ → State) → Keeps home s V
+unsynced : (home : LogDirectories) (V : World) (qs : Requests) (told : List Reply) (wrote : Bool) (error : Error) (s t u : EngineState) (os us : ℕ → State) → Keeps home s V
     → AreOutlines os V → Went qs told wrote s t os us → NotSynced error t u → Unsynced home V qs told s u
 unsynced home V qs told wrote error s t u os us k outlines w not =
     let failed = sync_failed error t u w.alive not in

@@ -10,12 +10,12 @@ use Rattle.raft_log_record_items.specs.Message.{Parses}
 use Rattle.raft_log_extents.specs.declared.place.Place.{Place}
 use Rattle.raft_log_memtable_index.specs.Shown.{Shown}
 use Rattle.raft_log_engine_laws.specs.raft_log_memtable.specs.Reads.{AreIn, FetchRefused, entries_from, fetched, first_of, last_of, places_between}
-use Rattle.raft_log_engine_laws.specs.Shows.{Home, LogMap, Shows}
-use Rattle.raft_log_engine_laws.specs.Holding.{Holds}
+use Rattle.raft_log_engine_laws.specs.EngineState.{LogDirectories, LogMap, EngineState}
+use Rattle.raft_log_engine_laws.specs.Holding.{Represents}
 use Rattle.raft_log_engine_laws.specs.Reading.{IsFirstIn, IsLastIn}
 use Rattle.raft_log_engine_laws.specs.Fetching.{AreEntriesOf, AreToRead, FailsToFetch, FetchesTo, IsOneUntold}
 use Rattle.raft_log_engine_laws.specs.raft_log_block_cache.specs.Blocks.{IsFileUnread}
-use Rattle.raft_log_engine_laws.specs.raft_log_dual_pipes.specs.Pipes.{Said}
+use Rattle.raft_log_engine_laws.specs.raft_log_dual_pipes.specs.Pipes.{LogRecordValue}
 use Rattle.raft_log_engine_laws.specs.raft_log_memtables.proofs.Bare.{uncounted_bare}
 use Rattle.raft_log_engine_laws.proofs.Reading.{tables_tell}
 use Rattle.raft_voter_messages.specs.declared.reply.Entry.{Entry as VoterEntry}
@@ -96,7 +96,7 @@ module _ {M : Type 0} (text : M → List ℕ) (reading : List ℕ → Option M) 
       let is : last_of t ≡ None = if_false (nat_lt 0 (length t.places)) (Some (t.first + (length t.places - 1))) None (ap (λ n. nat_lt 0 n) empty) in
       subst (λ (o : Option ℕ). IsLastIn m g o) is last
 
-  pub fetched_entries_are_read : (q : ℕ × Request) (from to count : ℕ) (s t : Shows) (os : ℕ → State) (messages : List M) (es : List VoterEntry)
+  pub fetched_entries_are_read : (q : ℕ × Request) (from to count : ℕ) (s t : EngineState) (os : ℕ → State) (messages : List M) (es : List VoterEntry)
       → IsCounted s → IsReplyOfEach (os q.0) q.1 (answers.Entries from to) → FetchesTo reading q.0 from to None s t [] messages count
       → AreReadAs from (map text messages) es → ReadsEntries q.0 from to s t os es
   fetched_entries_are_read q from to count s t os messages es counted told f read = record { alive = f.lived; stays = f.stays; exact = exact }
@@ -107,7 +107,7 @@ module _ {M : Type 0} (text : M → List ℕ) (reading : List ℕ → Option M) 
           absurd (has_entry v from high (omega (arith, some, low)) (sym (same from) ∙ none_shown (s.tables q.0) m q.0 last (counted q.0 empty.0) from))
       size v m high some low last same (inr all) = ap length all.2 ∙ all_fetched (s.tables q.0) from to some all.1
 
-      exact : (home : Home) (m : LogMap) (pending : List Said) (W : World) → Holds home s m pending → Means (taken m pending) W → AreOutlines os W
+      exact : (home : LogDirectories) (m : LogMap) (pending : List LogRecordValue) (W : World) → Represents home s m pending → Means (taken m pending) W → AreOutlines os W
           → es ≡ entries_between (W q.0) from to
       exact home m pending W h means outlines =
           let known = shown (taken m pending q.0) (W q.0) (means q.0) in
@@ -143,7 +143,7 @@ module _ {M : Type 0} (text : M → List ℕ) (reading : List ℕ → Option M) 
       by_error errors.NumberRange h = absurd h
 
   -- an entry isn't told: it wasn't read, or memory ran out
-  one_untold : (q : ℕ × Request) (from to : ℕ) (error : Error) (s t : Shows) (m : LogMap) → q.1 ≡ Read from to → IsOneUntold reading q.0 from to s m error → WasTurnedDown q error s t
+  one_untold : (q : ℕ × Request) (from to : ℕ) (error : Error) (s t : EngineState) (m : LogMap) → q.1 ≡ Read from to → IsOneUntold reading q.0 from to s m error → WasTurnedDown q error s t
   one_untold q from to error s t m asks (inl memory) = no_memory memory
   one_untold q from to error s t m asks (inr one) = by_why one.3.why
     where
@@ -153,7 +153,7 @@ module _ {M : Type 0} (text : M → List ℕ) (reading : List ℕ → Option M) 
       by_why (inr none) = no_memory (parsed error one.3.bytes none)
 
   -- the tables have all that the outline says is there
-  not_refused : (v : State) (m : LogMap) (g from to : ℕ) (s : Shows) (error : Error) → v.base_index < from → from < to → to ≤ last_index v + 1
+  not_refused : (v : State) (m : LogMap) (g from to : ℕ) (s : EngineState) (error : Error) → v.base_index < from → from < to → to ≤ last_index v + 1
       → ((j : ℕ) → m g (Index j) ≡ entry_content v j) → IsFirstIn m g (first_of (s.tables g)) → IsLastIn m g (last_of (s.tables g))
       → FetchRefused (s.tables g) from to error → error ≡ errors.Memory
   not_refused v m g from to s error high some low same first last refused = by_case refused.1
@@ -185,7 +185,7 @@ module _ {M : Type 0} (text : M → List ℕ) (reading : List ℕ → Option M) 
       ]
       by_case (inr (inr (inr four))) = four.0
 
-  pub unfetched_entries_are_unread : (q : ℕ × Request) (from to : ℕ) (error : Error) (s t : Shows) (os : ℕ → State)
+  pub unfetched_entries_are_unread : (q : ℕ × Request) (from to : ℕ) (error : Error) (s t : EngineState) (os : ℕ → State)
       → IsReplyOfEach (os q.0) q.1 (answers.Entries from to) → FailsToFetch reading q.0 from to s t error → ReadsNone q error s t os
   unfetched_entries_are_unread q from to error s t os told f = record {
     alive = f.lived;
@@ -193,9 +193,9 @@ module _ {M : Type 0} (text : M → List ℕ) (reading : List ℕ → Option M) 
     why = λ home m pending W h means outlines. by_why home m pending W h means outlines f.why;
   }
     where
-      by_why : (home : Home) (m : LogMap) (pending : List Said) (W : World) → (h : Holds home s m pending) → Means (taken m pending) W → AreOutlines os W
+      by_why : (home : LogDirectories) (m : LogMap) (pending : List LogRecordValue) (W : World) → (h : Represents home s m pending) → Means (taken m pending) W → AreOutlines os W
           → ((s.counts q.0 ≡ true) × FetchRefused (s.tables q.0) from to error)
-          ⊎ ((home : Home) (m : LogMap) (pending : List Said) → Holds home s m pending → IsOneUntold reading q.0 from to s (taken m pending) error)
+          ⊎ ((home : LogDirectories) (m : LogMap) (pending : List LogRecordValue) → Represents home s m pending → IsOneUntold reading q.0 from to s (taken m pending) error)
           → WasTurnedDown q error s t
       by_why home m pending W h means outlines (inl refused) =
           let known = shown (taken m pending q.0) (W q.0) (means q.0) in

@@ -21,10 +21,10 @@ use Rattle.raft_log_memtable_index.specs.Shown.{Shown, MayAllFollow, MayFollow, 
 use Rattle.raft_log_engine_laws.specs.raft_log_memtable.specs.Reads.{last_of}
 use Rattle.raft_log_engine_laws.specs.raft_log_memtables.specs.Batch.{MayFollowAll}
 use Rattle.raft_log_engine_laws.specs.raft_log_memtables.proofs.Applied.{items_renamed}
-use Rattle.raft_log_engine_laws.specs.Shows.{Home, LogMap, Shows}
-use Rattle.raft_log_engine_laws.specs.Holding.{Holds}
+use Rattle.raft_log_engine_laws.specs.EngineState.{LogDirectories, LogMap, EngineState}
+use Rattle.raft_log_engine_laws.specs.Holding.{Represents}
 use Rattle.raft_log_engine_laws.specs.Reading.{IsLastIn}
-use Rattle.raft_log_engine_laws.specs.raft_log_dual_pipes.specs.Pipes.{Said}
+use Rattle.raft_log_engine_laws.specs.raft_log_dual_pipes.specs.Pipes.{LogRecordValue}
 use Rattle.raft_log_engine_laws.proofs.Reading.{tables_tell}
 use Rattle.raft_voter_messages.specs.StoredForms.{entry_text}
 use Rattle.raft_voter_messages.specs.declared.request.Request.{Request}
@@ -174,8 +174,8 @@ own_follows t v m g q c same last h =
     write_follows (span t) v q c h (λ index within. no_hole t v m g index same last within) c.write h.can
 
 -- a change's record may follow in all groups
-pub change_follows : (home : Home) (s : Shows) (m : LogMap) (pending : List Said) (W : World) (g : ℕ) (q : Request) (c : Change) (b : Batch)
-    → Holds home s m pending → Means (taken m pending) W → IsChangeOf (W g) q c → SaysChange g q c b → MayFollowAll s.tables (tagged_items (λ e. e) b.items)
+pub change_follows : (home : LogDirectories) (s : EngineState) (m : LogMap) (pending : List LogRecordValue) (W : World) (g : ℕ) (q : Request) (c : Change) (b : Batch)
+    → Represents home s m pending → Means (taken m pending) W → IsChangeOf (W g) q c → SaysChange g q c b → MayFollowAll s.tables (tagged_items (λ e. e) b.items)
 change_follows home s m pending W g q c b h means change says =
     follow_all_back (entry_bytes b.entries) s.tables (tagged_items (λ e. e) b.items)
     (subst (λ (l : List (Tagged (List ℕ) (List ℕ))). MayFollowAll s.tables l) (sym (items_renamed (entry_bytes b.entries) b.items ∙ says_items g q c b says)) each)

@@ -3,9 +3,9 @@ use Rattle.std.proofs.Common.{◌≡◌, ◌∙◌, ℕ, ◌||◌, Bool, true, f
 use Rattle.std.proofs.lemmas.Bool.{cases_Bool}
 use Rattle.raft_log_model_laws.specs.Groups.{taken}
 use Rattle.raft_log_record_base.specs.declared.errors.Error.{Error}
-use Rattle.raft_log_engine_laws.specs.Shows.{Home, LogMap, Shows, has_failed}
-use Rattle.raft_log_engine_laws.specs.Holding.{EndsAt, Holds}
-use Rattle.raft_log_engine_laws.specs.raft_log_dual_pipes.specs.Pipes.{Said}
+use Rattle.raft_log_engine_laws.specs.EngineState.{LogDirectories, LogMap, EngineState, has_failed}
+use Rattle.raft_log_engine_laws.specs.Holding.{EndsAt, Represents}
+use Rattle.raft_log_engine_laws.specs.raft_log_dual_pipes.specs.Pipes.{LogRecordValue}
 use Rattle.raft_voter_messages.specs.declared.reply.Reply.{Reply}
 use Rattle.raft_voter_messages.specs.declared.reply.Reply.TheVariants.{Refused}
 use Rattle.raft_voter_messages.specs.declared.request.Request.{Request}
@@ -27,13 +27,13 @@ use Rattle.raft_voter_durability_laws.proofs.Told.{Requests, after-append, passe
 
 -- A round that begins.
 
-began : (qs : Requests) (s : Shows) (os : ℕ → State) → has_failed s ≡ false → Went qs [] false s s os os
+began : (qs : Requests) (s : EngineState) (os : ℕ → State) → has_failed s ≡ false → Went qs [] false s s os os
 began qs s os alive = record {
   said = [];
   silent = λ _. refl;
   alive = alive;
   later = later_same s.pipes.disk;
-  holds = λ home m pending h. subst (λ (l : List Said). EndsAt home s m l) (sym (append-nil pending)) (ends_same home s m pending h);
+  holds = λ home m pending h. subst (λ (l : List LogRecordValue). EndsAt home s m l) (sym (append-nil pending)) (ends_same home s m pending h);
   leads = λ m W means outlines. subst (λ (X : World). Means m X) (same W) means;
   among = λ m W means outlines. among_none (IsPassed W qs []) m W (0, omega arith, same W) means;
   outlines = λ W outlines. subst (λ (X : World). AreOutlines os X) (same W) outlines;
@@ -60,7 +60,7 @@ neither false b h = (refl, h)
 
 -- A request that was served.
 
-module _ (qs : Requests) (told : List Reply) (q : ℕ × Request) (a : Reply) (wrote more : Bool) (s t u : Shows) (os us ws : ℕ → State)
+module _ (qs : Requests) (told : List Reply) (q : ℕ × Request) (a : Reply) (wrote more : Bool) (s t u : EngineState) (os us ws : ℕ → State)
     (w : Went qs told wrote s t os us) (at : slice_get qs (length told) ≡ Some q) (v : Served q a more t u us ws) where
   served_world : (W : World) → after_one (after W (took qs told)) q ≡ after W (took qs (told ++ a ∷ []))
   served_world W = behind W qs told q a at (λ is. out_stays (after W (took qs told)) q (v.refuses is))
@@ -77,7 +77,7 @@ module _ (qs : Requests) (told : List Reply) (q : ℕ × Request) (a : Reply) (w
       (subst (λ (X : World). IsPassed W qs (told ++ a ∷ []) X) (sym (served_world W)) (passed_all W qs (told ++ a ∷ [])))
       (served_leads m W means outlines)
 
-  served_tells : (home : Home) (m : LogMap) (W : World) → Holds home s m [] → Means m W → AreOutlines os W → AreTold W qs (told ++ a ∷ [])
+  served_tells : (home : LogDirectories) (m : LogMap) (W : World) → Represents home s m [] → Means m W → AreOutlines os W → AreTold W qs (told ++ a ∷ [])
   served_tells home m W h means outlines =
       let e = w.holds home m [] h in
       let whole = ends_whole home t m ([] ++ w.said) e in
@@ -99,7 +99,7 @@ module _ (qs : Requests) (told : List Reply) (q : ℕ × Request) (a : Reply) (w
     alive = v.alive;
     later = later_twice s.pipes.disk t.pipes.disk u.pipes.disk w.later v.later;
     holds = λ home m pending h.
-        subst (λ (l : List Said). EndsAt home u m l) (append_assoc pending w.said v.said)
+        subst (λ (l : List LogRecordValue). EndsAt home u m l) (append_assoc pending w.said v.said)
         (ends_more home t u m (pending ++ w.said) v.said (w.holds home m pending h) (λ n rest k. v.holds home n rest k));
     leads = λ m W means outlines. subst (λ (X : World). Means (taken m (w.said ++ v.said)) X) (served_world W) (served_leads m W means outlines);
     among = served_among;
@@ -110,11 +110,11 @@ module _ (qs : Requests) (told : List Reply) (q : ℕ × Request) (a : Reply) (w
       silent : (wrote || more) ≡ false → w.said ++ v.said ≡ []
       silent none =
           let each = neither wrote more none in
-          ap (λ (l : List Said). l ++ v.said) (w.silent each.0) ∙ v.silent each.1
+          ap (λ (l : List LogRecordValue). l ++ v.said) (w.silent each.0) ∙ v.silent each.1
 
 -- One that was turned down.
 
-module _ (qs : Requests) (told : List Reply) (q : ℕ × Request) (error : Error) (wrote : Bool) (s t u : Shows) (os us : ℕ → State)
+module _ (qs : Requests) (told : List Reply) (q : ℕ × Request) (error : Error) (wrote : Bool) (s t u : EngineState) (os us : ℕ → State)
     (w : Went qs told wrote s t os us) (at : slice_get qs (length told) ≡ Some q) (v : TurnedDown q error t u us) where
   down_world : (W : World) → after W (took qs told) ≡ after W (took qs (told ++ Refused ∷ []))
   down_world W = ap (after W) (sym (took_refused qs told Refused refl))

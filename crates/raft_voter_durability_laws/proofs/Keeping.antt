@@ -4,11 +4,11 @@ use Rattle.raft_log_fs.specs.Disk.{Disk}
 use Rattle.raft_log_model_laws.specs.Groups.{taken}
 use Rattle.raft_log_record_base.specs.declared.errors.Error.{Error}
 use Rattle.raft_log_record_base.specs.declared.errors.Error.TheVariants as errors
-use Rattle.raft_log_engine_laws.specs.Shows.{Home, LogMap, Shows}
-use Rattle.raft_log_engine_laws.specs.Holding.{Holds, IsLeftAt}
-use Rattle.raft_log_engine_laws.specs.raft_log_dual_pipes.specs.Lying.{both_open}
+use Rattle.raft_log_engine_laws.specs.EngineState.{LogDirectories, LogMap, EngineState}
+use Rattle.raft_log_engine_laws.specs.Holding.{Represents, IsRecoverableAs}
+use Rattle.raft_log_engine_laws.specs.raft_log_dual_pipes.specs.OpenOrClosed.{both_open}
 use Rattle.raft_log_engine_laws.specs.raft_log_dual_pipes.specs.Pipes.{files_of}
-use Rattle.raft_log_engine_laws.proofs.Lying.{engines_lie_on_disks}
+use Rattle.raft_log_engine_laws.proofs.OpenOrClosed.{engines_lie_on_disks}
 use Rattle.raft_log_machine_laws.specs.Fresh.{nothing_stands}
 use Rattle.raft_voter_records.proofs.Leading.{empty_maps_are_fresh}
 use Rattle.raft_voter.specs.Rounds.{TakesFirst, World, fresh_world}
@@ -19,18 +19,18 @@ use Rattle.raft_voter_durability_laws.specs.Calls.{KeepsMap, KeepsOrLeaves, Keep
 use Rattle.raft_voter_durability_laws.specs.Laws.{EnginesLeaveLogs, FreshLogsHaveFreshVoters, OpensFindVoters, PurgesKeepVoters, VotersAreLeft}
 
 -- a log that is left with the map of these voters, and nothing pending, is left with them
-pub left_alone : (home : Home) (d : Disk) (m : LogMap) (P : World → Type 0) (V : World) → IsLeftAt home d m [] → P V → Means m V → IsLeftAmong home d P
+pub left_alone : (home : LogDirectories) (d : Disk) (m : LogMap) (P : World → Type 0) (V : World) → IsRecoverableAs home d m [] → P V → Means m V → IsLeftAmong home d P
 left_alone home d m P V left passes means = record { map = m; pending = []; left = left; among = among_none P m V passes means }
 
 -- Purges.
 
-kept : (home : Home) (V : World) (s t : Shows) → Keeps home s V → KeepsMap s t → Keeps home t V
+kept : (home : LogDirectories) (V : World) (s t : EngineState) → Keeps home s V → KeepsMap s t → Keeps home t V
 kept home V s t k keeps = record { map = k.map; holds = keeps home k.map [] k.holds; means = k.means }
 
-refused : (home : Home) (V : World) (error : Error) (s t : Shows) → Keeps home s V → KeepsOrLeavesMap error s t → KeepsOrLeaves home error t V
+refused : (home : LogDirectories) (V : World) (error : Error) (s t : EngineState) → Keeps home s V → KeepsOrLeavesMap error s t → KeepsOrLeaves home error t V
 refused home V error s t k purge = by_exit (purge home k.map [] k.holds)
   where
-    by_exit : Holds home t (taken k.map []) [] ⊎ ((error ≡ errors.Failed) × (IsLeftAt home t.pipes.disk (taken k.map []) [] ⊎ IsLeftAt home t.pipes.disk k.map []))
+    by_exit : Represents home t (taken k.map []) [] ⊎ ((error ≡ errors.Failed) × (IsRecoverableAs home t.pipes.disk (taken k.map []) [] ⊎ IsRecoverableAs home t.pipes.disk k.map []))
         → KeepsOrLeaves home error t V
     by_exit (inl holds) = inl (record { map = k.map; holds = holds; means = k.means })
     by_exit (inr (is, inl left)) = inr (is, left_alone home t.pipes.disk k.map (λ X. X ≡ V) V left refl k.means)
@@ -41,7 +41,7 @@ purges_keep_voters = record { answered = kept; refused = refused }
 
 -- The end of an engine, and a fork.
 
-pub left_elsewhere : (home : Home) (P : World → Type 0) (d e : Disk) → IsLeftAmong home d P → LeavesLeft home d e → IsLeftAmong home e P
+pub left_elsewhere : (home : LogDirectories) (P : World → Type 0) (d e : Disk) → IsLeftAmong home d P → LeavesLeft home d e → IsLeftAmong home e P
 left_elsewhere home P d e l leaves = record { map = l.map; pending = l.pending; left = leaves l.map l.pending l.left; among = l.among }
 
 pub voters_are_left : VotersAreLeft
@@ -52,7 +52,7 @@ voters_are_left = record {
 
 -- Opens.
 
-pub opens_among : (home : Home) (d : Disk) (P : World → Type 0) (left : IsLeftAmong home d P) (k : ℕ) → k ≤ length left.pending → OpensAmong home d P left k
+pub opens_among : (home : LogDirectories) (d : Disk) (P : World → Type 0) (left : IsLeftAmong home d P) (k : ℕ) → k ≤ length left.pending → OpensAmong home d P left k
 opens_among home d P left k within =
     let found = left.among k within in
     record {
@@ -62,8 +62,8 @@ opens_among home d P left k within =
       refused = λ there new l. by_left found.0 found.1 found.2 there new l;
     }
   where
-    by_left : (X : World) → P X → Means (taken left.map (take k left.pending)) X → (there : Home) (new : Disk)
-        → IsLeftAt there new left.map left.pending ⊎ IsLeftAt there new (taken left.map (take k left.pending)) [] → IsLeftAmong there new P
+    by_left : (X : World) → P X → Means (taken left.map (take k left.pending)) X → (there : LogDirectories) (new : Disk)
+        → IsRecoverableAs there new left.map left.pending ⊎ IsRecoverableAs there new (taken left.map (take k left.pending)) [] → IsLeftAmong there new P
     by_left X passes means there new (inl still) = record { map = left.map; pending = left.pending; left = still; among = left.among }
     by_left X passes means there new (inr now) = left_alone there new (taken left.map (take k left.pending)) P X now passes means
 

@@ -13,10 +13,10 @@ use Rattle.raft_log_record_frames.specs.Marking.{marking_of_items}
 use Rattle.raft_log_record_frames.specs.Meaning.{marked, tagged_items}
 use Rattle.raft_log_record_batches.specs.Batch.{Batch}
 use Rattle.raft_log_record_batches.specs.Places.{entry_bytes}
-use Rattle.raft_log_engine_laws.specs.Shows.{IsWellMarked, LogMap, Shows, has_failed, said_of}
+use Rattle.raft_log_engine_laws.specs.EngineState.{IsWellMarked, LogMap, EngineState, has_failed, said_of}
 use Rattle.raft_log_engine_laws.specs.Holding.{EndsAt}
 use Rattle.raft_log_engine_laws.specs.Writing.{Writes}
-use Rattle.raft_log_engine_laws.specs.raft_log_dual_pipes.specs.Pipes.{Said}
+use Rattle.raft_log_engine_laws.specs.raft_log_dual_pipes.specs.Pipes.{LogRecordValue}
 use Rattle.raft_voter_messages.specs.declared.reply.Reply.{Reply}
 use Rattle.raft_voter_messages.specs.declared.reply.Reply.TheVariants as replies
 use Rattle.raft_voter_messages.specs.declared.request.Request.{Request}
@@ -132,14 +132,14 @@ told_requests_are_served q a s os alive own told leaves = record {
   silent = λ _. refl;
   alive = alive;
   later = later_same s.pipes.disk;
-  holds = λ home m pending h. subst (λ (l : List Said). EndsAt home s m l) (sym (append-nil pending)) (ends_same home s m pending h);
+  holds = λ home m pending h. subst (λ (l : List LogRecordValue). EndsAt home s m l) (sym (append-nil pending)) (ends_same home s m pending h);
   leads = λ m W means outlines. subst (λ (X : World). Means m X) (sym (leaves_all q os leaves W outlines)) means;
   outlines = λ W outlines. subst (λ (X : World). AreOutlines os X) (sym (leaves_all q os leaves W outlines)) outlines;
   answers = λ home m pending W h means outlines. sym (told (W q.0) (own_outline os W q.0 outlines)).0;
   refuses = told_refuses q a os own told;
 }
 
-written_served : (q : ℕ × Request) (a : Reply) (c : Change) (b : Batch) (s t : Shows) (os us : ℕ → State) → IsBare (os q.0)
+written_served : (q : ℕ × Request) (a : Reply) (c : Change) (b : Batch) (s t : EngineState) (os us : ℕ → State) → IsBare (os q.0)
     → IsReplyOfEach (os q.0) q.1 (answers.Told a) → ChangesEach (os q.0) q.1 c → SaysChange q.0 q.1 c b → StepsOutlines q os us → Writes b false s t
     → Served q a true s t os us
 written_served q a c b s t os us own told each says steps done = record {
@@ -150,7 +150,7 @@ written_served q a c b s t os us own told each says steps done = record {
   later = done.later;
   holds = done.holds;
   leads = λ m W means outlines.
-      subst (λ (r : Said). Means (taken m (r ∷ [])) (after_one W q)) (sym (says_record q.0 q.1 c b says)) (leads_by q c os each m W means outlines);
+      subst (λ (r : LogRecordValue). Means (taken m (r ∷ [])) (after_one W q)) (sym (says_record q.0 q.1 c b says)) (leads_by q c os each m W means outlines);
   outlines = outlines_step q os us steps;
   answers = λ home m pending W h means outlines. sym (told (W q.0) (own_outline os W q.0 outlines)).0;
   refuses = told_refuses q a os own told;
@@ -165,10 +165,10 @@ read_requests_are_served q from to es s t os told leaves reads = record {
   said = [];
   short = omega arith;
   silent = λ _. refl;
-  alive = ap (λ (x : Shows). has_failed x) reads.stays.same ∙ reads.alive;
-  later = subst (λ (x : Shows). IsLater s.pipes.disk x.pipes.disk) (sym reads.stays.same) (later_same s.pipes.disk);
+  alive = ap (λ (x : EngineState). has_failed x) reads.stays.same ∙ reads.alive;
+  later = subst (λ (x : EngineState). IsLater s.pipes.disk x.pipes.disk) (sym reads.stays.same) (later_same s.pipes.disk);
   holds = λ home m pending h.
-      subst (λ (l : List Said). EndsAt home t m l) (sym (append-nil pending)) (ends_same home t m pending (reads.stays.holds home m pending h));
+      subst (λ (l : List LogRecordValue). EndsAt home t m l) (sym (append-nil pending)) (ends_same home t m pending (reads.stays.holds home m pending h));
   leads = λ m W means outlines. subst (λ (X : World). Means m X) (sym (leaves_all q os leaves W outlines)) means;
   outlines = λ W outlines. subst (λ (X : World). AreOutlines os X) (sym (leaves_all q os leaves W outlines)) outlines;
   answers = λ home m pending W h means outlines.

@@ -9,8 +9,8 @@ use Rattle.raft_log_record_batches.specs.Batch.{Batch}
 use Rattle.raft_log_engine_laws.specs.raft_log_memtables.specs.declared.mem_tables.MemTables.{MemTables}
 use Rattle.raft_log_engine_laws.specs.raft_log_dual_pipes.specs.Pipes.{LogPipes}
 use Rattle.raft_log_engine_laws.specs.raft_log_block_cache.specs.declared.block_cache.BlockCache.{BlockCache}
-use Rattle.raft_log_engine_laws.specs.Shows.{Home, Shows, has_failed, shows}
-use Rattle.raft_log_engine_laws.specs.Holding.{Holds, IsLeftAt}
+use Rattle.raft_log_engine_laws.specs.EngineState.{LogDirectories, EngineState, has_failed, shows}
+use Rattle.raft_log_engine_laws.specs.Holding.{Represents, IsRecoverableAs}
 use Rattle.raft_log_engine_laws.specs.Fetching.{FailsToFetch, FetchesTo}
 use Rattle.raft_log_engine_laws.specs.Syncing.{NotSynced, SyncsAppend}
 use Rattle.raft_log_engine_laws.specs.Writing.{NotWritten, WritesBytes}
@@ -40,20 +40,20 @@ IsBare o = without_bytes o ≡ o
 
 -- A request that leaves its voter unchanged is served by the outline: nothing was written.
 abbrev pub ToldRequestsAreServed : Type 0
-ToldRequestsAreServed = (q : ℕ × Request) (a : Reply) (s : Shows) (os : ℕ → State) → has_failed s ≡ false
+ToldRequestsAreServed = (q : ℕ × Request) (a : Reply) (s : EngineState) (os : ℕ → State) → has_failed s ≡ false
     → IsBare (os q.0) → IsReplyOfEach (os q.0) q.1 (answers.Told a) → LeavesEach (os q.0) q.1
     → Served q a false s s os os
 
 -- A request is served if its change was written, and the outline of its group made the step.
 abbrev pub WrittenRequestsAreServed : Type 0
-WrittenRequestsAreServed = (q : ℕ × Request) (a : Reply) (c : Change) (b : Batch) (len : ℕ) (s t : Shows)
+WrittenRequestsAreServed = (q : ℕ × Request) (a : Reply) (c : Change) (b : Batch) (len : ℕ) (s t : EngineState)
     (os us : ℕ → State) → IsBare (os q.0) → IsReplyOfEach (os q.0) q.1 (answers.Told a)
     → ChangesEach (os q.0) q.1 c → SaysChange q.0 q.1 c b → StepsOutlines q os us
     → WritesBytes b false len s t → Served q a true s t os us
 
 -- A request for entries is served if they were read.
 abbrev pub ReadRequestsAreServed : Type 0
-ReadRequestsAreServed = (q : ℕ × Request) (from to : ℕ) (es : List VoterEntry) (s t : Shows) (os : ℕ → State)
+ReadRequestsAreServed = (q : ℕ × Request) (from to : ℕ) (es : List VoterEntry) (s t : EngineState) (os : ℕ → State)
     → IsReplyOfEach (os q.0) q.1 (answers.Entries from to) → LeavesEach (os q.0) q.1
     → ReadsEntries q.0 from to s t os es → Served q (replies.Entries es) false s t os os
 
@@ -64,7 +64,7 @@ EnginesAreCounted = (v : LogPipes) (tables : MemTables) (cache : BlockCache) →
 -- Fetched entries are read, if messages are raw bytes, and each parses as an entry at its index.
 abbrev pub FetchedEntriesAreRead : Type 0 → Type 0
 FetchedEntriesAreRead M = (text : M → List ℕ) (reading : List ℕ → Option M) (q : ℕ × Request)
-    (from to count : ℕ) (s t : Shows) (os : ℕ → State) (messages : List M) (es : List VoterEntry)
+    (from to count : ℕ) (s t : EngineState) (os : ℕ → State) (messages : List M) (es : List VoterEntry)
     → IsRaw text reading → IsCounted s → IsReplyOfEach (os q.0) q.1 (answers.Entries from to)
     → FetchesTo reading q.0 from to None s t [] messages count → AreReadAs from (map text messages) es
     → ReadsEntries q.0 from to s t os es
@@ -72,39 +72,39 @@ FetchedEntriesAreRead M = (text : M → List ℕ) (reading : List ℕ → Option
 -- Entries that weren't fetched aren't read, for one of these reasons.
 abbrev pub UnfetchedEntriesAreUnread : Type 0 → Type 0
 UnfetchedEntriesAreUnread M = (text : M → List ℕ) (reading : List ℕ → Option M) (q : ℕ × Request)
-    (from to : ℕ) (error : Error) (s t : Shows) (os : ℕ → State) → IsRaw text reading
+    (from to : ℕ) (error : Error) (s t : EngineState) (os : ℕ → State) → IsRaw text reading
     → IsReplyOfEach (os q.0) q.1 (answers.Entries from to) → FailsToFetch reading q.0 from to s t error
     → ReadsNone q error s t os
 
 -- If a request's record wasn't written, the request is turned down, or the engine failed at it.
 abbrev pub UnwrittenRequests : Type 0
-UnwrittenRequests = (q : ℕ × Request) (c : Change) (b : Batch) (error : Error) (s t : Shows) (os : ℕ → State)
+UnwrittenRequests = (q : ℕ × Request) (c : Change) (b : Batch) (error : Error) (s t : EngineState) (os : ℕ → State)
     → has_failed s ≡ false → ChangesEach (os q.0) q.1 c → SaysChange q.0 q.1 c b
     → record_len b.items b.entries < 2 ^ 56 → NotWritten b error s t
     → TurnedDown q error s t os ⊎ ((error ≡ errors.Failed) × Broke q s t os)
 
 -- If memory ran out before anything was done, the request is turned down.
 abbrev pub UnmadeRequestsAreTurnedDown : Type 0
-UnmadeRequestsAreTurnedDown = (q : ℕ × Request) (s : Shows) (os : ℕ → State) → has_failed s ≡ false
+UnmadeRequestsAreTurnedDown = (q : ℕ × Request) (s : EngineState) (os : ℕ → State) → has_failed s ≡ false
     → TurnedDown q errors.Memory s s os
 
 -- A request for entries is turned down if they weren't read.
 abbrev pub UnreadRequestsAreTurnedDown : Type 0
-UnreadRequestsAreTurnedDown = (q : ℕ × Request) (error : Error) (s t : Shows) (os : ℕ → State)
+UnreadRequestsAreTurnedDown = (q : ℕ × Request) (error : Error) (s t : EngineState) (os : ℕ → State)
     → ReadsNone q error s t os → TurnedDown q error s t os
 
 -- Rounds.
 
 -- A round begins, and continues with a request that was served, or with one that was turned down.
 pub record RoundsGoOn : Type 0 where
-  pub begins : (qs : List (ℕ × Request)) (s : Shows) (os : ℕ → State) → has_failed s ≡ false
+  pub begins : (qs : List (ℕ × Request)) (s : EngineState) (os : ℕ → State) → has_failed s ≡ false
       → Went qs [] false s s os os
   pub served : (qs : List (ℕ × Request)) (told : List Reply) (q : ℕ × Request) (a : Reply) (wrote more : Bool)
-      (s t u : Shows) (os us ws : ℕ → State) → Went qs told wrote s t os us
+      (s t u : EngineState) (os us ws : ℕ → State) → Went qs told wrote s t os us
       → slice_get qs (length told) ≡ Some q → Served q a more t u us ws
       → Went qs (told ++ a ∷ []) (wrote || more) s u os ws
   pub turned_down : (qs : List (ℕ × Request)) (told : List Reply) (q : ℕ × Request) (error : Error) (wrote : Bool)
-      (s t u : Shows) (os us : ℕ → State) → Went qs told wrote s t os us
+      (s t u : EngineState) (os us : ℕ → State) → Went qs told wrote s t os us
       → slice_get qs (length told) ≡ Some q → TurnedDown q error t u us
       → Went qs (told ++ replies.Refused ∷ []) wrote s u os us
 
@@ -114,18 +114,18 @@ pub record RoundsGoOn : Type 0 where
 -- - the engine fails at a request
 -- - its sync fails
 pub record RoundsEnd : Type 0 where
-  pub unwritten : (home : Home) (V : World) (qs : List (ℕ × Request)) (told : List Reply) (s t : Shows)
+  pub unwritten : (home : LogDirectories) (V : World) (qs : List (ℕ × Request)) (told : List Reply) (s t : EngineState)
       (os us : ℕ → State) → Keeps home s V → AreOutlines os V → Went qs told false s t os us
       → Answered home V qs told s t us
-  pub answered : (home : Home) (V : World) (qs : List (ℕ × Request)) (told : List Reply) (wrote : Bool)
-      (s t u : Shows) (os us : ℕ → State) → Keeps home s V → AreOutlines os V → Went qs told wrote s t os us
+  pub answered : (home : LogDirectories) (V : World) (qs : List (ℕ × Request)) (told : List Reply) (wrote : Bool)
+      (s t u : EngineState) (os us : ℕ → State) → Keeps home s V → AreOutlines os V → Went qs told wrote s t os us
       → SyncsAppend t u → Answered home V qs told s u us
-  pub gave_up : (home : Home) (V : World) (qs : List (ℕ × Request)) (told : List Reply) (q : ℕ × Request)
-      (wrote : Bool) (s t u : Shows) (os us : ℕ → State) → Keeps home s V → AreOutlines os V
+  pub gave_up : (home : LogDirectories) (V : World) (qs : List (ℕ × Request)) (told : List Reply) (q : ℕ × Request)
+      (wrote : Bool) (s t u : EngineState) (os us : ℕ → State) → Keeps home s V → AreOutlines os V
       → Went qs told wrote s t os us → slice_get qs (length told) ≡ Some q → Broke q t u us
       → GaveUp home V qs told s u
-  pub unsynced : (home : Home) (V : World) (qs : List (ℕ × Request)) (told : List Reply) (wrote : Bool)
-      (error : Error) (s t u : Shows) (os us : ℕ → State) → Keeps home s V → AreOutlines os V
+  pub unsynced : (home : LogDirectories) (V : World) (qs : List (ℕ × Request)) (told : List Reply) (wrote : Bool)
+      (error : Error) (s t u : EngineState) (os us : ℕ → State) → Keeps home s V → AreOutlines os V
       → Went qs told wrote s t os us → NotSynced error t u → Unsynced home V qs told s u
 
 -- Replies and refused places.
@@ -150,42 +150,42 @@ PassedVotersTookFirst = (V : World) (qs : List (ℕ × Request)) (told : List Re
 
 -- A purge changes no voter, whether it succeeds or fails.
 pub record PurgesKeepVoters : Type 0 where
-  pub answered : (home : Home) (V : World) (s t : Shows) → Keeps home s V → KeepsMap s t → Keeps home t V
-  pub refused : (home : Home) (V : World) (error : Error) (s t : Shows) → Keeps home s V
+  pub answered : (home : LogDirectories) (V : World) (s t : EngineState) → Keeps home s V → KeepsMap s t → Keeps home t V
+  pub refused : (home : LogDirectories) (V : World) (error : Error) (s t : EngineState) → Keeps home s V
       → KeepsOrLeavesMap error s t → KeepsOrLeaves home error t V
 
 -- An engine that is dropped, as by a crash, leaves its log on its disk.
 abbrev pub EnginesLeaveLogs : Type 0
-EnginesLeaveLogs = (s : Shows) → LeavesLog s s.pipes.disk
+EnginesLeaveLogs = (s : EngineState) → LeavesLog s s.pipes.disk
 
 -- An engine that is closed or dropped leaves its voters on the disk. A fork leaves what was left as it was.
 pub record VotersAreLeft : Type 0 where
-  pub gone : (home : Home) (V : World) (s : Shows) (d : Disk) → Keeps home s V → LeavesLog s d
+  pub gone : (home : LogDirectories) (V : World) (s : EngineState) (d : Disk) → Keeps home s V → LeavesLog s d
       → IsLeftWith home d V
-  pub forked : (home : Home) (V : World) (qs : List (ℕ × Request)) (refused : List ℕ) (d e : Disk)
+  pub forked : (home : LogDirectories) (V : World) (qs : List (ℕ × Request)) (refused : List ℕ) (d e : Disk)
       → IsLeftAmong home d (TakesFirst V qs refused) → LeavesLeft home d e
       → IsLeftAmong home e (TakesFirst V qs refused)
 
 -- An empty log means fresh voters. An engine that is opened for the first time has them, and such an open leaves them
 -- if it fails.
 pub record FreshLogsHaveFreshVoters : Type 0 where
-  pub answered : (home : Home) (e : Shows) → Holds home e nothing_stands [] → Keeps home e fresh_world
-  pub refused : (home : Home) (d : Disk) → IsLeftAt home d nothing_stands [] → IsLeftWith home d fresh_world
+  pub answered : (home : LogDirectories) (e : EngineState) → Represents home e nothing_stands [] → Keeps home e fresh_world
+  pub refused : (home : LogDirectories) (d : Disk) → IsRecoverableAs home d nothing_stands [] → IsLeftWith home d fresh_world
 
 -- A round that was cut off leaves voters that took its requests below one place. Any other call leaves those before
 -- it.
 pub record LeftBehindRounds : Type 0 where
-  pub gave_up : (home : Home) (V : World) (qs : List (ℕ × Request)) (told : List Reply) (s t : Shows)
+  pub gave_up : (home : LogDirectories) (V : World) (qs : List (ℕ × Request)) (told : List Reply) (s t : EngineState)
       → GaveUp home V qs told s t
       → IsLeftAmong home t.pipes.disk (TakesFirst V qs (refused_from 0 told))
-  pub unsynced : (home : Home) (V : World) (qs : List (ℕ × Request)) (told : List Reply) (s t : Shows)
+  pub unsynced : (home : LogDirectories) (V : World) (qs : List (ℕ × Request)) (told : List Reply) (s t : EngineState)
       → Unsynced home V qs told s t
       → IsLeftAmong home t.pipes.disk (TakesFirst V qs (refused_from 0 told))
-  pub alone : (home : Home) (V : World) (d : Disk) → IsLeftWith home d V
+  pub alone : (home : LogDirectories) (V : World) (d : Disk) → IsLeftWith home d V
       → IsLeftAmong home d (TakesFirst V [] [])
 
 -- An open in place, after a crash or of a fork finds voters that a stop may leave, and so do all opens after it.
 abbrev pub OpensFindVoters : Type 0
-OpensFindVoters = (home : Home) (d : Disk) (V : World) (qs : List (ℕ × Request)) (refused : List ℕ)
+OpensFindVoters = (home : LogDirectories) (d : Disk) (V : World) (qs : List (ℕ × Request)) (refused : List ℕ)
     (left : IsLeftAmong home d (TakesFirst V qs refused)) (k : ℕ) → k ≤ length left.pending
     → OpensAmong home d (TakesFirst V qs refused) left k

@@ -2,10 +2,10 @@
 use Rattle.std.specs.Prelude.{◌≡◌, ℕ, false, List, length, Option, Some}
 use Rattle.raft_log_model_laws.specs.Groups.{taken}
 use Rattle.raft_log_record_base.specs.declared.errors.Error.{Error}
-use Rattle.raft_log_engine_laws.specs.Shows.{Home, LogMap, Shows, has_failed}
-use Rattle.raft_log_engine_laws.specs.Holding.{Holds}
+use Rattle.raft_log_engine_laws.specs.EngineState.{LogDirectories, LogMap, EngineState, has_failed}
+use Rattle.raft_log_engine_laws.specs.Holding.{Represents}
 use Rattle.raft_log_engine_laws.specs.Fetching.{StaysButBlock}
-use Rattle.raft_log_engine_laws.specs.raft_log_dual_pipes.specs.Pipes.{Said}
+use Rattle.raft_log_engine_laws.specs.raft_log_dual_pipes.specs.Pipes.{LogRecordValue}
 use Rattle.raft_voter_messages.specs.declared.reply.Entry.{Entry as VoterEntry}
 use Rattle.raft_voter_messages.specs.declared.request.Request.{Request}
 use Rattle.raft_voter_outline.specs.Rules.{entries_between}
@@ -20,19 +20,19 @@ abbrev pub IsRaw : {M : Type 0} → (M → List ℕ) → (List ℕ → Option M)
 IsRaw {M} text reading = (bytes : List ℕ) → (x : M) × (reading bytes ≡ Some x) × (text x ≡ bytes)
 
 -- tables show no entry of a group that doesn't count
-abbrev pub IsCounted : Shows → Type 0
+abbrev pub IsCounted : EngineState → Type 0
 IsCounted s = (g : ℕ) → s.counts g ≡ false → length (s.tables g).places ≡ 0
 
 -- Entries were read: those of the group's voter from one index on, below another. Only the cached block changed.
-pub record ReadsEntries (g from to : ℕ) (s t : Shows) (os : ℕ → State) (es : List VoterEntry) : Type 0 where
+pub record ReadsEntries (g from to : ℕ) (s t : EngineState) (os : ℕ → State) (es : List VoterEntry) : Type 0 where
   pub alive : has_failed s ≡ false
   pub stays : StaysButBlock s t
-  pub exact : (home : Home) (m : LogMap) (pending : List Said) (W : World) → Holds home s m pending
+  pub exact : (home : LogDirectories) (m : LogMap) (pending : List LogRecordValue) (W : World) → Represents home s m pending
       → Means (taken m pending) W → AreOutlines os W → es ≡ entries_between (W g) from to
 
 -- Entries weren't read, for one of these reasons. Only the cached block changed.
-pub record ReadsNone (q : ℕ × Request) (error : Error) (s t : Shows) (os : ℕ → State) : Type 0 where
+pub record ReadsNone (q : ℕ × Request) (error : Error) (s t : EngineState) (os : ℕ → State) : Type 0 where
   pub alive : has_failed s ≡ false
   pub stays : StaysButBlock s t
-  pub why : (home : Home) (m : LogMap) (pending : List Said) (W : World) → Holds home s m pending
+  pub why : (home : LogDirectories) (m : LogMap) (pending : List LogRecordValue) (W : World) → Represents home s m pending
       → Means (taken m pending) W → AreOutlines os W → WasTurnedDown q error s t

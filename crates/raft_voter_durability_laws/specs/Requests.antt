@@ -9,12 +9,12 @@ use Rattle.raft_log_record_items.specs.declared.entry.EntryIndex.{EntryIndex}
 use Rattle.raft_log_record_frames.specs.Meaning.{record_of}
 use Rattle.raft_log_record_batches.specs.Batch.{Batch}
 use Rattle.raft_log_record_batches.specs.Places.{entry_bytes}
-use Rattle.raft_log_engine_laws.specs.Shows.{Home, IsWritable, LogMap, Shows, has_failed}
-use Rattle.raft_log_engine_laws.specs.Holding.{EndsAt, Holds, IsLeftAt}
+use Rattle.raft_log_engine_laws.specs.EngineState.{LogDirectories, IsWritable, LogMap, EngineState, has_failed}
+use Rattle.raft_log_engine_laws.specs.Holding.{EndsAt, Represents, IsRecoverableAs}
 use Rattle.raft_log_directory_laws.specs.Calls.Which.{InAppend}
 use Rattle.raft_log_engine_laws.specs.raft_log_memtable.specs.Reads.{entry_at}
 use Rattle.raft_log_engine_laws.specs.raft_log_dual_pipes.specs.Numbers.{HasLastNumber}
-use Rattle.raft_log_engine_laws.specs.raft_log_dual_pipes.specs.Pipes.{Said}
+use Rattle.raft_log_engine_laws.specs.raft_log_dual_pipes.specs.Pipes.{LogRecordValue}
 use Rattle.raft_log_engine_laws.specs.raft_log_block_cache.specs.Blocks.{IsFileUnread}
 use Rattle.raft_voter_messages.specs.declared.reply.Reply.{Reply}
 use Rattle.raft_voter_messages.specs.declared.request.Request.{Request}
@@ -42,17 +42,17 @@ pub record StepsOutlines (q : ℕ × Request) (os us : ℕ → State) : Type 0 w
 
 -- A request was served: at most one record was written. The voters after it are those after the request, and the
 -- reply is their own. Only a request out of range gets the reply `Refused`.
-pub record Served (q : ℕ × Request) (a : Reply) (wrote : Bool) (s t : Shows) (os us : ℕ → State) : Type 0 where
-  pub said : List Said
+pub record Served (q : ℕ × Request) (a : Reply) (wrote : Bool) (s t : EngineState) (os us : ℕ → State) : Type 0 where
+  pub said : List LogRecordValue
   pub short : length said ≤ 1
   pub silent : wrote ≡ false → said ≡ []
   pub alive : has_failed t ≡ false
   pub later : IsLater s.pipes.disk t.pipes.disk
-  pub holds : (home : Home) (m : LogMap) (pending : List Said) → Holds home s m pending
+  pub holds : (home : LogDirectories) (m : LogMap) (pending : List LogRecordValue) → Represents home s m pending
       → EndsAt home t m (pending ++ said)
   pub leads : (m : LogMap) (W : World) → Means m W → AreOutlines os W → Means (taken m said) (after_one W q)
   pub outlines : (W : World) → AreOutlines os W → AreOutlines us (after_one W q)
-  pub answers : (home : Home) (m : LogMap) (pending : List Said) (W : World) → Holds home s m pending
+  pub answers : (home : LogDirectories) (m : LogMap) (pending : List LogRecordValue) (W : World) → Represents home s m pending
       → Means (taken m pending) W → AreOutlines os W → a ≡ reply (W q.0) q.1
   pub refuses : is_refused a ≡ true → in_range q.1 ≡ false
 
@@ -61,7 +61,7 @@ pub record Served (q : ℕ × Request) (a : Reply) (wrote : Bool) (s t : Shows) 
 -- - `NumberRange`: Append's last file has the last number
 -- - `Memory`: memory ran out
 -- No other error occurs.
-abbrev pub IsUnwrittenFor : Error → Shows → Shows → Type 0
+abbrev pub IsUnwrittenFor : Error → EngineState → EngineState → Type 0
 IsUnwrittenFor (errors.Io kind) s t = Fails s.pipes.disk t.pipes.disk
 IsUnwrittenFor (errors.TryAgain text) s t = Fails s.pipes.disk t.pipes.disk
 IsUnwrittenFor errors.NumberRange s t = HasLastNumber InAppend t.pipes
@@ -70,7 +70,7 @@ IsUnwrittenFor _ s t = ⊥
 
 -- Why a group's entries between two indexes weren't read, though the tables show them: the file of one isn't read, or
 -- memory ran out. None is reported as damaged.
-pub record WereUnread (g from to : ℕ) (s : Shows) (error : Error) : Type 0 where
+pub record WereUnread (g from to : ℕ) (s : EngineState) (error : Error) : Type 0 where
   pub index : ℕ
   pub entry : EntryIndex
   pub block : FileBlockHandle
@@ -81,27 +81,27 @@ pub record WereUnread (g from to : ℕ) (s : Shows) (error : Error) : Type 0 whe
 
 -- Why a request was turned down: its record wasn't written, the entries that it asks for weren't read, or memory ran
 -- out.
-pub data WasTurnedDown (q : ℕ × Request) (error : Error) (s t : Shows) : Type 0 where
+pub data WasTurnedDown (q : ℕ × Request) (error : Error) (s t : EngineState) : Type 0 where
   unwritten : IsUnwrittenFor error s t → WasTurnedDown q error s t
   unread : (from to : ℕ) → q.1 ≡ Read from to → WereUnread q.0 from to s error → WasTurnedDown q error s t
   no_memory : error ≡ errors.Memory → WasTurnedDown q error s t
 
 -- A request was turned down: the voters and their outlines are unchanged, and this is why.
-pub record TurnedDown (q : ℕ × Request) (error : Error) (s t : Shows) (os : ℕ → State) : Type 0 where
+pub record TurnedDown (q : ℕ × Request) (error : Error) (s t : EngineState) (os : ℕ → State) : Type 0 where
   pub alive : has_failed t ≡ false
   pub later : IsLater s.pipes.disk t.pipes.disk
-  pub holds : (home : Home) (m : LogMap) (pending : List Said) → Holds home s m pending → EndsAt home t m pending
-  pub why : (home : Home) (m : LogMap) (pending : List Said) (W : World) → Holds home s m pending
+  pub holds : (home : LogDirectories) (m : LogMap) (pending : List LogRecordValue) → Represents home s m pending → EndsAt home t m pending
+  pub why : (home : LogDirectories) (m : LogMap) (pending : List LogRecordValue) (W : World) → Represents home s m pending
       → Means (taken m pending) W → AreOutlines os W → WasTurnedDown q error s t
 
 -- The engine failed at a request because a file call failed. Its log is left with the request's record, or without
 -- it.
-pub record Broke (q : ℕ × Request) (s t : Shows) (os : ℕ → State) : Type 0 where
-  pub said : List Said
+pub record Broke (q : ℕ × Request) (s t : EngineState) (os : ℕ → State) : Type 0 where
+  pub said : List LogRecordValue
   pub short : length said ≤ 1
   pub failed : has_failed t ≡ true
   pub later : IsLater s.pipes.disk t.pipes.disk
   pub leads : (m : LogMap) (W : World) → Means m W → AreOutlines os W → Means (taken m said) (after_one W q)
-  pub leaves : (home : Home) (m : LogMap) (pending : List Said) → Holds home s m pending
+  pub leaves : (home : LogDirectories) (m : LogMap) (pending : List LogRecordValue) → Represents home s m pending
       → Fails s.pipes.disk t.pipes.disk
-      × (IsLeftAt home t.pipes.disk m pending ⊎ IsLeftAt home t.pipes.disk m (pending ++ said))
+      × (IsRecoverableAs home t.pipes.disk m pending ⊎ IsRecoverableAs home t.pipes.disk m (pending ++ said))

@@ -10,13 +10,13 @@ use Rattle.raft_log_fs.proofs.ImageLaws.{disk_ext, only_at_rest}
 use Rattle.raft_log_fs_memory.specs.Memory.{disk_of}
 use Rattle.raft_log_fs_memory.specs.declared.memory.MemoryFileSystem.{MemoryFileSystem}
 use Rattle.raft_log_file_settings.specs.declared.config.Config.{Config}
-use Rattle.raft_log_dual_pipes.specs.Lying.{none_open}
+use Rattle.raft_log_dual_pipes.specs.OpenOrClosed.{none_open}
 use Rattle.raft_log_dual_pipes.proofs.OnDiskLaws.{logs_go_on_disks}
-use Rattle.raft_voter_durability_laws.specs.raft_log_engine_laws.specs.raft_log_dual_pipes.specs.OnDisk.{LogRestsOn}
-use Rattle.raft_voter_durability_laws.specs.raft_log_engine_laws.specs.raft_log_dual_pipes.specs.Pipes.{Said}
-use Rattle.raft_voter_durability_laws.specs.raft_log_engine_laws.specs.Holding.{Holds, IsLeftAt}
-use Rattle.raft_voter_durability_laws.specs.raft_log_engine_laws.specs.Shows.{Home, LogMap, Shows, has_failed, log_in}
-use Rattle.raft_voter_durability_laws.specs.raft_log_engine_laws.proofs.Lying.{closed_engines_are_left}
+use Rattle.raft_voter_durability_laws.specs.raft_log_engine_laws.specs.raft_log_dual_pipes.specs.OnDisk.{IsDurableAs}
+use Rattle.raft_voter_durability_laws.specs.raft_log_engine_laws.specs.raft_log_dual_pipes.specs.Pipes.{LogRecordValue}
+use Rattle.raft_voter_durability_laws.specs.raft_log_engine_laws.specs.Holding.{Represents, IsRecoverableAs}
+use Rattle.raft_voter_durability_laws.specs.raft_log_engine_laws.specs.EngineState.{LogDirectories, LogMap, EngineState, has_failed, log_in}
+use Rattle.raft_voter_durability_laws.specs.raft_log_engine_laws.proofs.OpenOrClosed.{closed_engines_are_left}
 use Rattle.raft_log_recovery_laws.specs.Bare.{IsBare}
 use Rattle.raft_log_recovery_laws.specs.ByCalls.{home_of}
 use Rattle.raft_log_recovery_laws.specs.ForkLeaving.{EndsFork, LeavesSource}
@@ -64,7 +64,7 @@ bare_image config d e is b = record {
 }
 
 -- what rests is left
-rests_left : (config : Config) (d : OnDisk) (m : LogMap) → LogRestsOn (log_in (home_of config)) d m → IsLeftAt (home_of config) d m []
+rests_left : (config : Config) (d : OnDisk) (m : LogMap) → IsDurableAs (log_in (home_of config)) d m → IsRecoverableAs (home_of config) d m []
 rests_left config d m is = (
   none_open,
   record {
@@ -87,7 +87,7 @@ pub fresh_at_first : (config : Config) (d : OnDisk) → d ≡ empty_disk → Fil
 fresh_at_first config d empty = bare (bare_at_first config d empty) refl
 
 -- an engine that holds a map hasn't failed
-holding_lives : (home : Home) (s : Shows) (m : LogMap) → Holds home s m [] → has_failed s ≡ false
+holding_lives : (home : LogDirectories) (s : EngineState) (m : LogMap) → Represents home s m [] → has_failed s ≡ false
 holding_lives home s m h =
     let one : s.pipes.append.failed ≡ false = h.runs.append.alive in
     let other : s.pipes.rewrite.failed ≡ false = h.runs.rewrite.alive in
@@ -135,14 +135,14 @@ pub crash_leaves_for : (c e : Config) (d image : OnDisk) (cut : CutRound) → Ar
 crash_leaves_for c e d image cut same is known chance = leave_for c e image cut (sym (one_home e c same)) (crash_leaves c d image cut is known chance)
 
 -- what a store says that it leaves is known, and is left unless something passes by chance
-pub crash_leaves_under : (c e : Config) (s : Shows) (after : MemoryFileSystem) (cut : CutRound) → AreSame e c → IsImage s.pipes.disk (disk_of after) → LeavesAt (home_of c) s cut
+pub crash_leaves_under : (c e : Config) (s : EngineState) (after : MemoryFileSystem) (cut : CutRound) → AreSame e c → IsImage s.pipes.disk (disk_of after) → LeavesAt (home_of c) s cut
     → (known : LeavesAt (home_of c) s cut) × (SparesStore (home_of c) s cut known (disk_of after) → FilesLeave e (disk_of after) cut)
 crash_leaves_under c e s after cut same is (running W none keeps) = (
   running W none keeps,
   λ chance.
       let home = home_of c in
       let (k, within, at, opens) = crashed_engines_open disk_of (λ system directory free. Unit {0}) home s keeps.map [] keeps.holds after (memory_sound after) is chance in
-      let still : LogRestsOn (log_in home) (disk_of after) keeps.map = subst (λ (l : List Said). LogRestsOn (log_in home) (disk_of after) (taken keeps.map l)) (take-nil k) at in
+      let still : IsDurableAs (log_in home) (disk_of after) keeps.map = subst (λ (l : List LogRecordValue). IsDurableAs (log_in home) (disk_of after) (taken keeps.map l)) (take-nil k) at in
       leave_for c e (disk_of after) cut (sym (one_home e c same)) (rests s.pipes.disk is keeps.map still W keeps.means (follows_none cut W none)),
 )
 crash_leaves_under c e s after cut same is (is_left failed l) = (
@@ -154,7 +154,7 @@ crash_leaves_under c e s after cut same is (is_left failed l) = (
 )
 
 -- a store is closed
-pub close_leaves : (config : Config) (s : Shows) (d : OnDisk) (cut : CutRound) → ClosesStore s d → LeavesAt (home_of config) s cut → FilesLeave config d cut
+pub close_leaves : (config : Config) (s : EngineState) (d : OnDisk) (cut : CutRound) → ClosesStore s d → LeavesAt (home_of config) s cut → FilesLeave config d cut
 close_leaves config s d cut closes (running W none keeps) =
     let home = home_of config in
     let alive = holding_lives home s keeps.map keeps.holds in

@@ -7,8 +7,8 @@ use Rattle.raft_log_file_format.specs.Name.{suffix_of}
 use Rattle.raft_log_file_settings.specs.Settings.{Settings, directories_of}
 use Rattle.raft_log_file_settings.specs.declared.config.Config.{Config}
 use Rattle.raft_voter_durability_laws.specs.raft_log_engine_laws.specs.raft_log_active_file.specs.Paths.{IsPathWith, reserved_suffix_of}
-use Rattle.raft_voter_durability_laws.specs.raft_log_engine_laws.specs.Shows.{Home, log_in}
-use Rattle.raft_voter_durability_laws.specs.raft_log_engine_laws.specs.raft_log_dual_pipes.specs.OnDisk.{LogRestsOn}
+use Rattle.raft_voter_durability_laws.specs.raft_log_engine_laws.specs.EngineState.{LogDirectories, log_in}
+use Rattle.raft_voter_durability_laws.specs.raft_log_engine_laws.specs.raft_log_dual_pipes.specs.OnDisk.{IsDurableAs}
 use Rattle.raft_log_recovery_laws.specs.raft_log_recovery.specs.Directories.{paths_of}
 use Rattle.raft_log_recovery_laws.specs.Bare.{IsBare}
 use Rattle.raft_log_recovery_laws.specs.ByCalls.{home_of}
@@ -36,10 +36,10 @@ bare_for c e d same b = record {
 }
   where
     back : paths_of e ≡ paths_of c
-    back = ap (λ (h : Home). h.append) (sym same)
+    back = ap (λ (h : LogDirectories). h.append) (sym same)
 
 -- what stands in files stands in them whichever of the settings names them
 pub leave_for : (c e : Config) (d : Disk) (cut : CutRound) → home_of c ≡ home_of e → FilesLeave c d cut → FilesLeave e d cut
 leave_for c e d cut same (bare b none) = bare (bare_for c e d same b) none
-leave_for c e d cut same (rests before image m is W means follows) = rests before image m (subst (λ (h : Home). LogRestsOn (log_in h) d m) same is) W means follows
-leave_for c e d cut same (left l) = left (subst (λ (h : Home). IsLeftAmong h d (MayFollow cut)) same l)
+leave_for c e d cut same (rests before image m is W means follows) = rests before image m (subst (λ (h : LogDirectories). IsDurableAs (log_in h) d m) same is) W means follows
+leave_for c e d cut same (left l) = left (subst (λ (h : LogDirectories). IsLeftAmong h d (MayFollow cut)) same l)

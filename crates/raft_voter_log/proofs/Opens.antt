@@ -5,8 +5,8 @@ use Rattle.raft_log_fs.specs.Image.{IsSound}
 use Rattle.raft_log_fs_memory.specs.Memory.{disk_of}
 use Rattle.raft_log_fs_memory.specs.declared.memory.MemoryFileSystem.{MemoryFileSystem}
 use Rattle.raft_log_file_settings.specs.declared.config.Config.{Config}
-use Rattle.raft_voter_durability_laws.specs.raft_log_engine_laws.specs.raft_log_dual_pipes.specs.OnDisk.{LogRestsOn}
-use Rattle.raft_voter_durability_laws.specs.raft_log_engine_laws.specs.Shows.{Home, Shows, has_failed, log_in, shows as shows_all}
+use Rattle.raft_voter_durability_laws.specs.raft_log_engine_laws.specs.raft_log_dual_pipes.specs.OnDisk.{IsDurableAs}
+use Rattle.raft_voter_durability_laws.specs.raft_log_engine_laws.specs.EngineState.{LogDirectories, EngineState, has_failed, log_in, shows as shows_all}
 use Rattle.raft_log_recovery_laws.specs.Bare.{IsBare}
 use Rattle.raft_log_recovery_laws.specs.ByCalls.{home_of}
 use Rattle.raft_voter_outline.specs.State.{State}
@@ -43,7 +43,7 @@ memory_sound system = let storage = system.whole.sound in record {
 }
 
 -- an engine that was just opened hasn't failed
-pub opened_lives : {F : Type 0} (disk : F → OnDisk) (tells : F → List ℕ → ℕ → Type 0) (config : Config) (old : F) (t : Shows) (os : ℕ → State) → OpensVoters disk tells config old t os → has_failed t ≡ false
+pub opened_lives : {F : Type 0} (disk : F → OnDisk) (tells : F → List ℕ → ℕ → Type 0) (config : Config) (old : F) (t : EngineState) (os : ℕ → State) → OpensVoters disk tells config old t os → has_failed t ≡ false
 opened_lives disk tells config old t os o =
     ap has_failed o.stays.same ∙ ap has_failed o.opens.is ∙ pipes o.opens.opens.opens.opens.append_is.alive o.opens.opens.opens.opens.rewrite_is.alive
   where
@@ -55,7 +55,7 @@ pub follows_none : (cut : CutRound) (W : World) → cut ≡ uncut W → MayFollo
 follows_none cut W none = subst (λ (c : CutRound). MayFollow c W) (sym none) (record { place = 0; within = omega arith; reached = refl })
 
 -- and no others
-pub left_as : (home : Home) (d : OnDisk) (cut : CutRound) (W : World) → MayFollow cut W → IsLeftWith home d W → IsLeftAmong home d (MayFollow cut)
+pub left_as : (home : LogDirectories) (d : OnDisk) (cut : CutRound) (W : World) → MayFollow cut W → IsLeftWith home d W → IsLeftAmong home d (MayFollow cut)
 left_as home d cut W follows l = record {
   map = l.map;
   pending = l.pending;
@@ -63,14 +63,14 @@ left_as home d cut W follows l = record {
   among = λ k within. (let (X, is, means) = l.among k within in (X, subst (λ (V : World). MayFollow cut V) (sym is) follows, means));
 }
 
-module _ {S : Type 0} (tells : MemoryFileSystem → List ℕ → ℕ → Type 0) (config : S → Config) (shows : S → Shows) (outlines : S → ℕ → State) (files : LogFiles) where
+module _ {S : Type 0} (tells : MemoryFileSystem → List ℕ → ℕ → Type 0) (config : S → Config) (shows : S → EngineState) (outlines : S → ℕ → State) (files : LogFiles) where
   -- what an open serves is served by the settings that the store keeps
   serves : (store : S) (settings : Config) (W : World) → home_of settings ≡ home_of files.config → AreSame (config store) files.config → OpensVoters disk_of tells settings files.files (shows store) (outlines store)
       → ServesFound disk_of tells settings files.files W → IsOpenAt (service_in (λ s. home_of (config s)) shows outlines) store W
   serves store settings W named same opens found =
       let (keeps, are) = found (shows store) (outlines store) opens in
       open_in (λ s. home_of (config s)) shows outlines store W (opened_lives disk_of tells settings files.files (shows store) (outlines store) opens)
-      (subst (λ (h : Home). Keeps h (shows store) W) (named ∙ sym (one_home (config store) files.config same)) keeps) are
+      (subst (λ (h : LogDirectories). Keeps h (shows store) W) (named ∙ sym (one_home (config store) files.config same)) keeps) are
 
   pub finds : (workers : ℕ) (store : S) → OpensFiles tells files workers (shows store) (outlines store) → AreSame (config store) files.config
       → FindsVoters (service_in (λ s. home_of (config s)) shows outlines) (log_disk tells config shows outlines) files store
@@ -82,7 +82,7 @@ module _ {S : Type 0} (tells : MemoryFileSystem → List ℕ → ℕ → Type 0)
           let law = first_opens_are_fresh disk_of tells settings files.files (memory_sound files.files) (bare_for files.config settings (disk_of files.files) (sym named.0) b) in
           (fresh_world, follows_none cut fresh_world none, serves store settings fresh_world named.0 same opens law.answered)
       by_known (rests before image m is W means follows) chance =
-          let there : LogRestsOn (log_in (home_of settings)) (disk_of files.files) m = subst (λ (h : Home). LogRestsOn (log_in h) (disk_of files.files) m) (sym named.0) is in
+          let there : IsDurableAs (log_in (home_of settings)) (disk_of files.files) m = subst (λ (h : LogDirectories). IsDurableAs (log_in h) (disk_of files.files) m) (sym named.0) is in
           let law = resting_voters_are_found disk_of tells settings files.files m W (memory_sound files.files) there means in
           (W, follows, serves store settings W named.0 same opens law.answered)
       by_known (left l) chance =
@@ -99,7 +99,7 @@ refused_leaves tells files back settings why named fails cut (bare b none) chanc
     begun (inl still) = bare still none
     begun (inr l) = left (left_as (home_of settings) (disk_of back) cut fresh_world (follows_none cut fresh_world none) l)
 refused_leaves tells files back settings why named fails cut (rests before image m is W means follows) chance =
-    let there : LogRestsOn (log_in (home_of settings)) (disk_of files.files) m = subst (λ (h : Home). LogRestsOn (log_in h) (disk_of files.files) m) (sym named) is in
+    let there : IsDurableAs (log_in (home_of settings)) (disk_of files.files) m = subst (λ (h : LogDirectories). IsDurableAs (log_in h) (disk_of files.files) m) (sym named) is in
     let law = resting_voters_are_found disk_of tells settings files.files m W (memory_sound files.files) there means in
     left (left_as (home_of settings) (disk_of back) cut W follows (law.refused why back fails))
 refused_leaves tells files back settings why named fails cut (left l) chance =

@@ -5,7 +5,7 @@ use Rattle.raft_log_record_base.specs.declared.errors.Error.{Error}
 use Rattle.raft_log_record_base.specs.declared.errors.Error.TheVariants as errors
 use Rattle.raft_voter_durability_laws.specs.raft_log_engine_laws.specs.Fetching.{HadFailed}
 use Rattle.raft_voter_durability_laws.specs.raft_log_engine_laws.specs.raft_log_dual_pipes.specs.Pipes.{LogPipes}
-use Rattle.raft_voter_durability_laws.specs.raft_log_engine_laws.specs.Shows.{Home, Shows, has_failed}
+use Rattle.raft_voter_durability_laws.specs.raft_log_engine_laws.specs.EngineState.{LogDirectories, EngineState, has_failed}
 use Rattle.raft_log_engine.specs.raft_log_engine_core.specs.declared.engine.LogEngine.{LogEngine}
 use Rattle.raft_log_purge.specs.Append.{FailsToRewriteAppend}
 use Rattle.raft_voter_outline.specs.State.{State}
@@ -25,23 +25,23 @@ use Rattle.raft_voter_log.specs.Causes.{purge_cause}
 use Rattle.raft_voter_log.specs.Instance.{PurgesLog, RefusesLogPurge, StopsPurgeAs}
 
 -- why a purge is refused: the engine had failed; or it hadn't, and it tells whether it has now
-abbrev pub IsPurgeRefusal : Error → Shows → Shows → Type 0
+abbrev pub IsPurgeRefusal : Error → EngineState → EngineState → Type 0
 IsPurgeRefusal error s t = HadFailed s t error ⊎ ((has_failed s ≡ false) × FailsToRewriteAppend error s t)
 
 is_not : (b : Bool) → b ≡ true → b ≡ false → ⊥
 is_not b at off = false≢true (sym off ∙ at)
 
 -- an engine fails where the error says so
-fails_now : (error : Error) (s t : Shows) → has_failed s ≡ false → FailsToRewriteAppend error s t → error ≡ errors.Failed → has_failed t ≡ true
+fails_now : (error : Error) (s t : EngineState) → has_failed s ≡ false → FailsToRewriteAppend error s t → error ≡ errors.Failed → has_failed t ≡ true
 fails_now error s t alive f is = (f.tells alive).1 is
 
-module _ {S : Type 0} (home : S → Home) (shows : S → Shows) (outlines : S → ℕ → State) (old new : S) (here : home new ≡ home old) (os : outlines new ≡ outlines old) where
+module _ {S : Type 0} (home : S → LogDirectories) (shows : S → EngineState) (outlines : S → ℕ → State) (old new : S) (here : home new ≡ home old) (os : outlines new ≡ outlines old) where
   opened : (W : World) → has_failed (shows new) ≡ false → Keeps (home old) (shows new) W → AreOutlines (outlines old) W → IsOpenAt (service_in home shows outlines) new W
   opened W alive keeps are =
-      open_in home shows outlines new W alive (subst (λ (x : Home). Keeps x (shows new) W) (sym here) keeps) (subst (λ (x : ℕ → State). AreOutlines x W) (sym os) are)
+      open_in home shows outlines new W alive (subst (λ (x : LogDirectories). Keeps x (shows new) W) (sym here) keeps) (subst (λ (x : ℕ → State). AreOutlines x W) (sym os) are)
 
   still : (cut : CutRound) → LeavesAt (home old) (shows new) cut → LeavesAt (home new) (shows new) cut
-  still cut l = subst (λ (x : Home). LeavesAt x (shows new) cut) (sym here) l
+  still cut l = subst (λ (x : LogDirectories). LeavesAt x (shows new) cut) (sym here) l
 
   -- answered
   pub purged_keeps : has_failed (shows old) ≡ false → KeepsVoters (shows old) (shows new) → KeepsServed (service_in home shows outlines) old new
@@ -58,9 +58,9 @@ module _ {S : Type 0} (home : S → Home) (shows : S → Shows) (outlines : S �
   -- refused
   pub refused_keeps : (error : Error) → IsPurgeRefusal error (shows old) (shows new) → KeepsOrLeavesVoters error (shows old) (shows new) → KeepsServed (service_in home shows outlines) old new
   refused_keeps error (inl had) keeps = record {
-    failed = λ failed. subst (λ (x : Shows). has_failed x ≡ true) (sym had.2) failed;
+    failed = λ failed. subst (λ (x : EngineState). has_failed x ≡ true) (sym had.2) failed;
     served = λ W at lives. absurd (is_not (has_failed (shows old)) had.1 at.alive);
-    left = λ cut l. still cut (subst (λ (x : Shows). LeavesAt (home old) x cut) (sym had.2) l);
+    left = λ cut l. still cut (subst (λ (x : EngineState). LeavesAt (home old) x cut) (sym had.2) l);
   }
   refused_keeps error (inr (alive, fails)) keeps = record {
     failed = λ failed. absurd (is_not (has_failed (shows old)) failed alive);
@@ -84,9 +84,9 @@ module _ {S : Type 0} (home : S → Home) (shows : S → Shows) (outlines : S �
 
 -- a purge was answered, and is told so
 pub purged_as :
-    {P : Type 0} (held : LogPipes → Option ℕ → Type 0) (purge kind : Purge) (a b : LogEngine P) (s t : Shows) → purge ≡ kind → PurgesLog held kind a b s t → PurgesLog held purge a b s t
+    {P : Type 0} (held : LogPipes → Option ℕ → Type 0) (purge kind : Purge) (a b : LogEngine P) (s t : EngineState) → purge ≡ kind → PurgesLog held kind a b s t → PurgesLog held purge a b s t
 purged_as held purge kind a b s t is purged = subst (λ (p : Purge). PurgesLog held p a b s t) (sym is) purged
 
 -- a purge was refused, and is told so
-pub refused_as : (purge kind : Purge) (cause : Cause) (error : Error) (s t : Shows) → purge ≡ kind → cause ≡ purge_cause (has_failed s) error → StopsPurgeAs kind s t error → RefusesLogPurge purge cause s t
+pub refused_as : (purge kind : Purge) (cause : Cause) (error : Error) (s t : EngineState) → purge ≡ kind → cause ≡ purge_cause (has_failed s) error → StopsPurgeAs kind s t error → RefusesLogPurge purge cause s t
 refused_as purge kind cause error s t is told why = subst (λ (p : Purge). RefusesLogPurge p cause s t) (sym is) (error, told, why)

@@ -12,9 +12,9 @@ use Rattle.raft_log_fs_memory.specs.raft_log_fs_state.proofs.RemainsLaws.{left_i
 use Rattle.raft_log_fs_memory.specs.raft_log_fs_state.specs.Left.{left_disk}
 use Rattle.raft_log_fs_memory.specs.raft_log_fs_state.specs.declared.remainder.Remainder.{Remainder}
 use Rattle.raft_log_file_settings.specs.declared.config.Config.{Config}
-use Rattle.raft_voter_durability_laws.specs.raft_log_engine_laws.specs.raft_log_dual_pipes.specs.OnDisk.{LogRestsOn}
-use Rattle.raft_voter_durability_laws.specs.raft_log_engine_laws.specs.raft_log_dual_pipes.specs.Pipes.{Said}
-use Rattle.raft_voter_durability_laws.specs.raft_log_engine_laws.specs.Shows.{Home, Shows, has_failed, log_in}
+use Rattle.raft_voter_durability_laws.specs.raft_log_engine_laws.specs.raft_log_dual_pipes.specs.OnDisk.{IsDurableAs}
+use Rattle.raft_voter_durability_laws.specs.raft_log_engine_laws.specs.raft_log_dual_pipes.specs.Pipes.{LogRecordValue}
+use Rattle.raft_voter_durability_laws.specs.raft_log_engine_laws.specs.EngineState.{LogDirectories, EngineState, has_failed, log_in}
 use Rattle.raft_log_recovery_laws.specs.ByCalls.{home_of}
 use Rattle.raft_log_recovery_laws.specs.Running.{LeavesNoChance}
 use Rattle.raft_log_recovery_laws.proofs.Running.{crashed_engines_open}
@@ -69,28 +69,28 @@ image_under gone d e (system, after, was, is, same) =
     subst (λ (x : OnDisk). IsImage x e) was (subst (λ (x : OnDisk). IsImage (disk_of system) x) same (left_is_one (remainder_of gone) system after is))
 
 -- which voters a store that runs leaves
-record KeepsAlone (config : Config) (s : Shows) (cut : CutRound) : Type 0 where
+record KeepsAlone (config : Config) (s : EngineState) (cut : CutRound) : Type 0 where
   pub world : World
   pub none : cut ≡ uncut world
   pub keeps : Keeps (home_of config) s world
 
-alone : (config : Config) (s : Shows) (cut : CutRound) → has_failed s ≡ false → LeavesAt (home_of config) s cut → KeepsAlone config s cut
+alone : (config : Config) (s : EngineState) (cut : CutRound) → has_failed s ≡ false → LeavesAt (home_of config) s cut → KeepsAlone config s cut
 alone config s cut alive (running W none keeps) = record { world = W; none = none; keeps = keeps }
 alone config s cut alive (is_left failed l) = absurd (false≢true (sym alive ∙ failed))
 
-pub loses_spared : (config : Config) (s : Shows) (cut : CutRound) (d : OnDisk) → OnlyLoses config s d → (under : LeavesAt (home_of config) s cut) → SparesStore (home_of config) s cut under d
+pub loses_spared : (config : Config) (s : EngineState) (cut : CutRound) (d : OnDisk) → OnlyLoses config s d → (under : LeavesAt (home_of config) s cut) → SparesStore (home_of config) s cut under d
 loses_spared config s cut d loses (running W none keeps) = losses_leave_no_chance (home_of config) s keeps.map [] keeps.holds d loses.1
 loses_spared config s cut d loses (is_left failed l) = absurd (false≢true (sym loses.0 ∙ failed))
 
 -- it is left at rest
-pub loses_rests : (c e : Config) (s : Shows) (cut : CutRound) (after : MemoryFileSystem) → AreSame e c → IsImage s.pipes.disk (disk_of after) → OnlyLoses c s (disk_of after) → LeavesAt (home_of c) s cut → IsPlainly e (disk_of after) cut
+pub loses_rests : (c e : Config) (s : EngineState) (cut : CutRound) (after : MemoryFileSystem) → AreSame e c → IsImage s.pipes.disk (disk_of after) → OnlyLoses c s (disk_of after) → LeavesAt (home_of c) s cut → IsPlainly e (disk_of after) cut
 loses_rests c e s cut after same is loses under =
     let home = home_of c in
     let k = alone c s cut loses.0 under in
     let chance : LeavesNoChance home s.pipes (disk_of after) = losses_leave_no_chance home s k.keeps.map [] k.keeps.holds (disk_of after) loses.1 in
     let (n, within, at, opens) = crashed_engines_open disk_of (λ system directory free. Unit {0}) home s k.keeps.map [] k.keeps.holds after (memory_sound after) is chance in
-    let still : LogRestsOn (log_in home) (disk_of after) k.keeps.map = subst (λ (l : List Said). LogRestsOn (log_in home) (disk_of after) (taken k.keeps.map l)) (take-nil n) at in
-    let there : LogRestsOn (log_in (home_of e)) (disk_of after) k.keeps.map = subst (λ (h : Home). LogRestsOn (log_in h) (disk_of after) k.keeps.map) (sym (one_home e c same)) still in
+    let still : IsDurableAs (log_in home) (disk_of after) k.keeps.map = subst (λ (l : List LogRecordValue). IsDurableAs (log_in home) (disk_of after) (taken k.keeps.map l)) (take-nil n) at in
+    let there : IsDurableAs (log_in (home_of e)) (disk_of after) k.keeps.map = subst (λ (h : LogDirectories). IsDurableAs (log_in h) (disk_of after) k.keeps.map) (sym (one_home e c same)) still in
     (rests s.pipes.disk is k.keeps.map there k.world k.keeps.means (follows_none cut k.world k.none), tt)
 
 pub foreign_records_break_the_premise : ForeignRecordsBreakPremise

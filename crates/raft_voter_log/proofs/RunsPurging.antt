@@ -7,7 +7,7 @@ use Rattle.raft_log_record_base.specs.declared.errors.Error.{Error}
 use Rattle.raft_log_record_base.specs.declared.errors.Error.TheVariants as errors
 use Rattle.raft_voter_durability_laws.specs.raft_log_engine_laws.specs.Settled.{HoldsSettled}
 use Rattle.raft_voter_durability_laws.specs.raft_log_engine_laws.specs.raft_log_dual_pipes.specs.Pipes.{LogPipes}
-use Rattle.raft_voter_durability_laws.specs.raft_log_engine_laws.specs.Shows.{Home, Shows, has_failed}
+use Rattle.raft_voter_durability_laws.specs.raft_log_engine_laws.specs.EngineState.{LogDirectories, EngineState, has_failed}
 use Rattle.raft_voter_durability_laws.specs.raft_log_engine_laws.proofs.Settling.{settled_held}
 use Rattle.raft_log_engine.specs.raft_log_engine_core.specs.declared.engine.LogEngine.{LogEngine}
 use Rattle.raft_log_recovery_laws.specs.ByCalls.{home_of}
@@ -37,46 +37,46 @@ use Rattle.raft_voter_store_laws.specs.Causes.{StopsPurge, VotersHaveReason}
 use Rattle.raft_voter_store_laws.proofs.Causing.{failed_purges_have_failed, purges_tell_causes}
 use Rattle.raft_voter_log.specs.Purges.{PurgesKeepOrFail, RefusedPurgesHaveReasons, RunsRefuseForReasons}
 
-abbrev KeepsOrFails : Home → World → Shows → Shows → Type 0
+abbrev KeepsOrFails : LogDirectories → World → EngineState → EngineState → Type 0
 KeepsOrFails home V s t = Keeps home t V ⊎ ((has_failed t ≡ true) × Fails s.pipes.disk t.pipes.disk × IsLeftWith home t.pipes.disk V)
 
 -- where it was refused
-ended : (home : Home) (V : World) (s t : Shows) (error : Error) → Keeps home s V → StopsPurge s t error → (error ≡ errors.Failed → has_failed t ≡ true) → KeepsOrLeaves home error t V → KeepsOrFails home V s t
+ended : (home : LogDirectories) (V : World) (s t : EngineState) (error : Error) → Keeps home s V → StopsPurge s t error → (error ≡ errors.Failed → has_failed t ≡ true) → KeepsOrLeaves home error t V → KeepsOrFails home V s t
 ended home V s t error keeps stops tells (inl keeping) = inl keeping
 ended home V s t error keeps stops tells (inr (is, left)) = inr (tells is, failed_purges_have_failed home V s t error keeps stops (tells is), left)
 
-stopped : (home : Home) (V : World) (s t : Shows) (error : Error) → Keeps home s V → StopsPurge s t error → KeepsOrFails home V s t
-stopped home V s t error keeps (inl (inl had)) = inl (subst (λ (u : Shows). Keeps home u V) (sym had.2) keeps)
+stopped : (home : LogDirectories) (V : World) (s t : EngineState) (error : Error) → Keeps home s V → StopsPurge s t error → KeepsOrFails home V s t
+stopped home V s t error keeps (inl (inl had)) = inl (subst (λ (u : EngineState). Keeps home u V) (sym had.2) keeps)
 stopped home V s t error keeps (inl (inr fails)) =
     ended home V s t error keeps (inl (inr fails)) (fails.1.tells fails.0).1 (purges_keep_voters.refused home V error s t keeps fails.1.remains)
-stopped home V s t error keeps (inr (inl had)) = inl (subst (λ (u : Shows). Keeps home u V) (sym had.2) keeps)
+stopped home V s t error keeps (inr (inl had)) = inl (subst (λ (u : EngineState). Keeps home u V) (sym had.2) keeps)
 stopped home V s t error keeps (inr (inr fails)) =
     ended home V s t error keeps (inr (inr fails)) (fails.1.tells fails.0).1 (purges_keep_voters.refused home V error s t keeps fails.1.remains)
 
 -- where it was answered
-settled : (home : Home) (V : World) (s t : Shows) (keeps : Keeps home s V) → HoldsSettled home t keeps.map → Keeps home t V
+settled : (home : LogDirectories) (V : World) (s t : EngineState) (keeps : Keeps home s V) → HoldsSettled home t keeps.map → Keeps home t V
 settled home V s t keeps holds = record { map = keeps.map; holds = settled_held home t keeps.map holds; means = keeps.means }
 
-answered : {P : Type 0} (held : LogPipes → Option ℕ → Type 0) (home : Home) (V : World) (purge : Purge) (old new : LogEngine P) (s t : Shows) → Keeps home s V → PurgesLog held purge old new s t → Keeps home t V
+answered : {P : Type 0} (held : LogPipes → Option ℕ → Type 0) (home : LogDirectories) (V : World) (purge : Purge) (old new : LogEngine P) (s t : EngineState) → Keeps home s V → PurgesLog held purge old new s t → Keeps home t V
 answered held home V Expired old new s t keeps (groups, purged) = purges_keep_voters.answered home V s t keeps purged.purges.holds
 answered held home V RewriteAppend old new s t keeps rewrites = settled home V s t keeps (rewrites.settles home keeps.map [] keeps.holds)
 answered held home V RewriteRewrite old new s t keeps rewrites = settled home V s t keeps (rewrites.settles home keeps.map [] keeps.holds)
 
 -- of a refused one it is known of which kind it was
-stops_of : (purge : Purge) (s t : Shows) (error : Error) → StopsPurgeAs purge s t error → StopsPurge s t error
+stops_of : (purge : Purge) (s t : EngineState) (error : Error) → StopsPurgeAs purge s t error → StopsPurge s t error
 stops_of Expired s t error stops = inl stops
 stops_of RewriteAppend s t error stops = inr stops
 stops_of RewriteRewrite s t error stops = inl stops
 
 -- an engine that keeps voters hasn't failed
-alive : (home : Home) (V : World) (s : Shows) → Keeps home s V → has_failed s ≡ false
+alive : (home : LogDirectories) (V : World) (s : EngineState) → Keeps home s V → has_failed s ≡ false
 alive home V s keeps =
     let one : s.pipes.append.failed ≡ false = keeps.holds.runs.append.alive in
     let other : s.pipes.rewrite.failed ≡ false = keeps.holds.runs.rewrite.alive in
     rw (one, other) refl
 
 -- so it is of a store on a log
-module _ {S P : Type 0} (files : S → MemoryFileSystem) (held : LogPipes → Option ℕ → Type 0) (engine : S → LogEngine P) (shows : S → Shows) where
+module _ {S P : Type 0} (files : S → MemoryFileSystem) (held : LogPipes → Option ℕ → Type 0) (engine : S → LogEngine P) (shows : S → EngineState) where
   pub purges_keep_or_fail : PurgesKeepOrFail (log_upkeep files held engine shows) shows
   purges_keep_or_fail = record {
     answered = λ home V purge old new keeps purged. answered held home V purge (engine old) (engine new) (shows old) (shows new) keeps purged;
@@ -91,7 +91,7 @@ module _ {S P : Type 0} (files : S → MemoryFileSystem) (held : LogPipes → Op
   )
 
 -- so it is of each purge of a run, whose store had failed before or served voters
-module _ {S F : Type 0} (config : S → Config) (u : Upkeep S) (shows : S → Shows) (outlines : S → ℕ → State) (d : Disk S F) (have_reasons : RefusedPurgesHaveReasons u shows) where
+module _ {S F : Type 0} (config : S → Config) (u : Upkeep S) (shows : S → EngineState) (outlines : S → ℕ → State) (d : Disk S F) (have_reasons : RefusedPurgesHaveReasons u shows) where
   abbrev v : Service S
   v = service_in (λ s. home_of (config s)) shows outlines
 

@@ -4,7 +4,7 @@ use Rattle.std.proofs.lemmas.Bool.{false≢true}
 use Rattle.raft_log_fs_memory.specs.Memory.{disk_of}
 use Rattle.raft_log_fs_memory.specs.declared.memory.MemoryFileSystem.{MemoryFileSystem}
 use Rattle.raft_log_file_settings.specs.declared.config.Config.{Config}
-use Rattle.raft_voter_durability_laws.specs.raft_log_engine_laws.specs.Shows.{Shows}
+use Rattle.raft_voter_durability_laws.specs.raft_log_engine_laws.specs.EngineState.{EngineState}
 use Rattle.raft_log_recovery_laws.specs.ByCalls.{home_of}
 use Rattle.raft_voter_outline.specs.State.{State}
 use Rattle.raft_voter_messages.specs.declared.round.Round.{Round}
@@ -29,7 +29,7 @@ use Rattle.raft_voter_log.specs.Leaving.FilesLeave.{bare}
 use Rattle.raft_voter_log.specs.Sessions.{CrashesOnlyLose, RunsAskNothing}
 use Rattle.raft_voter_log.proofs.Resting.{IsPlain, IsPlainly, image_under, loses_rests, loses_spared, plain_spared}
 
-module _ {S : Type 0} (tells : MemoryFileSystem → List ℕ → ℕ → Type 0) (config : S → Config) (u : Upkeep S) (shows : S → Shows) (outlines : S → ℕ → State) (End : Storage S LogFiles → CutRound → Type 0) where
+module _ {S : Type 0} (tells : MemoryFileSystem → List ℕ → ℕ → Type 0) (config : S → Config) (u : Upkeep S) (shows : S → EngineState) (outlines : S → ℕ → State) (End : Storage S LogFiles → CutRound → Type 0) where
   abbrev v : Service S
   v = service_in (λ s. home_of (config s)) shows outlines
 
@@ -71,7 +71,7 @@ module _ {S : Type 0} (tells : MemoryFileSystem → List ℕ → ℕ → Type 0)
       walk (Closed now) cut still at_rest ms (goes.1 still) h.1 c
   walk storage cut known plain (m ∷ ms) goes h c = absurd c
 
-pub runs_ask_nothing : {S : Type 0} (tells : MemoryFileSystem → List ℕ → ℕ → Type 0) (config : S → Config) (u : Upkeep S) (shows : S → Shows) (outlines : S → ℕ → State)
+pub runs_ask_nothing : {S : Type 0} (tells : MemoryFileSystem → List ℕ → ℕ → Type 0) (config : S → Config) (u : Upkeep S) (shows : S → EngineState) (outlines : S → ℕ → State)
     → RunsAskNothing (service_in (λ s. home_of (config s)) shows outlines) u (log_disk tells config shows outlines) config shows
 runs_ask_nothing {S} tells config u shows outlines first events report run is only =
     let v : Service S = service_in (λ s. home_of (config s)) shows outlines in

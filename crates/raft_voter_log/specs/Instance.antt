@@ -11,7 +11,7 @@ use Rattle.raft_log_file_settings.specs.Settings.{settings_of}
 use Rattle.raft_log_file_settings.specs.declared.config.Config.{Config}
 use Rattle.raft_voter_durability_laws.specs.raft_log_engine_laws.specs.raft_log_dual_pipes.specs.ClosingCalls.{ClosesLog}
 use Rattle.raft_voter_durability_laws.specs.raft_log_engine_laws.specs.raft_log_dual_pipes.specs.Pipes.{LogPipes}
-use Rattle.raft_voter_durability_laws.specs.raft_log_engine_laws.specs.Shows.{Shows, has_failed}
+use Rattle.raft_voter_durability_laws.specs.raft_log_engine_laws.specs.EngineState.{EngineState, has_failed}
 use Rattle.raft_log_purge.specs.Append.{RewritesAppend}
 use Rattle.raft_log_purge.specs.Counted.{PurgesAndCounts}
 use Rattle.raft_log_purge.specs.ExpiredFiles.{SyncsAndRewrites}
@@ -40,19 +40,19 @@ use Rattle.raft_voter_log.specs.Leaving.{FilesLeave, SparesFiles, SparesStore}
 
 -- what a purge that succeeded made of an engine, whose pipes pin what `held` says of Append
 abbrev pub PurgesLog :
-    {P : Type 0} → (LogPipes → Option ℕ → Type 0) → Purge → LogEngine P → LogEngine P → Shows → Shows → Type 0
+    {P : Type 0} → (LogPipes → Option ℕ → Type 0) → Purge → LogEngine P → LogEngine P → EngineState → EngineState → Type 0
 PurgesLog held Expired old new s t = (groups : List ℕ)
     × PurgesAndCounts held old.thresholds old.tables new.tables old.counts new.counts groups s t
 PurgesLog held RewriteAppend old new s t = RewritesAppend None None new.tables s t
 PurgesLog held RewriteRewrite old new s t = SyncsAndRewrites new.tables s t
 
 -- a purge failed, with this error and for this reason
-abbrev pub StopsPurgeAs : Purge → Shows → Shows → Error → Type 0
+abbrev pub StopsPurgeAs : Purge → EngineState → EngineState → Error → Type 0
 StopsPurgeAs RewriteAppend s t error = StopsRewritingAppend s t error
 StopsPurgeAs purge s t error = StopsPurgingExpired s t error
 
 -- a purge failed, and returned this cause
-abbrev pub RefusesLogPurge : Purge → Cause → Shows → Shows → Type 0
+abbrev pub RefusesLogPurge : Purge → Cause → EngineState → EngineState → Type 0
 RefusesLogPurge purge cause s t =
     (error : Error) × (cause ≡ purge_cause (has_failed s) error) × StopsPurgeAs purge s t error
 
@@ -61,13 +61,13 @@ abbrev pub IsArmed : Fault → MemoryFileSystem → MemoryFileSystem → Type 0
 IsArmed fault old new = armed new ≡ armed_with (fault_of fault) (armed old)
 
 -- a fault is armed under a store; or its file system had stopped, and none is
-abbrev pub ArmsStore : Fault → MemoryFileSystem → MemoryFileSystem → Shows → Shows → Type 0
+abbrev pub ArmsStore : Fault → MemoryFileSystem → MemoryFileSystem → EngineState → EngineState → Type 0
 ArmsStore fault old new s t = (ArmsEngine (fault_of fault) s t × IsArmed fault old new)
     ⊎ ((s.pipes.disk.stopped ≡ true) × (t ≡ s))
 
 abbrev pub log_upkeep :
     {S P : Type 0}
-    → (S → MemoryFileSystem) → (LogPipes → Option ℕ → Type 0) → (S → LogEngine P) → (S → Shows) → Upkeep S
+    → (S → MemoryFileSystem) → (LogPipes → Option ℕ → Type 0) → (S → LogEngine P) → (S → EngineState) → Upkeep S
 log_upkeep files held engine shows = record {
   has_stopped = λ store. (shows store).pipes.disk.stopped;
   purges = λ purge old new. PurgesLog held purge (engine old) (engine new) (shows old) (shows new);
@@ -86,7 +86,7 @@ abbrev pub HasWorkers : Config → ℕ → Config → Type 0
 HasWorkers config workers settings = (home_of settings ≡ home_of config) × (settings.recovery_threads ≡ workers)
 
 -- opening these files with so many workers gave a store that shows this
-abbrev pub OpensFiles : (MemoryFileSystem → List ℕ → ℕ → Type 0) → LogFiles → ℕ → Shows → (ℕ → State) → Type 0
+abbrev pub OpensFiles : (MemoryFileSystem → List ℕ → ℕ → Type 0) → LogFiles → ℕ → EngineState → (ℕ → State) → Type 0
 OpensFiles tells files workers s os =
     (settings : Config) × HasWorkers files.config workers settings
     × OpensVoters disk_of tells settings files.files s os
@@ -110,7 +110,7 @@ ArmsFiles fault old new = (Arms (fault_of fault) (disk_of old) (disk_of new) × 
     ⊎ (((disk_of old).stopped ≡ true) × (disk_of new ≡ disk_of old))
 
 -- What a close leaves of a log: if the engine hadn't failed, the log is closed; if it had, nothing is touched.
-pub record ClosesStore (s : Shows) (d : OnDisk) : Type 0 where
+pub record ClosesStore (s : EngineState) (d : OnDisk) : Type 0 where
   pub held : has_failed s ≡ false → ClosesLog s.pipes d
   pub failed : has_failed s ≡ true → d ≡ s.pipes.disk
 
@@ -121,7 +121,7 @@ CrashesUnder d gone left = (system : MemoryFileSystem) × (after : MemoryFileSys
 
 abbrev pub log_disk :
     {S : Type 0}
-    → (MemoryFileSystem → List ℕ → ℕ → Type 0) → (S → Config) → (S → Shows) → (S → ℕ → State) → Disk S LogFiles
+    → (MemoryFileSystem → List ℕ → ℕ → Type 0) → (S → Config) → (S → EngineState) → (S → ℕ → State) → Disk S LogFiles
 log_disk tells config shows outlines = record {
   leaves = λ files cut. FilesLeave files.config (disk_of files.files) cut;
   without_chance = λ files cut known read. SparesFiles files.config (disk_of files.files) cut known (disk_of read.files);

@@ -3,7 +3,7 @@ use Rattle.std.specs.Prelude.{◌≡◌, ◌⊎◌, true, List, Some}
 use Rattle.raft_log_fs.specs.Causes.{Fails}
 use Rattle.raft_log_file_settings.specs.declared.config.Config.{Config}
 use Rattle.raft_log_record_base.specs.declared.errors.Error.{Error}
-use Rattle.raft_voter_durability_laws.specs.raft_log_engine_laws.specs.Shows.{Home, Shows, has_failed}
+use Rattle.raft_voter_durability_laws.specs.raft_log_engine_laws.specs.EngineState.{LogDirectories, EngineState, has_failed}
 use Rattle.raft_log_recovery_laws.specs.ByCalls.{home_of}
 use Rattle.raft_voter.specs.declared.service.Cause.{Cause}
 use Rattle.raft_voter.specs.declared.service.Cause.TheVariants.{Failed}
@@ -26,10 +26,10 @@ use Rattle.raft_voter_store_laws.specs.Causes.{VotersHaveReason}
 
 -- A purge in a run keeps the voters if it succeeds. If it fails, either the voters are kept as well; or the store has
 -- failed because a file call failed, and its log means just these voters.
-pub record PurgesKeepOrFail {S : Type 0} (u : Upkeep S) (shows : S → Shows) : Type 0 where
-  pub answered : (home : Home) (V : World) (purge : Purge) (old new : S) → Keeps home (shows old) V
+pub record PurgesKeepOrFail {S : Type 0} (u : Upkeep S) (shows : S → EngineState) : Type 0 where
+  pub answered : (home : LogDirectories) (V : World) (purge : Purge) (old new : S) → Keeps home (shows old) V
       → u.purges purge old new → Keeps home (shows new) V
-  pub refused : (home : Home) (V : World) (purge : Purge) (cause : Cause) (old new : S) → Keeps home (shows old) V
+  pub refused : (home : LogDirectories) (V : World) (purge : Purge) (cause : Cause) (old new : S) → Keeps home (shows old) V
       → u.refuses purge cause old new
       → Keeps home (shows new) V
       ⊎ ((has_failed (shows new) ≡ true) × Fails (shows old).pipes.disk (shows new).pipes.disk
@@ -37,14 +37,14 @@ pub record PurgesKeepOrFail {S : Type 0} (u : Upkeep S) (shows : S → Shows) : 
 
 -- Why a purge in a run fails, for a store that keeps voters: with an error that has its reason, and that gives this
 -- cause.
-abbrev pub RefusedPurgesHaveReasons : {S : Type 0} → Upkeep S → (S → Shows) → Type 0
-RefusedPurgesHaveReasons {S} u shows = (home : Home) (V : World) (purge : Purge) (cause : Cause) (old new : S)
+abbrev pub RefusedPurgesHaveReasons : {S : Type 0} → Upkeep S → (S → EngineState) → Type 0
+RefusedPurgesHaveReasons {S} u shows = (home : LogDirectories) (V : World) (purge : Purge) (cause : Cause) (old new : S)
     → Keeps home (shows old) V → u.refuses purge cause old new
     → (error : Error) × (cause ≡ cause_of error) × VotersHaveReason home V error (shows old) (shows new)
 
 -- A purge of an open store failed with this cause. Either the store had failed before; or it served voters, and the
 -- purge failed with an error that has its reason in their log and gives this cause.
-pub record WasRefusedFor {S F : Type 0} (v : Service S) (config : S → Config) (shows : S → Shows) (cause : Cause)
+pub record WasRefusedFor {S F : Type 0} (v : Service S) (config : S → Config) (shows : S → EngineState) (cause : Cause)
     (at now : Storage S F) : Type 0 where
   pub old : S
   pub new : S
@@ -57,7 +57,7 @@ pub record WasRefusedFor {S F : Type 0} (v : Service S) (config : S → Config) 
 
 -- This holds for each purge that failed in a run, if each store that was opened in it served voters, whichever they
 -- are.
-abbrev pub RunsRefuseForReasons : {S F : Type 0} → Service S → Upkeep S → Disk S F → (S → Config) → (S → Shows) → Type 0
+abbrev pub RunsRefuseForReasons : {S F : Type 0} → Service S → Upkeep S → Disk S F → (S → Config) → (S → EngineState) → Type 0
 RunsRefuseForReasons {S} {F} v u d config shows = (files : F) (events : List Event) (report : WorldReport F)
     → (run : IsRun v u d files events report) → ServeSome v (moments_of run.turns)
     → (purge : Purge) (cause : Cause) (at now : Storage S F)

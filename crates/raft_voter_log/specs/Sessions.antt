@@ -3,7 +3,7 @@ use Rattle.std.specs.Prelude.{◌≡◌, ◌⊎◌, false, List, [], ◌∷◌, 
 use Rattle.raft_log_fs.specs.Disk.{Disk as OnDisk}
 use Rattle.raft_log_fs_memory.specs.Memory.{disk_of}
 use Rattle.raft_log_file_settings.specs.declared.config.Config.{Config}
-use Rattle.raft_voter_durability_laws.specs.raft_log_engine_laws.specs.Shows.{Shows, has_failed, log_in}
+use Rattle.raft_voter_durability_laws.specs.raft_log_engine_laws.specs.EngineState.{EngineState, has_failed, log_in}
 use Rattle.raft_log_recovery_laws.specs.Bare.{IsBare}
 use Rattle.raft_log_recovery_laws.specs.ByCalls.{home_of}
 use Rattle.raft_voter.specs.Rounds.{Explains}
@@ -24,12 +24,12 @@ use Rattle.raft_voter_log.specs.Leaving.{SparesStore}
 use Rattle.raft_voter_store_laws.specs.Chance.{LeavesForeign, LosesWrites}
 
 -- A running store crashed, and left in its active files only what it had written there.
-abbrev pub OnlyLoses : Config → Shows → OnDisk → Type 0
+abbrev pub OnlyLoses : Config → EngineState → OnDisk → Type 0
 OnlyLoses config s d = (has_failed s ≡ false) × LosesWrites (home_of config) s.pipes d
 
 -- In these moments a store is opened, serves rounds, is purged, has faults armed under it, and crashes; each crash only
 -- loses writes. A round that comes while no store is open is idle. After the last moment the store may be closed.
-abbrev pub CrashesOnlyLose : {S : Type 0} → (S → Config) → (S → Shows) → Storage S LogFiles
+abbrev pub CrashesOnlyLose : {S : Type 0} → (S → Config) → (S → EngineState) → Storage S LogFiles
     → List (Moment S LogFiles) → Type 0
 CrashesOnlyLose config shows storage [] = Unit {0}
 CrashesOnlyLose config shows (Closed files) (opened workers store voters place now ∷ ms) =
@@ -48,7 +48,7 @@ CrashesOnlyLose config shows storage ms = ⊥
 
 -- A run with such moments, from files in which no log began: each store that it opens serves voters, nothing is lost,
 -- and voters that never fail explain its transcript.
-abbrev pub RunsAskNothing : {S : Type 0} → Service S → Upkeep S → Disk S LogFiles → (S → Config) → (S → Shows) → Type 0
+abbrev pub RunsAskNothing : {S : Type 0} → Service S → Upkeep S → Disk S LogFiles → (S → Config) → (S → EngineState) → Type 0
 RunsAskNothing {S} v u d config shows = (first : LogFiles) (events : List Event) (report : WorldReport LogFiles)
     → (run : IsRun v u d first events report) → IsBare first.config (disk_of first.files)
     → CrashesOnlyLose config shows (Closed first) (moments_of run.turns ++ run.closing)
@@ -58,7 +58,7 @@ RunsAskNothing {S} v u d config shows = (first : LogFiles) (events : List Event)
 -- A crash of a running store leaves, after all that was written in either queue, a record that nobody wrote. Then the
 -- premise that there is no CRC collision is false, whatever is known of what the store leaves.
 abbrev pub ForeignRecordsBreakPremise : Type 0
-ForeignRecordsBreakPremise = (config : Config) (s : Shows) (cut : CutRound) → has_failed s ≡ false
+ForeignRecordsBreakPremise = (config : Config) (s : EngineState) (cut : CutRound) → has_failed s ≡ false
     → (under : LeavesAt (home_of config) s cut) → (d : OnDisk)
     → LeavesForeign (log_in (home_of config)).append.format s.pipes.append.files s.pipes.disk d
     ⊎ LeavesForeign (log_in (home_of config)).rewrite.format s.pipes.rewrite.files s.pipes.disk d

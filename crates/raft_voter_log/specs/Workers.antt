@@ -2,7 +2,7 @@
 use Rattle.std.specs.Prelude.{ℕ, List}
 use Rattle.raft_log_fs_memory.specs.Memory.{disk_of}
 use Rattle.raft_log_fs_memory.specs.declared.memory.MemoryFileSystem.{MemoryFileSystem}
-use Rattle.raft_voter_durability_laws.specs.raft_log_engine_laws.specs.Shows.{Shows}
+use Rattle.raft_voter_durability_laws.specs.raft_log_engine_laws.specs.EngineState.{EngineState}
 use Rattle.raft_log_recovery_laws.specs.ByCalls.{home_of}
 use Rattle.raft_voter_outline.specs.State.{State}
 use Rattle.raft_voter.specs.Service.{CutRound}
@@ -17,5 +17,5 @@ abbrev pub AnyWorkersOpenAlike : (MemoryFileSystem → List ℕ → ℕ → Type
 AnyWorkersOpenAlike tells = (files : LogFiles) (cut : CutRound)
     (known : FilesLeave files.config (disk_of files.files) cut)
     → SparesFiles files.config (disk_of files.files) cut known (disk_of files.files)
-    → (workers others : ℕ) (s t : Shows) (os us : ℕ → State) → OpensFiles tells files workers s os
+    → (workers others : ℕ) (s t : EngineState) (os us : ℕ → State) → OpensFiles tells files workers s os
     → OpensFiles tells files others t us → AreAlike (home_of files.config) s t os us

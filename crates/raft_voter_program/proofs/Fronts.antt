@@ -5,7 +5,7 @@ use Rattle.std.proofs.lemmas.Bool.Decides.{nat_tests}
 use Rattle.std.proofs.lemmas.List.{take-take}
 use Rattle.std.specs.Option.{option_map}
 use Rattle.std.specs.declared.io.ErrorKind.{ErrorKind}
-use Rattle.raft_voter_session.specs.Told.{Said}
+use Rattle.raft_voter_session.specs.Told.{SessionContent}
 use Rattle.raft_voter_session.specs.Session.{session_of}
 use Rattle.raft_voter_program.specs.Run.{EndsEarly, IsUntoldFor, MayWrite, refused_text}
 use Rattle.raft_voter_program.specs.Leaving.{EndsLeaving, MayWriteLeaving}
@@ -20,17 +20,17 @@ unfolding session_of
 session_front input = rw (take-take 268435456 268435457 input (omega arith), too_long 268435456 input) refl
 
 -- what may be written for the front of a session may be written for it
-shown_of_front : (Writes : Said → List ℕ → ℕ → Type 0) (input front bytes text : List ℕ) (status : ℕ) → front ≡ take 268435457 input → bytes ≡ front
+shown_of_front : (Writes : SessionContent → List ℕ → ℕ → Type 0) (input front bytes text : List ℕ) (status : ℕ) → front ≡ take 268435457 input → bytes ≡ front
     → MayWrite Writes bytes text status → MayWrite Writes input text status
 shown_of_front Writes input front bytes text status e f told = rw (← session_front input, ← e, ← f) told
 
 -- and with the files that are left
-left_of_front : {F : Type 0} (Writes : Option F → Said → List ℕ → ℕ → Type 0) (left : Option F) (input front bytes text : List ℕ) (status : ℕ) → front ≡ take 268435457 input → bytes ≡ front
+left_of_front : {F : Type 0} (Writes : Option F → SessionContent → List ℕ → ℕ → Type 0) (left : Option F) (input front bytes text : List ℕ) (status : ℕ) → front ≡ take 268435457 input → bytes ≡ front
     → MayWriteLeaving Writes left bytes text status → MayWriteLeaving Writes left input text status
 left_of_front Writes left input front bytes text status e f told = rw (← session_front input, ← e, ← f) told
 
 -- what is written for the front of a session is written for it
-pub ends_of_front : {F E : Type 0} (r : Result (Ended F) E) (Writes : Option F → Said → List ℕ → ℕ → Type 0) (known old new : Option (List ℕ)) (front bytes : List ℕ)
+pub ends_of_front : {F E : Type 0} (r : Result (Ended F) E) (Writes : Option F → SessionContent → List ℕ → ℕ → Type 0) (known old new : Option (List ℕ)) (front bytes : List ℕ)
     → IfSome known (λ input. front ≡ take 268435457 input) → bytes ≡ front
     → IfOk r (λ ended. EndsLeaving Writes ended.files bytes old new ended.status)
     → IfOk r (λ ended. IfSome known (λ input. EndsLeaving Writes ended.files input old new ended.status))
@@ -54,7 +54,7 @@ two_fronts a b c bytes left rest one more = record {
 }
 
 -- where the front of a session isn't told, nor is it
-pub early_of_front : {T E : Type 0} (r : Result T E) (kind : E → ErrorKind) (Writes : Said → List ℕ → ℕ → Type 0)
+pub early_of_front : {T E : Type 0} (r : Result T E) (kind : E → ErrorKind) (Writes : SessionContent → List ℕ → ℕ → Type 0)
     (known old new : Option (List ℕ)) (front bytes : List ℕ) → IfSome known (λ input. front ≡ take 268435457 input) → bytes ≡ front
     → IfErr r (λ fault. IsUntoldFor Writes bytes old new (kind fault)) → OnErr r (IfSome known (λ input. EndsEarly Writes false input old new))
 early_of_front (Ok ended) kind Writes known old new front bytes e f untold = tt
@@ -64,7 +64,7 @@ early_of_front (Err fault) kind Writes (Some input) old new front bytes e f (inr
     inr (text, status, shown_of_front Writes input front bytes text status e f told, wrote)
 
 -- of the refusal of arguments a front was written
-pub refusal_within : (Writes : Said → List ℕ → ℕ → Type 0) (known old new : Option (List ℕ)) (given : Bool) → given ≡ true → StopsWithin old new refused_text
+pub refusal_within : (Writes : SessionContent → List ℕ → ℕ → Type 0) (known old new : Option (List ℕ)) (given : Bool) → given ≡ true → StopsWithin old new refused_text
     → IfSome known (λ input. EndsEarly Writes given input old new)
 refusal_within Writes None old new given is wrote = tt
 refusal_within Writes (Some input) old new true is wrote = inr (refused_text, 2, (refl, refl), wrote)

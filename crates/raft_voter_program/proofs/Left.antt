@@ -3,14 +3,14 @@ use Rattle.std.proofs.Common.{◌≡◌, ℕ, List, Option, Some, None, IfSome, 
 use Rattle.std.specs.declared.io.ErrorKind.{ErrorKind}
 use Rattle.raft_voter.specs.Service.{Service}
 use Rattle.raft_voter_world.specs.Stores.{Disk, Upkeep}
-use Rattle.raft_voter_session.specs.Told.{Said}
+use Rattle.raft_voter_session.specs.Told.{SessionContent}
 use Rattle.raft_voter_session.specs.Session.{session_of}
 use Rattle.raft_voter_program.specs.RunSetup.{Setup}
 use Rattle.raft_voter_program.specs.Run.{Ends, IsUntoldFor, MayWrite, TellsLines, WritesSession}
 use Rattle.raft_voter_program.specs.Writing.{StopsWithin}
 use Rattle.raft_voter_program.specs.Leaving.{EndsLeaving, MayWriteLeaving, TellsLinesLeaving, WritesLeaving}
 
-lines_told : {S F : Type 0} (v : Service S) (u : Upkeep S) (d : Disk S F) (s : Setup F) (left : Option F) (lines : Result Said ℕ) (text : List ℕ) (status : ℕ)
+lines_told : {S F : Type 0} (v : Service S) (u : Upkeep S) (d : Disk S F) (s : Setup F) (left : Option F) (lines : Result SessionContent ℕ) (text : List ℕ) (status : ℕ)
     → TellsLinesLeaving (WritesLeaving v u d s) left lines text status → TellsLines (WritesSession v u d s) lines text status
 lines_told v u d s None (Ok session) text status refused = inl refused
 lines_told v u d s (Some files) (Ok session) text status ran = inr ran.0

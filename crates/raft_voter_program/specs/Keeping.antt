@@ -6,7 +6,7 @@ use Rattle.raft_log_fs_memory.specs.Memory.{disk_of}
 use Rattle.raft_log_directory_copies.specs.Copies.{AreGathered}
 use Rattle.raft_log_directory_copies.specs.declared.stored_file.StoredFile.{StoredFile}
 use Rattle.raft_voter_log.specs.declared.files.LogFiles.{LogFiles}
-use Rattle.raft_voter_session.specs.Told.{Said}
+use Rattle.raft_voter_session.specs.Told.{SessionContent}
 use Rattle.raft_voter_program.specs.Leaving.{EndsLeaving}
 
 -- these are the files of a directory, as they are read; none if it doesn't exist
@@ -35,7 +35,7 @@ IsToldOrUnkept (Some files) told status = (status ≡ told) ⊎ (status ≡ 3)
 
 -- a session ended with this status, and the files that it leaves were kept or gave status 3
 abbrev pub EndsKept :
-    (Option LogFiles → Said → List ℕ → ℕ → Type 0)
+    (Option LogFiles → SessionContent → List ℕ → ℕ → Type 0)
     → List ℕ → Option (List ℕ) → Option (List ℕ) → ℕ → Type 0
 EndsKept Writes input old new status = (left : Option LogFiles) × (told : ℕ)
     × EndsLeaving Writes left input old new told × IsToldOrUnkept left told status

@@ -3,7 +3,7 @@ use Rattle.std.specs.Prelude.{◌≡◌, ℕ, List, Option, None, Some, Result, 
 use Rattle.std.specs.Io.KnownBytes.{Appends}
 use Rattle.raft_voter.specs.Service.{Service}
 use Rattle.raft_voter_world.specs.Stores.{Disk, Upkeep}
-use Rattle.raft_voter_session.specs.Told.{Said}
+use Rattle.raft_voter_session.specs.Told.{SessionContent}
 use Rattle.raft_voter_session.specs.Session.{session_of}
 use Rattle.raft_voter_session.specs.Text.{unreadable_text}
 use Rattle.raft_voter_program.specs.RunSetup.{Setup}
@@ -12,7 +12,7 @@ use Rattle.raft_voter_program.specs.Run.{WritesRun, settings_refused}
 -- what is written for a session: the transcript of a run whose report has these files; or, if no files remain, that the
 -- settings are rejected
 abbrev pub WritesLeaving :
-    {S F : Type 0} → Service S → Upkeep S → Disk S F → Setup F → Option F → Said → List ℕ → ℕ → Type 0
+    {S F : Type 0} → Service S → Upkeep S → Disk S F → Setup F → Option F → SessionContent → List ℕ → ℕ → Type 0
 WritesLeaving v u d s None session text status =
     s.refuses session.settings × (text ≡ settings_refused) × (status ≡ 1)
 WritesLeaving v u d s (Some files) session text status =
@@ -20,8 +20,8 @@ WritesLeaving v u d s (Some files) session text status =
 
 -- the same for lines that are a session, or whose first unreadable line is this one; then no files remain
 abbrev pub TellsLinesLeaving :
-    {F : Type 0} → (Option F → Said → List ℕ → ℕ → Type 0)
-    → Option F → Result Said ℕ → List ℕ → ℕ → Type 0
+    {F : Type 0} → (Option F → SessionContent → List ℕ → ℕ → Type 0)
+    → Option F → Result SessionContent ℕ → List ℕ → ℕ → Type 0
 TellsLinesLeaving Writes left (Ok session) text status = Writes left session text status
 TellsLinesLeaving Writes left (Err line) text status =
     (left ≡ None) × (text ≡ unreadable_text line) × (status ≡ 2)
@@ -29,12 +29,12 @@ TellsLinesLeaving Writes left (Err line) text status =
 -- what may be written for a session of these bytes, and which files remain, given what may be written for the session
 -- that they encode
 abbrev pub MayWriteLeaving :
-    {F : Type 0} → (Option F → Said → List ℕ → ℕ → Type 0) → Option F → List ℕ → List ℕ → ℕ → Type 0
+    {F : Type 0} → (Option F → SessionContent → List ℕ → ℕ → Type 0) → Option F → List ℕ → List ℕ → ℕ → Type 0
 MayWriteLeaving Writes left input text status = TellsLinesLeaving Writes left (session_of input) text status
 
 -- the session ended: all that may be written for it was written, and these files remain
 abbrev pub EndsLeaving :
-    {F : Type 0} → (Option F → Said → List ℕ → ℕ → Type 0)
+    {F : Type 0} → (Option F → SessionContent → List ℕ → ℕ → Type 0)
     → Option F → List ℕ → Option (List ℕ) → Option (List ℕ) → ℕ → Type 0
 EndsLeaving Writes left input old new status =
     (text : List ℕ) × MayWriteLeaving Writes left input text status × Appends old new text

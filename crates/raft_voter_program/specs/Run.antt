@@ -11,7 +11,7 @@ use Rattle.raft_voter_world.specs.declared.report.WorldReport.{WorldReport}
 use Rattle.raft_voter_world.specs.Stores.{Disk, Upkeep}
 use Rattle.raft_voter_world.specs.Cuts.{ServeSome}
 use Rattle.raft_voter_world.specs.Run.{IsRun, moments_of}
-use Rattle.raft_voter_session.specs.Told.{Said, told}
+use Rattle.raft_voter_session.specs.Told.{SessionContent, told}
 use Rattle.raft_voter_session.specs.Session.{session_of}
 use Rattle.raft_voter_session.specs.Text.{transcript_text, unreadable_text}
 use Rattle.raft_voter_program.specs.RunSetup.{Setup}
@@ -31,7 +31,7 @@ SaysYes report text status = (text ≡ transcript_text report.transcript.rounds 
 -- A run of exactly the events of a session. It starts from the files that the session's settings make, in which no
 -- voter is stored. Its report is written with a verdict. The verdict is yes if no open lost the voters, and each store
 -- that was opened served some.
-pub record WritesRun {S F : Type 0} (v : Service S) (u : Upkeep S) (d : Disk S F) (s : Setup F) (session : Said)
+pub record WritesRun {S F : Type 0} (v : Service S) (u : Upkeep S) (d : Disk S F) (s : Setup F) (session : SessionContent)
     (text : List ℕ) (status : ℕ) : Type 0 where
   pub files : F
   pub made : s.makes session.settings files
@@ -49,19 +49,19 @@ settings_refused = codes "settings refused\n"
 
 -- what is written for a session: that its settings are rejected, or the transcript of a run of it
 abbrev pub WritesSession :
-    {S F : Type 0} → Service S → Upkeep S → Disk S F → Setup F → Said → List ℕ → ℕ → Type 0
+    {S F : Type 0} → Service S → Upkeep S → Disk S F → Setup F → SessionContent → List ℕ → ℕ → Type 0
 WritesSession v u d s session text status =
     (s.refuses session.settings × (text ≡ settings_refused) × (status ≡ 1))
     ⊎ WritesRun v u d s session text status
 
 -- the same for lines that are a session, or whose first unreadable line is this one
-abbrev pub TellsLines : (Said → List ℕ → ℕ → Type 0) → Result Said ℕ → List ℕ → ℕ → Type 0
+abbrev pub TellsLines : (SessionContent → List ℕ → ℕ → Type 0) → Result SessionContent ℕ → List ℕ → ℕ → Type 0
 TellsLines Writes (Ok session) text status = Writes session text status
 TellsLines Writes (Err line) text status = (text ≡ unreadable_text line) × (status ≡ 2)
 
 -- what may be written for a session of these bytes, and the exit status, given what may be written for the session that
 -- they encode
-abbrev pub MayWrite : (Said → List ℕ → ℕ → Type 0) → List ℕ → List ℕ → ℕ → Type 0
+abbrev pub MayWrite : (SessionContent → List ℕ → ℕ → Type 0) → List ℕ → List ℕ → ℕ → Type 0
 MayWrite Writes input text status = TellsLines Writes (session_of input) text status
 
 -- what is written if arguments are given
@@ -70,14 +70,14 @@ refused_text = codes "arguments refused\n"
 
 -- what the program may write: if arguments are given, that they are rejected, and nothing is read; otherwise what its
 -- session writes
-abbrev pub ProgramMayWrite : (Said → List ℕ → ℕ → Type 0) → Bool → List ℕ → List ℕ → ℕ → Type 0
+abbrev pub ProgramMayWrite : (SessionContent → List ℕ → ℕ → Type 0) → Bool → List ℕ → List ℕ → ℕ → Type 0
 ProgramMayWrite Writes true input text status = (text ≡ refused_text) × (status ≡ 2)
 ProgramMayWrite Writes false input text status = MayWrite Writes input text status
 
 -- The program stopped early, and claims no verdict. It wrote nothing, or a prefix of what it may write, but not all of
 -- it.
 abbrev pub EndsEarly :
-    (Said → List ℕ → ℕ → Type 0)
+    (SessionContent → List ℕ → ℕ → Type 0)
     → Bool → List ℕ → Option (List ℕ) → Option (List ℕ) → Type 0
 EndsEarly Writes given input old new =
     Keeps old new
@@ -86,14 +86,14 @@ EndsEarly Writes given input old new =
 -- A session wasn't written in full. Either memory ran out, nothing was written, and the error has that kind. Or the
 -- writer took a prefix of what may be written, but not all of it.
 abbrev pub IsUntoldFor :
-    (Said → List ℕ → ℕ → Type 0) → List ℕ → Option (List ℕ) → Option (List ℕ) → ErrorKind → Type 0
+    (SessionContent → List ℕ → ℕ → Type 0) → List ℕ → Option (List ℕ) → Option (List ℕ) → ErrorKind → Type 0
 IsUntoldFor Writes input old new kind =
     (Keeps old new × (kind ≡ OutOfMemory))
     ⊎ ((text : List ℕ) × (status : ℕ) × MayWrite Writes input text status × StopsWithin old new text)
 
 -- The program ended: it wrote all of what it may write.
 abbrev pub Ends :
-    (Said → List ℕ → ℕ → Type 0)
+    (SessionContent → List ℕ → ℕ → Type 0)
     → Bool → List ℕ → Option (List ℕ) → Option (List ℕ) → ℕ → Type 0
 Ends Writes given input old new status =
     (text : List ℕ) × ProgramMayWrite Writes given input text status × Appends old new text

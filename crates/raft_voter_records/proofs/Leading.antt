@@ -63,12 +63,12 @@ write_stands v x q CleanWrite is can rests needed i = absurd needed
 -- Groups.
 
 -- what is known of a group whose voter this is
-pub record Shows (grp : Group) (v : State) : Type 0 where
+pub record ShowsGroup (grp : Group) (v : State) : Type 0 where
   pub keys : (k : List ℕ) → (voter_key ≡ k → ⊥) → grp (Key k) ≡ None
   pub entries : (i : ℕ) → grp (Index i) ≡ entry_content v i
   pub storable : IsStorable v
 
-pub shown : (grp : Group) (v : State) → IsVoter grp v → Shows grp v
+pub shown : (grp : Group) (v : State) → IsVoter grp v → ShowsGroup grp v
 shown grp v (inl (void, is)) = record {
   keys = λ k other. void (Key k);
   entries = λ i. void (Index i) ∙ sym (ap (λ w. entry_content w i) is ∙ content_none 0 i);

@@ -7,8 +7,8 @@ use Rattle.raft_log_model_laws.specs.Meaning.Slot.{Index, Key}
 use Rattle.raft_log_model_laws.proofs.Cases.{from_lt_true}
 use Rattle.raft_log_memtable_index.specs.Shown.{Shown}
 use Rattle.raft_voter_durability_laws.specs.raft_log_engine_laws.specs.raft_log_memtable.specs.Reads.{first_of, last_of}
-use Rattle.raft_voter_durability_laws.specs.raft_log_engine_laws.specs.Shows.{Home, LogMap, Shows}
-use Rattle.raft_voter_durability_laws.specs.raft_log_engine_laws.specs.Holding.{Holds}
+use Rattle.raft_voter_durability_laws.specs.raft_log_engine_laws.specs.EngineState.{LogDirectories, LogMap, EngineState}
+use Rattle.raft_voter_durability_laws.specs.raft_log_engine_laws.specs.Holding.{Represents}
 use Rattle.raft_voter_messages.specs.declared.reply.VoterState.{VoterState}
 use Rattle.raft_voter_messages.specs.StoredForms.{state_fits}
 use Rattle.raft_voter_records.specs.Voters.{IsForeign, IsVoid, voter_key}
@@ -18,7 +18,7 @@ use Rattle.raft_voter_recovery.specs.Groups.{HasNoKey, ReadsEnd, ReadsSpan, Read
 use Rattle.raft_voter_recovery.specs.Reading.{Tells}
 
 -- the base of a state that was read is in range
-pub base_fits : (s : Shows) (g : ℕ) (state : VoterState) → ReadsState s g state → state.base_index < 2 ^ 63
+pub base_fits : (s : EngineState) (g : ℕ) (state : VoterState) → ReadsState s g state → state.base_index < 2 ^ 63
 base_fits s g state read = in_range state read.state.1.in_range
   where
     in_range : (r : VoterState) → state_fits r ≡ true → r.base_index < 2 ^ 63
@@ -47,7 +47,7 @@ has_last v first = by (nat_lt 0 (length v.places))
 
 -- No entries.
 
-pub ends_at_base : (s : Shows) (g : ℕ) (state : VoterState) → ReadsState s g state → ReadsSpan s g None → ReadsEnd s g state.base_index (state.base_index + 1)
+pub ends_at_base : (s : EngineState) (g : ℕ) (state : VoterState) → ReadsState s g state → ReadsSpan s g None → ReadsEnd s g state.base_index (state.base_index + 1)
 ends_at_base s g state read none = record {
   reaches = omega arith;
   small = let fit = base_fits s g state read in omega (arith, fit);
@@ -55,21 +55,21 @@ ends_at_base s g state read none = record {
   outside = λ home m h i out. none.exact home m [] h i;
 }
 
-pub no_slot : (s : Shows) (g : ℕ) → Tells s (λ m. HasNoKey (m g)) → ReadsSpan s g None → Tells s (λ m. IsVoid (m g))
+pub no_slot : (s : EngineState) (g : ℕ) → Tells s (λ m. HasNoKey (m g)) → ReadsSpan s g None → Tells s (λ m. IsVoid (m g))
 no_slot s g keys none = λ home m h slot. by_slot home m h slot
   where
-    by_slot : (home : Home) (m : LogMap) → Holds home s m [] → (slot : Slot) → m g slot ≡ None
+    by_slot : (home : LogDirectories) (m : LogMap) → Represents home s m [] → (slot : Slot) → m g slot ≡ None
     by_slot home m h (Index i) = none.exact home m [] h i
     by_slot home m h (Key k) = keys home m h k
 
 -- entries without a state
-pub no_head : (s : Shows) (g first last : ℕ) → Tells s (λ m. HasNoKey (m g)) → ReadsSpan s g (Some (first, last)) → Tells s (λ m. IsForeign (m g))
+pub no_head : (s : EngineState) (g first last : ℕ) → Tells s (λ m. HasNoKey (m g)) → ReadsSpan s g (Some (first, last)) → Tells s (λ m. IsForeign (m g))
 no_head s g first last keys span = λ home m h.
     foreign_groups_are_foreign (m g) (no_state (Index first) (span.0.exact home m [] h).0 (keys home m h voter_key))
 
 -- Entries.
 
-pub ends_behind : (s : Shows) (g first last : ℕ) (state : VoterState) → ReadsState s g state → ReadsSpan s g (Some (first, last))
+pub ends_behind : (s : EngineState) (g first last : ℕ) (state : VoterState) → ReadsState s g state → ReadsSpan s g (Some (first, last))
     → first ≡ state.base_index + 1 → last < 2 ^ 63 → ReadsEnd s g state.base_index (last + 1)
 ends_behind s g first last state read span begins small = record {
   reaches = ordered;
@@ -91,12 +91,12 @@ ends_behind s g first last state read span begins small = record {
     ordered : state.base_index < last + 1
     ordered = let some = many (s.tables g) span.0.shown in omega (arith, some, is.0, is.1, begins)
 
-    by_side : (home : Home) (m : LogMap) → Holds home s m [] → (i : ℕ) → (i ≤ state.base_index) ⊎ (last + 1 ≤ i) → m g (Index i) ≡ None
+    by_side : (home : LogDirectories) (m : LogMap) → Represents home s m [] → (i : ℕ) → (i ≤ state.base_index) ⊎ (last + 1 ≤ i) → m g (Index i) ≡ None
     by_side home m h i (inl low) = (span.0.exact home m [] h).1 i (omega (arith, low, begins))
     by_side home m h i (inr high) = (span.1.exact home m [] h).1 i (omega (arith, high))
 
 -- the first stands at or below the base, or behind a gap
-pub begins_elsewhere : (s : Shows) (g first last : ℕ) (state : VoterState) → ReadsState s g state → ReadsSpan s g (Some (first, last))
+pub begins_elsewhere : (s : EngineState) (g first last : ℕ) (state : VoterState) → ReadsState s g state → ReadsSpan s g (Some (first, last))
     → (first ≡ state.base_index + 1 → ⊥) → Tells s (λ m. IsForeign (m g))
 begins_elsewhere s g first last state read span apart = λ home m h.
     let head = (read.tells home m h).head in
@@ -117,6 +117,6 @@ begins_elsewhere s g first last state read span apart = λ home m h.
     ]
 
 -- the last is out of range
-pub ends_too_far : (s : Shows) (g first last : ℕ) → ReadsSpan s g (Some (first, last)) → 2 ^ 63 ≤ last → Tells s (λ m. IsForeign (m g))
+pub ends_too_far : (s : EngineState) (g first last : ℕ) → ReadsSpan s g (Some (first, last)) → 2 ^ 63 ≤ last → Tells s (λ m. IsForeign (m g))
 ends_too_far s g first last span far = λ home m h.
     foreign_groups_are_foreign (m g) (too_far last far (span.1.exact home m [] h).0)

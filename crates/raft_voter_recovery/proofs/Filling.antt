@@ -20,9 +20,9 @@ use Rattle.raft_log_memtable_index.specs.Shown.{Shown}
 use Rattle.raft_voter_durability_laws.specs.raft_log_engine_laws.specs.raft_log_memtables.specs.Bare.{HasNothing}
 use Rattle.raft_voter_durability_laws.specs.raft_log_engine_laws.specs.raft_log_memtables.specs.Walking.{ListsGroups}
 use Rattle.raft_voter_durability_laws.specs.raft_log_engine_laws.specs.raft_log_memtable.specs.Reads.{last_of}
-use Rattle.raft_voter_durability_laws.specs.raft_log_engine_laws.specs.Shows.{Home, LogMap, Shows}
+use Rattle.raft_voter_durability_laws.specs.raft_log_engine_laws.specs.EngineState.{LogDirectories, LogMap, EngineState}
 use Rattle.raft_voter_durability_laws.specs.raft_log_engine_laws.specs.Fetching.{StaysButBlock}
-use Rattle.raft_voter_durability_laws.specs.raft_log_engine_laws.specs.Holding.{Holds}
+use Rattle.raft_voter_durability_laws.specs.raft_log_engine_laws.specs.Holding.{Represents}
 use Rattle.raft_voter_durability_laws.specs.raft_log_engine_laws.specs.Reading.{IsLastIn}
 use Rattle.raft_voter_durability_laws.specs.raft_log_engine_laws.proofs.Reading.{tables_tell}
 use Rattle.raft_voter_outline.specs.State.{State, fresh}
@@ -36,17 +36,17 @@ abbrev pub is_among : ℕ → List ℕ → Bool
 is_among g gs = list_any (λ k. k == g) gs
 
 -- a group that doesn't count shows nothing
-abbrev pub IsBareWhereUncounted : Shows → Type 0
+abbrev pub IsBareWhereUncounted : EngineState → Type 0
 IsBareWhereUncounted s = (g : ℕ) → s.counts g ≡ false → HasNothing (s.tables g)
 
 -- and nothing stands in it
-uncounted_void : (s : Shows) (g : ℕ) → HasNothing (s.tables g) → Tells s (λ m. IsVoid (m g))
+uncounted_void : (s : EngineState) (g : ℕ) → HasNothing (s.tables g) → Tells s (λ m. IsVoid (m g))
 uncounted_void s g bare = λ home m h slot. by_slot home m h slot
   where
     none : (v : Shown) → length v.places ≡ 0 → last_of v ≡ None
     none v empty = grind (arith, nat_tests)
 
-    by_slot : (home : Home) (m : LogMap) → Holds home s m [] → (slot : Slot) → m g slot ≡ None
+    by_slot : (home : LogDirectories) (m : LogMap) → Represents home s m [] → (slot : Slot) → m g slot ≡ None
     by_slot home m h (Index i) =
         (subst (λ (o : Option ℕ). IsLastIn m g o) (none (s.tables g) bare.entries) ((tables_tell.last s g).exact home m [] h)) i
     by_slot home m h (Key k) =
@@ -73,30 +73,30 @@ not_among g h gs is = by (is_among h gs) (g == h) refl refl (sym (list_any-appen
 -- Outlines.
 
 -- the outlines of some groups' voters were read, and all others are fresh
-pub record OutlinesOf (s : Shows) (gs : List ℕ) (os : ℕ → State) : Type 0 where
+pub record OutlinesOf (s : EngineState) (gs : List ℕ) (os : ℕ → State) : Type 0 where
   pub read : (g : ℕ) → is_among g gs ≡ true → Tells s (λ m. HasOutline (os g) (m g))
   pub others : (g : ℕ) → is_among g gs ≡ false → os g ≡ fresh
 
 -- what was found of a group is kept
-pub outline_kept : (s : Shows) (g : ℕ) (os us : ℕ → State) (o : State) → Tells s (λ m. HasOutline o (m g)) → us g ≡ o → ((h : ℕ) → (h == g) ≡ false → us h ≡ os h) → AddsOutline s g os us
+pub outline_kept : (s : EngineState) (g : ℕ) (os us : ℕ → State) (o : State) → Tells s (λ m. HasOutline o (m g)) → us g ≡ o → ((h : ℕ) → (h == g) ≡ false → us h ≡ os h) → AddsOutline s g os us
 outline_kept s g os us o told own others = inl (others, subst (λ (v : State). Tells s (λ m. HasOutline v (m g))) (sym own) told)
 
 -- of an engine behind reads
-pub adds_outline_before : (s t : Shows) (g : ℕ) (os us : ℕ → State) → StaysButBlock s t → AddsOutline t g os us → AddsOutline s g os us
+pub adds_outline_before : (s t : EngineState) (g : ℕ) (os us : ℕ → State) → StaysButBlock s t → AddsOutline t g os us → AddsOutline s g os us
 adds_outline_before s t g os us stays (inl (others, told)) = inl (others, told_before (λ m. HasOutline (us g) (m g)) s t stays told)
 adds_outline_before s t g os us stays (inr (same, void)) = inr (same, told_before (λ m. IsVoid (m g)) s t stays void)
 
-pub no_outline : (s : Shows) (gs : List ℕ) (os : ℕ → State) → gs ≡ [] → ((g : ℕ) → os g ≡ fresh) → OutlinesOf s gs os
+pub no_outline : (s : EngineState) (gs : List ℕ) (os : ℕ → State) → gs ≡ [] → ((g : ℕ) → os g ≡ fresh) → OutlinesOf s gs os
 no_outline s gs os none is = record {
   read = λ g at. absurd (let no : is_among g [] ≡ true = subst (λ (l : List ℕ). is_among g l ≡ true) none at in let never : ⊥ = cc in never);
   others = λ g at. is g;
 }
 
 -- the outline of a fresh voter, where nothing stands
-fresh_outline : (s : Shows) (g : ℕ) (o : State) → o ≡ fresh → Tells s (λ m. IsVoid (m g)) → Tells s (λ m. HasOutline o (m g))
+fresh_outline : (s : EngineState) (g : ℕ) (o : State) → o ≡ fresh → Tells s (λ m. IsVoid (m g)) → Tells s (λ m. HasOutline o (m g))
 fresh_outline s g o is void = λ home m h. (fresh, inl (void home m h, refl), is)
 
-pub one_outline : (s : Shows) (g : ℕ) (gs all : List ℕ) (os us : ℕ → State) → OutlinesOf s gs os → AddsOutline s g os us → all ≡ gs ++ g ∷ [] → OutlinesOf s all us
+pub one_outline : (s : EngineState) (g : ℕ) (gs all : List ℕ) (os us : ℕ → State) → OutlinesOf s gs os → AddsOutline s g os us → all ≡ gs ++ g ∷ [] → OutlinesOf s all us
 one_outline s g gs all os us known added is = subst (λ (l : List ℕ). OutlinesOf s l us) (sym is) (by_case added)
   where
     by_case : AddsOutline s g os us → OutlinesOf s (gs ++ g ∷ []) us
@@ -124,13 +124,13 @@ one_outline s g gs all os us known added is = subst (λ (l : List ℕ). Outlines
         ]
 
 -- of other outlines that are the same group by group
-pub outlines_same : (s : Shows) (gs : List ℕ) (os us : ℕ → State) → OutlinesOf s gs os → ((g : ℕ) → us g ≡ os g) → OutlinesOf s gs us
+pub outlines_same : (s : EngineState) (gs : List ℕ) (os us : ℕ → State) → OutlinesOf s gs os → ((g : ℕ) → us g ≡ os g) → OutlinesOf s gs us
 outlines_same s gs os us known same = record {
   read = λ g at. subst (λ (o : State). Tells s (λ m. HasOutline o (m g))) (sym (same g)) (known.read g at);
   others = λ g at. same g ∙ known.others g at;
 }
 
-pub outlines_read : (s : Shows) (gs all : List ℕ) (os : ℕ → State) → IsBareWhereUncounted s → ListsGroups s.counts gs → all ≡ gs → OutlinesOf s all os → ReadsVoters s os
+pub outlines_read : (s : EngineState) (gs all : List ℕ) (os : ℕ → State) → IsBareWhereUncounted s → ListsGroups s.counts gs → all ≡ gs → OutlinesOf s all os → ReadsVoters s os
 outlines_read s gs all os bare listed whole known = λ home m h.
     let each : (g : ℕ) → HasOutline (os g) (m g) = λ g. by_group g (cases_Bool (is_among g all)) home m h in
     (λ g. (each g).0, λ g. (each g).1, λ g. (each g).2)
@@ -144,7 +144,7 @@ outlines_read s gs all os bare listed whole known = λ home m h.
 -- Voters.
 
 -- the voters of some groups were read, from the least up
-pub record VotersOf (s : Shows) (gs : List ℕ) (vs : List (ℕ × State)) : Type 0 where
+pub record VotersOf (s : EngineState) (gs : List ℕ) (vs : List (ℕ × State)) : Type 0 where
   pub rising : IsStrictlySortedBy nat_cmp (keys_of vs)
   pub inside : (g : ℕ) → is_among g (keys_of vs) ≡ true → is_among g gs ≡ true
   pub held : Tells s (λ m. HoldEach m vs)
@@ -217,11 +217,11 @@ hold_more m g v [] h one = (one, tt)
 hold_more m g v (e ∷ vs) h one = (h.0, hold_more m g v vs h.1 one)
 
 -- of an engine behind reads
-pub adds_voter_before : (s t : Shows) (g : ℕ) (vs ws : List (ℕ × State)) → StaysButBlock s t → AddsVoter t g vs ws → AddsVoter s g vs ws
+pub adds_voter_before : (s t : EngineState) (g : ℕ) (vs ws : List (ℕ × State)) → StaysButBlock s t → AddsVoter t g vs ws → AddsVoter s g vs ws
 adds_voter_before s t g vs ws stays (inl (v, now, held)) = inl (v, now, told_before (λ m. HoldsVoter (m g) v) s t stays held)
 adds_voter_before s t g vs ws stays (inr (now, void)) = inr (now, told_before (λ m. IsVoid (m g)) s t stays void)
 
-pub no_voter : (s : Shows) (gs : List ℕ) (vs : List (ℕ × State)) → gs ≡ [] → vs ≡ [] → VotersOf s gs vs
+pub no_voter : (s : EngineState) (gs : List ℕ) (vs : List (ℕ × State)) → gs ≡ [] → vs ≡ [] → VotersOf s gs vs
 no_voter s gs vs none nothing = subst (λ (l : List ℕ). VotersOf s l vs) (sym none) (subst (λ (l : List (ℕ × State)). VotersOf s [] l) (sym nothing) (record {
   rising = sorted_from_strictly_increasing [] (λ k less. absurd (omega (arith, less)));
   inside = λ g at. at;
@@ -229,7 +229,7 @@ no_voter s gs vs none nothing = subst (λ (l : List ℕ). VotersOf s l vs) (sym 
   others = λ g at look. absurd (let no : ⊥ = cc in no);
 }))
 
-pub one_voter : (s : Shows) (g : ℕ) (gs all : List ℕ) (vs ws : List (ℕ × State)) → VotersOf s gs vs → AddsVoter s g vs ws → all ≡ gs ++ g ∷ []
+pub one_voter : (s : EngineState) (g : ℕ) (gs all : List ℕ) (vs ws : List (ℕ × State)) → VotersOf s gs vs → AddsVoter s g vs ws → all ≡ gs ++ g ∷ []
     → ((k : ℕ) → is_among k gs ≡ true → k < g) → VotersOf s all ws
 one_voter s g gs all vs ws known added is below = subst (λ (l : List ℕ). VotersOf s l ws) (sym is) (by_case added)
   where
@@ -272,7 +272,7 @@ looked_up m g (e ∷ vs) v h is = by (e.0 == g) refl (λ found. looked_up m g vs
         subst (λ (n : ℕ). HoldsVoter (m n) v) (from_eq_true e.0 g here) (subst (λ (w : State). HoldsVoter (m e.0) w) same h.0)
     by false here later found = later found
 
-pub voters_read : (s : Shows) (gs all : List ℕ) (vs : List (ℕ × State)) → IsBareWhereUncounted s → ListsGroups s.counts gs → all ≡ gs → VotersOf s all vs → ListsVoters s vs
+pub voters_read : (s : EngineState) (gs all : List ℕ) (vs : List (ℕ × State)) → IsBareWhereUncounted s → ListsGroups s.counts gs → all ≡ gs → VotersOf s all vs → ListsVoters s vs
 voters_read s gs all vs bare listed whole known = record {
   rising = known.rising;
   stored = λ home m h. record {
@@ -290,6 +290,6 @@ voters_read s gs all vs bare listed whole known = record {
           uncounted_void s g (bare g uncounted)
     ]
 
-    by_look : (home : Home) (m : LogMap) → Holds home s m [] → (g : ℕ) (o : Option State) → lookup (λ k. k == g) vs ≡ o → IsVoter (m g) (unwrap_or o fresh)
+    by_look : (home : LogDirectories) (m : LogMap) → Represents home s m [] → (g : ℕ) (o : Option State) → lookup (λ k. k == g) vs ≡ o → IsVoter (m g) (unwrap_or o fresh)
     by_look home m h g None look = inl (none_listed g look home m h, refl)
     by_look home m h g (Some v) look = inr (looked_up m g vs v (known.held home m h) look)

@@ -7,8 +7,8 @@ use Rattle.std.proofs.lemmas.Option.{slice_get_cases}
 use Rattle.raft_log_model_laws.specs.Meaning.Slot.{Index}
 use Rattle.raft_log_model_laws.specs.Meaning.Content.{Entry}
 use Rattle.raft_log_model_laws.proofs.Cases.{eq_true, if_false, if_true, le_false, le_true}
-use Rattle.raft_voter_durability_laws.specs.raft_log_engine_laws.specs.Shows.{Home, LogMap, Shows}
-use Rattle.raft_voter_durability_laws.specs.raft_log_engine_laws.specs.Holding.{Holds}
+use Rattle.raft_voter_durability_laws.specs.raft_log_engine_laws.specs.EngineState.{LogDirectories, LogMap, EngineState}
+use Rattle.raft_voter_durability_laws.specs.raft_log_engine_laws.specs.Holding.{Represents}
 use Rattle.raft_voter_messages.specs.declared.reply.Entry.{Entry as VoterEntry}
 use Rattle.raft_voter_messages.specs.declared.stored.StoredFault.{StoredFault}
 use Rattle.raft_voter_messages.specs.StoredForms.{stored_entry_fits}
@@ -46,11 +46,11 @@ run_is grp base end texts outside stand size i = elim (cases_lt base i) [
         ∙ sym (ap (option_map Entry) past.1)
         ∙ sym (if_true (nat_le (base + 1) i) _ None (le_true (base + 1) i (omega (arith, high))))
 
-pub voter_held : (s : Shows) (g : ℕ) (head : Head) (es : List VoterEntry) → ReadsHead s g head → ReadsBelow s g head.state.base_index head.end es
+pub voter_held : (s : EngineState) (g : ℕ) (head : Head) (es : List VoterEntry) → ReadsHead s g head → ReadsBelow s g head.state.base_index head.end es
     → Tells s (λ m. HoldsVoter (m g) (read_voter head.state es))
 voter_held s g head es known below = λ home m h. read_groups_hold_voters (m g) head.state es (as_read home m h)
   where
-    as_read : (home : Home) (m : LogMap) → Holds home s m [] → IsReadAs (m g) head.state es
+    as_read : (home : LogDirectories) (m : LogMap) → Represents home s m [] → IsReadAs (m g) head.state es
     as_read home m h = record {
       bytes = known.state.bytes;
       head = (known.state.tells home m h).head;
@@ -78,7 +78,7 @@ in_order i [] (e ∷ es) h = absurd h
 in_order i (t ∷ texts) [] h = absurd h
 in_order i (t ∷ texts) (e ∷ es) h = rw (eq_true e.index i h.0.at_index, in_order (i + 1) texts es h.1) refl
 
-pub restored_held : (s : Shows) (g : ℕ) (head : Head) (es items : List VoterEntry) (v : State) → ReadsHead s g head → ReadsBelow s g head.state.base_index head.end es
+pub restored_held : (s : EngineState) (g : ℕ) (head : Head) (es items : List VoterEntry) (v : State) → ReadsHead s g head → ReadsBelow s g head.state.base_index head.end es
     → items ≡ es → restored head.state items ≡ Ok v → Tells s (λ m. HoldsVoter (m g) v)
 restored_held s g head es items v known below same is =
     let first : ℕ = head.state.base_index + 1 in

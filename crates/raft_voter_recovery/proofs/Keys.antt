@@ -12,8 +12,8 @@ use Rattle.std.proofs.lemmas.Slice.Eq.{bytes_eq-Decides}
 use Rattle.raft_log_model_laws.specs.Meaning.{Content}
 use Rattle.raft_log_model_laws.specs.Meaning.Slot.{Key}
 use Rattle.raft_log_model_laws.specs.Meaning.Content.{Value}
-use Rattle.raft_voter_durability_laws.specs.raft_log_engine_laws.specs.Shows.{Home, LogMap, Shows}
-use Rattle.raft_voter_durability_laws.specs.raft_log_engine_laws.specs.Holding.{Holds}
+use Rattle.raft_voter_durability_laws.specs.raft_log_engine_laws.specs.EngineState.{LogDirectories, LogMap, EngineState}
+use Rattle.raft_voter_durability_laws.specs.raft_log_engine_laws.specs.Holding.{Represents}
 use Rattle.raft_voter_durability_laws.specs.raft_log_engine_laws.specs.Reading.{AreKeysOf, ReadsKeys}
 use Rattle.raft_voter_messages.specs.declared.reply.VoterState.{VoterState}
 use Rattle.raft_voter_messages.specs.declared.stored.StoredFault.{StoredFault}
@@ -50,10 +50,10 @@ there m g es keys k some none = some (gone (lookup (bytes_eq k) es) (sym (keys.i
 
 -- no key, or one.
 
-no_pair : (s : Shows) (g : ℕ) (es : Pairs) → ReadsKeys s g None None es → es ≡ [] → Tells s (λ m. HasNoKey (m g))
+no_pair : (s : EngineState) (g : ℕ) (es : Pairs) → ReadsKeys s g None None es → es ≡ [] → Tells s (λ m. HasNoKey (m g))
 no_pair s g es read none = λ home m h k. (read.exact home m [] h).inside k refl ∙ ap (λ (ps : Pairs). option_map Value (lookup (bytes_eq k) ps)) none
 
-one_pair : (s : Shows) (g : ℕ) (es : Pairs) (bytes : List ℕ) → ReadsKeys s g None None es → es ≡ (voter_key, bytes) ∷ [] → Tells s (λ m. HasOneKey (m g) bytes)
+one_pair : (s : EngineState) (g : ℕ) (es : Pairs) (bytes : List ℕ) → ReadsKeys s g None None es → es ≡ (voter_key, bytes) ∷ [] → Tells s (λ m. HasOneKey (m g) bytes)
 one_pair s g es bytes read is = λ home m h.
     let keys = (read.exact home m [] h).inside in
     record {
@@ -62,7 +62,7 @@ one_pair s g es bytes read is = λ home m h.
           ∙ ap (λ (b : Bool). option_map Value (cond b (Some bytes) None)) (others k voter_key apart);
     }
 
-pub keys_read : (s : Shows) (g : ℕ) (es : Pairs) (state : Option VoterState) → ReadsKeys s g None None es → PairsTell state es → ReadsKey s g state
+pub keys_read : (s : EngineState) (g : ℕ) (es : Pairs) (state : Option VoterState) → ReadsKeys s g None None es → PairsTell state es → ReadsKey s g state
 keys_read s g es None read none = no_pair s g es read none
 keys_read s g es (Some state) read one = record { bytes = one.0; state = one.2; tells = one_pair s g es one.0 read one.1 }
 
@@ -113,11 +113,11 @@ other_one m g es k bytes is apart keys =
     ap (λ (ps : Pairs). lookup (bytes_eq k) ps) is ∙ ap (λ (x : Bool). cond x (Some bytes) None) (same k) in
     let no : ⊥ = cc in no))
 
-pub keys_foreign : (s : Shows) (g : ℕ) (es : Pairs) (cause : Unread) → ReadsKeys s g None None es → ForeignPairs g es cause → IsUnreadFor cause s
+pub keys_foreign : (s : EngineState) (g : ℕ) (es : Pairs) (cause : Unread) → ReadsKeys s g None None es → ForeignPairs g es cause → IsUnreadFor cause s
 keys_foreign s g es cause read told = subst (λ (c : Unread). IsUnreadFor c s) (sym told.0) (λ home m h.
     foreign_groups_are_foreign (m g) (by_case home m h told.1))
   where
-    by_case : (home : Home) (m : LogMap) → Holds home s m [] → ArePairsForeign es → HasForeign (m g)
+    by_case : (home : LogDirectories) (m : LogMap) → Represents home s m [] → ArePairsForeign es → HasForeign (m g)
     by_case home m h (inl one) = other_one m g es one.0 one.1 one.2 one.3 (read.exact home m [] h)
     by_case home m h (inr (inl one)) = broken_state one.0 one.1 (one_pair s g es one.0 read one.2 home m h).head one.3
     by_case home m h (inr (inr many)) = more_keys m g es many (read.exact home m [] h)

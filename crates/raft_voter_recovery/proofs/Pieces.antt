@@ -9,7 +9,7 @@ use Rattle.raft_log_extents.specs.declared.place.Place.{Place}
 use Rattle.raft_log_extents.specs.Counts.{fitting, sized}
 use Rattle.raft_log_memtable_index.specs.Shown.{Shown}
 use Rattle.raft_voter_durability_laws.specs.raft_log_engine_laws.specs.raft_log_memtable.specs.Reads.{AreIn, entries_from, fetched, places_between}
-use Rattle.raft_voter_durability_laws.specs.raft_log_engine_laws.specs.Shows.{LogMap, Shows}
+use Rattle.raft_voter_durability_laws.specs.raft_log_engine_laws.specs.EngineState.{LogMap, EngineState}
 use Rattle.raft_voter_durability_laws.specs.raft_log_engine_laws.specs.Fetching.{AreEntriesOf, AreToRead, FetchesTo}
 use Rattle.raft_voter_messages.specs.declared.reply.Entry.{Entry as VoterEntry}
 use Rattle.raft_voter.specs.Laws.{AreReadAs}
@@ -51,7 +51,7 @@ piece_fits v from to max some inside =
     (omega (arith, size, cut, first, between, some), omega (arith, size, cut, between))
 
 -- of a group whose tables have entries, one comes at least, and none past the end
-pub comes : (s : Shows) (g from to count : ℕ) (max : Option ℕ) (n : ℕ) → IsCounted s → from < to → AreIn (s.tables g) from to
+pub comes : (s : EngineState) (g from to count : ℕ) (max : Option ℕ) (n : ℕ) → IsCounted s → from < to → AreIn (s.tables g) from to
     → (es : List EntryIndex) → AreToRead s g from to max es → length es ≡ n → (0 < n) × (n ≤ to - from)
 comes s g from to count max n counted some inside es (inl none) same =
     let empty = counted g none.0 in
@@ -87,7 +87,7 @@ length-read i [] (e ∷ es) h = absurd h
 length-read i (t ∷ texts) [] h = absurd h
 length-read i (t ∷ texts) (e ∷ es) h = let more = length-read (i + 1) texts es h.1 in omega (arith, more)
 
-module _ (s t : Shows) (g from to count : ℕ) (max : Option ℕ) (old ms slice : List RawMessage) (empty : old ≡ []) (same : slice ≡ ms)
+module _ (s t : EngineState) (g from to count : ℕ) (max : Option ℕ) (old ms slice : List RawMessage) (empty : old ≡ []) (same : slice ≡ ms)
     (f : FetchesTo reading_of g from to max s t old ms count) where
   fetched_from_none : FetchesTo reading_of g from to max s t [] ms count
   fetched_from_none = subst (λ (l : List RawMessage). FetchesTo reading_of g from to max s t l ms count) empty f

@@ -8,9 +8,9 @@ use Rattle.raft_log_record_items.specs.declared.raw_message.RawMessage.{RawMessa
 use Rattle.raft_log_memtable_index.specs.Shown.{Shown}
 use Rattle.raft_voter_durability_laws.specs.raft_log_engine_laws.specs.raft_log_memtable.specs.Reads.{AreIn, FetchRefused}
 use Rattle.raft_voter_durability_laws.specs.raft_log_engine_laws.specs.raft_log_block_cache.specs.Blocks.{IsFileUnread}
-use Rattle.raft_voter_durability_laws.specs.raft_log_engine_laws.specs.raft_log_dual_pipes.specs.Pipes.{Said}
-use Rattle.raft_voter_durability_laws.specs.raft_log_engine_laws.specs.Shows.{Home, LogMap, Shows}
-use Rattle.raft_voter_durability_laws.specs.raft_log_engine_laws.specs.Holding.{Holds}
+use Rattle.raft_voter_durability_laws.specs.raft_log_engine_laws.specs.raft_log_dual_pipes.specs.Pipes.{LogRecordValue}
+use Rattle.raft_voter_durability_laws.specs.raft_log_engine_laws.specs.EngineState.{LogDirectories, LogMap, EngineState}
+use Rattle.raft_voter_durability_laws.specs.raft_log_engine_laws.specs.Holding.{Represents}
 use Rattle.raft_voter_durability_laws.specs.raft_log_engine_laws.specs.Fetching.{FailsToFetch, HadFailed, IsOneUntold, StaysButBlock}
 use Rattle.raft_log_engine_core.specs.Reads.{IsFailed, IsUncopied}
 use Rattle.raft_voter_durability_laws.specs.Requests.{WereUnread}
@@ -19,7 +19,7 @@ use Rattle.raft_voter_recovery.specs.Reading.{IsRefused, IsUnreadFor, cause_of}
 use Rattle.raft_voter_recovery.proofs.Telling.{stays_at_first}
 
 -- an error is told by itself, unless it is want of memory
-refused_for : (error : Error) (s : Shows) → ((error ≡ errors.Memory → ⊥) → IsRefused error s) → IsUnreadFor (cause_of error) s
+refused_for : (error : Error) (s : EngineState) → ((error ≡ errors.Memory → ⊥) → IsRefused error s) → IsUnreadFor (cause_of error) s
 refused_for errors.Memory s why = tt
 refused_for (errors.Message text) s why = why (λ e. let no : ⊥ = cc in no)
 refused_for errors.Hole s why = why (λ e. let no : ⊥ = cc in no)
@@ -35,15 +35,15 @@ refused_for (errors.Other fault) s why = why (λ e. let no : ⊥ = cc in no)
 refused_for errors.Failed s why = why (λ e. let no : ⊥ = cc in no)
 refused_for errors.NumberRange s why = why (λ e. let no : ⊥ = cc in no)
 
-told_for : (error : Error) (cause : Unread) (s : Shows) → cause ≡ cause_of error → ((error ≡ errors.Memory → ⊥) → IsRefused error s) → IsUnreadFor cause s
+told_for : (error : Error) (cause : Unread) (s : EngineState) → cause ≡ cause_of error → ((error ≡ errors.Memory → ⊥) → IsRefused error s) → IsUnreadFor cause s
 told_for error cause s is why = subst (λ (c : Unread). IsUnreadFor c s) (sym is) (refused_for error s why)
 
 -- of an engine that has failed
-pub failed_for : (error : Error) (cause : Unread) (s : Shows) → cause ≡ cause_of error → IsFailed s error → IsUnreadFor cause s
+pub failed_for : (error : Error) (cause : Unread) (s : EngineState) → cause ≡ cause_of error → IsFailed s error → IsUnreadFor cause s
 failed_for error cause s is failed = told_for error cause s is (λ other. inl failed)
 
 -- of what is copied
-pub uncopied_for : (error : Error) (cause : Unread) (s : Shows) → cause ≡ cause_of error → IsUncopied s error → IsUnreadFor cause s
+pub uncopied_for : (error : Error) (cause : Unread) (s : EngineState) → cause ≡ cause_of error → IsUncopied s error → IsUnreadFor cause s
 uncopied_for error cause s is (inl failed) = failed_for error cause s is failed
 uncopied_for error cause s is (inr memory) = told_for error cause s is (λ other. absurd (other memory.0))
 
@@ -74,7 +74,7 @@ module _ {M : Type 0} (reading : List ℕ → Option M) (total : (bytes : List �
       by_error errors.Failed h = absurd h
       by_error errors.NumberRange h = absurd h
 
-  one_unread : (g from to : ℕ) (error : Error) (s : Shows) (m : LogMap) → (error ≡ errors.Memory → ⊥) → IsOneUntold reading g from to s m error → WereUnread g from to s error
+  one_unread : (g from to : ℕ) (error : Error) (s : EngineState) (m : LogMap) → (error ≡ errors.Memory → ⊥) → IsOneUntold reading g from to s m error → WereUnread g from to s error
   one_unread g from to error s m other (inl memory) = absurd (other memory)
   one_unread g from to error s m other (inr one) = record {
     index = one.0;
@@ -109,20 +109,20 @@ only_memory v from to error inside refused = by_case refused.1
 
 module _ {M : Type 0} (reading : List ℕ → Option M) (total : (bytes : List ℕ) → (message : M) × (reading bytes ≡ Some message)) where
   -- entries that the tables have weren't fetched
-  pub unfetched_for : (g from to : ℕ) (error : Error) (cause : Unread) (s t : Shows) → cause ≡ cause_of error → AreIn (s.tables g) from to
+  pub unfetched_for : (g from to : ℕ) (error : Error) (cause : Unread) (s t : EngineState) → cause ≡ cause_of error → AreIn (s.tables g) from to
       → HadFailed s t error ⊎ FailsToFetch reading g from to s t error → IsUnreadFor cause s
   unfetched_for g from to error cause s t is inside (inl had) = failed_for error cause s is (had.0, had.1)
   unfetched_for g from to error cause s t is inside (inr f) = told_for error cause s is (λ other. by_why other f.why)
     where
       by_why : (error ≡ errors.Memory → ⊥) → ((s.counts g ≡ true) × FetchRefused (s.tables g) from to error)
-          ⊎ ((home : Home) (m : LogMap) (pending : List Said) → Holds home s m pending → IsOneUntold reading g from to s (taken m pending) error)
+          ⊎ ((home : LogDirectories) (m : LogMap) (pending : List LogRecordValue) → Represents home s m pending → IsOneUntold reading g from to s (taken m pending) error)
           → IsRefused error s
       by_why other (inl refused) = absurd (other (only_memory (s.tables g) from to error inside refused.1))
       by_why other (inr untold) = inr (g, from, to, λ home m h. one_unread reading total g from to error s m other (untold home m [] h))
 
   -- whichever way it was refused, the engine stays
-  pub unfetched_stays : (g from to : ℕ) (error : Error) (s t : Shows) → HadFailed s t error ⊎ FailsToFetch reading g from to s t error → StaysButBlock s t
-  unfetched_stays g from to error s t (inl had) = subst (λ (e : Shows). StaysButBlock s e) (sym had.2) (stays_at_first s)
+  pub unfetched_stays : (g from to : ℕ) (error : Error) (s t : EngineState) → HadFailed s t error ⊎ FailsToFetch reading g from to s t error → StaysButBlock s t
+  unfetched_stays g from to error s t (inl had) = subst (λ (e : EngineState). StaysButBlock s e) (sym had.2) (stays_at_first s)
   unfetched_stays g from to error s t (inr f) = f.stays
 
 -- any bytes are a raw message

@@ -1,6 +1,6 @@
 -- Runs of entries that were read, one behind another.
 use Rattle.std.proofs.Common.{◌≡◌, ◌∙◌, ℕ, ◌+◌, List, [], ◌∷◌, ◌++◌, length, refl, sym, ap, subst, arith, length-append}
-use Rattle.raft_voter_durability_laws.specs.raft_log_engine_laws.specs.Shows.{Shows}
+use Rattle.raft_voter_durability_laws.specs.raft_log_engine_laws.specs.EngineState.{EngineState}
 use Rattle.raft_voter_durability_laws.specs.raft_log_engine_laws.specs.Fetching.{StaysButBlock}
 use Rattle.raft_voter_messages.specs.declared.reply.Entry.{Entry as VoterEntry}
 use Rattle.raft_voter.specs.Laws.{AreReadAs}
@@ -21,13 +21,13 @@ stand_on grp i j (t ∷ texts) more h at k = (h.0, stand_on grp (i + 1) j texts 
 
 -- No entry, and some more.
 
-pub none_read : (s : Shows) (g base next : ℕ) (es : List VoterEntry) → es ≡ [] → next ≡ base + 1 → ReadsBelow s g base next es
+pub none_read : (s : EngineState) (g base next : ℕ) (es : List VoterEntry) → es ≡ [] → next ≡ base + 1 → ReadsBelow s g base next es
 none_read s g base next es none is = record {
   run = subst (λ (l : List VoterEntry). ReadsRun s g (base + 1) l) (sym none) (record { texts = []; read = tt; stand = λ home m h. tt });
   count = let size = ap (λ (l : List VoterEntry). length l) none in omega (arith, size, is);
 }
 
-pub more_read : (s t : Shows) (g base next end after : ℕ) (es fs all : List VoterEntry) → StaysButBlock s t → ReadsBelow s g base next es
+pub more_read : (s t : EngineState) (g base next end after : ℕ) (es fs all : List VoterEntry) → StaysButBlock s t → ReadsBelow s g base next es
     → ReadsPiece t g next end fs → all ≡ es ++ fs → after ≡ next + length fs → ReadsBelow s g base after all
 more_read s t g base next end after es fs all stays below piece is at = record {
   run = subst (λ (l : List VoterEntry). ReadsRun s g (base + 1) l) (sym is) (record {

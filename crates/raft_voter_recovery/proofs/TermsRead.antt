@@ -3,8 +3,8 @@ use Rattle.std.proofs.Common.{◌≡◌, ◌∙◌, ℕ, zero, suc, ◌+◌, ◌
 use Rattle.std.proofs.lemmas.List.{length-map, map-append, take_more}
 use Rattle.raft_log_model_laws.specs.Groups.{taken}
 use Rattle.raft_voter_durability_laws.specs.raft_log_engine_laws.specs.raft_log_memtable.specs.Reads.{AreIn}
-use Rattle.raft_voter_durability_laws.specs.raft_log_engine_laws.specs.Shows.{Home, LogMap, Shows}
-use Rattle.raft_voter_durability_laws.specs.raft_log_engine_laws.specs.Holding.{Holds}
+use Rattle.raft_voter_durability_laws.specs.raft_log_engine_laws.specs.EngineState.{LogDirectories, LogMap, EngineState}
+use Rattle.raft_voter_durability_laws.specs.raft_log_engine_laws.specs.Holding.{Represents}
 use Rattle.raft_voter_durability_laws.specs.raft_log_engine_laws.specs.Fetching.{AreEntriesOf, FetchesTo, StaysButBlock}
 use Rattle.raft_voter_messages.specs.declared.reply.Entry.{Entry as VoterEntry}
 use Rattle.raft_voter_messages.specs.declared.reply.VoterState.{VoterState}
@@ -72,7 +72,7 @@ length-told i [] ts told = ap length (sym told)
 length-told i (h ∷ hs) [] told = absurd told
 length-told i (h ∷ hs) (t ∷ ts) told = let more = length-told (i + 1) hs ts told.1 in omega (arith, more)
 
-module _ (s t : Shows) (g from to count : ℕ) (max : Option ℕ) (old hs slice : List EntryHead) (empty : old ≡ []) (same : slice ≡ hs)
+module _ (s t : EngineState) (g from to count : ℕ) (max : Option ℕ) (old hs slice : List EntryHead) (empty : old ≡ []) (same : slice ≡ hs)
     (f : FetchesTo head_of g from to max s t old hs count) where
   fetched_from_none : FetchesTo head_of g from to max s t [] hs count
   fetched_from_none = subst (λ (l : List EntryHead). FetchesTo head_of g from to max s t l hs count) empty f
@@ -184,11 +184,11 @@ untold_at first i index hs h lt is at none = record {
 
 -- The outline.
 
-pub no_terms : (s : Shows) (g : ℕ) (state : VoterState) (next : ℕ) (o : State) → o ≡ with_log state [] → next ≡ state.base_index + 1 → KnowsTerms s g state next o
+pub no_terms : (s : EngineState) (g : ℕ) (state : VoterState) (next : ℕ) (o : State) → o ≡ with_log state [] → next ≡ state.base_index + 1 → KnowsTerms s g state next o
 no_terms s g state next o is at = record { terms = []; have = λ home m h. tt; count = omega (arith, at); is = is }
 
 -- the last index of what is known so far
-pub last_known : (s : Shows) (g : ℕ) (state : VoterState) (next : ℕ) (o : State) → KnowsTerms s g state next o → o.base_index + length o.log + 1 ≡ next
+pub last_known : (s : EngineState) (g : ℕ) (state : VoterState) (next : ℕ) (o : State) → KnowsTerms s g state next o → o.base_index + length o.log + 1 ≡ next
 last_known s g state next o known =
     let base = ap (λ (v : State). v.base_index) known.is in
     let log = ap (λ (v : State). length v.log) known.is ∙ length-map {B = ℕ × List ℕ} known.terms (λ (t : ℕ). (t, [])) in
@@ -198,7 +198,7 @@ have_on : (grp : Group) (i j : ℕ) (ts us : List ℕ) → HaveTerms grp i ts �
 have_on grp i j [] us h at k = let here : j ≡ i = omega (arith, at) in subst (λ (n : ℕ). HaveTerms grp n us) here k
 have_on grp i j (t ∷ ts) us h at k = (h.0, have_on grp (i + 1) j ts us h.1 (omega (arith, at)) k)
 
-pub more_terms : (s t : Shows) (g : ℕ) (state : VoterState) (next end after count : ℕ) (o p : State) → StaysButBlock s t → KnowsTerms s g state next o
+pub more_terms : (s t : EngineState) (g : ℕ) (state : VoterState) (next end after count : ℕ) (o p : State) → StaysButBlock s t → KnowsTerms s g state next o
     → AddsTerms t g next end count o p → after ≡ next + count → KnowsTerms s g state after p
 more_terms s t g state next end after count o p stays known piece at = record {
   terms = known.terms ++ piece.terms;
@@ -233,7 +233,7 @@ stored_of grp i (t ∷ ts) h =
       size = let rest = more.size in omega (arith, rest);
     }
 
-pub outline_held : (s : Shows) (g : ℕ) (head : Head) (o : State) → ReadsHead s g head → KnowsTerms s g head.state head.end o → Tells s (λ m. HasOutline o (m g))
+pub outline_held : (s : EngineState) (g : ℕ) (head : Head) (o : State) → ReadsHead s g head → KnowsTerms s g head.state head.end o → Tells s (λ m. HasOutline o (m g))
 outline_held s g head o known knows = λ home m h.
     let base : ℕ = head.state.base_index in
     let all = stored_of (m g) (base + 1) knows.terms (knows.have home m h) in

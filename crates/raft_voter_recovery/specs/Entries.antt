@@ -2,7 +2,7 @@
 use Rattle.std.specs.Prelude.{◌≡◌, ◌≢◌, ◌+◌, ◌≤◌, ◌<◌, ℕ, List, [], ◌∷◌, length, slice_get, Some}
 use Rattle.raft_log_model_laws.specs.Meaning.Slot.{Index}
 use Rattle.raft_log_model_laws.specs.Meaning.Content.{Entry}
-use Rattle.raft_voter_durability_laws.specs.raft_log_engine_laws.specs.Shows.{Shows}
+use Rattle.raft_voter_durability_laws.specs.raft_log_engine_laws.specs.EngineState.{EngineState}
 use Rattle.raft_voter_messages.specs.declared.reply.Entry.{Entry as VoterEntry}
 use Rattle.raft_voter_messages.specs.declared.stored.StoredFault.{StoredFault}
 use Rattle.raft_voter_messages.specs.declared.stored.StoredFault.TheVariants as faults
@@ -35,18 +35,18 @@ AreNoEntries g first texts (causes.Engine error) = ⊥
 AreNoEntries g first texts causes.Memory = Unit {0}
 
 -- consecutive entries of a group were read from an index on
-pub record ReadsRun (e : Shows) (g first : ℕ) (es : List VoterEntry) : Type 0 where
+pub record ReadsRun (e : EngineState) (g first : ℕ) (es : List VoterEntry) : Type 0 where
   pub texts : List (List ℕ)
   pub read : AreReadAs first texts es
   pub stand : Tells e (λ m. StandFrom (m g) first texts)
 
 -- some entries of a group were read from an index on, at least one and all below an end
-pub record ReadsPiece (e : Shows) (g first end : ℕ) (es : List VoterEntry) : Type 0 where
+pub record ReadsPiece (e : EngineState) (g first end : ℕ) (es : List VoterEntry) : Type 0 where
   pub run : ReadsRun e g first es
   pub some : 0 < length es
   pub within : first + length es ≤ end
 
 -- all entries of a group after a base and below an index were read
-pub record ReadsBelow (e : Shows) (g base next : ℕ) (es : List VoterEntry) : Type 0 where
+pub record ReadsBelow (e : EngineState) (g base next : ℕ) (es : List VoterEntry) : Type 0 where
   pub run : ReadsRun e g (base + 1) es
   pub count : base + 1 + length es ≡ next

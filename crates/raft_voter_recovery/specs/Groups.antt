@@ -3,7 +3,7 @@ use Rattle.std.specs.Prelude.{◌≡◌, ◌⊎◌, ◌+◌, ◌^◌, ◌<◌, �
 use Rattle.raft_log_model_laws.specs.Meaning.Slot.{Index, Key}
 use Rattle.raft_log_model_laws.specs.Meaning.Content.{Value}
 use Rattle.raft_voter_durability_laws.specs.raft_log_engine_laws.specs.Reading.{ReadsFirst, ReadsLast}
-use Rattle.raft_voter_durability_laws.specs.raft_log_engine_laws.specs.Shows.{Shows}
+use Rattle.raft_voter_durability_laws.specs.raft_log_engine_laws.specs.EngineState.{EngineState}
 use Rattle.raft_voter_durability_laws.specs.raft_log_engine_laws.specs.raft_log_memtable.specs.Reads.{AreIn}
 use Rattle.raft_voter_messages.specs.declared.reply.VoterState.{VoterState}
 use Rattle.raft_voter_messages.specs.declared.stored.StoredFault.{StoredFault}
@@ -42,20 +42,20 @@ abbrev pub HasNoKey : Group → Type 0
 HasNoKey grp = (k : List ℕ) → grp (Key k) ≡ None
 
 -- a group's state was read from the bytes of its one key
-pub record ReadsState (e : Shows) (g : ℕ) (s : VoterState) : Type 0 where
+pub record ReadsState (e : EngineState) (g : ℕ) (s : VoterState) : Type 0 where
   pub bytes : List ℕ
   pub state : IsState bytes s
   pub tells : Tells e (λ m. HasOneKey (m g) bytes)
 
 -- a group's keys were read: it has none, or this is the state
-abbrev pub ReadsKey : Shows → ℕ → Option VoterState → Type 0
+abbrev pub ReadsKey : EngineState → ℕ → Option VoterState → Type 0
 ReadsKey e g None = Tells e (λ m. HasNoKey (m g))
 ReadsKey e g (Some s) = ReadsState e g s
 
 -- Indexes.
 
 -- a group's first and last index were read; none if it has no entries
-abbrev pub ReadsSpan : Shows → ℕ → Option (ℕ × ℕ) → Type 0
+abbrev pub ReadsSpan : EngineState → ℕ → Option (ℕ × ℕ) → Type 0
 ReadsSpan e g None = ReadsFirst e g None
 ReadsSpan e g (Some span) = ReadsFirst e g (Some span.0) × ReadsLast e g (Some span.1)
 
@@ -64,18 +64,18 @@ abbrev pub NoneOutside : ℕ → ℕ → Group → Type 0
 NoneOutside base end grp = (i : ℕ) → (i ≤ base) ⊎ (end ≤ i) → grp (Index i) ≡ None
 
 -- The tables have a group's entries after a base and below an end that is in range. The group has no others.
-pub record ReadsEnd (e : Shows) (g base end : ℕ) : Type 0 where
+pub record ReadsEnd (e : EngineState) (g base end : ℕ) : Type 0 where
   pub reaches : base < end
   pub small : end ≤ 2 ^ 63
   pub placed : AreIn (e.tables g) (base + 1) end
   pub outside : Tells e (λ m. NoneOutside base end (m g))
 
 -- what was read of a group before its entries: its state, and the end of its entries
-pub record ReadsHead (e : Shows) (g : ℕ) (head : Head) : Type 0 where
+pub record ReadsHead (e : EngineState) (g : ℕ) (head : Head) : Type 0 where
   pub state : ReadsState e g head.state
   pub ends : ReadsEnd e g head.state.base_index head.end
 
 -- the group is empty, or this was read
-abbrev pub TellsHead : Shows → ℕ → Option Head → Type 0
+abbrev pub TellsHead : EngineState → ℕ → Option Head → Type 0
 TellsHead e g None = Tells e (λ m. IsVoid (m g))
 TellsHead e g (Some head) = ReadsHead e g head

@@ -2,7 +2,7 @@
 use Rattle.std.specs.Prelude.{◌≡◌, ◌+◌, ◌≤◌, ◌<◌, ℕ, List, [], ◌∷◌, ◌++◌, length, map, slice_get, None, Some}
 use Rattle.raft_log_model_laws.specs.Meaning.Slot.{Index}
 use Rattle.raft_log_model_laws.specs.Meaning.Content.{Entry}
-use Rattle.raft_voter_durability_laws.specs.raft_log_engine_laws.specs.Shows.{Shows}
+use Rattle.raft_voter_durability_laws.specs.raft_log_engine_laws.specs.EngineState.{EngineState}
 use Rattle.raft_voter_messages.specs.declared.reply.Entry.{Entry as VoterEntry}
 use Rattle.raft_voter_messages.specs.declared.reply.VoterState.{VoterState}
 use Rattle.raft_voter_messages.specs.StoredForms.{IsEntry}
@@ -64,20 +64,20 @@ pub record AddsTold (first : ℕ) (hs : List EntryHead) (o p : State) : Type 0 w
   pub now : p ≡ record o { log = o.log ++ alone terms }
 
 -- the terms of consecutive entries of a group were read from an index on: at least one, and all below an end
-pub record ReadsTerms (e : Shows) (g first end : ℕ) (ts : List ℕ) : Type 0 where
+pub record ReadsTerms (e : EngineState) (g first end : ℕ) (ts : List ℕ) : Type 0 where
   pub have : Tells e (λ m. HaveTerms (m g) first ts)
   pub some : 0 < length ts
   pub within : first + length ts ≤ end
 
 -- so many terms of a group's entries were read from an index on, all below an end, and appended to the entries of a log
-pub record AddsTerms (e : Shows) (g first end count : ℕ) (o p : State) : Type 0 where
+pub record AddsTerms (e : EngineState) (g first end count : ℕ) (o p : State) : Type 0 where
   pub terms : List ℕ
   pub read : ReadsTerms e g first end terms
   pub number : count ≡ length terms
   pub now : p ≡ record o { log = o.log ++ alone terms }
 
 -- the terms of the entries below an index were read, and this is the outline of a voter with exactly these
-pub record KnowsTerms (e : Shows) (g : ℕ) (s : VoterState) (next : ℕ) (o : State) : Type 0 where
+pub record KnowsTerms (e : EngineState) (g : ℕ) (s : VoterState) (next : ℕ) (o : State) : Type 0 where
   pub terms : List ℕ
   pub have : Tells e (λ m. HaveTerms (m g) (s.base_index + 1) terms)
   pub count : s.base_index + 1 + length terms ≡ next

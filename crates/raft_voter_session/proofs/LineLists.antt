@@ -3,7 +3,7 @@ use Rattle.std.proofs.Common.{◌≡◌, ℕ, ◌+◌, ◌<◌, ◌≤◌, ◌�
 use Rattle.std.proofs.lemmas.List.Splits.{slice_split_first}
 use Rattle.std.specs.List.{before_first, after_first, slice_split, position_or_len}
 use Rattle.raft_voter_session.specs.Words.{is_line_feed}
-use Rattle.raft_voter_session.specs.Told.{Said}
+use Rattle.raft_voter_session.specs.Told.{SessionContent}
 use Rattle.raft_voter_session.specs.Session.{Progress, after_line, finish, no_progress, session_of, or_unreadable, read_from}
 
 -- a text has a piece at least
@@ -40,18 +40,18 @@ read_from-line text line rest number whole p h =
     let w = pieces_of rest in
     rw (slice_split_first is_line_feed text 0 h.within, ← h.before, ← h.behind, w.all) refl
 
-pub unreadable_line : (text line rest : List ℕ) (number : ℕ) (whole : Bool) (p : Progress) (all : Result Said ℕ) → IsLine text line rest
+pub unreadable_line : (text line rest : List ℕ) (number : ℕ) (whole : Bool) (p : Progress) (all : Result SessionContent ℕ) → IsLine text line rest
     → read_from (slice_split is_line_feed text) number whole p ≡ all → after_line line p ≡ None → all ≡ Err number
 unreadable_line text line rest number whole p all h so_far lost =
     sym so_far ∙ read_from-line text line rest number whole p h ∙ ap (λ o. or_unreadable number o (read_from (slice_split is_line_feed rest) (number + 1) whole)) lost
 
-pub next_line : (text line rest : List ℕ) (number : ℕ) (whole : Bool) (p next : Progress) (all : Result Said ℕ) → IsLine text line rest
+pub next_line : (text line rest : List ℕ) (number : ℕ) (whole : Bool) (p next : Progress) (all : Result SessionContent ℕ) → IsLine text line rest
     → read_from (slice_split is_line_feed text) number whole p ≡ all → after_line line p ≡ Some next
     → read_from (slice_split is_line_feed rest) (number + 1) whole next ≡ all
 next_line text line rest number whole p next all h so_far one =
     sym (sym so_far ∙ read_from-line text line rest number whole p h ∙ ap (λ o. or_unreadable number o (read_from (slice_split is_line_feed rest) (number + 1) whole)) one)
 
-pub last_line : (text : List ℕ) (number : ℕ) (whole : Bool) (p : Progress) (all : Result Said ℕ) → length text ≤ position_or_len is_line_feed text
+pub last_line : (text : List ℕ) (number : ℕ) (whole : Bool) (p : Progress) (all : Result SessionContent ℕ) → length text ≤ position_or_len is_line_feed text
     → read_from (slice_split is_line_feed text) number whole p ≡ all → finish number whole text p ≡ all
 last_line text number whole p all h so_far =
     sym (ap (λ pieces. read_from pieces number whole p) (one_piece text h)) ∙ so_far

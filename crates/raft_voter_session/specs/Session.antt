@@ -7,7 +7,7 @@ use Rattle.raft_voter_messages.specs.declared.request.Request.{Request}
 use Rattle.raft_voter_world.specs.declared.event.Event.TheVariants.{Round as RoundEvent}
 use Rattle.raft_voter_session.specs.declared.reading.Begun.{Begun}
 use Rattle.raft_voter_session.specs.declared.reading.Begun.TheVariants.{Nothing, Settings, Round}
-use Rattle.raft_voter_session.specs.Told.{Said, Told, alone}
+use Rattle.raft_voter_session.specs.Told.{SessionContent, Told, alone}
 use Rattle.raft_voter_session.specs.Words.{◌>>=◌, is_line_feed, text_of}
 use Rattle.raft_voter_session.specs.Events.{event_of}
 use Rattle.raft_voter_session.specs.Requests.{request_of}
@@ -28,7 +28,7 @@ open_part (Round requests) = round requests
 
 -- what the lines so far encode, and what they have begun
 pub record Progress : Type 0 where
-  pub session : Said
+  pub session : SessionContent
   pub begun : Part
 
 -- before the first line
@@ -36,7 +36,7 @@ abbrev pub no_progress : Progress
 no_progress = record { session = record { settings = None; events = [] }; begun = nothing }
 
 -- one more event
-abbrev pub adds_event : Said → Told → Option Progress
+abbrev pub adds_event : SessionContent → Told → Option Progress
 adds_event so_far event = Some (record {
   session = record { settings = so_far.settings; events = so_far.events ++ event ∷ [] };
   begun = nothing;
@@ -48,32 +48,32 @@ may_begin None [] = true
 may_begin before events = false
 
 -- the settings begin, before anything else
-abbrev pub begins_settings : Said → Option Progress
+abbrev pub begins_settings : SessionContent → Option Progress
 begins_settings so_far =
     if may_begin so_far.settings so_far.events then Some (record { session = so_far; begun = settings [] }) else None
 
 -- one more line after nothing has begun; `None` if it is unreadable
-abbrev pub after_outside : List ℕ → Said → Option Progress
+abbrev pub after_outside : List ℕ → SessionContent → Option Progress
 after_outside line so_far =
     if bytes_eq line (codes "config") then begins_settings so_far
     else if bytes_eq line (codes "round") then Some (record { session = so_far; begun = round [] })
     else event_of line >>= adds_event so_far
 
 -- one more line of the settings, which `end` ends
-abbrev pub after_setting : List ℕ → Said → List ℕ → Option Progress
+abbrev pub after_setting : List ℕ → SessionContent → List ℕ → Option Progress
 after_setting line so_far told =
     if bytes_eq line (codes "end")
     then Some (record { session = record { settings = Some told; events = so_far.events }; begun = nothing })
     else text_of line >>= (λ text. Some (record { session = so_far; begun = settings (told ++ text ++ codes "\n") }))
 
 -- one more line of a round, which `end` ends
-abbrev pub after_asked : List ℕ → Said → List (ℕ × Request) → Option Progress
+abbrev pub after_asked : List ℕ → SessionContent → List (ℕ × Request) → Option Progress
 after_asked line so_far asked =
     if bytes_eq line (codes "end") then adds_event so_far (alone (RoundEvent asked))
     else request_of line >>= (λ q. Some (record { session = so_far; begun = round (asked ++ q ∷ []) }))
 
 -- one more line, depending on what has begun
-abbrev pub after_part : Part → List ℕ → Said → Option Progress
+abbrev pub after_part : Part → List ℕ → SessionContent → Option Progress
 after_part nothing line so_far = after_outside line so_far
 after_part (settings told) line so_far = after_setting line so_far told
 after_part (round asked) line so_far = after_asked line so_far asked
@@ -86,17 +86,17 @@ after_line line so_far =
 -- Sessions.
 
 -- the session at the end, if nothing is left open; otherwise the number of the missing line
-abbrev pub at_end : ℕ → Said → Part → Result Said ℕ
+abbrev pub at_end : ℕ → SessionContent → Part → Result SessionContent ℕ
 at_end number told nothing = Ok told
 at_end number told part = Err number
 
 -- the session after the last line: nothing may follow it, and the session must not be too long
-abbrev pub finish : ℕ → Bool → List ℕ → Progress → Result Said ℕ
+abbrev pub finish : ℕ → Bool → List ℕ → Progress → Result SessionContent ℕ
 finish number whole [] so_far = if whole then at_end number so_far.session so_far.begun else Err number
 finish number whole (b ∷ text) so_far = Err number
 
 -- continues with the next line, or returns the number of this one
-abbrev pub or_unreadable : ℕ → Option Progress → (Progress → Result Said ℕ) → Result Said ℕ
+abbrev pub or_unreadable : ℕ → Option Progress → (Progress → Result SessionContent ℕ) → Result SessionContent ℕ
 or_unreadable number None next = Err number
 or_unreadable number (Some so_far) next = next so_far
 
@@ -107,7 +107,7 @@ is_last (piece ∷ pieces) = false
 
 -- The session that lines encode after earlier ones, or the number of the first unreadable line. The first line has this
 -- number. The last piece is the text after the last line feed.
-abbrev pub read_from : List (List ℕ) → ℕ → Bool → Progress → Result Said ℕ
+abbrev pub read_from : List (List ℕ) → ℕ → Bool → Progress → Result SessionContent ℕ
 read_from [] number whole so_far = Err number
 read_from (piece ∷ pieces) number whole so_far =
     if is_last pieces then finish number whole piece so_far
@@ -115,7 +115,7 @@ read_from (piece ∷ pieces) number whole so_far =
 
 -- The session that a text encodes, or the number of its first unreadable line, counted from 1. If the text has more
 -- than 268,435,456 bytes, the line with the first byte past them is unreadable.
-unfoldable pub session_of : List ℕ → Result Said ℕ
+unfoldable pub session_of : List ℕ → Result SessionContent ℕ
 session_of input =
     read_from (slice_split is_line_feed (take 268435456 input)) 1 (nat_le (length input) 268435456)
     no_progress

@@ -16,10 +16,10 @@ told (Fork target) = copy (string_bytes target)
 told event = alone event
 
 -- a session as its lines encode it: the text of the settings, if there is one, and the events
-pub record Said : Type 0 where
+pub record SessionContent : Type 0 where
   pub settings : Option (List ℕ)
   pub events : List Told
 
 -- a session, as its lines encode it
-abbrev pub said : Session → Said
+abbrev pub said : Session → SessionContent
 said session = record { settings = option_map string_bytes session.settings; events = map told session.events.items }

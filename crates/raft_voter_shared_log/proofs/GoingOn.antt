@@ -1,9 +1,9 @@
 -- A store that is closed is left, and its log goes on.
 use Rattle.std.proofs.Common.{◌≡◌, ℕ, false, List, [], refl, subst, sym}
 use Rattle.raft_log_fs.specs.Disk.{Disk as OnDisk}
-use Rattle.raft_voter_durability_laws.specs.raft_log_engine_laws.specs.Holding.{Holds}
-use Rattle.raft_voter_durability_laws.specs.raft_log_engine_laws.specs.Shows.{Home, LogMap, Shows, has_failed}
-use Rattle.raft_voter_durability_laws.specs.raft_log_engine_laws.proofs.Lying.{closed_engines_are_left}
+use Rattle.raft_voter_durability_laws.specs.raft_log_engine_laws.specs.Holding.{Represents}
+use Rattle.raft_voter_durability_laws.specs.raft_log_engine_laws.specs.EngineState.{LogDirectories, LogMap, EngineState, has_failed}
+use Rattle.raft_voter_durability_laws.specs.raft_log_engine_laws.proofs.OpenOrClosed.{closed_engines_are_left}
 use Rattle.raft_log_recovery_laws.specs.ByCalls.{home_of}
 use Rattle.raft_voter.specs.Service.{CutRound, MayFollow}
 use Rattle.raft_voter_durability_laws.specs.Standing.{IsLeftAmong}
@@ -17,13 +17,13 @@ use Rattle.raft_voter_log.proofs.Opens.{follows_none}
 use Rattle.raft_voter_shared_log.specs.GoingOn.{ClosedStoresGoOn}
 
 -- an engine that holds a map hasn't failed
-pub holding_lives : (home : Home) (s : Shows) (m : LogMap) → Holds home s m [] → has_failed s ≡ false
+pub holding_lives : (home : LogDirectories) (s : EngineState) (m : LogMap) → Represents home s m [] → has_failed s ≡ false
 holding_lives home s m h =
     let one : s.pipes.append.failed ≡ false = h.runs.append.alive in
     let other : s.pipes.rewrite.failed ≡ false = h.runs.rewrite.alive in
     rw (one, other) refl
 
-pub closed_is_left : (home : Home) (s : Shows) (d : OnDisk) (cut : CutRound) → LeavesAt home s cut → ClosesStore s d → IsLeftAmong home d (MayFollow cut)
+pub closed_is_left : (home : LogDirectories) (s : EngineState) (d : OnDisk) (cut : CutRound) → LeavesAt home s cut → ClosesStore s d → IsLeftAmong home d (MayFollow cut)
 closed_is_left home s d cut (running W none keeps) closes =
     left_alone home d keeps.map (MayFollow cut) W (closed_engines_are_left home s keeps.map [] d keeps.holds (closes.held (holding_lives home s keeps.map keeps.holds))) (follows_none cut W none) keeps.means
 closed_is_left home s d cut (is_left failed l) closes = subst (λ (x : OnDisk). IsLeftAmong home x (MayFollow cut)) (sym (closes.failed failed)) l

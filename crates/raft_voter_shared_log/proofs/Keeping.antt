@@ -3,7 +3,7 @@ use Rattle.std.proofs.Common.{◌≡◌, ◌∙◌, inl, inr, ℕ, true, [], sym
 use Rattle.std.proofs.lemmas.Bool.{false≢true}
 use Rattle.raft_log_record_base.specs.declared.errors.Error.{Error}
 use Rattle.raft_log_record_base.specs.declared.errors.Error.TheVariants as errors
-use Rattle.raft_voter_durability_laws.specs.raft_log_engine_laws.specs.Shows.{Home, LogMap, Shows, has_failed}
+use Rattle.raft_voter_durability_laws.specs.raft_log_engine_laws.specs.EngineState.{LogDirectories, LogMap, EngineState, has_failed}
 use Rattle.raft_log_purge_copy.specs.Reasons.{HasPurgeReason, HasReason}
 use Rattle.raft_voter_outline.specs.State.{State}
 use Rattle.raft_voter.specs.Rounds.{World}
@@ -21,11 +21,11 @@ pub served_as :
 served_as v old new keeps fails = record { failed = keeps.failed; served = keeps.served; fails = fails; left = keeps.left }
 
 -- where it failed, a file call did
-failed_calls : (home : Home) (m : LogMap) (error : Error) (s t : Shows) → error ≡ errors.Failed → HasPurgeReason home m error s t → HasFailedCall s t
+failed_calls : (home : LogDirectories) (m : LogMap) (error : Error) (s t : EngineState) → error ≡ errors.Failed → HasPurgeReason home m error s t → HasFailedCall s t
 failed_calls home m error s t failed (inl reason) = subst (λ (e : Error). HasReason home m e s t) failed reason
 failed_calls home m error s t failed (inr (full, long)) = absurd (let never : ⊥ = cc in never)
 
-module _ {S : Type 0} (home : S → Home) (shows : S → Shows) (outlines : S → ℕ → State) (old new : S) where
+module _ {S : Type 0} (home : S → LogDirectories) (shows : S → EngineState) (outlines : S → ℕ → State) (old new : S) where
   -- answered: the store hasn't failed
   pub purged_fails :
       KeepsMeant (shows old) (shows new) → (W : World) → IsOpenAt (service_in home shows outlines) old W

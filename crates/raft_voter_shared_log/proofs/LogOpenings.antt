@@ -5,10 +5,10 @@ use Rattle.std.proofs.Math.Seq.{take-nil}
 use Rattle.raft_log_model_laws.specs.Groups.{taken}
 use Rattle.raft_log_fs.specs.Disk.{Disk}
 use Rattle.raft_log_fs.specs.Image.{IsImage, IsSound}
-use Rattle.raft_voter_durability_laws.specs.raft_log_engine_laws.specs.raft_log_dual_pipes.specs.OnDisk.{LogRestsOn}
-use Rattle.raft_voter_durability_laws.specs.raft_log_engine_laws.specs.raft_log_dual_pipes.specs.Pipes.{Said}
+use Rattle.raft_voter_durability_laws.specs.raft_log_engine_laws.specs.raft_log_dual_pipes.specs.OnDisk.{IsDurableAs}
+use Rattle.raft_voter_durability_laws.specs.raft_log_engine_laws.specs.raft_log_dual_pipes.specs.Pipes.{LogRecordValue}
 use Rattle.raft_log_file_settings.specs.declared.config.Config.{Config}
-use Rattle.raft_voter_durability_laws.specs.raft_log_engine_laws.specs.Shows.{Home, Shows, log_in}
+use Rattle.raft_voter_durability_laws.specs.raft_log_engine_laws.specs.EngineState.{LogDirectories, EngineState, log_in}
 use Rattle.raft_log_recovery_laws.specs.ByCalls.{home_of}
 use Rattle.raft_log_recovery_laws.specs.Left.{IsCrashOf}
 use Rattle.raft_log_recovery_laws.proofs.Left.{crashed_logs_rest}
@@ -33,7 +33,7 @@ use Rattle.raft_voter_shared_log.specs.Opening.{OpensStore}
 use Rattle.raft_voter_shared_log.proofs.GoingOn.{closed_is_left, closed_stores_go_on}
 use Rattle.raft_voter_shared_log.proofs.Joining.{joined_openings_are_explained}
 
-module _ {F : Type 0} (disk : F → Disk) (tells : F → List ℕ → ℕ → Type 0) (shows : LogStore F → Shows) where
+module _ {F : Type 0} (disk : F → Disk) (tells : F → List ℕ → ℕ → Type 0) (shows : LogStore F → EngineState) where
   -- a store that was opened of files serves what any open of them by its settings finds
   serves : (store : LogStore F) (found : F) (W : World) → (opens : OpensStore disk tells store.config found (shows store) (outlines_in store.store.outlines)) → ServesFound disk tells opens.0 found W
       → IsOpenAt (log_service shows) store W
@@ -41,9 +41,9 @@ module _ {F : Type 0} (disk : F → Disk) (tells : F → List ℕ → ℕ → Ty
       let (keeps, are) = finds (shows store) (outlines_in store.store.outlines) opens.2 in
       open_in (λ (s : LogStore F). home_of s.config) shows (λ (s : LogStore F). outlines_in s.store.outlines) store W
       (opened_lives disk tells opens.0 found (shows store) (outlines_in store.store.outlines) opens.2)
-      (subst (λ (h : Home). Keeps h (shows store) W) (one_home opens.0 store.config opens.1) keeps) are
+      (subst (λ (h : LogDirectories). Keeps h (shows store) W) (one_home opens.0 store.config opens.1) keeps) are
 
-  finds : (x next : LogSharing F) → IsShared disk tells shows next → (home : Home) → home_of next.shared.opened.config ≡ home → (cut : CutRound) → (left : IsLeftAmong home (disk x.closed) (MayFollow cut))
+  finds : (x next : LogSharing F) → IsShared disk tells shows next → (home : LogDirectories) → home_of next.shared.opened.config ≡ home → (cut : CutRound) → (left : IsLeftAmong home (disk x.closed) (MayFollow cut))
       → GoesOnBehindACrash disk tells home (disk x.closed) cut left → GoesOnInPlace disk tells home x.closed cut left → IsSound (disk next.found) → IsLeftNext disk home cut x.closed next.found left
       → (X : World) × MayFollow cut X × IsOpenAt (log_service shows) next.shared.opened X
   finds x next is home named cut left crashed stands sound (inl crash) =
@@ -92,16 +92,16 @@ left_means config d cut l image crash =
     let (X, follows, means) = l.among k within in
     (X, follows, taken l.map (take k l.pending), at, means)
 
-image_means : (config : Config) (s : Shows) (cut : CutRound) (known : LeavesAt (home_of config) s cut) (image : Disk) → IsSound image → IsImage s.pipes.disk image → SparesStore (home_of config) s cut known image
+image_means : (config : Config) (s : EngineState) (cut : CutRound) (known : LeavesAt (home_of config) s cut) (image : Disk) → IsSound image → IsImage s.pipes.disk image → SparesStore (home_of config) s cut known image
     → RestsMeaning (home_of config) image (MayFollow cut)
 image_means config s cut (running W none keeps) image sound is chance =
     let home = home_of config in
     let (k, within, at, opens) = crashed_engines_open (λ (d : Disk). d) (λ d directory free. Unit {0}) home s keeps.map [] keeps.holds image sound is chance in
-    let still : LogRestsOn (log_in home) image keeps.map = subst (λ (l : List Said). LogRestsOn (log_in home) image (taken keeps.map l)) (take-nil k) at in
+    let still : IsDurableAs (log_in home) image keeps.map = subst (λ (l : List LogRecordValue). IsDurableAs (log_in home) image (taken keeps.map l)) (take-nil k) at in
     (W, follows_none cut W none, keeps.map, still, keeps.means)
 image_means config s cut (is_left failed l) image sound is chance = left_means config s.pipes.disk cut l image chance
 
-pub settled_stores_mean : {F : Type 0} (shows : LogStore F → Shows) → SettledStoresMean shows
+pub settled_stores_mean : {F : Type 0} (shows : LogStore F → EngineState) → SettledStoresMean shows
 settled_stores_mean shows x W settles at =
     let config = x.settled.config in
     let cut = behind W x.session in (

@@ -2,7 +2,7 @@
 use Rattle.std.specs.Prelude.{◌≡◌, ℕ, List}
 use Rattle.raft_log_fs.specs.Disk.{Disk}
 use Rattle.raft_log_fs.specs.Image.{IsSound}
-use Rattle.raft_voter_durability_laws.specs.raft_log_engine_laws.specs.Shows.{Home, Shows}
+use Rattle.raft_voter_durability_laws.specs.raft_log_engine_laws.specs.EngineState.{LogDirectories, EngineState}
 use Rattle.raft_log_recovery_laws.specs.ByCalls.{ForAllNaming, home_of}
 use Rattle.raft_log_recovery_laws.specs.InPlace.{StandsWithoutChance}
 use Rattle.raft_log_recovery_laws.specs.Left.{IsCrashOf}
@@ -17,7 +17,7 @@ use Rattle.raft_voter_log.specs.Instance.{ClosesStore}
 -- Opening any crash image of a log that is left so gives voters that may follow the round, unless there is a CRC
 -- collision. They are the same for all settings that name its directories.
 abbrev pub GoesOnBehindACrash :
-    {F : Type 0} → (F → Disk) → (F → List ℕ → ℕ → Type 0) → (home : Home) (d : Disk) (cut : CutRound)
+    {F : Type 0} → (F → Disk) → (F → List ℕ → ℕ → Type 0) → (home : LogDirectories) (d : Disk) (cut : CutRound)
     → IsLeftAmong home d (MayFollow cut) → Type 0
 GoesOnBehindACrash {F} disk tells home d cut left = (old : F) → IsSound (disk old)
     → IsCrashOf home left.left.1.lies.state d (disk old)
@@ -26,7 +26,7 @@ GoesOnBehindACrash {F} disk tells home d cut left = (old : F) → IsSound (disk 
 -- Opening a log that is left so in place gives voters that may follow the round, unless there is a CRC collision. They
 -- are the same for all settings that name its directories.
 abbrev pub GoesOnInPlace :
-    {F : Type 0} (disk : F → Disk) → (F → List ℕ → ℕ → Type 0) → (home : Home) (closed : F) (cut : CutRound)
+    {F : Type 0} (disk : F → Disk) → (F → List ℕ → ℕ → Type 0) → (home : LogDirectories) (closed : F) (cut : CutRound)
     → IsLeftAmong home (disk closed) (MayFollow cut) → Type 0
 GoesOnInPlace disk tells home closed cut left =
     IsSound (disk closed) → StandsWithoutChance home left.left.1.lies.state (disk closed)
@@ -36,7 +36,7 @@ GoesOnInPlace disk tells home closed cut left =
 -- A store whose voters follow a round, cut off or not, in its log's directories, is closed. Its log is left so, and
 -- opens as above, after a crash and in place.
 abbrev pub ClosedStoresGoOn : {F : Type 0} → (F → Disk) → (F → List ℕ → ℕ → Type 0) → Type 0
-ClosedStoresGoOn {F} disk tells = (config : Config) (s : Shows) (closed : F) (cut : CutRound)
+ClosedStoresGoOn {F} disk tells = (config : Config) (s : EngineState) (closed : F) (cut : CutRound)
     → LeavesAt (home_of config) s cut → ClosesStore s (disk closed)
     → (left : IsLeftAmong (home_of config) (disk closed) (MayFollow cut))
     × GoesOnBehindACrash disk tells (home_of config) (disk closed) cut left

@@ -2,8 +2,8 @@
 use Rattle.std.specs.Prelude.{◌≡◌, ◌⊎◌, ℕ, List, [], ◌∷◌, map}
 use Rattle.raft_log_fs.specs.Disk.{Disk}
 use Rattle.raft_log_fs.specs.Image.{IsImage, IsSound}
-use Rattle.raft_voter_durability_laws.specs.raft_log_engine_laws.specs.Shows.{Home, LogMap, Shows, log_in}
-use Rattle.raft_voter_durability_laws.specs.raft_log_engine_laws.specs.raft_log_dual_pipes.specs.OnDisk.{LogRestsOn}
+use Rattle.raft_voter_durability_laws.specs.raft_log_engine_laws.specs.EngineState.{LogDirectories, LogMap, EngineState, log_in}
+use Rattle.raft_voter_durability_laws.specs.raft_log_engine_laws.specs.raft_log_dual_pipes.specs.OnDisk.{IsDurableAs}
 use Rattle.raft_log_recovery_laws.specs.Bare.{IsBare}
 use Rattle.raft_log_recovery_laws.specs.ByCalls.{home_of}
 use Rattle.raft_log_recovery_laws.specs.InPlace.{StandsWithoutChance}
@@ -22,7 +22,7 @@ use Rattle.raft_voter_shared_log.specs.Joining.{HasPlace, Settles, Sharing, Show
 use Rattle.raft_voter_shared_log.specs.Opening.{OpensStore}
 
 -- a store on a log, whose engine is shown so, as a service
-abbrev pub log_service : {F : Type 0} → (LogStore F → Shows) → Service (LogStore F)
+abbrev pub log_service : {F : Type 0} → (LogStore F → EngineState) → Service (LogStore F)
 log_service shows = service_in (λ store. home_of store.config) shows (λ store. outlines_in store.store.outlines)
 
 -- One opening of a log: the files that were opened, the store that threads shared, and the files after it was closed.
@@ -32,11 +32,11 @@ pub record LogSharing (F : Type 0) : Type 0 where
   pub closed : F
 
 -- The directories of the log are those that the settled store's settings name.
-abbrev pub home_behind : {F : Type 0} → LogSharing F → Home
+abbrev pub home_behind : {F : Type 0} → LogSharing F → LogDirectories
 home_behind x = home_of x.shared.settled.config
 
 -- The store was opened, shared and settled, and closed, as the contracts of its calls say.
-pub record IsShared {F : Type 0} (disk : F → Disk) (tells : F → List ℕ → ℕ → Type 0) (shows : LogStore F → Shows)
+pub record IsShared {F : Type 0} (disk : F → Disk) (tells : F → List ℕ → ℕ → Type 0) (shows : LogStore F → EngineState)
     (x : LogSharing F) : Type 0 where
   pub opens : OpensStore disk tells x.shared.opened.config x.found (shows x.shared.opened)
       (outlines_in x.shared.opened.store.outlines)
@@ -44,7 +44,7 @@ pub record IsShared {F : Type 0} (disk : F → Disk) (tells : F → List ℕ →
   pub closes : ClosesStore (shows x.shared.settled) (disk x.closed)
 
 -- The files in which a log was left so are opened after a crash, or as they are. There is no CRC collision in them.
-abbrev pub IsLeftNext : {F : Type 0} (disk : F → Disk) (home : Home) (cut : CutRound) (closed found : F)
+abbrev pub IsLeftNext : {F : Type 0} (disk : F → Disk) (home : LogDirectories) (cut : CutRound) (closed found : F)
     → IsLeftAmong home (disk closed) (MayFollow cut) → Type 0
 IsLeftNext disk home cut closed found left = IsCrashOf home left.left.1.lies.state (disk closed) (disk found)
     ⊎ ((found ≡ closed) × StandsWithoutChance home left.left.1.lies.state (disk closed))
@@ -58,13 +58,13 @@ pub record ComesNext {F : Type 0} (disk : F → Disk) (x next : LogSharing F) : 
       → IsLeftNext disk (home_behind x) cut x.closed next.found left
 
 -- what follows an opening
-abbrev pub IsFollowedInLog : {F : Type 0} → (F → Disk) → (LogStore F → Shows) → LogSharing F → List (LogSharing F) → Type 0
+abbrev pub IsFollowedInLog : {F : Type 0} → (F → Disk) → (LogStore F → EngineState) → LogSharing F → List (LogSharing F) → Type 0
 IsFollowedInLog disk shows x [] = HasPlace (log_service shows) x.shared
 IsFollowedInLog disk shows x (y ∷ ys) = ComesNext disk x y × ShowsPlace (log_service shows) x.shared y.shared.opened
 
 -- consecutive openings of a log
 abbrev pub AreLogOpenings :
-    {F : Type 0} → (F → Disk) → (F → List ℕ → ℕ → Type 0) → (LogStore F → Shows) → List (LogSharing F) → Type 0
+    {F : Type 0} → (F → Disk) → (F → List ℕ → ℕ → Type 0) → (LogStore F → EngineState) → List (LogSharing F) → Type 0
 AreLogOpenings disk tells shows [] = Unit {0}
 AreLogOpenings disk tells shows (x ∷ xs) =
     IsShared disk tells shows x × IsFollowedInLog disk shows x xs × AreLogOpenings disk tells shows xs
@@ -80,30 +80,30 @@ stores_of xs = map (λ x. x.shared) xs
 
 -- Voters that never fail explain their journals, one after another, with the places that the next opens show as cuts.
 abbrev pub LogOpeningsAreExplained :
-    {F : Type 0} → (F → Disk) → (F → List ℕ → ℕ → Type 0) → (LogStore F → Shows) → Type 0
+    {F : Type 0} → (F → Disk) → (F → List ℕ → ℕ → Type 0) → (LogStore F → EngineState) → Type 0
 LogOpeningsAreExplained {F} disk tells shows = (xs : List (LogSharing F)) → BeginsBare disk xs
     → AreLogOpenings disk tells shows xs
     → Explains (all_rounds (sessions_of (stores_of xs))) (all_cuts (sessions_of (stores_of xs)))
 
 -- a log rests on a disk, and means voters that pass the test
-abbrev pub RestsMeaning : Home → Disk → (World → Type 0) → Type 0
-RestsMeaning home d P = (W : World) × P W × (m : LogMap) × LogRestsOn (log_in home) d m × Means m W
+abbrev pub RestsMeaning : LogDirectories → Disk → (World → Type 0) → Type 0
+RestsMeaning home d P = (W : World) × P W × (m : LogMap) × IsDurableAs (log_in home) d m × Means m W
 
 -- Any crash image under a store means voters that may follow this round, unless there is a CRC collision.
-abbrev pub ImagesMean : Home → Shows → CutRound → Type 0
+abbrev pub ImagesMean : LogDirectories → EngineState → CutRound → Type 0
 ImagesMean home s cut = (known : LeavesAt home s cut)
     × ((image : Disk) → IsSound image → IsImage s.pipes.disk image → SparesStore home s cut known image
     → RestsMeaning home image (MayFollow cut))
 
 -- The same of any crash image of its files, after it is closed.
-abbrev pub ClosedImagesMean : Home → Disk → CutRound → Type 0
+abbrev pub ClosedImagesMean : LogDirectories → Disk → CutRound → Type 0
 ClosedImagesMean home d cut = (left : IsLeftAmong home d (MayFollow cut))
     × ((image : Disk) → IsCrashOf home left.left.1.lies.state d image → RestsMeaning home image (MayFollow cut))
 
 -- What settling returns, whether it fails or not. Any crash image of its files, before or after they are closed, means
 -- the voters that the store served at its open, after the records with replies. If the store failed at a record, they
 -- also took its requests below some place.
-abbrev pub SettledStoresMean : {F : Type 0} → (LogStore F → Shows) → Type 0
+abbrev pub SettledStoresMean : {F : Type 0} → (LogStore F → EngineState) → Type 0
 SettledStoresMean {F} shows = (x : Sharing (LogStore F)) (W : World) → Settles (log_service shows) x
     → IsOpenAt (log_service shows) x.opened W
     → ∥ ImagesMean (home_of x.settled.config) (shows x.settled) (behind W x.session) ∥₁

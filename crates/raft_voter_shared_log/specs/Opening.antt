@@ -1,7 +1,7 @@
 -- Opening a store of voters succeeds or fails.
 use Rattle.std.specs.Prelude.{◌≡◌, ◌⊎◌, ℕ, List}
 use Rattle.raft_log_fs.specs.Disk.{Disk}
-use Rattle.raft_voter_durability_laws.specs.raft_log_engine_laws.specs.Shows.{Shows}
+use Rattle.raft_voter_durability_laws.specs.raft_log_engine_laws.specs.EngineState.{EngineState}
 use Rattle.raft_log_file_settings.specs.declared.config.Config.{Config}
 use Rattle.raft_log_file_settings.specs.Settings.{settings_of}
 use Rattle.raft_voter_outline.specs.State.{State}
@@ -11,7 +11,7 @@ use Rattle.raft_voter_store.specs.Opening.{FailsToOpenVoters, OpensVoters}
 
 -- A store was opened, with the same settings.
 abbrev pub OpensStore :
-    {F : Type 0} → (F → Disk) → (F → List ℕ → ℕ → Type 0) → Config → F → Shows → (ℕ → State) → Type 0
+    {F : Type 0} → (F → Disk) → (F → List ℕ → ℕ → Type 0) → Config → F → EngineState → (ℕ → State) → Type 0
 OpensStore disk tells config old t os =
     (settings : Config) × (settings_of settings ≡ settings_of config) × OpensVoters disk tells settings old t os
 

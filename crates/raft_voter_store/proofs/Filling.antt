@@ -4,7 +4,7 @@ use Rattle.raft_log_record_frames.specs.Record.{record_len}
 use Rattle.raft_log_record_batches.specs.declared.log_batch.BatchState.{BatchState}
 use Rattle.raft_log_record_batches.specs.declared.log_batch.BatchState.TheVariants.{Filling}
 use Rattle.raft_log_record_batches.specs.Batch.{Batch, Becomes, empty_batch}
-use Rattle.raft_log_engine.specs.raft_log_engine_laws.specs.Shows.{IsWritable}
+use Rattle.raft_log_engine.specs.raft_log_engine_laws.specs.EngineState.{IsWritable}
 use Rattle.raft_voter_messages.specs.declared.request.Request.{Request}
 use Rattle.raft_voter_outline.specs.declared.outline.decision.Change.{Change}
 use Rattle.raft_voter_outline.specs.declared.outline.decision.Write.{Write}

@@ -3,7 +3,7 @@ use Rattle.std.proofs.Common.{◌≡◌, ℕ, zero, suc, ◌<◌, ◌≤◌, ◌
 use Rattle.std.specs.Prelude.{◌⊎◌, slice_get, take}
 use Rattle.raft_log_fs.specs.Causes.{IsLater}
 use Rattle.raft_log_record_base.specs.declared.errors.Error.{Error}
-use Rattle.raft_log_engine.specs.raft_log_engine_laws.specs.Shows.{Shows, has_failed}
+use Rattle.raft_log_engine.specs.raft_log_engine_laws.specs.EngineState.{EngineState, has_failed}
 use Rattle.raft_log_engine.specs.raft_log_engine_laws.specs.Syncing.{NotSynced, SyncsAppend}
 use Rattle.raft_voter_messages.specs.declared.reply.Reply.{Reply}
 use Rattle.raft_voter_messages.specs.declared.reply.Reply.TheVariants as replies
@@ -42,11 +42,11 @@ behind {A} (z ∷ zs) x y (suc i) is = elim (behind zs x y i is) [
 ]
 
 -- why the request at the last place is refused, if it is
-abbrev IsExcusedHere : List (ℕ × Request) → List Reply → Reply → ℕ × Request → Shows → Shows → (ℕ → State) → Type 0
+abbrev IsExcusedHere : List (ℕ × Request) → List Reply → Reply → ℕ × Request → EngineState → EngineState → (ℕ → State) → Type 0
 IsExcusedHere qs told a q s t os = replies.Refused ≡ a → (in_range q.1 ≡ false) ⊎ TurnsDown qs told q s t os
 
 -- a cause is one still behind what comes later
-excused_since : (qs : List (ℕ × Request)) (told : List Reply) (s t u : Shows) (os : ℕ → State) → IsLater t.pipes.disk u.pipes.disk → AreExcused qs told s t os → AreExcused qs told s u os
+excused_since : (qs : List (ℕ × Request)) (told : List Reply) (s t u : EngineState) (os : ℕ → State) → IsLater t.pipes.disk u.pipes.disk → AreExcused qs told s t os → AreExcused qs told s u os
 excused_since qs told s t u os since before place q refused is = elim (before place q refused is) [
   | inl outside ↦ inl outside
   | inr turned ↦ inr (record {
@@ -61,7 +61,7 @@ excused_since qs told s t u os since before place q refused is = elim (before pl
   })
 ]
 
-excused_more : (qs : List (ℕ × Request)) (told : List Reply) (a : Reply) (q : ℕ × Request) (s t : Shows) (os : ℕ → State) → AreExcused qs told s t os → slice_get qs (length told) ≡ Some q
+excused_more : (qs : List (ℕ × Request)) (told : List Reply) (a : Reply) (q : ℕ × Request) (s t : EngineState) (os : ℕ → State) → AreExcused qs told s t os → slice_get qs (length told) ≡ Some q
     → IsExcusedHere qs told a q s t os → AreExcused qs (told ++ a ∷ []) s t os
 excused_more qs told a q s t os before at here place r refused is = elim (behind told a replies.Refused place refused) [
   | inl there ↦ elim (before place r there.0 is) [
@@ -77,18 +77,18 @@ excused_more qs told a q s t os before at here place r refused is = elim (behind
 
 -- Steps.
 
-pub begun : (qs : List (ℕ × Request)) (told : List Reply) (s : Shows) (os : ℕ → State) → told ≡ [] → has_failed s ≡ false → Passes qs told false s s os os
+pub begun : (qs : List (ℕ × Request)) (told : List Reply) (s : EngineState) (os : ℕ → State) → told ≡ [] → has_failed s ≡ false → Passes qs told false s s os os
 begun qs told s os none alive = subst (λ (l : List Reply). Passes qs l false s s os os) (sym none)
     (record { went = rounds_go_on.begins qs s os alive; excused = λ place q refused at. absurd (none_there place refused) })
 
-passes_served : (qs : List (ℕ × Request)) (told : List Reply) (q : ℕ × Request) (a : Reply) (wrote more : Bool) (s t u : Shows) (os us ws : ℕ → State)
+passes_served : (qs : List (ℕ × Request)) (told : List Reply) (q : ℕ × Request) (a : Reply) (wrote more : Bool) (s t u : EngineState) (os us ws : ℕ → State)
     → Passes qs told wrote s t os us → slice_get qs (length told) ≡ Some q → Served q a more t u us ws → Passes qs (told ++ a ∷ []) (wrote || more) s u os ws
 passes_served qs told q a wrote more s t u os us ws passes at served = record {
   went = rounds_go_on.served qs told q a wrote more s t u os us ws passes.went at served;
   excused = excused_more qs told a q s u os (excused_since qs told s t u os served.later passes.excused) at (λ is. inl (served.refuses (ap (λ (r : Reply). is_refused r) (sym is))));
 }
 
-passes_past : (qs : List (ℕ × Request)) (told : List Reply) (q : ℕ × Request) (error : Error) (wrote : Bool) (s t u : Shows) (os us : ℕ → State)
+passes_past : (qs : List (ℕ × Request)) (told : List Reply) (q : ℕ × Request) (error : Error) (wrote : Bool) (s t u : EngineState) (os us : ℕ → State)
     → Passes qs told wrote s t os us → slice_get qs (length told) ≡ Some q → TurnedDown q error t u us → Passes qs (told ++ replies.Refused ∷ []) wrote s u os us
 passes_past qs told q error wrote s t u os us passes at turned = record {
   went = rounds_go_on.turned_down qs told q error wrote s t u os us passes.went at turned;
@@ -96,13 +96,13 @@ passes_past qs told q error wrote s t u os us passes at turned = record {
       (λ is. inr (record { wrote = wrote; mid = t; next = u; outlines = us; error = error; went = passes.went; turned = turned; later = later_same u.pipes.disk }));
 }
 
-pub served_goes_on : (q : ℕ × Request) (a : Reply) (wrote more either : Bool) (told now : List Reply) (t u : Shows) (us ws : ℕ → State) → Served q a more t u us ws → now ≡ told ++ a ∷ [] → either ≡ (wrote || more)
+pub served_goes_on : (q : ℕ × Request) (a : Reply) (wrote more either : Bool) (told now : List Reply) (t u : EngineState) (us ws : ℕ → State) → Served q a more t u us ws → now ≡ told ++ a ∷ [] → either ≡ (wrote || more)
     → GoesOn q wrote either told now t u us ws
 served_goes_on q a wrote more either told now t u us ws served is both qs s os passes at =
     let next = passes_served qs told q a wrote more s t u os us ws passes at served in
     subst (λ (b : Bool). Passes qs now b s u os ws) (sym both) (subst (λ (l : List Reply). Passes qs l (wrote || more) s u os ws) (sym is) next)
 
-pub past_goes_on : (q : ℕ × Request) (error : Error) (wrote : Bool) (told now : List Reply) (t u : Shows) (us ws : ℕ → State) → FailsToTake q error t u us ws → has_failed u ≡ false → now ≡ told ++ replies.Refused ∷ []
+pub past_goes_on : (q : ℕ × Request) (error : Error) (wrote : Bool) (told now : List Reply) (t u : EngineState) (us ws : ℕ → State) → FailsToTake q error t u us ws → has_failed u ≡ false → now ≡ told ++ replies.Refused ∷ []
     → GoesOn q wrote wrote told now t u us ws
 past_goes_on q error wrote told now t u us ws (same, inl turned) alive is qs s os passes at =
     let next = passes_past qs told q error wrote s t u os us passes at turned in
@@ -111,13 +111,13 @@ past_goes_on q error wrote told now t u us ws (same, inr broke) alive is qs s os
     let failed : has_failed u ≡ true = broke.1.failed in
     absurd cc
 
-pub broke_at : (q : ℕ × Request) (error : Error) (t u : Shows) (us ws : ℕ → State) → FailsToTake q error t u us ws → has_failed u ≡ true → Broke q t u us
+pub broke_at : (q : ℕ × Request) (error : Error) (t u : EngineState) (us ws : ℕ → State) → FailsToTake q error t u us ws → has_failed u ≡ true → Broke q t u us
 broke_at q error t u us ws (same, inl turned) failed =
     let alive : has_failed u ≡ false = turned.alive in
     absurd cc
 broke_at q error t u us ws (same, inr broke) failed = broke.1
 
-pub stops_at : (qs : List (ℕ × Request)) (told now : List Reply) (i : ℕ) (q : ℕ × Request) (wrote : Bool) (s t u : Shows) (os us : ℕ → State)
+pub stops_at : (qs : List (ℕ × Request)) (told now : List Reply) (i : ℕ) (q : ℕ × Request) (wrote : Bool) (s t u : EngineState) (os us : ℕ → State)
     → Passes qs told wrote s t os us → length told ≡ i → slice_get qs i ≡ Some q → now ≡ told → Broke q t u us → StopsAt qs now s u os
 stops_at qs told now i q wrote s t u os us passes count at same broke =
     subst (λ (l : List Reply). StopsAt qs l s u os) (sym same)
@@ -140,22 +140,22 @@ wrote_now true b is = absurd cc
 
 -- Ends.
 
-pub answered_unwritten : (qs : List (ℕ × Request)) (told : List Reply) (wrote : Bool) (s t : Shows) (os us : ℕ → State) → Passes qs told wrote s t os us → wrote ≡ false → RoundIsAnswered qs told s t os us
+pub answered_unwritten : (qs : List (ℕ × Request)) (told : List Reply) (wrote : Bool) (s t : EngineState) (os us : ℕ → State) → Passes qs told wrote s t os us → wrote ≡ false → RoundIsAnswered qs told s t os us
 answered_unwritten qs told wrote s t os us passes none home V keeps outlines =
     rounds_end.unwritten home V qs told s t os us keeps outlines (subst (λ (b : Bool). Went qs told b s t os us) none passes.went)
 
-pub answered_synced : (qs : List (ℕ × Request)) (told : List Reply) (wrote : Bool) (s t u : Shows) (os us : ℕ → State) → Passes qs told wrote s t os us → SyncsAppend t u → RoundIsAnswered qs told s u os us
+pub answered_synced : (qs : List (ℕ × Request)) (told : List Reply) (wrote : Bool) (s t u : EngineState) (os us : ℕ → State) → Passes qs told wrote s t os us → SyncsAppend t u → RoundIsAnswered qs told s u os us
 answered_synced qs told wrote s t u os us passes synced home V keeps outlines = rounds_end.answered home V qs told wrote s t u os us keeps outlines passes.went synced
 
 -- a synced disk is later, and so is one that wasn't synced
-pub excused_synced : (qs : List (ℕ × Request)) (told : List Reply) (s t u : Shows) (os : ℕ → State) → SyncsAppend t u → AreExcused qs told s t os → AreExcused qs told s u os
+pub excused_synced : (qs : List (ℕ × Request)) (told : List Reply) (s t u : EngineState) (os : ℕ → State) → SyncsAppend t u → AreExcused qs told s t os → AreExcused qs told s u os
 excused_synced qs told s t u os synced before = excused_since qs told s t u os synced.later before
 
-unsynced_later : (error : Error) (t u : Shows) → NotSynced error t u → IsLater t.pipes.disk u.pipes.disk
-unsynced_later error t u (is, inl had) = subst (λ (x : Shows). IsLater t.pipes.disk x.pipes.disk) (sym had.1) (later_same t.pipes.disk)
+unsynced_later : (error : Error) (t u : EngineState) → NotSynced error t u → IsLater t.pipes.disk u.pipes.disk
+unsynced_later error t u (is, inl had) = subst (λ (x : EngineState). IsLater t.pipes.disk x.pipes.disk) (sym had.1) (later_same t.pipes.disk)
 unsynced_later error t u (is, inr fails) = fails.later
 
-pub cut_at : (qs : List (ℕ × Request)) (told : List Reply) (refused : List ℕ) (s t : Shows) (os : ℕ → State) → StopsAt qs told s t os → length told ≤ length qs → refused ≡ refused_from 0 told → CutsRoundOff qs refused s t os
+pub cut_at : (qs : List (ℕ × Request)) (told : List Reply) (refused : List ℕ) (s t : EngineState) (os : ℕ → State) → StopsAt qs told s t os → length told ≤ length qs → refused ≡ refused_from 0 told → CutsRoundOff qs refused s t os
 cut_at qs told refused s t os stop few places =
     record {
       told = told;
@@ -165,7 +165,7 @@ cut_at qs told refused s t os stop few places =
       left = λ home V keeps outlines. inl (rounds_end.gave_up home V qs told stop.request stop.wrote s stop.mid t os stop.outlines keeps outlines stop.passes.went stop.at stop.broke);
     }
 
-pub cut_unsynced : (qs : List (ℕ × Request)) (told : List Reply) (refused : List ℕ) (wrote : Bool) (error : Error) (s t u : Shows) (os us : ℕ → State) → Passes qs told wrote s t os us → NotSynced error t u → length told ≤ length qs
+pub cut_unsynced : (qs : List (ℕ × Request)) (told : List Reply) (refused : List ℕ) (wrote : Bool) (error : Error) (s t u : EngineState) (os us : ℕ → State) → Passes qs told wrote s t os us → NotSynced error t u → length told ≤ length qs
     → refused ≡ refused_from 0 told → CutsRoundOff qs refused s u os
 cut_unsynced qs told refused wrote error s t u os us passes unsynced few places =
     record {
@@ -176,6 +176,6 @@ cut_unsynced qs told refused wrote error s t u os us passes unsynced few places 
       left = λ home V keeps outlines. inr (rounds_end.unsynced home V qs told wrote error s t u os us keeps outlines passes.went unsynced);
     }
 
-pub unsynced_failed : (error : Error) (t u : Shows) → has_failed t ≡ false → NotSynced error t u → has_failed u ≡ true
+pub unsynced_failed : (error : Error) (t u : EngineState) → has_failed t ≡ false → NotSynced error t u → has_failed u ≡ true
 unsynced_failed error t u alive (is, inl had) = absurd cc
 unsynced_failed error t u alive (is, inr fails) = fails.failed

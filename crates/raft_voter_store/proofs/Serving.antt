@@ -1,7 +1,7 @@
 -- The store meets what is asked of a service of rounds.
 use Rattle.std.proofs.Common.{◌≡◌, ℕ, true, false, List, [], length, Result, Ok, Err, IfErr, IfOk, refl, sym, ap, subst, inl, inr, arith}
 use Rattle.std.specs.Prelude.{◌⊎◌, IsTrue}
-use Rattle.raft_log_engine.specs.raft_log_engine_laws.specs.Shows.{Home, Shows, has_failed}
+use Rattle.raft_log_engine.specs.raft_log_engine_laws.specs.EngineState.{LogDirectories, EngineState, has_failed}
 use Rattle.raft_voter_messages.specs.declared.reply.Reply.{Reply}
 use Rattle.raft_voter_messages.specs.declared.request.Request.{Request}
 use Rattle.raft_voter_outline.specs.State.{State}
@@ -29,9 +29,9 @@ pub of_answer : {X E : Type 0} (r : Result X E) (P Q R : X → Type 0) → ((x :
 of_answer (Ok x) P Q R f p q = f x p q
 of_answer (Err e) P Q R f p q = tt
 
-module _ {S : Type 0} (shows : S → Shows) (outlines : S → ℕ → State) where
+module _ {S : Type 0} (shows : S → EngineState) (outlines : S → ℕ → State) where
   -- an engine that keeps voters leaves them
-  pub open_at : (store : S) (home : Home) (W : World) → has_failed (shows store) ≡ false → Keeps home (shows store) W → AreOutlines (outlines store) W → IsOpenAt (voter_service shows outlines) store W
+  pub open_at : (store : S) (home : LogDirectories) (W : World) → has_failed (shows store) ≡ false → Keeps home (shows store) W → AreOutlines (outlines store) W → IsOpenAt (voter_service shows outlines) store W
   open_at store home W alive keeps are = record {
     alive = alive;
     serves = (home, keeps, are);
@@ -49,7 +49,7 @@ module _ {S : Type 0} (shows : S → Shows) (outlines : S → ℕ → State) whe
         open_at new home (after W (took qs told)) a.alive a.keeps a.outlines,
       )
 
-  pub left_some : (home : Home) (W : World) (qs : List (ℕ × Request)) (told : List Reply) (s t : Shows) → GaveUp home W qs told s t ⊎ Unsynced home W qs told s t
+  pub left_some : (home : LogDirectories) (W : World) (qs : List (ℕ × Request)) (told : List Reply) (s t : EngineState) → GaveUp home W qs told s t ⊎ Unsynced home W qs told s t
       → IsLeftAmong home t.pipes.disk (MayFollow (record { before = W; requests = qs; refused = refused_from 0 told }))
   left_some home W qs told s t (inl gave) = left_behind_rounds.gave_up home W qs told s t gave
   left_some home W qs told s t (inr failed) = left_behind_rounds.unsynced home W qs told s t failed
@@ -59,7 +59,7 @@ module _ {S : Type 0} (shows : S → Shows) (outlines : S → ℕ → State) whe
   cut_may_refuse qs refused old new cut = (cut.told, cut.places, cut.excused)
 
   -- a file call failed in it
-  pub failed_some : (home : Home) (W : World) (qs : List (ℕ × Request)) (told : List Reply) (s t : Shows) → GaveUp home W qs told s t ⊎ Unsynced home W qs told s t → HasFailedCall s t
+  pub failed_some : (home : LogDirectories) (W : World) (qs : List (ℕ × Request)) (told : List Reply) (s t : EngineState) → GaveUp home W qs told s t ⊎ Unsynced home W qs told s t → HasFailedCall s t
   failed_some home W qs told s t (inl gave) = gave.fails
   failed_some home W qs told s t (inr failed) = failed.fails
 
@@ -94,7 +94,7 @@ module _ {S : Type 0} (shows : S → Shows) (outlines : S → ℕ → State) whe
   may_refuse qs told old new excused = (told, refl, excused)
 
 -- where it is known in which directories the log lies
-module _ {S : Type 0} (home : S → Home) (shows : S → Shows) (outlines : S → ℕ → State) where
+module _ {S : Type 0} (home : S → LogDirectories) (shows : S → EngineState) (outlines : S → ℕ → State) where
   pub open_in : (store : S) (W : World) → has_failed (shows store) ≡ false → Keeps (home store) (shows store) W → AreOutlines (outlines store) W → IsOpenAt (service_in home shows outlines) store W
   open_in store W alive keeps are = record { alive = alive; serves = (keeps, are); left = running W refl keeps }
 
@@ -105,7 +105,7 @@ module _ {S : Type 0} (home : S → Home) (shows : S → Shows) (outlines : S �
       let places = told_rounds_are_answered W qs told a.tells all in (
         after W (took qs told),
         record { rising = places.rising; told = places.told_is; taken = ap (λ (l : List (ℕ × Request)). after W l) places.taken_is },
-        open_in new (after W (took qs told)) a.alive (subst (λ (h : Home). Keeps h (shows new) (after W (took qs told))) (sym same) a.keeps) a.outlines,
+        open_in new (after W (took qs told)) a.alive (subst (λ (h : LogDirectories). Keeps h (shows new) (after W (took qs told))) (sym same) a.keeps) a.outlines,
       )
 
   some_in : (qs : List (ℕ × Request)) (refused : List ℕ) (old new : S) → home new ≡ home old → has_failed (shows new) ≡ true → CutsRoundOff qs refused (shows old) (shows new) (outlines old)
@@ -116,7 +116,7 @@ module _ {S : Type 0} (home : S → Home) (shows : S → Shows) (outlines : S �
     fails = λ W opened. failed_some shows outlines (home old) W qs cut.told (shows old) (shows new) (cut.left (home old) W opened.serves.0 opened.serves.1);
     left = λ W opened. left failed
         (subst (λ (l : List ℕ). IsLeftAmong (home new) (shows new).pipes.disk (MayFollow (record { before = W; requests = qs; refused = l }))) (sym cut.places)
-        (subst (λ (h : Home). IsLeftAmong h (shows new).pipes.disk (MayFollow (record { before = W; requests = qs; refused = refused_from 0 cut.told }))) (sym same)
+        (subst (λ (h : LogDirectories). IsLeftAmong h (shows new).pipes.disk (MayFollow (record { before = W; requests = qs; refused = refused_from 0 cut.told }))) (sym same)
         (left_some shows outlines (home old) W qs cut.told (shows old) (shows new) (cut.left (home old) W opened.serves.0 opened.serves.1))));
   }
 

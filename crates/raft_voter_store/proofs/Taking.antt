@@ -10,7 +10,7 @@ use Rattle.raft_log_record_items.specs.declared.raw_message.RawMessage.{RawMessa
 use Rattle.raft_log_record_frames.specs.Record.{record_len}
 use Rattle.raft_log_record_batches.specs.Batch.{Batch}
 use Rattle.raft_log_engine.specs.raft_log_engine_laws.specs.Fetching.{FailsToFetch, FetchesTo, HadFailed}
-use Rattle.raft_log_engine.specs.raft_log_engine_laws.specs.Shows.{Shows, has_failed}
+use Rattle.raft_log_engine.specs.raft_log_engine_laws.specs.EngineState.{EngineState, has_failed}
 use Rattle.raft_log_engine.specs.raft_log_engine_laws.specs.Writing.{NotWritten, WritesBytes}
 use Rattle.raft_voter_messages.specs.declared.reply.Entry.{Entry}
 use Rattle.raft_voter_messages.specs.declared.reply.Reply.{Reply}
@@ -41,22 +41,22 @@ use Rattle.raft_voter_store.specs.Writing.FailsToWriteChange.{unsaid, unwritten}
 
 -- Changes.
 
-pub write_served : (q : ℕ × Request) (a : Reply) (c : Change) (b : Batch) (len : ℕ) (s t : Shows) (os ws us : ℕ → State) → ((g : ℕ) → ws g ≡ os g) → IsBare (os q.0) → IsReplyOfEach (os q.0) q.1 (answers.Told a)
+pub write_served : (q : ℕ × Request) (a : Reply) (c : Change) (b : Batch) (len : ℕ) (s t : EngineState) (os ws us : ℕ → State) → ((g : ℕ) → ws g ≡ os g) → IsBare (os q.0) → IsReplyOfEach (os q.0) q.1 (answers.Told a)
     → ChangesEach (os q.0) q.1 c → SaysChange q.0 q.1 c b → StepsOutlines q ws us → WritesBytes b false len s t → Served q a true s t os us
 write_served q a c b len s t os ws us same bare told changes says steps writes =
     written_requests_are_served q a c b len s t os us bare told changes says (subst (λ (o : ℕ → State). StepsOutlines q o us) (fun_ext same) steps) writes
 
-pub write_failed : (q : ℕ × Request) (c : Change) (b : Batch) (error : Error) (s t : Shows) (os ws : ℕ → State) → ((g : ℕ) → ws g ≡ os g) → has_failed s ≡ false → ChangesEach (os q.0) q.1 c → SaysChange q.0 q.1 c b
+pub write_failed : (q : ℕ × Request) (c : Change) (b : Batch) (error : Error) (s t : EngineState) (os ws : ℕ → State) → ((g : ℕ) → ws g ≡ os g) → has_failed s ≡ false → ChangesEach (os q.0) q.1 c → SaysChange q.0 q.1 c b
     → record_len b.items b.entries < 2 ^ 56 → NotWritten b error s t → FailsToTake q error s t os ws
 write_failed q c b error s t os ws same alive changes says short refused = (fun_ext same, unwritten_requests q c b error s t os alive changes says short refused)
 
-pub unmade : (q : ℕ × Request) (error : Error) (s : Shows) (os ws : ℕ → State) → error ≡ errors.Memory → ((g : ℕ) → ws g ≡ os g) → has_failed s ≡ false → FailsToTake q error s s os ws
+pub unmade : (q : ℕ × Request) (error : Error) (s : EngineState) (os ws : ℕ → State) → error ≡ errors.Memory → ((g : ℕ) → ws g ≡ os g) → has_failed s ≡ false → FailsToTake q error s s os ws
 unmade q error s os ws is same alive =
     (fun_ext same, inl (subst (λ (e : Error). TurnedDown q e s s os) (sym is) (unmade_requests_are_turned_down q s os alive)))
 
-pub unwritten_fails : (q : ℕ × Request) (c : Change) (error : Error) (s t : Shows) (os ws : ℕ → State) → ((g : ℕ) → ws g ≡ os g) → has_failed s ≡ false → ChangesEach (os q.0) q.1 c → FailsToWriteChange q c error s t
+pub unwritten_fails : (q : ℕ × Request) (c : Change) (error : Error) (s t : EngineState) (os ws : ℕ → State) → ((g : ℕ) → ws g ≡ os g) → has_failed s ≡ false → ChangesEach (os q.0) q.1 c → FailsToWriteChange q c error s t
     → FailsToTake q error s t os ws
-unwritten_fails q c error s t os ws same alive changes (unsaid is stays) = subst (λ (x : Shows). FailsToTake q error s x os ws) (sym stays) (unmade q error s os ws is same alive)
+unwritten_fails q c error s t os ws same alive changes (unsaid is stays) = subst (λ (x : EngineState). FailsToTake q error s x os ws) (sym stays) (unmade q error s os ws is same alive)
 unwritten_fails q c error s t os ws same alive changes (unwritten b says short refused) = write_failed q c b error s t os ws same alive changes says short refused
 
 -- Outlines that are lent.
@@ -126,31 +126,31 @@ leaves : (o : State) (q : Request) (from to : ℕ) → IsReplyOfEach o q (answer
 leaves o q from to told v is =
     subst (λ (r : Request). next v r ≡ v) (sym (told v is).1.0) (read_leaves v from to)
 
-pub read_served : (q : ℕ × Request) (from to count : ℕ) (s t : Shows) (os : ℕ → State) (ms : List RawMessage) (es : List Entry) → IsReplyOfEach (os q.0) q.1 (answers.Entries from to) → IsCounted s
+pub read_served : (q : ℕ × Request) (from to count : ℕ) (s t : EngineState) (os : ℕ → State) (ms : List RawMessage) (es : List Entry) → IsReplyOfEach (os q.0) q.1 (answers.Entries from to) → IsCounted s
     → FetchesTo reading_of q.0 from to None s t [] ms count → AreReadAs from (map text_of ms) es → Served q (replies.Entries es) false s t os os
 read_served q from to count s t os ms es told counted f read =
     read_requests_are_served q from to es s t os told (leaves (os q.0) q.1 from to told) (fetched_entries_are_read text_of reading_of raw q from to count s t os ms es counted told f read)
 
-pub read_failed : (q : ℕ × Request) (from to : ℕ) (error : Error) (s t : Shows) (os : ℕ → State) → has_failed s ≡ false → IsReplyOfEach (os q.0) q.1 (answers.Entries from to)
+pub read_failed : (q : ℕ × Request) (from to : ℕ) (error : Error) (s t : EngineState) (os : ℕ → State) → has_failed s ≡ false → IsReplyOfEach (os q.0) q.1 (answers.Entries from to)
     → HadFailed s t error ⊎ FailsToFetch reading_of q.0 from to s t error → FailsToTake q error s t os os
 read_failed q from to error s t os alive told (inl had) = absurd cc
 read_failed q from to error s t os alive told (inr f) =
     (refl, inl (unread_requests_are_turned_down q error s t os (unfetched_entries_are_unread text_of reading_of raw q from to error s t os told f)))
 
-pub read_unmade : (q : ℕ × Request) (from to count : ℕ) (s t : Shows) (os : ℕ → State) (ms : List RawMessage) → FetchesTo reading_of q.0 from to None s t [] ms count → FailsToTake q errors.Memory s t os os
+pub read_unmade : (q : ℕ × Request) (from to count : ℕ) (s t : EngineState) (os : ℕ → State) (ms : List RawMessage) → FetchesTo reading_of q.0 from to None s t [] ms count → FailsToTake q errors.Memory s t os os
 read_unmade q from to count s t os ms f =
     (refl, inl (unread_requests_are_turned_down q errors.Memory s t os (record { alive = f.lived; stays = f.stays; why = λ home m pending W holds means outlines. no_memory refl })))
 
 -- By the lists that a read begins with, and hands on.
 
-pub read_done : (q : ℕ × Request) (from to count : ℕ) (s t : Shows) (os : ℕ → State) (old ms slice : List RawMessage) (es : List Entry) → old ≡ [] → slice ≡ ms
+pub read_done : (q : ℕ × Request) (from to count : ℕ) (s t : EngineState) (os : ℕ → State) (old ms slice : List RawMessage) (es : List Entry) → old ≡ [] → slice ≡ ms
     → IsReplyOfEach (os q.0) q.1 (answers.Entries from to) → IsCounted s → FetchesTo reading_of q.0 from to None s t old ms count → AreReadAs from (map text_of slice) es
     → Served q (replies.Entries es) false s t os os
 read_done q from to count s t os old ms slice es none same told counted f read =
     read_served q from to count s t os ms es told counted (subst (λ (l : List RawMessage). FetchesTo reading_of q.0 from to None s t l ms count) none f)
     (subst (λ (l : List RawMessage). AreReadAs from (map text_of l) es) same read)
 
-pub read_refused : (q : ℕ × Request) (from to count : ℕ) (s t : Shows) (os : ℕ → State) (old ms : List RawMessage) → old ≡ [] → FetchesTo reading_of q.0 from to None s t old ms count
+pub read_refused : (q : ℕ × Request) (from to count : ℕ) (s t : EngineState) (os : ℕ → State) (old ms : List RawMessage) → old ≡ [] → FetchesTo reading_of q.0 from to None s t old ms count
     → FailsToTake q errors.Memory s t os os
 read_refused q from to count s t os old ms none f =
     read_unmade q from to count s t os ms (subst (λ (l : List RawMessage). FetchesTo reading_of q.0 from to None s t l ms count) none f)

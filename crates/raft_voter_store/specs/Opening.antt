@@ -9,14 +9,14 @@ use Rattle.raft_log_engine.specs.raft_log_dual_pipes.specs.ClosingCalls.{ClosesL
 use Rattle.raft_log_engine.specs.raft_log_dual_pipes.specs.Pipes.{LogPipes}
 use Rattle.raft_log_engine.specs.raft_log_open.specs.Opening.{FailsToOpenDirectory, OpensDirectory}
 use Rattle.raft_log_engine.specs.raft_log_engine_laws.specs.Fetching.{StaysButBlock}
-use Rattle.raft_log_engine.specs.raft_log_engine_laws.specs.Shows.{Shows, has_failed, shows}
+use Rattle.raft_log_engine.specs.raft_log_engine_laws.specs.EngineState.{EngineState, has_failed, shows}
 use Rattle.raft_voter_outline.specs.State.{State}
 use Rattle.raft_voter_recovery.specs.Reading.{IsUnreadFor, ReadsVoters, cause_of}
 use Rattle.raft_voter_recovery.specs.declared.unread.Unread.{Unread}
 
 -- the log of these settings was opened as an engine that shows this, and has no block cached
 pub record OpensEngine {F : Type 0} (disk : F → Disk) (tells : F → List ℕ → ℕ → Type 0) (config : Config)
-    (old : F) (s : Shows) : Type 0 where
+    (old : F) (s : EngineState) : Type 0 where
   pub pipes : LogPipes
   pub tables : MemTables
   pub cache : BlockCache
@@ -26,8 +26,8 @@ pub record OpensEngine {F : Type 0} (disk : F → Disk) (tells : F → List ℕ 
 
 -- The voters were read from an opened engine, and these are their outlines. Together they are a store.
 pub record OpensVoters {F : Type 0} (disk : F → Disk) (tells : F → List ℕ → ℕ → Type 0) (config : Config)
-    (old : F) (t : Shows) (os : ℕ → State) : Type 0 where
-  pub engine : Shows
+    (old : F) (t : EngineState) (os : ℕ → State) : Type 0 where
+  pub engine : EngineState
   pub opens : OpensEngine disk tells config old engine
   pub reads : ReadsVoters engine os
   pub stays : StaysButBlock engine t
@@ -35,10 +35,10 @@ pub record OpensVoters {F : Type 0} (disk : F → Disk) (tells : F → List ℕ 
 -- Reading the voters from an opened engine failed for this cause, and the engine was closed again.
 pub record ClosesUnread {F : Type 0} (disk : F → Disk) (tells : F → List ℕ → ℕ → Type 0) (config : Config)
     (cause : Unread) (old back : F) : Type 0 where
-  pub engine : Shows
+  pub engine : EngineState
   pub opens : OpensEngine disk tells config old engine
   pub unread : IsUnreadFor cause engine
-  pub after : Shows
+  pub after : EngineState
   pub stays : StaysButBlock engine after
   pub closes : has_failed after ≡ false → ClosesLog after.pipes (disk back)
 

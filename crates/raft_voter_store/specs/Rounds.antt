@@ -2,7 +2,7 @@
 use Rattle.std.specs.Prelude.{◌≡◌, ◌⊎◌, ◌≤◌, ℕ, Bool, false, List, length, slice_get, Some, take}
 use Rattle.raft_log_fs.specs.Causes.{IsLater}
 use Rattle.raft_log_record_base.specs.declared.errors.Error.{Error}
-use Rattle.raft_log_engine.specs.raft_log_engine_laws.specs.Shows.{Home, Shows}
+use Rattle.raft_log_engine.specs.raft_log_engine_laws.specs.EngineState.{LogDirectories, EngineState}
 use Rattle.raft_voter_messages.specs.declared.reply.Reply.{Reply}
 use Rattle.raft_voter_messages.specs.declared.reply.Reply.TheVariants.{Refused}
 use Rattle.raft_voter_messages.specs.declared.request.Request.{Request}
@@ -16,11 +16,11 @@ use Rattle.raft_voter_durability_laws.specs.Ends.{Answered, GaveUp, Unsynced, We
 
 -- A round came so far, and the next request was turned down with this error. The disk after the call is no earlier than
 -- the one after the request, so a failure of the request is counted in the call.
-pub record TurnsDown (qs : List (ℕ × Request)) (told : List Reply) (q : ℕ × Request) (s t : Shows) (os : ℕ → State)
+pub record TurnsDown (qs : List (ℕ × Request)) (told : List Reply) (q : ℕ × Request) (s t : EngineState) (os : ℕ → State)
     : Type 0 where
   pub wrote : Bool
-  pub mid : Shows
-  pub next : Shows
+  pub mid : EngineState
+  pub next : EngineState
   pub outlines : ℕ → State
   pub error : Error
   pub went : Went qs told wrote s mid os outlines
@@ -28,20 +28,20 @@ pub record TurnsDown (qs : List (ℕ × Request)) (told : List Reply) (q : ℕ �
   pub later : IsLater next.pipes.disk t.pipes.disk
 
 -- Why each place is refused: its request is out of range, or it was turned down after those before it.
-abbrev pub AreExcused : List (ℕ × Request) → List Reply → Shows → Shows → (ℕ → State) → Type 0
+abbrev pub AreExcused : List (ℕ × Request) → List Reply → EngineState → EngineState → (ℕ → State) → Type 0
 AreExcused qs told s t os = (place : ℕ) (q : ℕ × Request) → slice_get told place ≡ Some Refused
     → slice_get qs place ≡ Some q → (in_range q.1 ≡ false) ⊎ TurnsDown qs (take place told) q s t os
 
 -- a round came so far, and each refused place has a cause
-pub record Passes (qs : List (ℕ × Request)) (told : List Reply) (wrote : Bool) (s t : Shows) (os us : ℕ → State)
+pub record Passes (qs : List (ℕ × Request)) (told : List Reply) (wrote : Bool) (s t : EngineState) (os us : ℕ → State)
     : Type 0 where
   pub went : Went qs told wrote s t os us
   pub excused : AreExcused qs told s t os
 
 -- A round came as far as one request, at which the engine failed.
-pub record StopsAt (qs : List (ℕ × Request)) (told : List Reply) (s t : Shows) (os : ℕ → State) : Type 0 where
+pub record StopsAt (qs : List (ℕ × Request)) (told : List Reply) (s t : EngineState) (os : ℕ → State) : Type 0 where
   pub wrote : Bool
-  pub mid : Shows
+  pub mid : EngineState
   pub outlines : ℕ → State
   pub passes : Passes qs told wrote s mid os outlines
   pub request : ℕ × Request
@@ -49,21 +49,21 @@ pub record StopsAt (qs : List (ℕ × Request)) (told : List Reply) (s t : Shows
   pub broke : Broke request mid t outlines
 
 -- the round was served, for any voters that the engine kept and that had these outlines
-abbrev pub RoundIsAnswered : List (ℕ × Request) → List Reply → Shows → Shows → (ℕ → State) → (ℕ → State) → Type 0
+abbrev pub RoundIsAnswered : List (ℕ × Request) → List Reply → EngineState → EngineState → (ℕ → State) → (ℕ → State) → Type 0
 RoundIsAnswered qs told s t os us =
-    (home : Home) (V : World) → Keeps home s V → AreOutlines os V → Answered home V qs told s t us
+    (home : LogDirectories) (V : World) → Keeps home s V → AreOutlines os V → Answered home V qs told s t us
 
 -- The round was cut off, for any voters that the engine kept and that had these outlines: it was abandoned at a
 -- request, or its sync failed. The refused places are those of its replies, each for a cause.
-pub record CutsRoundOff (qs : List (ℕ × Request)) (refused : List ℕ) (s t : Shows) (os : ℕ → State) : Type 0 where
+pub record CutsRoundOff (qs : List (ℕ × Request)) (refused : List ℕ) (s t : EngineState) (os : ℕ → State) : Type 0 where
   pub told : List Reply
   pub few : length told ≤ length qs
   pub places : refused ≡ refused_from 0 told
   pub excused : AreExcused qs told s t os
-  pub left : (home : Home) (V : World) → Keeps home s V → AreOutlines os V
+  pub left : (home : LogDirectories) (V : World) → Keeps home s V → AreOutlines os V
       → GaveUp home V qs told s t ⊎ Unsynced home V qs told s t
 
 -- one request was served or turned down: a round that came so far continues after it
-abbrev pub GoesOn : ℕ × Request → Bool → Bool → List Reply → List Reply → Shows → Shows → (ℕ → State) → (ℕ → State) → Type 0
-GoesOn q wrote more told now t u us ws = (qs : List (ℕ × Request)) (s : Shows) (os : ℕ → State)
+abbrev pub GoesOn : ℕ × Request → Bool → Bool → List Reply → List Reply → EngineState → EngineState → (ℕ → State) → (ℕ → State) → Type 0
+GoesOn q wrote more told now t u us ws = (qs : List (ℕ × Request)) (s : EngineState) (os : ℕ → State)
     → Passes qs told wrote s t os us → slice_get qs (length told) ≡ Some q → Passes qs now more s u os ws

@@ -1,7 +1,7 @@
 -- Rounds that change no voter.
 use Rattle.std.specs.Prelude.{◌≡◌, ℕ, All, List}
 use Rattle.raft_log_engine.specs.raft_log_engine_laws.specs.Fetching.{StaysButBlock}
-use Rattle.raft_log_engine.specs.raft_log_engine_laws.specs.Shows.{Shows}
+use Rattle.raft_log_engine.specs.raft_log_engine_laws.specs.EngineState.{EngineState}
 use Rattle.raft_voter_messages.specs.declared.request.Request.{Request}
 use Rattle.raft_voter_messages.specs.declared.request.Request.TheVariants.{Read}
 use Rattle.raft_voter_outline.specs.Rules.{next}
@@ -28,5 +28,5 @@ AsksForNone q = (from to : ℕ) → q.1 ≡ Read from to → ⊥
 
 -- The call only read: the files, what is pending in them, and the outlines are unchanged. Only the block that the
 -- engine read last may differ.
-abbrev pub ReadsAlone : Shows → Shows → Outlines → Outlines → Type 0
+abbrev pub ReadsAlone : EngineState → EngineState → Outlines → Outlines → Type 0
 ReadsAlone s t old new = StaysButBlock s t × (new ≡ old)

@@ -2,12 +2,12 @@
 use Rattle.std.specs.Prelude.{◌≡◌, ◌⊎◌, ℕ}
 use Rattle.raft_log_record_base.specs.declared.errors.Error.{Error}
 use Rattle.raft_log_record_base.specs.declared.errors.Error.TheVariants as errors
-use Rattle.raft_log_engine.specs.raft_log_engine_laws.specs.Shows.{Shows}
+use Rattle.raft_log_engine.specs.raft_log_engine_laws.specs.EngineState.{EngineState}
 use Rattle.raft_voter_messages.specs.declared.request.Request.{Request}
 use Rattle.raft_voter_outline.specs.State.{State}
 use Rattle.raft_voter_durability_laws.specs.Requests.{Broke, TurnedDown}
 
 -- a request wasn't served, and no outline changed: it was turned down, or the engine failed at it
-abbrev pub FailsToTake : ℕ × Request → Error → Shows → Shows → (ℕ → State) → (ℕ → State) → Type 0
+abbrev pub FailsToTake : ℕ × Request → Error → EngineState → EngineState → (ℕ → State) → (ℕ → State) → Type 0
 FailsToTake q error s t os us =
     (us ≡ os) × (TurnedDown q error s t os ⊎ ((error ≡ errors.Failed) × Broke q s t os))

@@ -4,21 +4,21 @@ use Rattle.raft_log_record_base.specs.declared.errors.Error.{Error}
 use Rattle.raft_log_record_base.specs.declared.errors.Error.TheVariants as errors
 use Rattle.raft_log_record_batches.specs.Batch.{Batch}
 use Rattle.raft_log_record_frames.specs.Record.{record_len}
-use Rattle.raft_log_engine.specs.raft_log_engine_laws.specs.Shows.{Shows}
+use Rattle.raft_log_engine.specs.raft_log_engine_laws.specs.EngineState.{EngineState}
 use Rattle.raft_log_engine.specs.raft_log_engine_laws.specs.Writing.{NotWritten, WritesBytes}
 use Rattle.raft_voter_messages.specs.declared.request.Request.{Request}
 use Rattle.raft_voter_outline.specs.declared.outline.decision.Change.{Change}
 use Rattle.raft_voter_durability_laws.specs.Requests.{SaysChange}
 
 -- what was decided for a request of a group was written in a batch that says it
-pub record WritesChange (q : ℕ × Request) (c : Change) (s t : Shows) : Type 0 where
+pub record WritesChange (q : ℕ × Request) (c : Change) (s t : EngineState) : Type 0 where
   pub batch : Batch
   pub len : ℕ
   pub says : SaysChange q.0 q.1 c batch
   pub writes : WritesBytes batch false len s t
 
 -- Writing it failed: out of memory before; or the engine failed to write a batch that says it.
-pub data FailsToWriteChange (q : ℕ × Request) (c : Change) (error : Error) (s t : Shows) : Type 0 where
+pub data FailsToWriteChange (q : ℕ × Request) (c : Change) (error : Error) (s t : EngineState) : Type 0 where
   unsaid : error ≡ errors.Memory → t ≡ s → FailsToWriteChange q c error s t
   unwritten : (batch : Batch) → SaysChange q.0 q.1 c batch → record_len batch.items batch.entries < 2 ^ 56
       → NotWritten batch error s t → FailsToWriteChange q c error s t

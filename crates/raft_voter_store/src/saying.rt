@@ -12,7 +12,7 @@ use raft_voter_records::fill_change;
 use std::alloc::Global;
 
 /// Clears the batch and encodes the change that the outline decided on for this request. Fails only for lack of memory.
-pub fn say_change(
+pub fn encode_change(
     batch: &mut LogBatch,
     alloc: Global,
     outline: &Outline,

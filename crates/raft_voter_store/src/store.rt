@@ -39,7 +39,7 @@ struct Taken {
 
 impl<P: PipeLog> LogVoterStore<P> {
     ghost use Rattle.raft_log_engine.specs.raft_log_engine_laws.specs.Fetching.{StaysButBlock};
-    ghost use Rattle.raft_log_engine.specs.raft_log_engine_laws.specs.Shows.{has_failed};
+    ghost use Rattle.raft_log_engine.specs.raft_log_engine_laws.specs.EngineState.{has_failed};
     ghost use Rattle.raft_voter_outline.specs.declared.outline.decision.Answer.TheVariants as answers;
     ghost use Rattle.raft_voter_outline.specs.Outlines.{ChangesEach, IsReplyOfEach};
     ghost use Rattle.raft_voter_outline.specs.State.{fresh};
@@ -118,7 +118,7 @@ impl<P: PipeLog> LogVoterStore<P> {
         let Ok(mut batch) = or_new(self.alloc, self.batch.take()) else {
             return Err(Error::Memory);
         };
-        match self.put_change(rt, &mut batch, group, change, request) {
+        match self.log_change(rt, &mut batch, group, change, request) {
             Ok(()) => {
                 self.batch = Some(batch);
                 Ok(Taken { reply, wrote: true })
@@ -128,7 +128,7 @@ impl<P: PipeLog> LogVoterStore<P> {
     }
 
     /// Writes what was decided for a request in this batch, and its group's outline makes the change.
-    fn put_change<R: Log>(
+    fn log_change<R: Log>(
         &mut self,
         rt: &R,
         batch: &mut LogBatch,

@@ -1,13 +1,13 @@
 //! Writes changes.
 ghost use Rattle.std.specs.Prelude.{◌≡◌, false, IfErr, OnErr, OnOk};
 ghost use Rattle.raft_log_engine.specs.raft_log_engine_core.specs.Reads.{shows_of};
-ghost use Rattle.raft_log_engine.specs.raft_log_engine_laws.specs.Shows.{has_failed};
+ghost use Rattle.raft_log_engine.specs.raft_log_engine_laws.specs.EngineState.{has_failed};
 ghost use Rattle.raft_voter_outline.specs.Decisions.{OutlineBecomes};
 ghost use Rattle.raft_voter_outline.specs.Outlines.{ChangesEach};
 ghost use Rattle.raft_voter_durability_laws.specs.Laws.{IsBare};
 ghost use Rattle.raft_voter_store.specs.Writing.{FailsToWriteChange, WritesChange};
 
-use crate::saying::say_change;
+use crate::saying::encode_change;
 use log::Log;
 use raft_log_engine::{Error, LogBatch, LogEngine, PipeLog, Result};
 use raft_voter_outline::{Change, Outline, Request};
@@ -34,7 +34,7 @@ pub fn write_change<P: PipeLog, R: Log>(
         (shows_of P.shown engine.old) (shows_of P.shown engine.new)) }
     ensures same { OnErr result (outline.new.voter ≡ outline.old.voter) }
 {
-    match say_change(batch, alloc, outline, group, change, request) {
+    match encode_change(batch, alloc, outline, group, change, request) {
         Ok(()) => {}
         Err(error) => return Err(error),
     }

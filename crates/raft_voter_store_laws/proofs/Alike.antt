@@ -9,11 +9,11 @@ use Rattle.raft_log_machine_laws.specs.Fresh.{nothing_stands}
 use Rattle.raft_log_file_format.specs.Name.{suffix_of}
 use Rattle.raft_log_file_settings.specs.declared.config.Config.{Config}
 use Rattle.raft_voter_durability_laws.specs.raft_log_engine_laws.specs.raft_log_memtables.specs.declared.mem_tables.MemTables.{MemTables}
-use Rattle.raft_voter_durability_laws.specs.raft_log_engine_laws.specs.raft_log_dual_pipes.specs.Pipes.{LogPipes, Said}
+use Rattle.raft_voter_durability_laws.specs.raft_log_engine_laws.specs.raft_log_dual_pipes.specs.Pipes.{LogPipes, LogRecordValue}
 use Rattle.raft_voter_durability_laws.specs.raft_log_engine_laws.specs.raft_log_active_file.specs.Paths.{IsPathWith, reserved_suffix_of}
-use Rattle.raft_voter_durability_laws.specs.raft_log_engine_laws.specs.Holding.{Holds}
-use Rattle.raft_voter_durability_laws.specs.raft_log_engine_laws.specs.raft_log_dual_pipes.specs.OnDisk.{LogRestsOn}
-use Rattle.raft_voter_durability_laws.specs.raft_log_engine_laws.specs.Shows.{Home, LogMap, Shows, log_in}
+use Rattle.raft_voter_durability_laws.specs.raft_log_engine_laws.specs.Holding.{Represents}
+use Rattle.raft_voter_durability_laws.specs.raft_log_engine_laws.specs.raft_log_dual_pipes.specs.OnDisk.{IsDurableAs}
+use Rattle.raft_voter_durability_laws.specs.raft_log_engine_laws.specs.EngineState.{LogDirectories, LogMap, EngineState, log_in}
 use Rattle.raft_log_recovery.specs.Directories.{paths_of}
 use Rattle.raft_log_open.specs.Opening.{OpensDirectory}
 use Rattle.raft_log_recovery_laws.specs.Bare.{IsBare}
@@ -39,22 +39,22 @@ abbrev HoldsWhere : {F : Type 0} → (F → Disk) → (F → List ℕ → ℕ �
 HoldsWhere disk tells old m config = (v : LogPipes) (tables : MemTables) → OpensDirectory disk tells config old v tables → HoldsFresh (home_of config) v tables m
 
 -- by all settings that name the directories
-abbrev HoldsEverywhere : {F : Type 0} → (F → Disk) → (F → List ℕ → ℕ → Type 0) → F → Home → LogMap → Type 0
+abbrev HoldsEverywhere : {F : Type 0} → (F → Disk) → (F → List ℕ → ℕ → Type 0) → F → LogDirectories → LogMap → Type 0
 HoldsEverywhere disk tells old home m = (config : Config) → home_of config ≡ home → HoldsWhere disk tells old m config
 
 -- so a store that is opened does
-found : {F : Type 0} (disk : F → Disk) (tells : F → List ℕ → ℕ → Type 0) (old : F) (home : Home) (m : LogMap) (W : World) → Means m W → (config : Config) → home_of config ≡ home → HoldsWhere disk tells old m config
-    → (t : Shows) (os : ℕ → State) → OpensVoters disk tells config old t os → Holds home t m [] × AreOutlines os W
+found : {F : Type 0} (disk : F → Disk) (tells : F → List ℕ → ℕ → Type 0) (old : F) (home : LogDirectories) (m : LogMap) (W : World) → Means m W → (config : Config) → home_of config ≡ home → HoldsWhere disk tells old m config
+    → (t : EngineState) (os : ℕ → State) → OpensVoters disk tells config old t os → Represents home t m [] × AreOutlines os W
 found disk tells old home m W means config named holds t os o =
     let fresh = holds o.opens.pipes o.opens.tables o.opens.opens o.opens.cache o.opens.none in
-    let h : Holds (home_of config) o.engine m [] = subst (λ (x : Shows). Holds (home_of config) x m []) (sym o.opens.is) fresh in
+    let h : Represents (home_of config) o.engine m [] = subst (λ (x : EngineState). Represents (home_of config) x m []) (sym o.opens.is) fresh in
     let (V, told, are) = o.reads (home_of config) m h in (
-      subst (λ (x : Home). Holds x t m []) named (o.stays.holds (home_of config) m [] h),
+      subst (λ (x : LogDirectories). Represents x t m []) named (o.stays.holds (home_of config) m [] h),
       subst (λ (X : World). AreOutlines os X) (one_world m V W told means) are,
     )
 
-alike : {F : Type 0} (disk : F → Disk) (tells : F → List ℕ → ℕ → Type 0) (old : F) (home : Home) (m : LogMap) (W : World) → Means m W → HoldsEverywhere disk tells old home m
-    → (one other : Config) → home_of one ≡ home → home_of other ≡ home → (s t : Shows) (os us : ℕ → State) → OpensVoters disk tells one old s os → OpensVoters disk tells other old t us → AreAlike home s t os us
+alike : {F : Type 0} (disk : F → Disk) (tells : F → List ℕ → ℕ → Type 0) (old : F) (home : LogDirectories) (m : LogMap) (W : World) → Means m W → HoldsEverywhere disk tells old home m
+    → (one other : Config) → home_of one ≡ home → home_of other ≡ home → (s t : EngineState) (os us : ℕ → State) → OpensVoters disk tells one old s os → OpensVoters disk tells other old t us → AreAlike home s t os us
 alike disk tells old home m W means holds one other first second s t os us a b =
     let x = found disk tells old home m W means one first (holds one first) s os a in
     let y = found disk tells old home m W means other second (holds other second) t us b in
@@ -74,7 +74,7 @@ bare_too one other d same b = record {
 }
   where
     back : paths_of other ≡ paths_of one
-    back = ap (λ (h : Home). h.append) (sym same)
+    back = ap (λ (h : LogDirectories). h.append) (sym same)
 
 pub workers_open_alike : {F : Type 0} (disk : F → Disk) (tells : F → List ℕ → ℕ → Type 0) → WorkersOpenAlike disk tells
 workers_open_alike disk tells home some more old sound (bare config named b) =
@@ -82,12 +82,12 @@ workers_open_alike disk tells home some more old sound (bare config named b) =
     (λ other is. (bare_directories_open disk tells other old sound (bare_too config other (disk old) (named ∙ sym is) b)).answered)
 workers_open_alike disk tells home some more old sound (rests m W lies means) =
     alike disk tells old home m W means
-    (λ config is. (resting_directories_open disk tells config old m sound (subst (λ (h : Home). LogRestsOn (log_in h) (disk old) m) (sym is) lies)).answered)
+    (λ config is. (resting_directories_open disk tells config old m sound (subst (λ (h : LogDirectories). IsDurableAs (log_in h) (disk old) m) (sym is) lies)).answered)
 workers_open_alike disk tells home some more old sound (of_running e W keeps is chance) =
     let (k, within, lies, opens) = crashed_engines_open disk tells home e keeps.map [] keeps.holds old sound is chance in
     let same : take k [] ≡ [] = take-nil k in
     alike disk tells old home keeps.map W keeps.means
-    (λ config named. subst (λ (l : List Said). HoldsWhere disk tells old (taken keeps.map l) config) same (opens config named).answered)
+    (λ config named. subst (λ (l : List LogRecordValue). HoldsWhere disk tells old (taken keeps.map l) config) same (opens config named).answered)
 workers_open_alike disk tells home some more old sound (of_left before cut was crash) =
     let (k, within, lies, opens) = crashed_directories_open disk tells home some more before old was.map was.pending sound was.left crash in
     let (X, passes, means) = was.among k within in

@@ -4,7 +4,7 @@ use Rattle.raft_log_fs.specs.Disk.{Disk}
 use Rattle.raft_log_fs.specs.Exits.{denied_by}
 use Rattle.raft_log_fs.specs.declared.handle.Fault.{Fault}
 use Rattle.raft_log_fs.specs.declared.handle.Fault.TheVariants.{DenyRead, Refuse, RefuseInPart, Space, StopAfter, StopAt}
-use Rattle.raft_voter_durability_laws.specs.raft_log_engine_laws.specs.Shows.{Shows}
+use Rattle.raft_voter_durability_laws.specs.raft_log_engine_laws.specs.EngineState.{EngineState}
 use Rattle.raft_log_engine_core.specs.Whole.{ArmsEngine}
 use Rattle.raft_voter_durability_laws.specs.Standing.{Keeps}
 use Rattle.raft_voter_store_laws.specs.Kept.{ArmsKeepVoters, DeniesNone}
@@ -17,7 +17,7 @@ unmarked (StopAt n) d none = refl
 unmarked (StopAfter n) d none = refl
 unmarked (Space path bytes) d none = refl
 
-same_shown : (fault : Fault) (s t : Shows) → DeniesNone fault → ArmsEngine fault s t → t ≡ s
+same_shown : (fault : Fault) (s t : EngineState) → DeniesNone fault → ArmsEngine fault s t → t ≡ s
 same_shown fault s t none arms =
     let disk : t.pipes.disk ≡ s.pipes.disk = elim arms.pipes.disk.marks [
       | inl same ↦ same

@@ -9,10 +9,10 @@ use Rattle.raft_log_model_laws.specs.Groups.{taken}
 use Rattle.raft_log_machine_laws.specs.Fresh.{nothing_stands}
 use Rattle.raft_log_file_settings.specs.declared.config.Config.{Config}
 use Rattle.raft_voter_durability_laws.specs.raft_log_engine_laws.specs.raft_log_memtables.specs.declared.mem_tables.MemTables.{MemTables}
-use Rattle.raft_voter_durability_laws.specs.raft_log_engine_laws.specs.raft_log_dual_pipes.specs.Pipes.{LogPipes, Said}
-use Rattle.raft_voter_durability_laws.specs.raft_log_engine_laws.specs.Holding.{Holds, IsLeftAt}
-use Rattle.raft_voter_durability_laws.specs.raft_log_engine_laws.specs.Shows.{Home, LogMap, Shows, has_failed}
-use Rattle.raft_voter_durability_laws.specs.raft_log_engine_laws.proofs.Lying.{closed_engines_are_left}
+use Rattle.raft_voter_durability_laws.specs.raft_log_engine_laws.specs.raft_log_dual_pipes.specs.Pipes.{LogPipes, LogRecordValue}
+use Rattle.raft_voter_durability_laws.specs.raft_log_engine_laws.specs.Holding.{Represents, IsRecoverableAs}
+use Rattle.raft_voter_durability_laws.specs.raft_log_engine_laws.specs.EngineState.{LogDirectories, LogMap, EngineState, has_failed}
+use Rattle.raft_voter_durability_laws.specs.raft_log_engine_laws.proofs.OpenOrClosed.{closed_engines_are_left}
 use Rattle.raft_log_recovery_laws.specs.raft_log_open.specs.Opening.{FailsToOpenDirectory, OpensDirectory}
 use Rattle.raft_log_recovery_laws.specs.Bare.{IsBare, OpensFirst}
 use Rattle.raft_log_recovery_laws.specs.ByCalls.{ForAllNaming, home_of}
@@ -40,7 +40,7 @@ use Rattle.raft_voter_store_laws.specs.Opens.{BeginsVoters, FindsNoForeign, Find
 use Rattle.raft_voter_store_laws.specs.Laws.{CrashedStoresAreFound, CrashedVotersAreFound, FirstOpensAreFresh, LeftVotersAreFound, RestingVotersAreFound}
 
 -- an engine of which a map is true hasn't failed
-alive : (home : Home) (s : Shows) (m : LogMap) → Holds home s m [] → has_failed s ≡ false
+alive : (home : LogDirectories) (s : EngineState) (m : LogMap) → Represents home s m [] → has_failed s ≡ false
 alive home s m h =
     let one : s.pipes.append.failed ≡ false = h.runs.append.alive in
     let other : s.pipes.rewrite.failed ≡ false = h.runs.rewrite.alive in
@@ -65,8 +65,8 @@ no_engine group errors.NumberRange is = cc
 -- Over directories whose log an open's engine holds as one map, which means these voters.
 module _ {F : Type 0} (disk : F → Disk) (tells : F → List ℕ → ℕ → Type 0) (config : Config) (old : F) (m : LogMap) (W : World) (means : Means m W)
     (fresh : (v : LogPipes) (tables : MemTables) → OpensDirectory disk tells config old v tables → HoldsFresh (home_of config) v tables m) where
-  opened : (s : Shows) → OpensEngine disk tells config old s → Holds (home_of config) s m []
-  opened s o = subst (λ (x : Shows). Holds (home_of config) x m []) (sym o.is) (fresh o.pipes o.tables o.opens o.cache o.none)
+  opened : (s : EngineState) → OpensEngine disk tells config old s → Represents (home_of config) s m []
+  opened s o = subst (λ (x : EngineState). Represents (home_of config) x m []) (sym o.is) (fresh o.pipes o.tables o.opens o.cache o.none)
 
   served : ServesFound disk tells config old W
   served t os o =
@@ -77,7 +77,7 @@ module _ {F : Type 0} (disk : F → Disk) (tells : F → List ℕ → ℕ → Ty
       )
 
   -- where the voters weren't read
-  closed : (cause : Unread) (back : F) → ClosesUnread disk tells config cause old back → IsLeftAt (home_of config) (disk back) m []
+  closed : (cause : Unread) (back : F) → ClosesUnread disk tells config cause old back → IsRecoverableAs (home_of config) (disk back) m []
   closed cause back c =
       let h = c.stays.holds (home_of config) m [] (opened c.engine c.opens) in
       closed_engines_are_left (home_of config) c.after m [] (disk back) h (c.closes (alive (home_of config) c.after m h))
@@ -112,7 +112,7 @@ pub crashed_stores_are_found : {F : Type 0} (disk : F → Disk) (tells : F → L
 crashed_stores_are_found disk tells home e W keeps old sound is chance config named =
     let (k, within, rests, opens) = crashed_engines_open disk tells home e keeps.map [] keeps.holds old sound is chance in
     let same : take k [] ≡ [] = take-nil k in
-    let now : OpensAs disk tells config old keeps.map = subst (λ (l : List Said). OpensAs disk tells config old (taken keeps.map l)) same (opens config named) in
+    let now : OpensAs disk tells config old keeps.map = subst (λ (l : List LogRecordValue). OpensAs disk tells config old (taken keeps.map l)) same (opens config named) in
     found_as disk tells config old keeps.map W keeps.means now
 
 pub crashed_voters_are_found : {F : Type 0} (disk : F → Disk) (tells : F → List ℕ → ℕ → Type 0) → CrashedVotersAreFound disk tells
@@ -125,17 +125,17 @@ crashed_voters_are_found disk tells home some other d cut left old sound crash =
     )
 
 -- in place: refused, the log is left as it was, or as what is found
-either_left : (home : Home) (d new : Disk) (P : World → Type 0) (left : IsLeftAmong home d P) (now : LogMap) (X : World) → P X → Means now X → IsLeftEither home new left.map left.pending now
+either_left : (home : LogDirectories) (d new : Disk) (P : World → Type 0) (left : IsLeftAmong home d P) (now : LogMap) (X : World) → P X → Means now X → IsLeftEither home new left.map left.pending now
     → IsLeftAmong home new P
 either_left home d new P left now X passes means (inl was) = record { map = left.map; pending = left.pending; left = was; among = left.among }
 either_left home d new P left now X passes means (inr found) = left_alone home new now P X found passes means
 
-module _ {F : Type 0} (disk : F → Disk) (tells : F → List ℕ → ℕ → Type 0) (config : Config) (old : F) (home : Home) (named : home_of config ≡ home) (cut : CutRound) (left : IsLeftAmong home (disk old) (MayFollow cut)) (now : LogMap) (X : World)
+module _ {F : Type 0} (disk : F → Disk) (tells : F → List ℕ → ℕ → Type 0) (config : Config) (old : F) (home : LogDirectories) (named : home_of config ≡ home) (cut : CutRound) (left : IsLeftAmong home (disk old) (MayFollow cut)) (now : LogMap) (X : World)
     (passes : MayFollow cut X) (means : Means now X) (opens : OpensStanding disk tells config old left.map left.pending now) where
   standing_left : (error : Error) (back : F) → FailsToOpenDirectory disk tells config error old back → IsLeftAmong (home_of config) (disk back) (MayFollow cut)
   standing_left error back fails =
-      let either : IsLeftEither home (disk back) left.map left.pending now = subst (λ (h : Home). IsLeftEither h (disk back) left.map left.pending now) named (opens.refused error back fails) in
-      subst (λ (h : Home). IsLeftAmong h (disk back) (MayFollow cut)) (sym named) (either_left home (disk old) (disk back) (MayFollow cut) left now X passes means either)
+      let either : IsLeftEither home (disk back) left.map left.pending now = subst (λ (h : LogDirectories). IsLeftEither h (disk back) left.map left.pending now) named (opens.refused error back fails) in
+      subst (λ (h : LogDirectories). IsLeftAmong h (disk back) (MayFollow cut)) (sym named) (either_left home (disk old) (disk back) (MayFollow cut) left now X passes means either)
 
   pub standing_found : FindsVoters disk tells config old X (MayFollow cut)
   standing_found = record {
@@ -158,7 +158,7 @@ none_stand : Means nothing_stands fresh_world
 none_stand = empty_maps_are_fresh nothing_stands (λ g s. refl)
 
 module _ {F : Type 0} (disk : F → Disk) (tells : F → List ℕ → ℕ → Type 0) (config : Config) (old : F) (first : OpensFirst disk tells config old) where
-  first_left : (d : Disk) → IsBare config d ⊎ IsLeftAt (home_of config) d nothing_stands [] → IsBare config d ⊎ IsLeftWith (home_of config) d fresh_world
+  first_left : (d : Disk) → IsBare config d ⊎ IsRecoverableAs (home_of config) d nothing_stands [] → IsBare config d ⊎ IsLeftWith (home_of config) d fresh_world
   first_left d (inl still) = inl still
   first_left d (inr left) = inr (left_alone (home_of config) d nothing_stands (λ X. X ≡ fresh_world) fresh_world left refl none_stand)
 

@@ -2,7 +2,7 @@
 use Rattle.std.proofs.Common.{◌≡◌, ℕ, List, take}
 use Rattle.raft_log_fs.specs.Disk.{Disk}
 use Rattle.raft_log_model_laws.specs.Groups.{taken}
-use Rattle.raft_voter_durability_laws.specs.raft_log_engine_laws.specs.Shows.{LogMap}
+use Rattle.raft_voter_durability_laws.specs.raft_log_engine_laws.specs.EngineState.{LogMap}
 use Rattle.raft_log_record_base.specs.declared.errors.Error.{Error}
 use Rattle.raft_log_file_settings.specs.Settings.{Settings, directories_of, settings_of}
 use Rattle.raft_log_file_settings.specs.declared.config.Config.{Config}

@@ -19,7 +19,7 @@ use Rattle.raft_log_record_items.specs.Placed.{laid_run}
 use Rattle.raft_log_record_frames.specs.Marking.{mark_key, mark_value}
 use Rattle.raft_log_record_batches.specs.Entries.{bytes_len, entries_items, entries_of}
 use Rattle.raft_log_record_batches.proofs.Entries.{joined-length}
-use Rattle.raft_voter_durability_laws.specs.raft_log_engine_laws.specs.Shows.{LogMap}
+use Rattle.raft_voter_durability_laws.specs.raft_log_engine_laws.specs.EngineState.{LogMap}
 use Rattle.raft_log_purge_copy.specs.Entries.{AreEntryBytes}
 use Rattle.raft_log_purge_copy.specs.Lengths.{AreOnePiece, AreValuesIn, HasLongGroup, IsOneMark}
 use Rattle.raft_voter_messages.specs.declared.reply.VoterState.{VoterState}

@@ -8,7 +8,7 @@ use Rattle.std.proofs.lemmas.Bool.Decides.{nat_tests}
 use Rattle.std.proofs.lemmas.Map.Keys.{below_from_sorted, sorted_tail}
 use Rattle.raft_log_model_laws.specs.Meaning.Slot.{Key}
 use Rattle.raft_log_record_frames.specs.Key.{is_internal}
-use Rattle.raft_voter_durability_laws.specs.raft_log_engine_laws.specs.Shows.{LogMap}
+use Rattle.raft_voter_durability_laws.specs.raft_log_engine_laws.specs.EngineState.{LogMap}
 use Rattle.raft_voter_outline.specs.State.{State}
 use Rattle.raft_voter_records.specs.Voters.{Group, HoldsVoter, IsVoid, IsVoter, voter_key}
 use Rattle.raft_voter_records.proofs.Owning.{holders_same, one_world}

@@ -13,10 +13,10 @@ use Rattle.raft_log_record_base.specs.declared.pipe_log.LogQueue.TheVariants.{Ap
 use Rattle.raft_voter_durability_laws.specs.raft_log_engine_laws.specs.raft_log_active_file.specs.declared.record.LogRecord.{LogRecord}
 use Rattle.raft_voter_durability_laws.specs.raft_log_engine_laws.specs.raft_log_active_file.specs.Layout.{log_format}
 use Rattle.raft_voter_durability_laws.specs.raft_log_engine_laws.specs.raft_log_active_file.specs.LayoutLaws.{is_layout, zeros_hold_none}
-use Rattle.raft_voter_durability_laws.specs.raft_log_engine_laws.specs.raft_log_dual_pipes.specs.Pipes.{Said}
+use Rattle.raft_voter_durability_laws.specs.raft_log_engine_laws.specs.raft_log_dual_pipes.specs.Pipes.{LogRecordValue}
 use Rattle.raft_voter_durability_laws.specs.raft_log_engine_laws.specs.raft_log_dual_pipes.specs.Queues.{QueueLayout}
 use Rattle.raft_voter_durability_laws.specs.raft_log_engine_laws.specs.raft_log_dual_pipes.specs.State.{RunsQueue, Spanned}
-use Rattle.raft_voter_durability_laws.specs.raft_log_engine_laws.specs.Shows.{LogMap, log_in}
+use Rattle.raft_voter_durability_laws.specs.raft_log_engine_laws.specs.EngineState.{LogMap, log_in}
 use Rattle.raft_log_recovery_laws.specs.Running.{LeavesOwnAlone, MeetsOwnAlone, active_header, own_bytes}
 use Rattle.raft_log_recovery_laws.proofs.Running.{crashed_engines_open}
 use Rattle.raft_voter_records.specs.Voters.{Means}
@@ -145,11 +145,11 @@ losses_in_rounds_are_found disk tells home V requests told wrote s t os us keeps
     let e = went.holds home m [] keeps.holds in
     let chance = losses_leave_no_chance home t (taken m e.done) e.rest e.holds (disk old) l in
     let (k, within, rests, opens) = crashed_engines_open disk tells home t (taken m e.done) e.rest e.holds old sound is chance in
-    let sizes : length e.done + length e.rest ≡ length went.said = sym (length-append e.done e.rest) ∙ ap (λ (l : List Said). length l) e.splits in
+    let sizes : length e.done + length e.rest ≡ length went.said = sym (length-append e.done e.rest) ∙ ap (λ (l : List LogRecordValue). length l) e.splits in
     let (X, passed, means) = went.among m V keeps.means are (length e.done + k) (omega (arith, within, sizes)) in
     let now : LogMap = taken (taken m e.done) (take k e.rest) in
     let same : taken m (take (length e.done + k) went.said) ≡ now =
-    ap (λ (l : List Said). taken m (take (length e.done + k) l)) (sym e.splits) ∙ ap (λ (l : List Said). taken m l) (take_over e.done e.rest k) ∙ taken_in_two m e.done (take k e.rest) in
+    ap (λ (l : List LogRecordValue). taken m (take (length e.done + k) l)) (sym e.splits) ∙ ap (λ (l : List LogRecordValue). taken m l) (take_over e.done e.rest k) ∙ taken_in_two m e.done (take k e.rest) in
     (X, passed, λ config named. found_as disk tells config old now X (subst (λ (x : LogMap). Means x X) same means) (opens config named))
 
 bringing : (queue : LogQueue) (directories : List (List ℕ)) → 0 < length directories → (files : PipeFiles) (d image : Disk) → LeavesForeign (log_format queue directories) files d image

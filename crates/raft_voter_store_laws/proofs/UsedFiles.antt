@@ -24,7 +24,7 @@ use Rattle.raft_log_active_file.specs.Layout.{FilePaths}
 use Rattle.raft_log_active_file.specs.Queue.{whole, with_room}
 use Rattle.raft_voter_durability_laws.specs.raft_log_engine_laws.specs.raft_log_dual_pipes.specs.State.{RunsQueue}
 use Rattle.raft_voter_durability_laws.specs.raft_log_engine_laws.specs.raft_log_dual_pipes.proofs.Pairing.{at_log}
-use Rattle.raft_voter_durability_laws.specs.raft_log_engine_laws.specs.Shows.{log_in, sense}
+use Rattle.raft_voter_durability_laws.specs.raft_log_engine_laws.specs.EngineState.{log_in, sense}
 use Rattle.raft_log_recovery_laws.specs.Running.{active_header, own_bytes}
 use Rattle.raft_voter_store_laws.specs.Chance.{IsOwnFrame, LosesOwn}
 use Rattle.raft_voter_store_laws.specs.Reuse.{NextIsKnown, RotatedFilesOnlyLose, StandingFilesOnlyLose}

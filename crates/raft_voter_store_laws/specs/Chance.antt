@@ -10,9 +10,9 @@ use Rattle.raft_log_file_pipe.specs.declared.pipe_files.PipeFiles.{PipeFiles}
 use Rattle.raft_voter_durability_laws.specs.raft_log_engine_laws.specs.raft_log_active_file.specs.declared.record.LogRecord.{LogRecord}
 use Rattle.raft_voter_durability_laws.specs.raft_log_engine_laws.specs.raft_log_active_file.specs.Layout.{log_format}
 use Rattle.raft_log_record_base.specs.declared.pipe_log.LogQueue.{LogQueue}
-use Rattle.raft_voter_durability_laws.specs.raft_log_engine_laws.specs.raft_log_dual_pipes.specs.Pipes.{LogPipes, Said}
-use Rattle.raft_voter_durability_laws.specs.raft_log_engine_laws.specs.Holding.{Holds}
-use Rattle.raft_voter_durability_laws.specs.raft_log_engine_laws.specs.Shows.{Home, LogMap, Shows, log_in}
+use Rattle.raft_voter_durability_laws.specs.raft_log_engine_laws.specs.raft_log_dual_pipes.specs.Pipes.{LogPipes, LogRecordValue}
+use Rattle.raft_voter_durability_laws.specs.raft_log_engine_laws.specs.Holding.{Represents}
+use Rattle.raft_voter_durability_laws.specs.raft_log_engine_laws.specs.EngineState.{LogDirectories, LogMap, EngineState, log_in}
 use Rattle.raft_log_recovery_laws.specs.ByCalls.{ForAllNaming}
 use Rattle.raft_log_recovery_laws.specs.Running.{LeavesNoChance, active_header, own_bytes}
 use Rattle.raft_voter_messages.specs.declared.reply.Reply.{Reply}
@@ -58,26 +58,26 @@ LosesOwn F files d image = (file after : File) → d.files files.writer.handle.f
     → IsTorn files file after.content ⊎ IsWhole F files file after.content
 
 -- the same for the active files of both queues
-pub record LosesWrites (home : Home) (v : LogPipes) (image : Disk) : Type 0 where
+pub record LosesWrites (home : LogDirectories) (v : LogPipes) (image : Disk) : Type 0 where
   pub append : LosesOwn (log_in home).append.format v.append.files v.disk image
   pub rewrite : LosesOwn (log_in home).rewrite.format v.rewrite.files v.disk image
 
 -- Such a crash of a running engine leaves no CRC collision, whatever map its log is, and whatever batches are pending.
 abbrev pub LossesLeaveNoChance : Type 0
-LossesLeaveNoChance = (home : Home) (e : Shows) (m : LogMap) (pending : List Said) → Holds home e m pending
+LossesLeaveNoChance = (home : LogDirectories) (e : EngineState) (m : LogMap) (pending : List LogRecordValue) → Represents home e m pending
     → (image : Disk) → LosesWrites home e.pipes image → LeavesNoChance home e.pipes image
 
 -- Opening what it leaves of a store that keeps voters gives these voters.
 abbrev pub LossesAreFound : {F : Type 0} → (F → Disk) → (F → List ℕ → ℕ → Type 0) → Type 0
-LossesAreFound {F} disk tells = (home : Home) (e : Shows) (W : World) → Keeps home e W → (old : F)
+LossesAreFound {F} disk tells = (home : LogDirectories) (e : EngineState) (W : World) → Keeps home e W → (old : F)
     → IsSound (disk old) → IsImage e.pipes.disk (disk old) → LosesWrites home e.pipes (disk old)
     → ForAllNaming home (λ config. FindsVoters disk tells config old W (λ X. X ≡ W))
 
 -- Opening what it leaves during a round, between two of its requests, gives voters that took some first ones of them:
 -- the same for all settings.
 abbrev pub LossesInRoundsAreFound : {F : Type 0} → (F → Disk) → (F → List ℕ → ℕ → Type 0) → Type 0
-LossesInRoundsAreFound {F} disk tells = (home : Home) (V : World) (requests : List (ℕ × Request)) (told : List Reply)
-    (wrote : Bool) (s t : Shows) (os us : ℕ → State) → Keeps home s V → AreOutlines os V
+LossesInRoundsAreFound {F} disk tells = (home : LogDirectories) (V : World) (requests : List (ℕ × Request)) (told : List Reply)
+    (wrote : Bool) (s t : EngineState) (os us : ℕ → State) → Keeps home s V → AreOutlines os V
     → Went requests told wrote s t os us → (old : F) → IsSound (disk old) → IsImage t.pipes.disk (disk old)
     → LosesWrites home t.pipes (disk old)
     → (X : World) × IsPassed V requests told X
@@ -108,7 +108,7 @@ pub record LeavesForeign (F : Format LogRecord) (files : PipeFiles) (d image : D
 -- If a crash of a running engine leaves such a record in either queue, the premise that there is no CRC collision is
 -- false.
 abbrev pub ForeignRecordsAreChance : Type 0
-ForeignRecordsAreChance = (home : Home) (e : Shows) (m : LogMap) (pending : List Said) → Holds home e m pending
+ForeignRecordsAreChance = (home : LogDirectories) (e : EngineState) (m : LogMap) (pending : List LogRecordValue) → Represents home e m pending
     → (image : Disk)
     → LeavesForeign (log_in home).append.format e.pipes.append.files e.pipes.disk image
     ⊎ LeavesForeign (log_in home).rewrite.format e.pipes.rewrite.files e.pipes.disk image

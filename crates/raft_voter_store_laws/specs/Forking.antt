@@ -4,8 +4,8 @@ use Rattle.raft_log_fs.specs.Disk.{Disk}
 use Rattle.raft_log_fs.specs.Image.{IsSound}
 use Rattle.raft_log_file_settings.specs.Settings.{directories_of, settings_of}
 use Rattle.raft_log_file_settings.specs.declared.config.Config.{Config}
-use Rattle.raft_voter_durability_laws.specs.raft_log_engine_laws.specs.raft_log_dual_pipes.specs.OnDisk.{LogRestsOn}
-use Rattle.raft_voter_durability_laws.specs.raft_log_engine_laws.specs.Shows.{Home, LogMap, log_in}
+use Rattle.raft_voter_durability_laws.specs.raft_log_engine_laws.specs.raft_log_dual_pipes.specs.OnDisk.{IsDurableAs}
+use Rattle.raft_voter_durability_laws.specs.raft_log_engine_laws.specs.EngineState.{LogDirectories, LogMap, log_in}
 use Rattle.raft_log_offline.specs.Forks.{Forks, LiesInOne}
 use Rattle.raft_log_recovery_laws.specs.Bare.{IsBare}
 use Rattle.raft_log_recovery_laws.specs.ByCalls.{ForAllNaming, home_of}
@@ -29,7 +29,7 @@ pub record FindAlike {F : Type 0} (disk : F → Disk) (tells : F → List ℕ �
 abbrev pub ForkedVotersAreFound : {F : Type 0} → (F → Disk) → (F → List ℕ → ℕ → Type 0) → Type 0
 ForkedVotersAreFound {F} disk tells = (config to : Config) (target : List ℕ) (copied : List (List ℕ)) (old now : F)
     (m : LogMap) (W : World) → IsSound (disk old) → IsSound (disk now) → NamesOnly to target
-    → IsClear target (disk old) → LogRestsOn (log_in (home_of config)) (disk old) m → Means m W
+    → IsClear target (disk old) → IsDurableAs (log_in (home_of config)) (disk old) m → Means m W
     → Forks (settings_of config) target copied (disk old) (disk now)
     → FindAlike disk tells config to old now W
 
@@ -43,7 +43,7 @@ CopiesVoters {F} disk tells old W config = (to : Config) (target : List ℕ) (co
 -- What a store left, closed or failed, is opened in place, or copied and opened there, without a crash in between. Both
 -- find the same voters, which a stop may leave of it, by any settings that name its directories.
 abbrev pub LeftVotersAreCopied : {F : Type 0} → (F → Disk) → (F → List ℕ → ℕ → Type 0) → Type 0
-LeftVotersAreCopied {F} disk tells = (home : Home) → 0 < length home.append → 0 < length home.rewrite → (old : F)
+LeftVotersAreCopied {F} disk tells = (home : LogDirectories) → 0 < length home.append → 0 < length home.rewrite → (old : F)
     (cut : CutRound) (left : IsLeftAmong home (disk old) (MayFollow cut)) → IsSound (disk old)
     → StandsWithoutChance home left.left.1.lies.state (disk old)
     → (W : World) × MayFollow cut W
@@ -56,8 +56,8 @@ pub record LeavesVoters (config : Config) (old new : Disk) : Type 0 where
   pub left : (cut : CutRound) → IsLeftAmong (home_of config) old (MayFollow cut)
       → IsLeftAmong (home_of config) new (MayFollow cut)
   pub alone : (W : World) → IsLeftWith (home_of config) old W → IsLeftWith (home_of config) new W
-  pub rests : (m : LogMap) → LogRestsOn (log_in (home_of config)) old m
-      → LogRestsOn (log_in (home_of config)) new m
+  pub rests : (m : LogMap) → IsDurableAs (log_in (home_of config)) old m
+      → IsDurableAs (log_in (home_of config)) new m
   pub bare : IsBare config old → IsBare config new
 
 -- however a copy ends, it leaves the voters of its source

@@ -2,7 +2,7 @@
 use Rattle.std.specs.Prelude.{◌⊎◌, ℕ, List}
 use Rattle.raft_log_fs.specs.Disk.{Disk}
 use Rattle.raft_log_file_settings.specs.declared.config.Config.{Config}
-use Rattle.raft_voter_durability_laws.specs.raft_log_engine_laws.specs.Shows.{Shows}
+use Rattle.raft_voter_durability_laws.specs.raft_log_engine_laws.specs.EngineState.{EngineState}
 use Rattle.raft_log_recovery_laws.specs.Bare.{IsBare}
 use Rattle.raft_log_recovery_laws.specs.ByCalls.{home_of}
 use Rattle.raft_voter_outline.specs.State.{State}
@@ -14,7 +14,7 @@ use Rattle.raft_voter_store.specs.Opening.{FailsToOpenVoters, OpensVoters}
 
 -- if an open succeeds, its engine keeps these voters, and the store's outlines are theirs
 abbrev pub ServesFound : {F : Type 0} → (F → Disk) → (F → List ℕ → ℕ → Type 0) → Config → F → World → Type 0
-ServesFound disk tells config old W = (t : Shows) (os : ℕ → State) → OpensVoters disk tells config old t os
+ServesFound disk tells config old W = (t : EngineState) (os : ℕ → State) → OpensVoters disk tells config old t os
     → Keeps (home_of config) t W × AreOutlines os W
 
 -- an open never fails for a group whose contents aren't a voter

@@ -9,17 +9,17 @@ use Rattle.raft_log_dual_pipes.specs.LastFiles.{EndsThere, KeepsOwn, NextIsUsed}
 use Rattle.raft_log_directory_laws.specs.Calls.{Which}
 use Rattle.raft_voter_durability_laws.specs.raft_log_engine_laws.specs.raft_log_active_file.specs.declared.record.LogRecord.{LogRecord}
 use Rattle.raft_voter_durability_laws.specs.raft_log_engine_laws.specs.raft_log_dual_pipes.specs.PipeCalls.{PipeRotates}
-use Rattle.raft_voter_durability_laws.specs.raft_log_engine_laws.specs.raft_log_dual_pipes.specs.Pipes.{LogPipes, Said, one_at}
+use Rattle.raft_voter_durability_laws.specs.raft_log_engine_laws.specs.raft_log_dual_pipes.specs.Pipes.{LogPipes, LogRecordValue, one_at}
 use Rattle.raft_voter_durability_laws.specs.raft_log_engine_laws.specs.raft_log_dual_pipes.specs.Queues.{layout_at}
-use Rattle.raft_voter_durability_laws.specs.raft_log_engine_laws.specs.Holding.{Holds}
-use Rattle.raft_voter_durability_laws.specs.raft_log_engine_laws.specs.Shows.{Home, LogMap, Shows, log_in}
+use Rattle.raft_voter_durability_laws.specs.raft_log_engine_laws.specs.Holding.{Represents}
+use Rattle.raft_voter_durability_laws.specs.raft_log_engine_laws.specs.EngineState.{LogDirectories, LogMap, EngineState, log_in}
 use Rattle.raft_voter_store_laws.specs.Chance.{LosesOwn}
 
 -- If no record begins after the records of an active file, and a crash leaves it unchanged, its records are whole: such
 -- a crash only loses writes, whatever map the engine's log is.
 abbrev pub StandingFilesOnlyLose : Type 0
-StandingFilesOnlyLose = (which : Which) (home : Home) (e : Shows) (m : LogMap) (pending : List Said)
-    → Holds home e m pending
+StandingFilesOnlyLose = (which : Which) (home : LogDirectories) (e : EngineState) (m : LogMap) (pending : List LogRecordValue)
+    → Represents home e m pending
     → EndsThere (layout_at which (log_in home)).format (one_at which e.pipes).files e.pipes.disk
     → (image : Disk) → KeepsOwn (one_at which e.pipes).files e.pipes.disk image
     → LosesOwn (layout_at which (log_in home)).format (one_at which e.pipes).files e.pipes.disk image
@@ -31,8 +31,8 @@ pub data NextIsKnown (F : Format LogRecord) (format : LogFileFormat) (files : Pi
 
 -- Right after a rotation to such a file every crash only loses writes, whatever bytes the file held.
 abbrev pub RotatedFilesOnlyLose : Type 0
-RotatedFilesOnlyLose = (which : Which) (home : Home) (e : Shows) (m : LogMap) (pending : List Said)
-    → Holds home e m pending
+RotatedFilesOnlyLose = (which : Which) (home : LogDirectories) (e : EngineState) (m : LogMap) (pending : List LogRecordValue)
+    → Represents home e m pending
     → NextIsKnown (layout_at which (log_in home)).format (one_at which e.pipes).settings.new_files.format
     (one_at which e.pipes).files e.pipes.disk
     → (v : LogPipes) → PipeRotates which e.pipes v → (image : Disk) → IsImage v.disk image

@@ -20,7 +20,7 @@ use Rattle.raft_voter_world.specs.Cuts.{AreLeast, cuts_in, lost_at, next_place}
 use Rattle.raft_voter_world.specs.History.{Falls, Happens, IsClosedAs, IsOpening, IsUnopened, Keeps, Moment, One, Opens, Turns, behind}
 use Rattle.raft_voter_world.specs.History.Change.{closes}
 use Rattle.raft_voter_world.specs.History.Moment.{fell, kept, opened, unopened, unread}
-use Rattle.raft_voter_world.specs.Notes.{Shows, all_rounds, lost_by}
+use Rattle.raft_voter_world.specs.Notes.{NotesShown, all_rounds, lost_by}
 use Rattle.raft_voter_world.specs.Openings.{ComesOut}
 use Rattle.raft_voter_world.specs.Steps.{Falling, Grows, IsStep, Moves, WhereAlive}
 use Rattle.raft_voter_world.specs.Stores.{Disk, Upkeep, world_in}
@@ -60,7 +60,7 @@ all_gathered all left W is empty = is.told ∙ ap world_in (sym (is.parts ∙ ap
 
 -- What is noted of it.
 
-shown_noted : {S F : Type 0} (event workers : ℕ) (old new : Notes) (store now : S) (listed : List (ℕ × State)) (place : Option ℕ) → Shows old event (world_in listed) place new → Grows {S = S} {F = F} event old (opened workers store listed place now ∷ []) new
+shown_noted : {S F : Type 0} (event workers : ℕ) (old new : Notes) (store now : S) (listed : List (ℕ × State)) (place : Option ℕ) → NotesShown old event (world_in listed) place new → Grows {S = S} {F = F} event old (opened workers store listed place now ∷ []) new
 shown_noted {S} {F} event workers old new store now listed place n = record {
   rounds = none_waits new n.settled.none ∙ n.settled.rounds ∙ sym (append-nil (all_rounds old));
   cuts = λ last rest. ap (λ cs. cs ++ cuts_in last rest) (sym n.settled.cuts ∙ sym (none_cut new (next_place last rest) n.settled.none));
@@ -117,10 +117,10 @@ none_opened {S} {F} v u d place workers old mid new files stopped now notes left
 }
 
 pub from_shown : {S F : Type 0} (v : Service S) (u : Upkeep S) (d : Disk S F) (place workers : ℕ) (old mid new : World S F) (files : F) (now : S) (voters : Voters) (found : Option ℕ) → ComesOut v u d files workers old.left (Shown now voters) → mid.storage ≡ Open now
-    → Shows old.notes place (world_of voters) found mid.notes → mid.left ≡ old.left → Falling v u d place mid new → FromFiles v u d place workers old files new
+    → NotesShown old.notes place (world_of voters) found mid.notes → mid.left ≡ old.left → Falling v u d place mid new → FromFiles v u d place workers old files new
 from_shown {S} {F} v u d place workers old mid new files now voters found (inl (store, runs, is, came)) at shows left f =
     let listed = came.0 in
-    let n : Shows old.notes place (world_in listed) found mid.notes = subst (λ (X : AllVoters). Shows old.notes place X found mid.notes) came.4 shows in
+    let n : NotesShown old.notes place (world_in listed) found mid.notes = subst (λ (X : AllVoters). NotesShown old.notes place X found mid.notes) came.4 shows in
     one_opened v u d place workers old mid new files (opened workers store listed found now) runs (is, came.1, came.2) (refl, came.3) at left
     (shown_noted place workers old.notes mid.notes store now listed found n) (λ alive. n.settled.none) f
 from_shown v u d place workers old mid new files now voters found (inr (inl (cause, came))) at shows left f = absurd (let other = came.3 in let no : ⊥ = cc in no)

@@ -1,7 +1,7 @@
 pub mod Alike
 mod Alone
 pub mod Believed
-pub mod Beside
+pub mod PerQueue
 pub mod Explaining
 pub mod FromFiles
 pub mod Going

@@ -46,7 +46,7 @@ lost_by None event = event ∷ []
 lost_by (Some place) event = []
 
 -- an open showed voters, and the place at which they fit was looked for
-pub record Shows (old : Notes) (event : ℕ) (X : World) (place : Option ℕ) (new : Notes) : Type 0 where
+pub record NotesShown (old : Notes) (event : ℕ) (X : World) (place : Option ℕ) (new : Notes) : Type 0 where
   pub found : IsPlaceFound (cut_of old) X place
   pub settled : Settles old (unwrap_or place 0) new
   pub world : world_of new.voters ≡ X

@@ -3,7 +3,7 @@ ghost use Rattle.std.specs.Prelude.{◌≡◌, ℕ, ◌++◌, ◌∷◌, [], IsT
 ghost use Rattle.raft_voter.specs.Rounds.{are_rising, fresh_world};
 ghost use Rattle.raft_voter.specs.Voters.{world_of};
 ghost use Rattle.raft_voter_world.specs.Places.{IsPlaceFound};
-ghost use Rattle.raft_voter_world.specs.Notes.{cut_of, NotesAnswered, NotesCut, NotesIdle, Settles, Shows};
+ghost use Rattle.raft_voter_world.specs.Notes.{cut_of, NotesAnswered, NotesCut, NotesIdle, Settles, NotesShown};
 
 use crate::{places::find_place, report::WorldReport};
 use raft_voter::{Items, Memory, Round, Transcript, Voters};
@@ -94,7 +94,7 @@ impl Notes {
     /// An open shows these voters: the unsettled round was taken up to the least place that fits. If no place fits,
     /// this event is lost.
     pub fn show(&mut self, event: usize, shown: Voters) -> Result<(), Memory>
-        ensures { OnOk result ((place : Option ℕ) × Shows self.old event (world_of shown) place self.new) }
+        ensures { OnOk result ((place : Option ℕ) × NotesShown self.old event (world_of shown) place self.new) }
     {
         let found = self.look_for(&shown)?;
         self.voters = shown;

@@ -9,7 +9,7 @@ use std::alloc::AllocError;
 impl MemTables {
     /// The tombstones that are owed to Rewrite, as the items of one batch. They are sorted by group number; for each
     /// group come the Clean, the Compact, and the Dels of keys in their order. They stay owed until `clear_marks`.
-    pub fn owed_marks(&self) -> Result<Vec<LogItem>, AllocError>
+    pub fn pending_tombstones(&self) -> Result<Vec<LogItem>, AllocError>
         ensures { IfOk result (λ items. AreOwed self.now items.items) }
     {
         let mut items = Vec::new(self.alloc);

@@ -71,7 +71,7 @@ impl MemTables {
     }
 
     /// The result of `least_file` and that of `standing_count`, found in one walk over the groups.
-    pub fn least_and_standing(&self, queue: LogQueue, limit: FileSeq) -> (FileSeq, u64)
+    pub fn min_file_and_live_count(&self, queue: LogQueue, limit: FileSeq) -> (FileSeq, u64)
         ensures least { IsLeastOf queue limit self.now result.0 }
         ensures standing { Stand self.now result.1 }
     {

@@ -11,7 +11,7 @@ use raft_voter_messages::{Items, Reply, Request};
 
 impl<P: PipeLog> LogVoterStore<P> {
     ghost use Rattle.std.specs.Prelude.{IfSome, OnSome};
-    ghost use Rattle.raft_log_engine.specs.raft_log_engine_laws.specs.Shows.{has_failed};
+    ghost use Rattle.raft_log_engine.specs.raft_log_engine_laws.specs.EngineState.{has_failed};
     ghost use Rattle.raft_voter.specs.Service.{FailsAs, IsAlive, TakesNothing};
     ghost use Rattle.raft_voter_outline.specs.Kept.{outlines_in};
     ghost use Rattle.raft_voter_durability_laws.specs.Requests.{Broke};

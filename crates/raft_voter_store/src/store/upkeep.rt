@@ -16,7 +16,7 @@ use raft_log_engine::{Closed, Fault, FileSeq, LogQueue, PipeLog, Result};
 
 impl<P: PipeLog> LogVoterStore<P> {
     ghost use Rattle.raft_log_engine.specs.raft_log_fs.specs.Causes.{IsLater};
-    ghost use Rattle.raft_log_engine.specs.raft_log_engine_laws.specs.Shows.{has_failed};
+    ghost use Rattle.raft_log_engine.specs.raft_log_engine_laws.specs.EngineState.{has_failed};
     ghost use Rattle.raft_log_engine.specs.raft_log_dual_pipes.specs.Calls.{ArmsNoPipes};
     ghost use Rattle.raft_log_engine.specs.raft_log_dual_pipes.specs.ClosingCalls.{ClosesAs, ClosesLog, ClosesSettled};
     ghost use Rattle.raft_voter_durability_laws.specs.raft_log_engine_laws.specs.Syncing.{NotSynced, SyncsAppend};

@@ -1,4 +1,4 @@
-use Rattle.raft_log_engine_core.specs.raft_log_engine_laws.specs.Shows.{shows}
+use Rattle.raft_log_engine_core.specs.raft_log_engine_laws.specs.EngineState.{shows}
 use Rattle.raft_examples.proofs.rewriting.move_group.Goals as goal
 
 pub returns : goal.returns

@@ -1,4 +1,4 @@
-use Rattle.raft_log_dual_pipes.proofs.LyingQueues.{lying_logs_are_logs}
+use Rattle.raft_log_dual_pipes.proofs.ClosedQueues.{lying_logs_are_logs}
 use Rattle.raft_log_dual_pipes.proofs.lying.lying_logs_are_logs.Goals as goal
 
 pub returns : goal.returns

@@ -4,7 +4,7 @@ use Rattle.raft_log_record_batches.specs.Batch.{Batch, signed_as}
 use Rattle.raft_log_block_cache.specs.Signing.{SaysItself, signed_for}
 use Rattle.raft_log_record_base.specs.declared.pipe_log.FileBlockHandle.{FileBlockHandle}
 use Rattle.raft_log_dual_pipes.specs.Pipes.{LogPipes}
-use Rattle.raft_log_purge.specs.raft_log_engine_laws.specs.Shows.{shows}
+use Rattle.raft_log_purge.specs.raft_log_engine_laws.specs.EngineState.{shows}
 use Rattle.raft_log_purge.specs.raft_log_engine_laws.specs.Trying.{RefusesAt, WritesAt}
 use Rattle.raft_log_purge.specs.raft_log_engine_laws.specs.Writing.{Writes}
 use Rattle.raft_log_engine_core.specs.Touching.{PipeRefuses, PipeTakes, WritesRecord}

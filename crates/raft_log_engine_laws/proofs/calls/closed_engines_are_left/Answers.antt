@@ -1,4 +1,4 @@
-use Rattle.raft_log_engine_laws.proofs.Lying.{closed_engines_are_left}
+use Rattle.raft_log_engine_laws.proofs.OpenOrClosed.{closed_engines_are_left}
 use Rattle.raft_log_engine_laws.proofs.calls.closed_engines_are_left.Goals as goal
 
 pub returns : goal.returns

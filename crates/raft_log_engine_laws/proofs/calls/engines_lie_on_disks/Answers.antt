@@ -1,4 +1,4 @@
-use Rattle.raft_log_engine_laws.proofs.Lying.{engines_lie_on_disks}
+use Rattle.raft_log_engine_laws.proofs.OpenOrClosed.{engines_lie_on_disks}
 use Rattle.raft_log_engine_laws.proofs.calls.engines_lie_on_disks.Goals as goal
 
 pub returns : goal.returns

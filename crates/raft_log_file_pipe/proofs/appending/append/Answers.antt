@@ -14,17 +14,17 @@ pub returns-in-Ok-clause-ok : goal.returns-in-Ok-clause-ok
 returns-in-Ok-clause-ok g c =
     let D = g.F.FileSystem.disk in
     let signed = g.B.ReactiveBytes.signed c.args.bytes.now in
-    let context : c.new.result ≡ context_of c.args.queue c.turn_first.new.files = context_is c.args.queue c.turn_first.new.files c.new-id.result c.new.result c.new-id.ensures.queue c.new-id.ensures.seq c.new.ensures.id c.new.ensures.version in
-    let is : c.as_bytes-record.result.now ≡ signed (context_of c.args.queue c.turn_first.new.files) = c.as_bytes-record.ensures ∙ c.sign.ensures.bytes ∙ ap signed context in
+    let context : c.new.result ≡ context_of c.args.queue c.rotate_if_full.new.files = context_is c.args.queue c.rotate_if_full.new.files c.new-id.result c.new.result c.new-id.ensures.queue c.new-id.ensures.seq c.new.ensures.id c.new.ensures.version in
+    let is : c.as_bytes-record.result.now ≡ signed (context_of c.args.queue c.rotate_if_full.new.files) = c.as_bytes-record.ensures ∙ c.sign.ensures.bytes ∙ ap signed context in
     let left : AppendsAt (g.G.PipeFormat.format c.args.layout.now) (g.G.PipeFormat.own c.args.layout.now) (g.G.PipeFormat.file_paths c.args.layout.now) c.args.new_files.now c.args.queue signed c.args.files.now c.add.new.files
     (record { id = c.new-id.result; offset = c.in-Ok.at; len = length c.as_bytes-record.result.now }) (D c.args.file_system.now) (D c.add.new.file_system) = record {
-      middle = c.turn_first.new.files;
-      between = D c.turn_first.new.file_system;
-      first = c.in_ok-turn_first.ensures.ok;
-      adds = subst (λ (bytes : List ℕ). Adds (g.G.PipeFormat.format c.args.layout.now) (g.G.PipeFormat.own c.args.layout.now) (g.G.PipeFormat.file_paths c.args.layout.now) bytes c.in-Ok.at c.turn_first.new.files c.add.new.files (D c.turn_first.new.file_system) (D c.add.new.file_system)) is c.in-Ok.ensures.ok;
+      middle = c.rotate_if_full.new.files;
+      between = D c.rotate_if_full.new.file_system;
+      first = c.in_ok-rotate_if_full.ensures.ok;
+      adds = subst (λ (bytes : List ℕ). Adds (g.G.PipeFormat.format c.args.layout.now) (g.G.PipeFormat.own c.args.layout.now) (g.G.PipeFormat.file_paths c.args.layout.now) bytes c.in-Ok.at c.rotate_if_full.new.files c.add.new.files (D c.rotate_if_full.new.file_system) (D c.add.new.file_system)) is c.in-Ok.ensures.ok;
       lists = c.add.ensures.lists;
-      calls = subst (λ (bytes : List ℕ). WritesNext c.turn_first.new.files.writer c.add.new.files.writer bytes c.args.new_files.now.target_size (D c.turn_first.new.file_system) (D c.add.new.file_system)) is c.in-Ok.ensures.calls;
-      id = id_is c.args.queue c.turn_first.new.files c.new-id.result c.new-id.ensures.queue c.new-id.ensures.seq;
+      calls = subst (λ (bytes : List ℕ). WritesNext c.rotate_if_full.new.files.writer c.add.new.files.writer bytes c.args.new_files.now.target_size (D c.rotate_if_full.new.file_system) (D c.add.new.file_system)) is c.in-Ok.ensures.calls;
+      id = id_is c.args.queue c.rotate_if_full.new.files c.new-id.result c.new-id.ensures.queue c.new-id.ensures.seq;
       len = ap length is;
     } in
     left
@@ -33,29 +33,29 @@ pub returns-in-Err-clause-err : goal.returns-in-Err-clause-err
 returns-in-Err-clause-err g c =
     let D = g.F.FileSystem.disk in
     let signed = g.B.ReactiveBytes.signed c.args.bytes.now in
-    let context : c.new.result ≡ context_of c.args.queue c.turn_first.new.files = context_is c.args.queue c.turn_first.new.files c.new-id.result c.new.result c.new-id.ensures.queue c.new-id.ensures.seq c.new.ensures.id c.new.ensures.version in
-    let is : c.as_bytes-record.result.now ≡ signed (context_of c.args.queue c.turn_first.new.files) = c.as_bytes-record.ensures ∙ c.sign.ensures.bytes ∙ ap signed context in
-    not_written c.turn_first.new.files c.add.new.files (D c.turn_first.new.file_system) (D c.add.new.file_system) c.in-Err.fault c.in_ok-turn_first.ensures.ok c.turn_first.ensures.later
-    (subst (λ (bytes : List ℕ). FailsToAdd (g.G.PipeFormat.format c.args.layout.now) (g.G.PipeFormat.own c.args.layout.now) (g.G.PipeFormat.file_paths c.args.layout.now) bytes c.in-Err.fault c.turn_first.new.files c.add.new.files (D c.turn_first.new.file_system) (D c.add.new.file_system)) is c.in-Err.ensures.err)
+    let context : c.new.result ≡ context_of c.args.queue c.rotate_if_full.new.files = context_is c.args.queue c.rotate_if_full.new.files c.new-id.result c.new.result c.new-id.ensures.queue c.new-id.ensures.seq c.new.ensures.id c.new.ensures.version in
+    let is : c.as_bytes-record.result.now ≡ signed (context_of c.args.queue c.rotate_if_full.new.files) = c.as_bytes-record.ensures ∙ c.sign.ensures.bytes ∙ ap signed context in
+    not_written c.rotate_if_full.new.files c.add.new.files (D c.rotate_if_full.new.file_system) (D c.add.new.file_system) c.in-Err.fault c.in_ok-rotate_if_full.ensures.ok c.rotate_if_full.ensures.later
+    (subst (λ (bytes : List ℕ). FailsToAdd (g.G.PipeFormat.format c.args.layout.now) (g.G.PipeFormat.own c.args.layout.now) (g.G.PipeFormat.file_paths c.args.layout.now) bytes c.in-Err.fault c.rotate_if_full.new.files c.add.new.files (D c.rotate_if_full.new.file_system) (D c.add.new.file_system)) is c.in-Err.ensures.err)
     c.add.ensures.lists
-    (subst (λ (bytes : List ℕ). AppendMakes c.in-Err.fault c.turn_first.new.files.writer c.add.new.files.writer bytes c.args.new_files.now.target_size (D c.turn_first.new.file_system) (D c.add.new.file_system)) is c.in-Err.ensures.refusal)
-    c.tell_fault.ensures.left c.tell_fault.ensures.later
+    (subst (λ (bytes : List ℕ). AppendMakes c.in-Err.fault c.rotate_if_full.new.files.writer c.add.new.files.writer bytes c.args.new_files.now.target_size (D c.rotate_if_full.new.file_system) (D c.add.new.file_system)) is c.in-Err.ensures.refusal)
+    c.report_write_fault.ensures.left c.report_write_fault.ensures.later
 
 pub returns-in-Err-clause-elsewhere : goal.returns-in-Err-clause-elsewhere
 returns-in-Err-clause-elsewhere g c again =
     let D = g.F.FileSystem.disk in
     let signed = g.B.ReactiveBytes.signed c.args.bytes.now in
-    let context : c.new.result ≡ context_of c.args.queue c.turn_first.new.files = context_is c.args.queue c.turn_first.new.files c.new-id.result c.new.result c.new-id.ensures.queue c.new-id.ensures.seq c.new.ensures.id c.new.ensures.version in
-    let is : c.as_bytes-record.result.now ≡ signed (context_of c.args.queue c.turn_first.new.files) = c.as_bytes-record.ensures ∙ c.sign.ensures.bytes ∙ ap signed context in
-    let (full, goes) = c.tell_fault.ensures.elsewhere again in
+    let context : c.new.result ≡ context_of c.args.queue c.rotate_if_full.new.files = context_is c.args.queue c.rotate_if_full.new.files c.new-id.result c.new.result c.new-id.ensures.queue c.new-id.ensures.seq c.new.ensures.id c.new.ensures.version in
+    let is : c.as_bytes-record.result.now ≡ signed (context_of c.args.queue c.rotate_if_full.new.files) = c.as_bytes-record.ensures ∙ c.sign.ensures.bytes ∙ ap signed context in
+    let (full, goes) = c.report_write_fault.ensures.elsewhere again in
     record {
-      middle = c.turn_first.new.files;
+      middle = c.rotate_if_full.new.files;
       cut = c.add.new.files;
-      between = D c.turn_first.new.file_system;
+      between = D c.rotate_if_full.new.file_system;
       short = c.add.new.file_system;
-      first = c.in_ok-turn_first.ensures.ok;
-      fails = subst (λ (fault : WriteFault). FailsToAdd (g.G.PipeFormat.format c.args.layout.now) (g.G.PipeFormat.own c.args.layout.now) (g.G.PipeFormat.file_paths c.args.layout.now) (signed (context_of c.args.queue c.turn_first.new.files)) fault c.turn_first.new.files c.add.new.files (D c.turn_first.new.file_system) (D c.add.new.file_system)) full
-          (subst (λ (bytes : List ℕ). FailsToAdd (g.G.PipeFormat.format c.args.layout.now) (g.G.PipeFormat.own c.args.layout.now) (g.G.PipeFormat.file_paths c.args.layout.now) bytes c.in-Err.fault c.turn_first.new.files c.add.new.files (D c.turn_first.new.file_system) (D c.add.new.file_system)) is c.in-Err.ensures.err);
+      first = c.in_ok-rotate_if_full.ensures.ok;
+      fails = subst (λ (fault : WriteFault). FailsToAdd (g.G.PipeFormat.format c.args.layout.now) (g.G.PipeFormat.own c.args.layout.now) (g.G.PipeFormat.file_paths c.args.layout.now) (signed (context_of c.args.queue c.rotate_if_full.new.files)) fault c.rotate_if_full.new.files c.add.new.files (D c.rotate_if_full.new.file_system) (D c.add.new.file_system)) full
+          (subst (λ (bytes : List ℕ). FailsToAdd (g.G.PipeFormat.format c.args.layout.now) (g.G.PipeFormat.own c.args.layout.now) (g.G.PipeFormat.file_paths c.args.layout.now) bytes c.in-Err.fault c.rotate_if_full.new.files c.add.new.files (D c.rotate_if_full.new.file_system) (D c.add.new.file_system)) is c.in-Err.ensures.err);
       lists = c.add.ensures.lists;
       goes = goes;
     }
@@ -64,16 +64,16 @@ pub returns-in-Ok-clause-calls : goal.returns-in-Ok-clause-calls
 returns-in-Ok-clause-calls g c =
     let D = g.F.FileSystem.disk in
     let signed = g.B.ReactiveBytes.signed c.args.bytes.now in
-    let context : c.new.result ≡ context_of c.args.queue c.turn_first.new.files = context_is c.args.queue c.turn_first.new.files c.new-id.result c.new.result c.new-id.ensures.queue c.new-id.ensures.seq c.new.ensures.id c.new.ensures.version in
-    let is : c.as_bytes-record.result.now ≡ signed (context_of c.args.queue c.turn_first.new.files) = c.as_bytes-record.ensures ∙ c.sign.ensures.bytes ∙ ap signed context in
+    let context : c.new.result ≡ context_of c.args.queue c.rotate_if_full.new.files = context_is c.args.queue c.rotate_if_full.new.files c.new-id.result c.new.result c.new-id.ensures.queue c.new-id.ensures.seq c.new.ensures.id c.new.ensures.version in
+    let is : c.as_bytes-record.result.now ≡ signed (context_of c.args.queue c.rotate_if_full.new.files) = c.as_bytes-record.ensures ∙ c.sign.ensures.bytes ∙ ap signed context in
     let left : AppendsBy (g.G.PipeFormat.file_paths c.args.layout.now) c.args.new_files.now c.args.queue signed c.args.files.now c.add.new.files (record { id = c.new-id.result; offset = c.in-Ok.at; len = length c.as_bytes-record.result.now })
     (D c.args.file_system.now) (D c.add.new.file_system) = record {
-      middle = c.turn_first.new.files;
-      between = D c.turn_first.new.file_system;
-      first = c.in_ok-turn_first.ensures.calls;
+      middle = c.rotate_if_full.new.files;
+      between = D c.rotate_if_full.new.file_system;
+      first = c.in_ok-rotate_if_full.ensures.calls;
       lists = c.add.ensures.lists;
-      calls = subst (λ (bytes : List ℕ). WritesNext c.turn_first.new.files.writer c.add.new.files.writer bytes c.args.new_files.now.target_size (D c.turn_first.new.file_system) (D c.add.new.file_system)) is c.in-Ok.ensures.calls;
-      id = id_is c.args.queue c.turn_first.new.files c.new-id.result c.new-id.ensures.queue c.new-id.ensures.seq;
+      calls = subst (λ (bytes : List ℕ). WritesNext c.rotate_if_full.new.files.writer c.add.new.files.writer bytes c.args.new_files.now.target_size (D c.rotate_if_full.new.file_system) (D c.add.new.file_system)) is c.in-Ok.ensures.calls;
+      id = id_is c.args.queue c.rotate_if_full.new.files c.new-id.result c.new-id.ensures.queue c.new-id.ensures.seq;
       offset = c.in-Ok.ensures.at;
       len = ap length is;
     } in
@@ -83,8 +83,8 @@ pub returns-in-Err-clause-refusal : goal.returns-in-Err-clause-refusal
 returns-in-Err-clause-refusal g c =
     let D = g.F.FileSystem.disk in
     let signed = g.B.ReactiveBytes.signed c.args.bytes.now in
-    let context : c.new.result ≡ context_of c.args.queue c.turn_first.new.files = context_is c.args.queue c.turn_first.new.files c.new-id.result c.new.result c.new-id.ensures.queue c.new-id.ensures.seq c.new.ensures.id c.new.ensures.version in
-    let is : c.as_bytes-record.result.now ≡ signed (context_of c.args.queue c.turn_first.new.files) = c.as_bytes-record.ensures ∙ c.sign.ensures.bytes ∙ ap signed context in
-    not_written_by c.turn_first.new.files c.add.new.files (D c.turn_first.new.file_system) (D c.add.new.file_system) c.in-Err.fault c.in_ok-turn_first.ensures.calls c.add.ensures.lists
-    (subst (λ (bytes : List ℕ). AppendMakes c.in-Err.fault c.turn_first.new.files.writer c.add.new.files.writer bytes c.args.new_files.now.target_size (D c.turn_first.new.file_system) (D c.add.new.file_system)) is c.in-Err.ensures.refusal)
-    c.tell_fault.ensures.calls
+    let context : c.new.result ≡ context_of c.args.queue c.rotate_if_full.new.files = context_is c.args.queue c.rotate_if_full.new.files c.new-id.result c.new.result c.new-id.ensures.queue c.new-id.ensures.seq c.new.ensures.id c.new.ensures.version in
+    let is : c.as_bytes-record.result.now ≡ signed (context_of c.args.queue c.rotate_if_full.new.files) = c.as_bytes-record.ensures ∙ c.sign.ensures.bytes ∙ ap signed context in
+    not_written_by c.rotate_if_full.new.files c.add.new.files (D c.rotate_if_full.new.file_system) (D c.add.new.file_system) c.in-Err.fault c.in_ok-rotate_if_full.ensures.calls c.add.ensures.lists
+    (subst (λ (bytes : List ℕ). AppendMakes c.in-Err.fault c.rotate_if_full.new.files.writer c.add.new.files.writer bytes c.args.new_files.now.target_size (D c.rotate_if_full.new.file_system) (D c.add.new.file_system)) is c.in-Err.ensures.refusal)
+    c.report_write_fault.ensures.calls

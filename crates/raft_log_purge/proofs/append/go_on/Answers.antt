@@ -1,6 +1,6 @@
 use Rattle.std.proofs.Common.{sym, ◌∙◌}
 use Rattle.std.proofs.lemmas.Result.{err_from_is_err_and}
-use Rattle.raft_log_purge_copy.specs.raft_log_engine_laws.specs.Shows.{shows}
+use Rattle.raft_log_purge_copy.specs.raft_log_engine_laws.specs.EngineState.{shows}
 use Rattle.raft_log_purge.proofs.Past.{every}
 use Rattle.raft_log_purge.proofs.Whole.{ends_with_groups, ends_with_marks, stops_rewriting, whole_lost, whole_not_lost}
 use Rattle.raft_log_purge.proofs.append.go_on.Goals as goal
@@ -26,13 +26,13 @@ pub returns-clause-ok : goal.returns-clause-ok
 returns-clause-ok g c =
     let s = shows (g.P.PipeLog.shown c.args.pipes.now) c.args.tables.now c.args.cache.now in
     let mid = shows (g.P.PipeLog.shown c.rewrite_all.new.pipes) c.rewrite_all.new.tables c.rewrite_all.new.cache in
-    let t = shows (g.P.PipeLog.shown c.purge_past.new.pipes) c.rewrite_all.new.tables c.purge_past.new.cache in
-    whole_lost c.args.exit_after_step c.args.gate c.rewrite_all.new.tables s (sym c.ends_after.ensures ∙ c.if-ends_after.false) mid t (sym c.ends_after-2.ensures ∙ c.if-ends_after-2.false) c.in_ok-rewrite_all.ensures.ok c.purge_past.result
-    c.purge_past.ensures.ok
+    let t = shows (g.P.PipeLog.shown c.delete_through.new.pipes) c.rewrite_all.new.tables c.delete_through.new.cache in
+    whole_lost c.args.exit_after_step c.args.gate c.rewrite_all.new.tables s (sym c.ends_after.ensures ∙ c.if-ends_after.false) mid t (sym c.ends_after-2.ensures ∙ c.if-ends_after-2.false) c.in_ok-rewrite_all.ensures.ok c.delete_through.result
+    c.delete_through.ensures.ok
 
 pub returns-clause-err : goal.returns-clause-err
 returns-clause-err g c =
     let s = shows (g.P.PipeLog.shown c.args.pipes.now) c.args.tables.now c.args.cache.now in
     let mid = shows (g.P.PipeLog.shown c.rewrite_all.new.pipes) c.rewrite_all.new.tables c.rewrite_all.new.cache in
-    let t = shows (g.P.PipeLog.shown c.purge_past.new.pipes) c.rewrite_all.new.tables c.purge_past.new.cache in
-    whole_not_lost c.args.gate s mid t c.in_ok-rewrite_all.ensures.ok c.purge_past.result c.purge_past.ensures.err
+    let t = shows (g.P.PipeLog.shown c.delete_through.new.pipes) c.rewrite_all.new.tables c.delete_through.new.cache in
+    whole_not_lost c.args.gate s mid t c.in_ok-rewrite_all.ensures.ok c.delete_through.result c.delete_through.ensures.err

@@ -1,7 +1,7 @@
 use Rattle.std.proofs.Common.{List, ℕ, subst}
 use Rattle.std.specs.Prelude.{IfErr, OnOk}
 use Rattle.std.proofs.lemmas.Result.{err_from_is_err_and}
-use Rattle.raft_log_purge_copy.specs.raft_log_engine_laws.specs.Shows.{shows}
+use Rattle.raft_log_purge_copy.specs.raft_log_engine_laws.specs.EngineState.{shows}
 use Rattle.raft_log_purge_copy.specs.Groups.{StopsAtGroups}
 use Rattle.raft_log_purge.specs.Append.{RewritesThese}
 use Rattle.raft_log_purge.proofs.Past.{none_rewritten_yet, whole_listed, whole_unlisted}

@@ -1,5 +1,5 @@
 use Rattle.std.proofs.lemmas.Result.{err_from_is_err_and}
-use Rattle.raft_log_purge_copy.specs.raft_log_engine_laws.specs.Shows.{shows}
+use Rattle.raft_log_purge_copy.specs.raft_log_engine_laws.specs.EngineState.{shows}
 use Rattle.raft_log_purge_copy.proofs.Adding.{part_adds}
 use Rattle.raft_log_purge_copy.proofs.Grouping.{among}
 use Rattle.raft_log_purge.proofs.Past.{whole_synced, whole_unsynced}

@@ -5,8 +5,8 @@ use Rattle.raft_log_purge.proofs.counted.rewrite_and_count.Goals as goal
 pub returns-clause-kept : goal.returns-clause-kept
 returns-clause-kept g c =
     on_err_weaker c.sync_and_rewrite.result (λ kept. record {
-      counted = c.count_standing.new.self;
-      first = c.count_standing.ensures;
+      counted = c.count_live.new.self;
+      first = c.count_live.ensures;
       stats = kept;
-      rounds = c.count_standing.ensures.rounds;
+      rounds = c.count_live.ensures.rounds;
     }) c.sync_and_rewrite.ensures.kept

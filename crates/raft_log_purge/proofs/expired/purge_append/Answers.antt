@@ -1,5 +1,5 @@
 use Rattle.std.proofs.lemmas.Result.{err_from_is_err_and}
-use Rattle.raft_log_purge_copy.specs.raft_log_engine_laws.specs.Shows.{shows}
+use Rattle.raft_log_purge_copy.specs.raft_log_engine_laws.specs.EngineState.{shows}
 use Rattle.raft_log_purge.proofs.Picked.{nothing_purged}
 use Rattle.raft_log_purge.proofs.expired.purge_append.Goals as goal
 

@@ -1,6 +1,6 @@
 use Rattle.std.proofs.Common.{◌≡◌, ℕ, List, subst, sym}
 use Rattle.std.proofs.lemmas.Result.{err_from_is_err_and}
-use Rattle.raft_log_purge_copy.specs.raft_log_engine_laws.specs.Shows.{shows}
+use Rattle.raft_log_purge_copy.specs.raft_log_engine_laws.specs.EngineState.{shows}
 use Rattle.raft_log_memtables.specs.Owing.{AreOwed}
 use Rattle.raft_log_purge_policy.specs.declared.watermarks.Watermarks.{Watermarks}
 use Rattle.raft_log_purge_policy.specs.Watermarks.{watermarks_of}

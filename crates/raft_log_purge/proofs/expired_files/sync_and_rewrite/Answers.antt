@@ -1,6 +1,6 @@
 use Rattle.std.proofs.Common.{inl, inr, refl}
 use Rattle.std.proofs.lemmas.Result.{err_from_is_err_and, on_err_weaker}
-use Rattle.raft_log_purge_copy.specs.raft_log_engine_laws.specs.Shows.{shows}
+use Rattle.raft_log_purge_copy.specs.raft_log_engine_laws.specs.EngineState.{shows}
 use Rattle.raft_log_purge_copy.proofs.PartExits.{alive_ok}
 use Rattle.raft_log_purge.proofs.Expiring.{whole_restated, whole_unrestated}
 use Rattle.raft_log_purge.proofs.Whole.{append_unsynced}

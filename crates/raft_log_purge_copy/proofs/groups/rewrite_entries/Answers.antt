@@ -1,6 +1,6 @@
 use Rattle.std.proofs.Common.{◌<◌, Bool, sym, subst}
 use Rattle.std.proofs.lemmas.Result.{err_from_is_err_and}
-use Rattle.raft_log_engine_laws.specs.Shows.{shows}
+use Rattle.raft_log_engine_laws.specs.EngineState.{shows}
 use Rattle.raft_log_purge_copy.proofs.Grouping.{EntriesSoFar, all_entries_copied, entries_stopped, fewer_left, left_in, none_so_far, one_more}
 use Rattle.raft_log_purge_copy.proofs.Handing.{handed_on, none_handed}
 use Rattle.raft_log_purge_copy.proofs.groups.rewrite_entries.Goals as goal

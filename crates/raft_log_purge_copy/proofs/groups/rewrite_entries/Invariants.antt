@@ -1,4 +1,4 @@
-use Rattle.raft_log_engine_laws.specs.Shows.{shows}
+use Rattle.raft_log_engine_laws.specs.EngineState.{shows}
 use Rattle.raft_log_memtables.specs.Tables.{IsAtRest, shown_of}
 use Rattle.raft_log_purge_copy.specs.Promised.{PromisesNoMoves}
 use Rattle.raft_log_purge_copy.specs.Syncing.{HandsCountOn}

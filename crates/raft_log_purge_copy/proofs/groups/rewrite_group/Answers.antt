@@ -1,5 +1,5 @@
 use Rattle.std.proofs.lemmas.Result.{err_from_is_err_and}
-use Rattle.raft_log_engine_laws.specs.Shows.{shows}
+use Rattle.raft_log_engine_laws.specs.EngineState.{shows}
 use Rattle.raft_log_purge_copy.proofs.Grouping.{group_rewritten, keys_stopped}
 use Rattle.raft_log_purge_copy.proofs.Handing.{handed_on}
 use Rattle.raft_log_purge_copy.proofs.groups.rewrite_group.Goals as goal

@@ -1,6 +1,6 @@
 use Rattle.std.proofs.Common.{get_or, refl, arith}
 use Rattle.std.proofs.lemmas.Result.{err_from_is_err_and}
-use Rattle.raft_log_engine_laws.specs.Shows.{shows}
+use Rattle.raft_log_engine_laws.specs.EngineState.{shows}
 use Rattle.raft_log_purge_copy.proofs.Grouping.{group_more, group_stopped, groups_rewritten, none_rewritten}
 use Rattle.raft_log_purge_copy.proofs.Handing.{handed_on, none_handed}
 use Rattle.raft_log_purge_copy.proofs.groups.rewrite_groups.Goals as goal

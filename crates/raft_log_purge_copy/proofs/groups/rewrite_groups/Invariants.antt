@@ -1,5 +1,5 @@
 use Rattle.std.proofs.Common.{take}
-use Rattle.raft_log_engine_laws.specs.Shows.{shows}
+use Rattle.raft_log_engine_laws.specs.EngineState.{shows}
 use Rattle.raft_log_memtables.specs.Tables.{IsAtRest}
 use Rattle.raft_log_purge_copy.specs.Groups.{Rewrites}
 use Rattle.raft_log_purge_copy.specs.Promised.{PromisesNoMoves}

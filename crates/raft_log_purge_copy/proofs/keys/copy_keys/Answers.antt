@@ -1,6 +1,6 @@
 use Rattle.std.proofs.Common.{ℕ, List, subst}
 use Rattle.std.proofs.lemmas.Result.{err_from_is_err_and}
-use Rattle.raft_log_engine_laws.specs.Shows.{shows}
+use Rattle.raft_log_engine_laws.specs.EngineState.{shows}
 use Rattle.raft_log_purge_copy.specs.Keys.{IsKeysBatch}
 use Rattle.raft_log_purge_copy.specs.Refusals.{AreUnput}
 use Rattle.raft_log_purge_copy.proofs.KeysCopied.{keys_copied, keys_not_copied, keys_not_written, no_memory_for_keys}

@@ -1,6 +1,6 @@
 use Rattle.std.proofs.Common.{inl, subst, sym}
 use Rattle.std.proofs.lemmas.Result.{err_from_is_err_and}
-use Rattle.raft_log_engine_laws.specs.Shows.{shows}
+use Rattle.raft_log_engine_laws.specs.EngineState.{shows}
 use Rattle.raft_log_memtables.specs.Owing.{AreOwed}
 use Rattle.raft_log_purge_copy.proofs.PartExits.{refused_unmade}
 use Rattle.raft_log_purge_copy.proofs.Reasons.{memory_reason, memory_unmade}
@@ -13,5 +13,5 @@ returns-in_err-marks-clause-err g c =
     let s = shows (g.P.PipeLog.shown c.args.pipes.now) c.args.tables.now cache in
     refused_unmade p.0 s (memory_unmade p.0 p.2) (λ home m h. inl (memory_reason home m p.0 s s p.2)))
 
-pub carry_marks-requires : goal.carry_marks-requires
-carry_marks-requires g c = subst (AreOwed c.args.tables.now) (sym c.as_slice.ensures.value) c.in_ok-marks.ensures
+pub write_tombstones-requires : goal.write_tombstones-requires
+write_tombstones-requires g c = subst (AreOwed c.args.tables.now) (sym c.as_slice.ensures.value) c.in_ok-marks.ensures

@@ -2,7 +2,7 @@ use Rattle.std.proofs.Common.{inl, sym, ◌∙◌}
 use Rattle.std.proofs.lemmas.Bool.{false≢true}
 use Rattle.std.proofs.lemmas.Result.{err_from_is_err_and}
 use Rattle.raft_log_record_base.specs.declared.pipe_log.FileBlockHandle.{FileBlockHandle}
-use Rattle.raft_log_engine_laws.specs.Shows.{shows}
+use Rattle.raft_log_engine_laws.specs.EngineState.{shows}
 use Rattle.raft_log_memtables.specs.Tables.{counts, shown_of}
 use Rattle.raft_log_purge_copy.proofs.Carried.{says_marks}
 use Rattle.raft_log_purge_copy.proofs.Marking.{marks_unmade}

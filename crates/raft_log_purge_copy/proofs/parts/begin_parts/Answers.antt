@@ -1,7 +1,7 @@
 use Rattle.std.proofs.Common.{◌≡◌, ◌+◌, ◌∙◌, ℕ, List, [], take, refl, ap, subst}
 use Rattle.std.proofs.lemmas.Result.{err_from_is_err_and}
 use Rattle.raft_log_record_frames.specs.declared.status.AtomicGroupStatus.TheVariants.{Begin}
-use Rattle.raft_log_engine_laws.specs.Shows.{shows}
+use Rattle.raft_log_engine_laws.specs.EngineState.{shows}
 use Rattle.raft_log_record_batches.specs.Batch.{Batch}
 use Rattle.raft_log_purge_copy.specs.Pieces.{BuildsPiece, FailsToBuildPiece}
 use Rattle.raft_log_purge_copy.proofs.Opening.{begin_stopped, begin_unmarked, begin_unread, built_made, built_piece, built_plain, bytes, err_map, marked_piece, ok_map, parts_begun}

@@ -2,7 +2,7 @@ use Rattle.std.proofs.Common.{◌≡◌, ◌+◌, ◌-◌, ◌∙◌, ◌<◌, �
 use Rattle.std.proofs.lemmas.List.{length-take, take_all}
 use Rattle.std.proofs.lemmas.Result.{err_from_is_err_and}
 use Rattle.raft_log_record_items.specs.declared.entry.EntryIndex.{EntryIndex}
-use Rattle.raft_log_engine_laws.specs.Shows.{shows}
+use Rattle.raft_log_engine_laws.specs.EngineState.{shows}
 use Rattle.raft_log_purge_copy.specs.declared.parts.RestatedPart.{RestatedPart}
 use Rattle.raft_log_purge_copy.specs.GroupParts.{HasParts}
 use Rattle.raft_log_purge_copy.specs.Pieces.{MakeOnePiece, piece_count}

@@ -3,7 +3,7 @@ use Rattle.std.proofs.lemmas.List.{take_all}
 use Rattle.std.proofs.lemmas.Result.{err_from_is_err_and}
 use Rattle.raft_log_memtable_index.specs.Listing.{ListsAll, rewritten_values}
 use Rattle.raft_log_memtables.specs.Tables.{shown_of}
-use Rattle.raft_log_engine_laws.specs.Shows.{shows}
+use Rattle.raft_log_engine_laws.specs.EngineState.{shows}
 use Rattle.raft_log_purge_copy.specs.Pieces.{MakeOnePiece}
 use Rattle.raft_log_purge_copy.proofs.Closing.{nothing_done, these_restated}
 use Rattle.raft_log_purge_copy.proofs.restating.restate_group.Goals as goal

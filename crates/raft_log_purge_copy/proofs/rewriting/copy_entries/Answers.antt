@@ -4,7 +4,7 @@ use Rattle.std.proofs.lemmas.Result.{err_from_is_err_and}
 use Rattle.raft_log_record_items.specs.declared.entry.EntryIndex.{EntryIndex}
 use Rattle.raft_log_record_batches.specs.Entries.{IsEntriesRefusal, indexes_of}
 use Rattle.raft_log_block_cache.specs.Blocks.{AreUnread, ReadsEntries}
-use Rattle.raft_log_engine_laws.specs.Shows.{shows}
+use Rattle.raft_log_engine_laws.specs.EngineState.{shows}
 use Rattle.raft_log_record_items.specs.declared.raw_message.RawMessage.{RawMessage}
 use Rattle.raft_log_purge_copy.specs.Entries.{IsRunBatch, as_bytes}
 use Rattle.raft_log_purge_copy.proofs.Reading.{entries_copied, entries_not_copied, next_piece, none_read, none_written, read_piece, unbuilt}

@@ -1,6 +1,6 @@
 use Rattle.std.proofs.Common.{refl}
 use Rattle.std.proofs.lemmas.Result.{err_from_is_err_and}
-use Rattle.raft_log_engine_laws.specs.Shows.{shows}
+use Rattle.raft_log_engine_laws.specs.EngineState.{shows}
 use Rattle.raft_log_purge_copy.proofs.PartExits.{alive_ok}
 use Rattle.raft_log_purge_copy.proofs.Turning.{all_purged, append_refused_then, marks_refused_then, rewrite_refused_then, unsynced}
 use Rattle.raft_log_purge_copy.proofs.stale.purge_all_stale.Goals as goal

@@ -1,5 +1,5 @@
 use Rattle.std.proofs.lemmas.Result.{err_from_is_err_and}
-use Rattle.raft_log_engine_laws.specs.Shows.{shows}
+use Rattle.raft_log_engine_laws.specs.EngineState.{shows}
 use Rattle.raft_log_purge_copy.proofs.PartExits.{alive_ok}
 use Rattle.raft_log_purge_copy.proofs.Turning.{not_turned, turned, unturned}
 use Rattle.raft_log_purge_copy.proofs.stale.turn_and_purge.Goals as goal
@@ -17,13 +17,13 @@ returns-clause-ok g c =
     let e = c.in_ok-rotate.ensures in
     let v = g.P.PipeLog.shown c.args.pipes.now in
     let mid = g.P.PipeLog.shown c.rotate.new.self in
-    let w = g.P.PipeLog.shown c.purge_stale.new.pipes in
-    turned c.args.queue c.args.tables.now _ (shows v c.args.tables.now c.args.cache.now) (shows w c.args.tables.now c.purge_stale.new.cache) mid c.file_span-first.ensures.last e.ok e.later (alive_ok c.in_ok-rotate.field-0 mid e.fails) c.purge_stale.result c.purge_stale.ensures.ok
+    let w = g.P.PipeLog.shown c.delete_stale_files.new.pipes in
+    turned c.args.queue c.args.tables.now _ (shows v c.args.tables.now c.args.cache.now) (shows w c.args.tables.now c.delete_stale_files.new.cache) mid c.file_span-first.ensures.last e.ok e.later (alive_ok c.in_ok-rotate.field-0 mid e.fails) c.delete_stale_files.result c.delete_stale_files.ensures.ok
 
 pub returns-clause-err : goal.returns-clause-err
 returns-clause-err g c =
     let e = c.in_ok-rotate.ensures in
     let v = g.P.PipeLog.shown c.args.pipes.now in
     let mid = g.P.PipeLog.shown c.rotate.new.self in
-    let w = g.P.PipeLog.shown c.purge_stale.new.pipes in
-    unturned c.args.queue _ (shows v c.args.tables.now c.args.cache.now) (shows w c.args.tables.now c.purge_stale.new.cache) mid c.file_span-first.ensures.last (alive_ok c.in_ok-rotate.field-0 mid e.fails) e.ok e.later c.purge_stale.result c.purge_stale.ensures.err
+    let w = g.P.PipeLog.shown c.delete_stale_files.new.pipes in
+    unturned c.args.queue _ (shows v c.args.tables.now c.args.cache.now) (shows w c.args.tables.now c.delete_stale_files.new.cache) mid c.file_span-first.ensures.last (alive_ok c.in_ok-rotate.field-0 mid e.fails) e.ok e.later c.delete_stale_files.result c.delete_stale_files.ensures.err

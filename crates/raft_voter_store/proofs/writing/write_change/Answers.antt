@@ -12,7 +12,7 @@ returns-in_default-clause-err g c = unsaid refl refl
 
 pub returns-in-Ok-write-clause-ok : goal.returns-in-Ok-write-clause-ok
 returns-in-Ok-write-clause-ok g c = record {
-  batch = c.say_change.new.batch;
+  batch = c.encode_change.new.batch;
   len = c.in-Ok-write.field-0;
   says = c.in-Ok.ensures.says;
   writes = c.in-Ok-write.ensures.ok;
@@ -24,4 +24,4 @@ returns-in-Ok-write-clause-becomes g c =
 
 pub returns-in-Err-write-clause-err : goal.returns-in-Err-write-clause-err
 returns-in-Err-write-clause-err g c =
-    unwritten c.say_change.new.batch c.in-Ok.ensures.says c.in-Ok.ensures.short c.in-Err-write.ensures.err
+    unwritten c.encode_change.new.batch c.in-Ok.ensures.says c.in-Ok.ensures.short c.in-Err-write.ensures.err

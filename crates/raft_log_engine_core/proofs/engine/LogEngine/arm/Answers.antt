@@ -5,7 +5,7 @@ use Rattle.raft_log_fs.specs.declared.handle.Fault.{Fault}
 use Rattle.raft_log_dual_pipes.specs.Pipes.{ArmsPipes, LogPipes}
 use Rattle.raft_log_memtables.specs.declared.mem_tables.MemTables.{MemTables}
 use Rattle.raft_log_block_cache.specs.declared.block_cache.BlockCache.{BlockCache}
-use Rattle.raft_log_purge.specs.raft_log_engine_laws.specs.Shows.{shows}
+use Rattle.raft_log_purge.specs.raft_log_engine_laws.specs.EngineState.{shows}
 use Rattle.raft_log_engine_core.specs.Whole.{ArmsEngine}
 use Rattle.raft_log_engine_core.proofs.engine.LogEngine.arm.Goals as goal
 

@@ -1,5 +1,5 @@
 use Rattle.std.proofs.Common.{◌≡◌, Some}
-use Rattle.raft_log_purge.specs.raft_log_engine_laws.specs.Shows.{shows}
+use Rattle.raft_log_purge.specs.raft_log_engine_laws.specs.EngineState.{shows}
 use Rattle.raft_log_engine_core.specs.Compacting.{entries_below}
 use Rattle.raft_log_record_base.specs.declared.pipe_log.LogQueue.TheVariants.{Append}
 use Rattle.raft_log_directory_laws.specs.Calls.Which.{InAppend}

@@ -1,5 +1,5 @@
 use Rattle.std.proofs.Common.{inr, subst}
-use Rattle.raft_log_purge.specs.raft_log_engine_laws.specs.Shows.{shows}
+use Rattle.raft_log_purge.specs.raft_log_engine_laws.specs.EngineState.{shows}
 use Rattle.raft_log_engine_core.specs.Reads.{IsToldAs}
 use Rattle.raft_log_engine_core.proofs.Entries.{fetch_told_as, runs_as}
 use Rattle.raft_log_engine_core.proofs.engine.LogEngine.fetch_entries_to.Goals as goal

@@ -2,7 +2,7 @@ use Rattle.std.proofs.Common.{◌≡◌, None, Some, false, inr, refl, sym, ◌�
 use Rattle.raft_log_memtable.specs.Reads.{entry_at}
 use Rattle.raft_log_memtables.specs.Tables.{shown_of}
 use Rattle.raft_log_dual_pipes.specs.Pipes.{is_failed}
-use Rattle.raft_log_purge.specs.raft_log_engine_laws.specs.Shows.{shows}
+use Rattle.raft_log_purge.specs.raft_log_engine_laws.specs.EngineState.{shows}
 use Rattle.raft_log_engine_core.proofs.Entries.{fails_to_tell, runs_as, tells_none, tells_one, told_as}
 use Rattle.raft_log_engine_core.proofs.engine.LogEngine.get_entry.Goals as goal
 

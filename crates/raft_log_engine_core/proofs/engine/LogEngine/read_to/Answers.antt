@@ -6,7 +6,7 @@ use Rattle.raft_log_extents.specs.Counts.{sized}
 use Rattle.raft_log_memtable_index.specs.Shown.{Shown}
 use Rattle.raft_log_block_cache.proofs.Entries.{none_read}
 use Rattle.raft_log_purge.specs.raft_log_engine_laws.specs.Fetching.{AreToRead}
-use Rattle.raft_log_purge.specs.raft_log_engine_laws.specs.Shows.{shows}
+use Rattle.raft_log_purge.specs.raft_log_engine_laws.specs.EngineState.{shows}
 use Rattle.raft_log_engine_core.specs.Reads.{entries_on}
 use Rattle.raft_log_engine_core.proofs.Entries.{fails_to_fetch, fetch_refused, fetches_to, none_counted, table_shown}
 use Rattle.raft_log_engine_core.proofs.Pieces.{are_to_read, asked_within, first_there, on_length}

@@ -1,6 +1,6 @@
 use Rattle.std.proofs.Common.{◌≡◌, true, [], inl, inr, refl, sym, subst, ◌∙◌, arith}
 use Rattle.std.proofs.lemmas.Bool.{false≢true}
-use Rattle.raft_log_purge.specs.raft_log_engine_laws.specs.Shows.{shows}
+use Rattle.raft_log_purge.specs.raft_log_engine_laws.specs.EngineState.{shows}
 use Rattle.raft_log_purge.specs.raft_log_engine_laws.specs.Writing.{WritesBytes}
 use Rattle.raft_log_engine_core.specs.Touching.{WritesFiles}
 use Rattle.raft_log_record_base.specs.declared.pipe_log.LogQueue.TheVariants.{Append}

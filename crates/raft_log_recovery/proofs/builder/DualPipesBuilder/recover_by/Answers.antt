@@ -4,7 +4,7 @@ use Rattle.raft_log_recovery.specs.ForReading.{FailsToCutBoth}
 use Rattle.raft_log_recovery.specs.Unaligned.{AreUnaligned}
 use Rattle.raft_log_recovery.specs.Recovering.FailsToRecoverLog.{aligned}
 use Rattle.raft_log_recovery.proofs.ForReading.{not_cut, not_read, queues_fit, read_both}
-use Rattle.raft_log_recovery.proofs.builder.DualPipesBuilder.recover_by.Goals.{then-not-are_unaligned-via-then-not-are_unaligned, then-not-are_unaligned-via-else-not-are_unaligned+then-not-are_unaligned-2}
+use Rattle.raft_log_recovery.proofs.builder.DualPipesBuilder.recover_by.Goals.{then-not-have_no_padding-via-then-not-have_no_padding, then-not-have_no_padding-via-else-not-have_no_padding+then-not-have_no_padding-2}
 use Rattle.raft_log_recovery.proofs.builder.DualPipesBuilder.recover_by.Goals as goal
 
 pub returns-in_err-append-clause-err : goal.returns-in_err-append-clause-err
@@ -33,16 +33,16 @@ returns-in_err-cut_both-clause-err g c =
     let fails : FailsToCutBoth b es fs kind (D c.args.file_system.now) (D c.cut_both.new.file_system) = search rules in
     rw gave.1 (not_cut _ b (D c.args.file_system.now) _ _ m n es fs kind (D c.cut_both.new.file_system) (read_both _ b _ m n es fs c.in_ok-append.ensures.ok one other) gave.2 fails)
 
-pub returns-then-not-are_unaligned-clause-err : goal.returns-then-not-are_unaligned-clause-err
-returns-then-not-are_unaligned-clause-err g c =
+pub returns-then-not-have_no_padding-clause-err : goal.returns-then-not-have_no_padding-clause-err
+returns-then-not-have_no_padding-clause-err g c =
     let es = c.in_ok-append.append.endings.items in
     let fs = c.in_ok-append.rewrite.endings.items in
     let m = c.in_ok-append.append.machine in
     let n = c.in_ok-append.rewrite.machine in
-    let some : AreUnaligned es × AreUnaligned fs → ⊥ = λ all. elim c.then-not-are_unaligned.branch [
-      | then-not-are_unaligned-via-then-not-are_unaligned w ↦
-          (let yes = c.are_unaligned.ensures.1 (subst AreUnaligned (sym c.deref.ensures.value) all.0) in let no = w.if-not-are_unaligned.true in cc)
-      | then-not-are_unaligned-via-else-not-are_unaligned+then-not-are_unaligned-2 w ↦
-          (let yes = w.are_unaligned-else-not-are_unaligned.ensures.1 (subst AreUnaligned (sym w.deref-else-not-are_unaligned.ensures.value) all.1) in let no = w.if-not-are_unaligned-2.true in cc)
+    let some : AreUnaligned es × AreUnaligned fs → ⊥ = λ all. elim c.then-not-have_no_padding.branch [
+      | then-not-have_no_padding-via-then-not-have_no_padding w ↦
+          (let yes = c.have_no_padding.ensures.1 (subst AreUnaligned (sym c.deref.ensures.value) all.0) in let no = w.if-not-have_no_padding.true in cc)
+      | then-not-have_no_padding-via-else-not-have_no_padding+then-not-have_no_padding-2 w ↦
+          (let yes = w.have_no_padding-else-not-have_no_padding.ensures.1 (subst AreUnaligned (sym w.deref-else-not-have_no_padding.ensures.value) all.1) in let no = w.if-not-have_no_padding-2.true in cc)
     ] in
     aligned m n es fs c.in_ok-append.ensures.ok.append_read c.in_ok-append.ensures.ok.rewrite_read refl some c.aligned.ensures

@@ -35,12 +35,12 @@ returns-in_err-cut_files-clause-err g c =
     let none : AreUnaligned es = search rules in
     rw gave.1 (uncut m es kind read none gave.2 fails)
 
-pub returns-then-not-are_unaligned-clause-err : goal.returns-then-not-are_unaligned-clause-err
-returns-then-not-are_unaligned-clause-err g c =
+pub returns-then-not-have_no_padding-clause-err : goal.returns-then-not-have_no_padding-clause-err
+returns-then-not-have_no_padding-clause-err g c =
     let files = c.args.self.now.files.items in
     let es = c.in_ok-read.read.endings.items in
     let m = c.in_ok-read.read.machine in
     let read : HasReadFiles g.M.ReplayMachine.reads c.args.config files (g.F.FileSystem.disk c.args.file_system.now) m es = search rules in
     let some : AreUnaligned es → ⊥ = λ all.
-    (let yes = c.are_unaligned.ensures.1 (subst AreUnaligned (sym c.deref-2.ensures.value) all) in let no = c.if-not-are_unaligned.true in cc) in
+    (let yes = c.have_no_padding.ensures.1 (subst AreUnaligned (sym c.deref-2.ensures.value) all) in let no = c.if-not-have_no_padding.true in cc) in
     aligned m es read refl some c.aligned.ensures

@@ -3,7 +3,7 @@ use Rattle.raft_voter.specs.Voters.{world_of}
 use Rattle.raft_voter_world.specs.declared.notes.Notes.{Notes}
 use Rattle.raft_voter_world.specs.declared.opening.Opened.{Opened}
 use Rattle.raft_voter_world.specs.declared.world.World.{World}
-use Rattle.raft_voter_world.specs.Notes.{Shows}
+use Rattle.raft_voter_world.specs.Notes.{NotesShown}
 use Rattle.raft_voter_world.specs.Openings.{ComesOut}
 use Rattle.raft_voter_world.proofs.FromFiles.{from_closed, from_shown, open_step}
 use Rattle.raft_voter_world.proofs.Moving.{ok_weaker}
@@ -18,7 +18,7 @@ returns g c =
       | in-Shown+in_ok-show-in-Shown w ↦
           ok_weaker c.fallen.result _ _ (λ new f. opens new
           (from_shown _ _ _ c.args.place c.args.workers c.args.self _ new c.into_files-files.result w.in-Shown.store w.in-Shown.shown w.in_ok-show-in-Shown.ensures.0 (subst came w.in-Shown.is c.in_ok-store.ensures) w.storage-is
-          (subst (λ (n : Notes). Shows c.args.self.notes c.args.place (world_of w.in-Shown.shown) w.in_ok-show-in-Shown.ensures.0 n) (sym w.notes-is) w.in_ok-show-in-Shown.ensures.1) refl f)) (c.fallen.ensures c.args.place)
+          (subst (λ (n : Notes). NotesShown c.args.self.notes c.args.place (world_of w.in-Shown.shown) w.in_ok-show-in-Shown.ensures.0 n) (sym w.notes-is) w.in_ok-show-in-Shown.ensures.1) refl f)) (c.fallen.ensures c.args.place)
       | in-Closed w ↦
           ok_weaker c.fallen.result _ _ (λ new f. opens new
           (from_closed _ _ _ c.args.place c.args.workers c.args.self _ new c.into_files-files.result w.in-Closed.files (subst came w.in-Closed.is c.in_ok-store.ensures) w.storage-is w.notes-is refl f)) (c.fallen.ensures c.args.place)

@@ -3,8 +3,14 @@ use crate::column::Column;
 use crate::command::Command;
 use crate::fault::CaseFault;
 use crate::script::{Definition, Line, expand};
+use log::Log;
 use std::alloc::{AllocError, Global};
+use std::fs::File;
 use std::io;
+use std::rt::Files;
+use std::sync::Wait;
+use std::thread::Threads;
+use std::time::Clock;
 
 /// What is done with an answer.
 #[derive(Clone, Copy, PartialEq)]
@@ -51,13 +57,19 @@ impl Playing {
     }
 
     /// Plays a file to its end and returns whether each case was good. Fails only if output or memory fails.
-    pub fn play<R: Print, C: Column>(
-        &mut self,
-        rt: &R,
-        column: &mut C,
-        name: &str,
-        text: &str,
-    ) -> io::Result<bool> {
+    pub fn play<
+        R: Print
+            + Threads
+            + Wait
+            + Clock
+            + Log
+            + Sync
+            + Files<File = File>
+            + AllocGlobal
+            + Clone
+            + Drop,
+        C: Column,
+    >(&mut self, rt: &R, column: &mut C, name: &str, text: &str) -> io::Result<bool> {
         let mut place: usize = 0;
         for line in text.trim_end().split('\n') {
             place = place.saturating_add(1);
@@ -69,14 +81,19 @@ impl Playing {
     }
 
     /// Takes the next line.
-    fn take<R: Print, C: Column>(
-        &mut self,
-        rt: &R,
-        column: &mut C,
-        name: &str,
-        place: usize,
-        line: &str,
-    ) -> io::Result<()> {
+    fn take<
+        R: Print
+            + Threads
+            + Wait
+            + Clock
+            + Log
+            + Sync
+            + Files<File = File>
+            + AllocGlobal
+            + Clone
+            + Drop,
+        C: Column,
+    >(&mut self, rt: &R, column: &mut C, name: &str, place: usize, line: &str) -> io::Result<()> {
         let parsed = Line::parse(line);
         if let Line::Answer(answer) = parsed {
             return self.expect(rt, name, place, answer);
@@ -152,12 +169,19 @@ impl Playing {
     }
 
     /// Plays the command whose answer has been read, if there is one, and compares or writes its answer.
-    fn end_command<R: Print, C: Column>(
-        &mut self,
-        rt: &R,
-        column: &mut C,
-        name: &str,
-    ) -> io::Result<()> {
+    fn end_command<
+        R: Print
+            + Threads
+            + Wait
+            + Clock
+            + Log
+            + Sync
+            + Files<File = File>
+            + AllocGlobal
+            + Clone
+            + Drop,
+        C: Column,
+    >(&mut self, rt: &R, column: &mut C, name: &str) -> io::Result<()> {
         let Some(command) = self.command.take() else {
             return Ok(());
         };
@@ -167,6 +191,7 @@ impl Playing {
         }
         let line = expand(self.alloc, command.as_str(), self.definitions.as_slice())?;
         let (actual, is_played) = match played(
+            rt,
             self.alloc,
             column,
             line.as_str(),
@@ -195,17 +220,15 @@ impl Playing {
 
 /// The answer of a command. One before the first case, and one with an argument that the column didn't ask for, is a
 /// fault.
-fn played<C: Column>(
-    alloc: Global,
-    column: &mut C,
-    line: &str,
-    is_early: bool,
-) -> Result<String, CaseFault> {
+fn played<
+    R: Threads + Wait + Clock + Log + Sync + Files<File = File> + AllocGlobal + Clone + Drop,
+    C: Column,
+>(rt: &R, alloc: Global, column: &mut C, line: &str, is_early: bool) -> Result<String, CaseFault> {
     let mut command = Command::parse(alloc, line)?;
     if is_early {
         return Err(CaseFault::UnknownCommand);
     }
-    let answer = column.answer(&mut command)?;
+    let answer = column.answer(rt, &mut command)?;
     command.check_all_taken()?;
     Ok(answer)
 }

@@ -3,8 +3,8 @@ ghost use Rattle.std.specs.Prelude.{◌≡◌, ◌↔◌, Some, IsTrue};
 ghost use Rattle.raft_log_model_laws.specs.Item.Record.{Plain};
 ghost use Rattle.raft_log_record_frames.specs.Meaning.{record_of, tagged_items};
 
-use raft_log_record_items::LogItem;
 use raft_log_record_frames::Marking;
+use raft_log_record_items::LogItem;
 
 /// Whether the items of a record count at once. A part of an atomic group counts only together with the other parts,
 /// and a broken record never counts.

@@ -4,10 +4,10 @@ ghost use Rattle.std.specs.Prelude.{IfOk};
 ghost use Rattle.raft_examples.specs.Builder.{ReadsInto};
 
 use log::Log;
-use raft_log_fs::FileSystem;
 use raft_log_file_settings::Config;
-use raft_log_recovery::DualPipesBuilder;
+use raft_log_fs::FileSystem;
 use raft_log_record_base::Result;
+use raft_log_recovery::DualPipesBuilder;
 use raft_log_replay::{Factory, ReplayMachine};
 use std::alloc::Global;
 use std::marker::Send;

@@ -5,8 +5,8 @@ ghost use Rattle.raft_log_offline.specs.Directory.{FailsToCheckDirectory};
 ghost use Rattle.raft_examples.specs.Consistency.{FindsNoHole};
 
 use log::Log;
-use raft_log_offline::consistency_check_with_file_system;
 use raft_log_fs::FileSystem;
+use raft_log_offline::consistency_check_with_file_system;
 use raft_log_record_base::Result;
 use std::alloc::Global;
 use std::thread::Threads;

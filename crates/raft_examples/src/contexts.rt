@@ -7,8 +7,8 @@ ghost use Rattle.raft_log_replay_context.specs.Context.{ComesOver, HasRead};
 ghost use Rattle.raft_log_replay_context.specs.Records.{ReadRecord};
 ghost use Rattle.raft_log_memtables.specs.Tables.{IsAtRest};
 
-use raft_log_record_base::Result;
 use raft_log_memtables::MemTables;
+use raft_log_record_base::Result;
 use raft_log_replay_context::MemTableRecoverContext;
 
 /// The tables of all groups, after Append was read into one context and Rewrite into another.

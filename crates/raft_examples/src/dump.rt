@@ -4,8 +4,8 @@ ghost use Rattle.std.specs.Prelude.{IfErr, IfOk};
 ghost use Rattle.raft_log_offline.specs.Dump.{IsNoDump};
 ghost use Rattle.raft_examples.specs.Dump.{BeginsDump};
 
-use raft_log_offline::dump_with_file_system;
 use raft_log_fs::FileSystem;
+use raft_log_offline::dump_with_file_system;
 use raft_log_record_base::Result;
 use raft_log_record_items::LogItem;
 use std::alloc::Global;

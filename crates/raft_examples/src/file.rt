@@ -4,8 +4,8 @@ ghost use Rattle.raft_log_fs.specs.Causes.{Fails, IsLater};
 ghost use Rattle.raft_log_file_writer.specs.Writer.{IsSynced, IsWritten};
 
 use log::Log;
-use raft_log_fs::FileSystem;
 use raft_log_file_writer::LogFileWriter;
+use raft_log_fs::FileSystem;
 use std::io::ErrorKind;
 
 /// Appends a record, and makes it durable.

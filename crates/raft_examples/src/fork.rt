@@ -6,9 +6,9 @@ ghost use Rattle.raft_log_offline.specs.Forks.{FailsToFork};
 ghost use Rattle.raft_examples.specs.Fork.{BacksUp};
 
 use log::Log;
-use raft_log_offline::fork;
-use raft_log_fs::FileSystem;
 use raft_log_file_settings::Config;
+use raft_log_fs::FileSystem;
+use raft_log_offline::fork;
 use raft_log_record_base::Result;
 use std::alloc::Global;
 

@@ -5,9 +5,9 @@ ghost use Rattle.raft_log_open.specs.Opening.{FailsToOpenDirectory};
 ghost use Rattle.raft_log_open.specs.Reading.{BringsInRewrite};
 
 use log::Log;
-use raft_log_fs::FileSystem;
 use raft_log_dual_pipes::OpenRefused;
 use raft_log_file_settings::Config;
+use raft_log_fs::FileSystem;
 use raft_log_open::open_directory;
 use raft_log_replay::ReplayThreads;
 use std::alloc::Global;

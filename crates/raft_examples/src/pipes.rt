@@ -5,9 +5,9 @@ ghost use Rattle.raft_log_fs.specs.Causes.{IsLater};
 ghost use Rattle.raft_examples.specs.Pipes.{KeepsLastAlone, Saves};
 
 use log::Log;
-use raft_log_fs::FileSystem;
-use raft_log_file_pipe::{ReactiveBytes, SinglePipe};
 use raft_log_active_file::PipeFormat;
+use raft_log_file_pipe::{ReactiveBytes, SinglePipe};
+use raft_log_fs::FileSystem;
 use raft_log_record_base::{FileBlockHandle, Result};
 use std::alloc::Global;
 

@@ -5,10 +5,10 @@ ghost use Rattle.std.specs.String.{string_bytes};
 ghost use Rattle.raft_log_recovery_scan.specs.Scanned.{FailsToScan};
 ghost use Rattle.raft_examples.specs.Recovery.{FindsFiles};
 
-use raft_log_fs::FileSystem;
 use raft_log_file_settings::RecoveryMode;
-use raft_log_recovery_scan::scanning::scan;
+use raft_log_fs::FileSystem;
 use raft_log_record_base::Result;
+use raft_log_recovery_scan::scanning::scan;
 use std::alloc::Global;
 
 /// How many files of Append and of Rewrite an open would read in these directories. Changes no file.

@@ -7,9 +7,9 @@ ghost use Rattle.raft_examples.specs.Rewriting.{MovesGroup};
 use log::Log;
 use raft_log_block_cache::BlockCache;
 use raft_log_dual_pipes::PipeLog;
+use raft_log_memtables::MemTables;
 use raft_log_purge_copy::{rewrite_group, rewrite_marks};
 use raft_log_record_base::{FileSeq, LogQueue, Result};
-use raft_log_memtables::MemTables;
 use std::alloc::Global;
 
 /// Rewrites what a group has in Append in files up to the gate, and syncs it; writes the owed tombstones before.

@@ -9,8 +9,8 @@ ghost use Rattle.raft_log_extents.specs.Entries.{run_of};
 ghost use Rattle.raft_log_memtable_index.specs.Shown.{stepped};
 ghost use Rattle.raft_log_memtable.specs.Table.{shown};
 
-use raft_log_record_items::{EntryIndex, EntryIndexes, FileBlockHandle, Result};
 use raft_log_memtable::MemTable;
+use raft_log_record_items::{EntryIndex, EntryIndexes, FileBlockHandle, Result};
 
 /// Writes entries of a group, and applies them to its table. It makes room before the write, so that nothing can fail
 /// after it. If anything fails, the table is unchanged.

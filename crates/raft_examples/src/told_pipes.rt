@@ -5,8 +5,8 @@ ghost use Rattle.raft_log_dual_pipes.specs.Pipes.{which_of};
 ghost use Rattle.raft_examples.specs.ToldPipes.{PurgesFree, up_to};
 
 use log::Log;
-use raft_log_file_listeners::{EventListener, ToldPipes};
 use raft_log_dual_pipes::PipeLog;
+use raft_log_file_listeners::{EventListener, ToldPipes};
 use raft_log_record_base::{FileId, FileSeq, LogQueue, Result};
 use std::alloc::Global;
 

@@ -6,8 +6,8 @@ ghost use Rattle.raft_log_file_format.specs.Name.{IsNameRefusal};
 ghost use Rattle.raft_log_file_writer.specs.LogFormat.{Format};
 ghost use Rattle.raft_log_active_file.specs.Layout.{FilePaths, IsLayout, has_sign, path_of, place_of, plain_place};
 
-use raft_log_fs::Handle;
 use raft_log_file_format::LogFileFormat;
+use raft_log_fs::Handle;
 use raft_log_record_base::{FileSeq, Result};
 use std::alloc::Global;
 

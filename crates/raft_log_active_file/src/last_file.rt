@@ -9,8 +9,8 @@ ghost use Rattle.raft_log_active_file.specs.Exits.{AppendMakes, AppendsRecord, B
 
 use super::format::PipeFormat;
 use log::Log;
-use raft_log_fs::{FileSystem, Handle};
 use raft_log_file_writer::LogFileWriter;
+use raft_log_fs::{FileSystem, Handle};
 use std::io::ErrorKind;
 
 /// Why a record wasn't written.

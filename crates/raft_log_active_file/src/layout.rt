@@ -6,10 +6,8 @@ ghost use Rattle.raft_log_file_format.specs.Name.{IsNameRefusal};
 ghost use Rattle.raft_log_active_file.specs.Paths.{directory_at, numbered_path};
 
 use super::record::LogRecord;
+use crate::{DEFAULT_PATH_ID, File, PathId, Paths, PipeFormat, has_sign, plain_place};
 use raft_log_file_format::{FileNameExt, build_signed_file_path};
-use crate::{
-    DEFAULT_PATH_ID, File, PathId, Paths, PipeFormat, has_sign, plain_place,
-};
 use raft_log_record_base::{FileId, FileSeq, LogQueue, Result};
 use std::alloc::Global;
 

@@ -9,8 +9,8 @@ ghost use Rattle.raft_log_active_file.specs.TakingUp.{FailsToReopen, FailsToTrim
 use super::format::PipeFormat;
 use super::last_file::begin_file;
 use log::Log;
-use raft_log_fs::{FileSystem, Handle};
 use raft_log_file_writer::LogFileWriter;
+use raft_log_fs::{FileSystem, Handle};
 use std::io::ErrorKind;
 
 /// Begins a queue that has no file: creates its file 1 at this path, writes the header, and syncs it. Returns a handle

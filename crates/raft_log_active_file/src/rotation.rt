@@ -11,8 +11,8 @@ ghost use Rattle.raft_log_active_file.specs.Rotation.{Drops, FilesStay, RotatesB
 use super::format::PipeFormat;
 use super::last_file::{begin_file, finish_file};
 use log::Log;
-use raft_log_fs::{FileSystem, Handle};
 use raft_log_file_writer::LogFileWriter;
+use raft_log_fs::{FileSystem, Handle};
 use std::io::ErrorKind;
 
 /// Rotates into a file that is created for the next number. Returns its handle.

@@ -3,10 +3,10 @@ ghost use Rattle.std.specs.Prelude.{length};
 
 use raft_log_record_base::{Error, FileBlockHandle, FileId, LogFileContext, LogQueue, Result};
 use raft_log_record_batches::{AtomicGroupBuilder, AtomicGroupStatus, BatchState, LogBatch};
+use raft_log_record_frames::Marking;
 use raft_log_record_items::{
     Bytes, EntryIndex, LogItem, LogItemContent, MessageExt, OpType, RawMessage,
 };
-use raft_log_record_frames::Marking;
 use std::alloc::Global;
 
 /// How long the longest log file may be whose blocks a case names.

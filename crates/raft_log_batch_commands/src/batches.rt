@@ -8,8 +8,8 @@ use raft_log_record_batches::{AtomicGroupBuilder, AtomicGroupStatus, LogBatch};
 use raft_log_record_commands::answers::{done, failed, show_items, truth};
 use raft_log_record_commands::spelled::items;
 use raft_log_record_commands::words::{block, byte_lists, file, numbers, version};
-use raft_log_record_items::LogItem;
 use raft_log_record_frames::Marking;
+use raft_log_record_items::LogItem;
 use std::alloc::{AllocError, Global};
 
 /// The batch of a case, another one beside it, and the atomic group whose parts it marks.

@@ -4,8 +4,8 @@ use raft_log_record_base::{Error, FileId, LogFileContext, LogQueue};
 use raft_log_record_commands::answers::{done, failed, push_line, show_entry, show_items, truth};
 use raft_log_record_commands::spelled::items;
 use raft_log_record_commands::words::{block, file, version};
-use raft_log_record_items::{CompressionType, LogItem, LogItemContent, OpType};
 use raft_log_record_frames::LogItemBatch;
+use raft_log_record_items::{CompressionType, LogItem, LogItemContent, OpType};
 use std::alloc::Global;
 
 /// The list of a case.

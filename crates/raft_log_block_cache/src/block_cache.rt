@@ -5,10 +5,10 @@ ghost use Rattle.raft_log_block_cache.specs.Blocks.{IsOutside};
 ghost use Rattle.raft_log_block_cache.specs.Stored.{part};
 
 use raft_log_dual_pipes::PipeLog;
+use raft_log_extents::Bounds;
 use raft_log_record_base::{Error, FileBlockHandle, Result};
 use raft_log_record_frames::decode_entries_block;
 use raft_log_record_items::{CompressionType, EntryIndex, Message};
-use raft_log_extents::Bounds;
 use std::alloc::Global;
 
 /// The last entry block that was read, with its checksum and its location; or none.

@@ -2,11 +2,12 @@
 
 ghost use Rattle.std.specs.Prelude.{◌≡◌};
 
-use crate::{closed::Closed, pipe_log::PipeLog};
+use crate::closed::Closed;
+use crate::pipe_log::PipeLog;
 use log::Log;
-use raft_log_fs::{Fault, FileSystem};
 use raft_log_active_file::{DEFAULT_PATH_ID, LogLayout};
 use raft_log_file_pipe::{ReactiveBytes, SinglePipe};
+use raft_log_fs::{Fault, FileSystem};
 use raft_log_record_base::{Error, FileBlockHandle, FileId, FileSeq, LogQueue, Result};
 use std::alloc::Global;
 

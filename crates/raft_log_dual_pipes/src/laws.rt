@@ -3,7 +3,8 @@
 ghost use Rattle.raft_log_record_base.specs.declared.pipe_log.LogQueue.{LogQueue};
 ghost use Rattle.raft_log_dual_pipes.specs.HoldingBack.{NothingIsHeldBack, PipesHoldBack};
 
-use crate::{dual_pipes::DualPipes, pipe_log::PipeLog};
+use crate::dual_pipes::DualPipes;
+use crate::pipe_log::PipeLog;
 use raft_log_fs::FileSystem;
 
 /// Pipes without a listener pin nothing.

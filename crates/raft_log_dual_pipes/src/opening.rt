@@ -4,11 +4,12 @@ ghost use Rattle.std.specs.Prelude.{IfErr, IfOk};
 ghost use Rattle.raft_log_fs.specs.Causes.{IsLater};
 ghost use Rattle.raft_log_dual_pipes.specs.Opening.{FailsToOpenLog, OpensLog};
 
-use crate::{dual_pipes::DualPipes, pipe_log::PipeLog};
+use crate::dual_pipes::DualPipes;
+use crate::pipe_log::PipeLog;
 use log::Log;
-use raft_log_fs::FileSystem;
 use raft_log_active_file::LogLayout;
 use raft_log_file_pipe::{FoundFiles, PipeSettings, SinglePipe};
+use raft_log_fs::FileSystem;
 use raft_log_record_base::Error;
 use std::alloc::Global;
 

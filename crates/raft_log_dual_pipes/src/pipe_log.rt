@@ -6,8 +6,8 @@ ghost use Rattle.raft_log_fs.specs.Causes.{IsLater};
 
 use crate::closed::Closed;
 use log::Log;
-use raft_log_fs::Fault;
 use raft_log_file_pipe::ReactiveBytes;
+use raft_log_fs::Fault;
 use raft_log_record_base::{FileBlockHandle, FileId, FileSeq, LogQueue, Result};
 use std::alloc::Global;
 

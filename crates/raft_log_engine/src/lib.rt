@@ -5,18 +5,17 @@
 //! what its calls guarantee.
 #![tactic(auto)]
 
+pub use raft_log_dual_pipes::{Closed, OpenRefused, PipeLog};
+pub use raft_log_engine_core::{Engine, EnginePipes, LogEngine, ReplayThreads};
+pub use raft_log_file_listeners::{EventListener, Listeners, Nobody, PurgeHook};
+pub use raft_log_file_reader::LogItemReader;
+pub use raft_log_file_settings::{Config, RecoveryMode};
+pub use raft_log_fs::{Fault, FileSystem, Handle, Permission};
+pub use raft_log_fs_memory::{MemoryFileSystem, Piece, Remainder};
 pub use raft_log_offline::{
     ConsistencyChecker, CopyDetails, consistency_check_with_file_system, dump_with_file_system,
     fork,
 };
-pub use raft_log_fs::{Fault, FileSystem, Handle, Permission};
-pub use raft_log_fs_memory::{MemoryFileSystem, Piece, Remainder};
-pub use raft_log_engine_core::{Engine, EnginePipes, LogEngine, ReplayThreads};
-pub use raft_log_file_listeners::{EventListener, Listeners, Nobody, PurgeHook};
-pub use raft_log_dual_pipes::{Closed, OpenRefused, PipeLog};
-pub use raft_log_file_reader::LogItemReader;
-pub use raft_log_file_settings::{Config, RecoveryMode};
-pub use raft_log_recovery::{DualPipesBuilder, DualPipesBuilder as FilePipeLogBuilder};
 pub use raft_log_record_base::{
     Error, FileBlockHandle, FileId, FileSeq, LogQueue, ReadableSize, Result, Version,
 };
@@ -24,3 +23,4 @@ pub use raft_log_record_batches::LogBatch;
 pub use raft_log_record_items::{
     Command, EntryIndex, LogItem, LogItemContent, Message, MessageExt,
 };
+pub use raft_log_recovery::{DualPipesBuilder, DualPipesBuilder as FilePipeLogBuilder};

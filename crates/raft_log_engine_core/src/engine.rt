@@ -18,11 +18,11 @@ use crate::writing;
 use log::Log;
 use raft_log_block_cache::BlockCache;
 use raft_log_dual_pipes::{Closed, PipeLog};
+use raft_log_memtables::MemTables;
 use raft_log_purge::PurgeCounts;
 use raft_log_purge_policy::Thresholds;
 use raft_log_record_base::{Error, LogQueue, Result};
 use raft_log_record_batches::LogBatch;
-use raft_log_memtables::MemTables;
 use std::alloc::Global;
 
 /// The engine of a log. It has the log's pipes, the tables of all groups, the entry block that was read last, the

@@ -29,11 +29,11 @@ ghost use Rattle.raft_log_engine_core.specs.Touching.{PipeRefuses, PipeTakes, Re
 use log::Log;
 use raft_log_block_cache::{BlockCache, SignedBatch};
 use raft_log_dual_pipes::PipeLog;
+use raft_log_memtables::MemTables;
 use raft_log_record_base::{Error, FileBlockHandle, LogQueue, Result};
 use raft_log_record_batches::{BatchState, LogBatch};
-use raft_log_record_items::LogItem;
 use raft_log_record_frames::Marking;
-use raft_log_memtables::MemTables;
+use raft_log_record_items::LogItem;
 use std::alloc::Global;
 use std::mem;
 

@@ -5,18 +5,24 @@ use crate::readers::play_on_readers;
 use crate::records::play_on_batch;
 use crate::watched::{Kept, Watched};
 use crate::writers::{open_writer, play_on_path, play_on_writer};
+use log::Log;
 use log::sink::Memory;
 use raft_cases::{CaseFault, Column, Command, play_on_files};
 use raft_log_file_settings::Config;
 use raft_log_file_writer::LogFileWriter;
-use raft_log_recovery::DualPipesBuilder;
 use raft_log_record_base::Error;
 use raft_log_record_batches::LogBatch;
+use raft_log_recovery::DualPipesBuilder;
 use std::alloc::{AllocError, Global};
+use std::fs::File;
+use std::rt::Files;
+use std::sync::Wait;
+use std::thread::Threads;
+use std::time::Clock;
 
 /// A file system in memory, and what writes its files.
 #[derive(Drop)]
-pub struct Files {
+pub struct FileColumn {
     alloc: Global,
     system: Watched,
     /// What is logged.
@@ -27,10 +33,10 @@ pub struct Files {
     writer: Option<LogFileWriter>,
 }
 
-impl Files {
+impl FileColumn {
     /// Without files.
-    pub fn new(alloc: Global) -> Files {
-        Files {
+    pub fn new(alloc: Global) -> FileColumn {
+        FileColumn {
             alloc,
             system: Watched::new(alloc),
             log: Memory::new(alloc),
@@ -134,13 +140,15 @@ fn kept(command: &mut Command) -> Result<Kept, CaseFault> {
     Ok(kept)
 }
 
-impl Column for Files {
+impl Column for FileColumn {
     fn begin(&mut self) -> Result<(), CaseFault> {
-        *self = Files::new(self.alloc);
+        *self = FileColumn::new(self.alloc);
         Ok(())
     }
 
-    fn answer(&mut self, command: &mut Command) -> Result<String, CaseFault> {
+    fn answer<
+        R: Threads + Wait + Clock + Log + Sync + Files<File = File> + AllocGlobal + Clone + Drop,
+    >(&mut self, _rt: &R, command: &mut Command) -> Result<String, CaseFault> {
         let alloc = self.alloc;
         if let Some(answer) = play_on_handles(alloc, &mut self.system.files, command)? {
             return Ok(answer);

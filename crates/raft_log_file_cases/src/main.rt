@@ -9,12 +9,15 @@ mod records;
 mod watched;
 mod writers;
 
-use files::Files;
+use files::FileColumn;
+use log::sink::Discard;
+use log::{LevelFilter, Logged};
 use raft_cases::play;
 use std::io;
 use std::process::ExitCode;
 
 fn main(rt: HostRuntime) -> io::Result<ExitCode> {
-    let mut files = Files::new(rt.alloc());
-    play(&rt, &mut files)
+    let mut files = FileColumn::new(rt.alloc());
+    let quiet = Logged::new(&rt, LevelFilter::Off, Discard);
+    play(&quiet, &mut files)
 }

@@ -5,12 +5,12 @@ ghost use Rattle.raft_log_file_reader.specs.Reader.{IsReading};
 use crate::outcomes::{counted, failed};
 use crate::watched::Watched;
 use raft_cases::{CaseFault, Command, show_bytes};
-use raft_log_fs::{FileSystem, Handle, Permission};
 use raft_log_file_format::LogFileFormat;
 use raft_log_file_reader::{LogItemBatchFileReader, LogItemReader};
 use raft_log_file_uses::answers::answers_of;
 use raft_log_file_uses::good_end::good_end;
 use raft_log_file_uses::whole_end::whole_end;
+use raft_log_fs::{FileSystem, Handle, Permission};
 use raft_log_record_base::{Error, FileId, LogQueue};
 use raft_log_record_batches::LogItemBatch;
 use raft_log_record_items::{

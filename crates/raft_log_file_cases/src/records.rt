@@ -9,7 +9,8 @@ use crate::writers::format_of;
 use raft_cases::{CaseFault, Command};
 use raft_log_fs::{FileSystem, Permission};
 use raft_log_record_base::{Error, FileId, LogFileContext, LogQueue};
-use raft_log_record_batches::{LogBatch, log_batch::BatchState};
+use raft_log_record_batches::LogBatch;
+use raft_log_record_batches::log_batch::BatchState;
 use raft_log_record_items::{Command as GroupCommand, EntryIndex};
 use std::alloc::{AllocError, Global};
 

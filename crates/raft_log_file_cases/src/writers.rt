@@ -3,11 +3,11 @@ use crate::outcomes::{failed, made, read};
 use crate::watched::Watched;
 use log::sink::Memory;
 use raft_cases::{CaseFault, Command, hex};
-use raft_log_fs::{FileSystem, Permission};
 use raft_log_file_format::LogFileFormat;
 use raft_log_file_writer::{
     LogFileReader, LogFileWriter, build_file_reader, build_file_writer, build_header,
 };
+use raft_log_fs::{FileSystem, Permission};
 use raft_log_record_base::{Error, FileBlockHandle, FileId, LogQueue, Version};
 use std::alloc::{AllocError, Global};
 

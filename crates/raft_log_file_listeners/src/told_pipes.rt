@@ -6,9 +6,9 @@ ghost use Rattle.raft_log_dual_pipes.specs.Telling.{Hears, begun, files_found};
 
 use crate::{EventListener, lesser};
 use log::Log;
-use raft_log_fs::Fault;
 use raft_log_dual_pipes::{Closed, PipeLog};
 use raft_log_file_pipe::ReactiveBytes;
+use raft_log_fs::Fault;
 use raft_log_record_base::{FileBlockHandle, FileId, FileSeq, LogQueue, Result};
 use std::alloc::Global;
 

@@ -16,8 +16,8 @@ use crate::reactive_bytes::ReactiveBytes;
 use crate::rotating::rotate;
 use crate::writing::add;
 use log::{Log, error};
-use raft_log_fs::FileSystem;
 use raft_log_active_file::{PipeFormat, WriteFault};
+use raft_log_fs::FileSystem;
 use raft_log_record_base::{Error, FileBlockHandle, FileId, LogFileContext, LogQueue, Result};
 use std::alloc::Global;
 use std::io::ErrorKind;
@@ -171,6 +171,14 @@ pub fn append<G: PipeFormat, F: FileSystem, L: Log, B: ReactiveBytes>(
             offset: at as u64,
             len: record.len(),
         }),
-        Err(fault) => Err(report_write_fault(alloc, layout, rt, file_system, files, new_files, fault)),
+        Err(fault) => Err(report_write_fault(
+            alloc,
+            layout,
+            rt,
+            file_system,
+            files,
+            new_files,
+            fault,
+        )),
     }
 }

@@ -7,8 +7,8 @@ ghost use Rattle.raft_log_file_pipe.specs.Exits.{SameLists};
 
 use crate::pipe_files::PipeFiles;
 use log::{Log, error};
-use raft_log_fs::FileSystem;
 use raft_log_active_file::{DEFAULT_PATH_ID, File, PipeFormat, finish_file};
+use raft_log_fs::FileSystem;
 use raft_log_record_base::{Error, FileSeq, Result};
 use std::alloc::Global;
 use std::collections::VecDeque;

@@ -8,9 +8,9 @@ ghost use Rattle.raft_log_file_pipe.specs.Headers.{IsAlignmentRefusal};
 ghost use Rattle.raft_log_active_file.specs.Layout.{IsUnaligned};
 
 use crate::headers::encode_header;
-use raft_log_fs::FileSystem;
-use raft_log_file_format::LogFileFormat;
 use raft_log_active_file::{DEFAULT_PATH_ID, PathId, PipeFormat};
+use raft_log_file_format::LogFileFormat;
+use raft_log_fs::FileSystem;
 use raft_log_record_base::{Error, Result};
 use std::alloc::Global;
 use std::io::ErrorKind;

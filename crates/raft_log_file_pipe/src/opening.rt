@@ -15,9 +15,9 @@ use crate::headers::encode_header;
 use crate::new_files::{NewFiles, choose_directory};
 use crate::pipe_files::PipeFiles;
 use log::{Log, error};
-use raft_log_fs::{FileSystem, Handle, Permission};
-use raft_log_file_format::LogFileFormat;
 use raft_log_active_file::{DEFAULT_FIRST_FILE_SEQ, File, PipeFormat, begin_queue, reopen_file};
+use raft_log_file_format::LogFileFormat;
+use raft_log_fs::{FileSystem, Handle, Permission};
 use raft_log_record_base::{Error, FileSeq, Result};
 use std::alloc::Global;
 use std::collections::VecDeque;
@@ -169,7 +169,16 @@ pub fn open<G: PipeFormat, F: FileSystem, L: Log>(
         recycled,
     } = found;
     match files.pop_back() {
-        Some(last) => reopen_active_file(alloc, layout, rt, file_system, files, last, end, recycled),
+        Some(last) => reopen_active_file(
+            alloc,
+            layout,
+            rt,
+            file_system,
+            files,
+            last,
+            end,
+            recycled,
+        ),
         None => begin(alloc, layout, rt, file_system, new_files, recycled),
     }
 }

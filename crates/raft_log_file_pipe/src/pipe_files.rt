@@ -4,9 +4,9 @@ ghost use Rattle.std.specs.Prelude.{◌≡◌, ◌<◌, IfSome, None, ◌++◌, 
 ghost use Rattle.raft_log_file_pipe.specs.Reading.{IsListed, IsNotTold, IsUnlisted};
 ghost use Rattle.std.specs.VecDeque.{deque_len, deque_capacity};
 
-use raft_log_fs::Handle;
 use raft_log_active_file::File;
 use raft_log_file_writer::LogFileWriter;
+use raft_log_fs::Handle;
 use raft_log_record_base::{Error, FileSeq};
 use std::alloc::Global;
 use std::collections::VecDeque;

@@ -14,8 +14,8 @@ ghost use Rattle.raft_log_record_base.specs.Files.{is_signed};
 
 use crate::pipe_files::PipeFiles;
 use log::{Log, error};
-use raft_log_fs::FileSystem;
 use raft_log_active_file::{File, PipeFormat, drop_file};
+use raft_log_fs::FileSystem;
 use raft_log_record_base::{Error, FileSeq, Result};
 use std::alloc::Global;
 use std::collections::VecDeque;

@@ -14,8 +14,8 @@ ghost use Rattle.raft_log_file_pipe.specs.Doing.{FailsToTurnBy, TurnsPipeBy};
 use crate::new_files::{NewFiles, choose_directory};
 use crate::pipe_files::PipeFiles;
 use log::{Log, error};
-use raft_log_fs::{FileSystem, Handle, Permission};
 use raft_log_active_file::{File, PathId, PipeFormat, plain_place, rotate_over, rotate_to_new};
+use raft_log_fs::{FileSystem, Handle, Permission};
 use raft_log_record_base::{Error, FileSeq, Result};
 use std::alloc::Global;
 use std::io::ErrorKind;
@@ -189,7 +189,16 @@ pub fn rotate<G: PipeFormat, F: FileSystem, L: Log>(
     };
     files.earlier.reserve(1)?;
     match files.recycled.front().copied() {
-        Some(kept) => rotate_into_recycled(alloc, layout, rt, file_system, files, new_files, kept, seq),
+        Some(kept) => rotate_into_recycled(
+            alloc,
+            layout,
+            rt,
+            file_system,
+            files,
+            new_files,
+            kept,
+            seq,
+        ),
         None => rotate_into_new(alloc, layout, rt, file_system, files, new_files, seq),
     }
 }

@@ -15,9 +15,9 @@ use crate::reactive_bytes::ReactiveBytes;
 use crate::rotating::rotate;
 use crate::writing::sync;
 use log::{Log, error};
-use raft_log_fs::FileSystem;
 use raft_log_active_file::PipeFormat;
 use raft_log_file_writer::LogFileReader;
+use raft_log_fs::FileSystem;
 use raft_log_record_base::{Error, FileBlockHandle, FileSeq, LogQueue, Result};
 use std::alloc::Global;
 

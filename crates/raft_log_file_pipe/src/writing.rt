@@ -9,8 +9,8 @@ ghost use Rattle.raft_log_file_pipe.specs.Exits.{Adds, FailsToAdd, FailsToSyncPi
 
 use crate::pipe_files::PipeFiles;
 use log::Log;
-use raft_log_fs::FileSystem;
 use raft_log_active_file::{PipeFormat, WriteFault, append_record, sync_records};
+use raft_log_fs::FileSystem;
 use std::io::ErrorKind;
 
 /// Appends a record to the active file, and returns its offset in bytes. If the write fails, the file is truncated to

@@ -8,8 +8,8 @@ ghost use Rattle.raft_log_file_reader.specs.Refused.{FailsAt};
 
 use crate::open_file::OpenFile;
 use crate::window::Window;
-use raft_log_fs::FileSystem;
 use raft_log_file_format::is_zero_padded;
+use raft_log_fs::FileSystem;
 use raft_log_record_base::{Error, FileBlockHandle, LogFileContext, Result};
 use raft_log_record_batches::LogItemBatch;
 use raft_log_record_frames::{LOG_BATCH_HEADER_LEN, decode_header};

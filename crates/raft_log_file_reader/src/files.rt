@@ -7,8 +7,8 @@ ghost use Rattle.raft_log_file_reader.specs.Files.{IsLogPath, IsFileAt, IsNoFile
 ghost use Rattle.raft_log_file_reader.specs.Telling.{TellsInvalid, TellsAbsent};
 
 use crate::log_file::LogFile;
-use raft_log_fs::{FileSystem, Permission};
 use raft_log_file_format::FileNameExt;
+use raft_log_fs::{FileSystem, Permission};
 use raft_log_record_base::{Error, FileId, Result};
 use std::alloc::Global;
 use std::io::ErrorKind;

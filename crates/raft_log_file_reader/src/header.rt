@@ -5,8 +5,8 @@ ghost use Rattle.raft_log_file_reader.specs.Opening.{SaysFormat, FailsToOpen};
 
 use crate::source::Source;
 use crate::window::Window;
-use raft_log_fs::FileSystem;
 use raft_log_file_format::LogFileFormat;
+use raft_log_fs::FileSystem;
 use raft_log_record_base::Result;
 use raft_log_record_frames::record::are_bytes;
 use std::alloc::Global;

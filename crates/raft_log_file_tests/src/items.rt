@@ -1,8 +1,8 @@
 //! The items of a directory whose allocations fail.
-use raft_log_fs::FileSystem;
-use raft_log_fs_memory::MemoryFileSystem;
 use raft_log_file_format::LogFileFormat;
 use raft_log_file_reader::LogItemReader;
+use raft_log_fs::FileSystem;
+use raft_log_fs_memory::MemoryFileSystem;
 use raft_log_record_base::{FileId, LogFileContext, LogQueue, Result, Version};
 use raft_log_record_batches::LogBatch;
 use std::alloc::Global;

@@ -1,9 +1,9 @@
 //! A pipe whose allocations fail.
+use raft_log_active_file::LogLayout;
+use raft_log_file_format::LogFileFormat;
+use raft_log_file_pipe::{FoundFiles, NewFiles, PipeSettings, ReactiveBytes, SinglePipe};
 use raft_log_fs::{FileSystem, Permission};
 use raft_log_fs_memory::{MemoryFileSystem, Remainder};
-use raft_log_file_format::LogFileFormat;
-use raft_log_active_file::LogLayout;
-use raft_log_file_pipe::{FoundFiles, NewFiles, PipeSettings, ReactiveBytes, SinglePipe};
 use raft_log_record_base::{LogFileContext, LogQueue, Result, Version};
 use std::collections::VecDeque;
 use std::test::Fail;

@@ -1,8 +1,8 @@
 //! A writer of a log file whose allocations fail.
-use raft_log_fs::{FileSystem, Permission};
-use raft_log_fs_memory::{MemoryFileSystem, Remainder};
 use raft_log_file_format::LogFileFormat;
 use raft_log_file_writer::{LogFileWriter, build_file_writer};
+use raft_log_fs::{FileSystem, Permission};
+use raft_log_fs_memory::{MemoryFileSystem, Remainder};
 use raft_log_record_base::{Result, Version};
 use std::io::ErrorKind;
 use std::test::Fail;

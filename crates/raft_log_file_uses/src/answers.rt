@@ -3,8 +3,8 @@
 ghost use Rattle.std.specs.Prelude.{IfOk};
 ghost use Rattle.raft_log_file_uses.specs.Answers.{GivesDirectory};
 
-use raft_log_fs::FileSystem;
 use raft_log_file_reader::LogItemReader;
+use raft_log_fs::FileSystem;
 use raft_log_record_base::Result;
 use raft_log_record_items::LogItem;
 use std::alloc::Global;

@@ -2,8 +2,8 @@
 ghost use Rattle.std.specs.Prelude.{IfOk};
 ghost use Rattle.raft_log_file_uses.specs.GoodEnd.{EndsItsBatches};
 
-use raft_log_fs::{FileSystem, Handle};
 use raft_log_file_reader::LogItemBatchFileReader;
+use raft_log_fs::{FileSystem, Handle};
 use raft_log_record_base::{Error, FileId, Result};
 use std::alloc::Global;
 

@@ -10,8 +10,8 @@ ghost use Rattle.raft_log_file_writer.specs.Writer.{IsWritten};
 use super::reader::open_file;
 use super::writer::LogFileWriter;
 use log::Log;
-use raft_log_fs::{FileSystem, Handle, Permission};
 use raft_log_file_format::LogFileFormat;
+use raft_log_fs::{FileSystem, Handle, Permission};
 use raft_log_record_base::Result;
 use std::alloc::Global;
 

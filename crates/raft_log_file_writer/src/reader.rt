@@ -5,8 +5,8 @@ ghost use Rattle.raft_log_fs.specs.Reading.{FillsRoom, IsOpened, IsSize};
 ghost use Rattle.raft_log_fs.specs.Touching.{HasFile};
 ghost use Rattle.raft_log_file_writer.specs.Reader.{AreBytesAt, BeginsWithHeader, GivesFormat, IsBlockRefusal, IsFormatRefusal, IsOpenRefusal, IsReadRefusal, IsSizeRefusal};
 
-use raft_log_fs::{FileSystem, Handle, Permission};
 use raft_log_file_format::LogFileFormat;
+use raft_log_fs::{FileSystem, Handle, Permission};
 use raft_log_record_base::{Error, FileBlockHandle, Result};
 use std::alloc::Global;
 use std::io::ErrorKind;

@@ -16,10 +16,10 @@ pub mod opening;
 mod record;
 pub mod writing_back;
 
+pub use crate::DirectoryFileSystem;
 pub use device::Device;
 pub use directory::DirectoryFileSystem;
 pub use fault::DirectoryFault;
 pub use file_device::FileDevice;
 pub use opening::{make_directory, open_directories, open_directories_for_reading};
-pub use crate::DirectoryFileSystem;
 pub use writing_back::write_back;

@@ -1,8 +1,8 @@
 //! A log in a real directory: its files, read without the log, have the bytes of the examples of `docs/FORMATS.md`.
 use log::Log;
+use raft_log_engine::{Command, Config, Engine, EntryIndex, LogBatch, ReadableSize};
 use raft_log_fs::FileSystem;
 use raft_log_fs_os::{make_directory, open_directories};
-use raft_log_engine::{Command, Config, Engine, EntryIndex, LogBatch, ReadableSize};
 use std::alloc::Global;
 use std::test::Fail;
 use std::thread::Threads;

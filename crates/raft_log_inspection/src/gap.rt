@@ -3,8 +3,8 @@
 ghost use Rattle.std.specs.Prelude.{◌≡◌, ◌↔◌, [], IsTrue, IfOk};
 ghost use Rattle.raft_log_recovery_scan.specs.Runs.{FollowsNumber, IsConsecutive};
 
-use raft_log_recovery_scan::scanning::found::FoundFile;
 use raft_log_record_base::FileSeq;
+use raft_log_recovery_scan::scanning::found::FoundFile;
 use std::alloc::{AllocError, Global};
 
 /// Two files that are neighbors in the order of their numbers, and whose numbers aren't consecutive. An open keeps

@@ -11,10 +11,10 @@ use crate::gap::{Gap, gaps_of};
 use crate::listing::find_queue;
 use crate::newest::newest_of;
 use crate::one_file::read_one;
-use raft_log_fs::FileSystem;
 use raft_log_file_reader::LogItemBatchFileReader;
-use raft_log_recovery_scan::scanning::found::FoundFile;
+use raft_log_fs::FileSystem;
 use raft_log_record_base::{FileSeq, LogQueue};
+use raft_log_recovery_scan::scanning::found::FoundFile;
 use raft_log_replay::ReplayMachine;
 use std::alloc::Global;
 

@@ -10,9 +10,9 @@ ghost use Rattle.raft_log_inspection.specs.Steps.{AreOrderedFiles, AreListed};
 
 use crate::fault::InspectFault;
 use raft_log_fs::FileSystem;
+use raft_log_record_base::LogQueue;
 use raft_log_recovery_scan::scanning::found::{FoundFile, find_files};
 use raft_log_recovery_scan::{FileKind, FileName};
-use raft_log_record_base::LogQueue;
 use std::alloc::Global;
 
 /// The log files of a queue in these directories, in the order of their numbers. If two have one number, the one in

@@ -2,8 +2,8 @@
 
 ghost use Rattle.std.specs.Prelude.{◌≤◌, All};
 
-use raft_log_recovery_scan::scanning::found::FoundFile;
 use raft_log_record_base::FileSeq;
+use raft_log_recovery_scan::scanning::found::FoundFile;
 
 /// The highest number of these files; 0 if there are none.
 pub(crate) fn newest_of(files: &[FoundFile]) -> FileSeq

@@ -10,11 +10,11 @@ use crate::damage::Damage;
 use crate::fault::InspectFault;
 use crate::listing::{kind_of, path_of};
 use crate::zeros::has_zeros_from;
-use raft_log_fs::{FileSystem, Permission};
 use raft_log_file_reader::LogItemBatchFileReader;
+use raft_log_fs::{FileSystem, Permission};
+use raft_log_record_base::{FileId, FileSeq, LogQueue};
 use raft_log_recovery_read::{FoundFile as ReadFile, ListedFile, read_file};
 use raft_log_recovery_scan::scanning::found::FoundFile;
-use raft_log_record_base::{FileId, FileSeq, LogQueue};
 use raft_log_replay::ReplayMachine;
 use std::alloc::Global;
 

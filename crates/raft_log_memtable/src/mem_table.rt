@@ -23,10 +23,10 @@ mod reads;
 mod replay;
 
 use crate::ends::Ends;
+use raft_log_extents::{Bounds, Places, entry_of};
+use raft_log_memtable_index::{GroupFiles, HeldValue, KeyMap};
 use raft_log_record_base::{Error, FileBlockHandle, FileId, FileSeq, LogQueue, Result};
 use raft_log_record_items::{Bytes, EntryIndex};
-use raft_log_memtable_index::{GroupFiles, HeldValue, KeyMap};
-use raft_log_extents::{Bounds, Places, entry_of};
 use std::alloc::{AllocError, Global};
 use std::marker::Model;
 

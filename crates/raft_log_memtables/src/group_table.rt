@@ -24,12 +24,12 @@ ghost use Rattle.raft_log_memtable.specs.Room.{
 ghost use Rattle.raft_log_memtable.specs.Table.{promise, replay_of, shown, RunRefused};
 ghost use Rattle.raft_log_memtables.specs.Bare.{HasNothing};
 
+use raft_log_memtable::MemTable;
+use raft_log_memtable_index::GroupFiles;
 use raft_log_record_base::{FileSeq, LogQueue, Result};
 use raft_log_record_items::{
     Bytes, Command, EntryIndex, KeyValue, LogItem, LogItemContent, OpType,
 };
-use raft_log_memtable_index::GroupFiles;
-use raft_log_memtable::MemTable;
 use std::alloc::{AllocError, Global};
 
 /// The table of a group, and whether the group counts. A cleaned group keeps its table for the tombstones that are

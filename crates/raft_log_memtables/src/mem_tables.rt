@@ -40,10 +40,10 @@ mod rewriting;
 mod walking;
 
 use crate::group_table::GroupTable;
-use raft_log_record_base::{FileSeq, Result};
-use raft_log_record_items::LogItem;
-use raft_log_record_frames::Marking;
 use raft_log_memtable::MemTable;
+use raft_log_record_base::{FileSeq, Result};
+use raft_log_record_frames::Marking;
+use raft_log_record_items::LogItem;
 use std::alloc::{AllocError, Global};
 use std::collections::BTreeMap;
 

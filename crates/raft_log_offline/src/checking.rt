@@ -9,10 +9,10 @@ ghost use Rattle.raft_log_offline.specs.Checking.{ChecksLog, FailsToCheck, Reads
 
 use crate::checker::{ConsistencyChecker, ConsistencyCheckerFactory, Finding, join_findings};
 use log::Log;
-use raft_log_fs::FileSystem;
 use raft_log_file_settings::Config;
-use raft_log_recovery::DualPipesBuilder;
+use raft_log_fs::FileSystem;
 use raft_log_record_base::{Error, Result};
+use raft_log_recovery::DualPipesBuilder;
 use std::alloc::Global;
 use std::io::ErrorKind;
 use std::thread::Threads;

@@ -4,8 +4,8 @@ ghost use Rattle.std.specs.Prelude.{◌≡◌, ◌↔◌, ◌<◌, IsTrue, IfOk,
 ghost use Rattle.raft_log_record_base.specs.declared.errors.Error.TheVariants.{Memory};
 ghost use Rattle.raft_log_offline.specs.Sources.{IsOneEach, IsNextAnother, lasts};
 
-use raft_log_recovery_scan::scanning::found::FoundFile;
 use raft_log_record_base::Result;
+use raft_log_recovery_scan::scanning::found::FoundFile;
 use std::alloc::Global;
 
 /// Returns one of these files for each number, in the order of the numbers. If several have one number, it is the one

@@ -3,8 +3,8 @@ ghost use Rattle.std.specs.Prelude.{codes, IfOk, IfErr};
 ghost use Rattle.raft_log_file_reader.specs.Telling.{TellsAbsent};
 ghost use Rattle.raft_log_offline.specs.Dump.{Dumps, IsNoDump};
 
-use raft_log_fs::FileSystem;
 use raft_log_file_reader::LogItemReader;
+use raft_log_fs::FileSystem;
 use raft_log_record_base::{Error, Result};
 use std::alloc::Global;
 use std::io::ErrorKind;

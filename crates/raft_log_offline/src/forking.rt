@@ -17,15 +17,15 @@ use crate::copying::copy_file;
 use crate::permission::permit;
 use crate::source_file::SourceFile;
 use log::Log;
-use raft_log_fs::{FileSystem, Permission};
 use raft_log_active_file::File;
 use raft_log_file_settings::Config;
+use raft_log_fs::{FileSystem, Permission};
+use raft_log_record_base::{Error, Result};
 use raft_log_recovery::paths::paths;
 use raft_log_recovery_scan::FileKind;
 use raft_log_recovery_scan::scanning::directories::list_directories;
 use raft_log_recovery_scan::scanning::found::find_files;
 use raft_log_recovery_scan::scanning::opening::open_files;
-use raft_log_record_base::{Error, Result};
 use std::alloc::Global;
 use std::io::ErrorKind;
 

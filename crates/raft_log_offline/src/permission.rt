@@ -10,9 +10,9 @@ ghost use Rattle.raft_log_offline.specs.Telling.{HasFileName, TellsWords};
 ghost use Rattle.raft_log_recovery_scan.specs.Opened.{FailsToLook};
 
 use log::Log;
-use raft_log_fs::FileSystem;
 use raft_log_file_format::{FileNameExt, parse_reserved_file_name};
 use raft_log_file_settings::{Config, RecoveryMode};
+use raft_log_fs::FileSystem;
 use raft_log_record_base::{Error, FileId, Result};
 use std::alloc::Global;
 use std::io::ErrorKind;

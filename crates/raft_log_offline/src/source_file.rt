@@ -1,8 +1,8 @@
 //! A file of the source that is to be copied.
 
 use raft_log_fs::Handle;
-use raft_log_recovery_scan::FileKind;
 use raft_log_record_base::FileSeq;
+use raft_log_recovery_scan::FileKind;
 
 /// A file of the source that is to be copied, open.
 #[derive(Clone, Copy, Debug)]

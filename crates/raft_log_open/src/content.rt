@@ -11,12 +11,12 @@ ghost use Rattle.raft_log_open.specs.Content.{IsPadded};
 ghost use Rattle.raft_log_open.specs.PaddingReading.{FindsNext, HasOpen, Joins, NeedsBytes, NeedsNothing, content_of};
 
 use crate::passing::Passing;
-use raft_log_fs::{FileSystem, Handle};
 use raft_log_file_format::LogFileFormat;
 use raft_log_file_reader::LogItemBatchFileReader;
-use raft_log_recovery_read::{ListedFile, read_file};
+use raft_log_fs::{FileSystem, Handle};
 use raft_log_record_base::{Error, Result};
 use raft_log_record_frames::LOG_BATCH_HEADER_LEN;
+use raft_log_recovery_read::{ListedFile, read_file};
 use std::alloc::Global;
 
 /// How many bytes of a file are read at a time.

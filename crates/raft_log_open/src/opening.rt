@@ -8,11 +8,11 @@ ghost use Rattle.raft_log_open.specs.Reading.{BringsInRewrite};
 
 use crate::reading::{ReadLog, read_log};
 use log::Log;
-use raft_log_fs::FileSystem;
 use raft_log_dual_pipes::{DualPipes, OpenRefused, PipeLog};
 use raft_log_file_settings::Config;
-use raft_log_record_base::Error;
+use raft_log_fs::FileSystem;
 use raft_log_memtables::MemTables;
+use raft_log_record_base::Error;
 use raft_log_replay::ReplayThreads;
 use std::alloc::Global;
 use std::io::ErrorKind;

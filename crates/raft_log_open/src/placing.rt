@@ -10,13 +10,13 @@ ghost use Rattle.raft_log_record_base.specs.declared.errors.Error.TheVariants.{M
 ghost use Rattle.raft_log_open.specs.Placing.{AreLogFiles, ArePlacedOf, IsListed, IsPlaced, kind_of, last_number, temporary_in};
 
 use crate::placed_file::PlacedFile;
-use raft_log_offline::choosing::one_each;
-use raft_log_fs::FileSystem;
 use raft_log_active_file::PathId;
+use raft_log_fs::FileSystem;
+use raft_log_offline::choosing::one_each;
+use raft_log_record_base::{Error, FileId, FileSeq, LogQueue, Result};
 use raft_log_recovery_scan::scanning::directories::list_directories;
 use raft_log_recovery_scan::scanning::found::{FoundFile, find_files};
 use raft_log_recovery_scan::{FileKind, FileName};
-use raft_log_record_base::{Error, FileId, FileSeq, LogQueue, Result};
 use std::alloc::Global;
 
 /// The files of both queues in these directories, those of Rewrite first. If several have one number, the one in the

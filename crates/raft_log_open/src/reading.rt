@@ -9,15 +9,15 @@ ghost use Rattle.raft_log_open.specs.Finding.{FailsToReadAnew, FindsAnew, ReadsA
 ghost use Rattle.raft_log_open.specs.Opening.{FailsToOpenDirectory};
 ghost use Rattle.raft_log_open.specs.Reading.{AreMergedOf, BringsInRewrite, ReadsLog, ReadsQueues};
 
-use log::{Log, warn};
-use raft_log_fs::FileSystem;
-use raft_log_file_settings::Config;
-use raft_log_recovery::DualPipesBuilder;
-use raft_log_record_base::{Error, Result};
-use raft_log_memtables::MemTables;
-use raft_log_replay_context::{MemTableRecoverContext, MemTableRecoverContextFactory};
-use raft_log_replay::ReplayThreads;
 use crate::unpad;
+use log::{Log, warn};
+use raft_log_file_settings::Config;
+use raft_log_fs::FileSystem;
+use raft_log_memtables::MemTables;
+use raft_log_record_base::{Error, Result};
+use raft_log_recovery::DualPipesBuilder;
+use raft_log_replay::ReplayThreads;
+use raft_log_replay_context::{MemTableRecoverContext, MemTableRecoverContextFactory};
 use std::alloc::Global;
 use std::thread::Threads;
 

@@ -6,13 +6,15 @@ ghost use Rattle.raft_log_record_base.specs.declared.errors.Error.TheVariants.{M
 ghost use Rattle.raft_log_file_settings.specs.Settings.{directories_of, settings_of};
 ghost use Rattle.raft_log_open.specs.Unpadding.{ClearsAll, ClearsOne, FailsToClearAll, FailsToClearOne, FailsToLookAt, FailsToUnpad, FailsToUnpadAll, FailsToUnpadOne, FindsAt, LeavesAlone, AreApart, IsApart, Unpads, UnpadsAll, WritesAnew};
 
-use crate::{content::unpadded, placed_file::PlacedFile, replacing::replace};
+use crate::content::unpadded;
+use crate::placed_file::PlacedFile;
 use crate::placing::{find_placed, temporary_in};
-use raft_log_fs::{FileSystem, Handle, Permission};
+use crate::replacing::replace;
 use raft_log_file_settings::Config;
+use raft_log_fs::{FileSystem, Handle, Permission};
+use raft_log_record_base::{Error, FileId, Result};
 use raft_log_recovery::paths::paths;
 use raft_log_recovery_read::ListedFile;
-use raft_log_record_base::{Error, FileId, Result};
 use std::alloc::Global;
 use std::io::ErrorKind;
 

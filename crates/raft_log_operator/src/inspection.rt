@@ -6,10 +6,10 @@ ghost use Rattle.raft_log_operator.specs.Sound.{InspectsLog, InspectsOne, direct
 use crate::fault::CommandFault;
 use crate::place::Place;
 use crate::text::{DamageLine, GapLine};
-use raft_log_offline::laws::findings_are_first_holes;
-use raft_log_offline::{ConsistencyChecker, Finding};
 use raft_log_engine::{FileSystem, LogQueue};
 use raft_log_inspection::{QueueInspection, inspect_queue};
+use raft_log_offline::laws::findings_are_first_holes;
+use raft_log_offline::{ConsistencyChecker, Finding};
 use std::alloc::{AllocError, Global};
 use std::io;
 use std::io::Write;

@@ -14,4 +14,5 @@ pub use Rattle.raft_log_purge_copy.specs.raft_log_block_cache
 pub use Rattle.raft_log_purge_copy.specs.raft_log_dual_pipes
 pub mod RewriteQueue
 pub mod Standing
+
 -- libraries below, passed on to the crates above

@@ -25,10 +25,10 @@ ghost use Rattle.raft_log_purge.specs.Append.{
 
 use log::Log;
 use raft_log_dual_pipes::PipeLog;
+use raft_log_memtables::MemTables;
 use raft_log_purge_copy::raft_log_block_cache::BlockCache;
 use raft_log_purge_copy::{rewrite_groups, rewrite_marks};
 use raft_log_record_base::{Error, FileId, FileSeq, LogQueue, Result};
-use raft_log_memtables::MemTables;
 use std::alloc::Global;
 
 /// Rewrites Append up to a file, the watermark, but none after the last; up to the last if there is no watermark. Can

@@ -18,14 +18,15 @@ ghost use Rattle.raft_log_purge.specs.Counted.{
 ghost use Rattle.raft_log_purge.specs.Counting.{CountsStanding, CountsTwice};
 ghost use Rattle.raft_log_purge.specs.ExpiredFiles.{FailsToPurgeExpired, SyncsAndRewrites};
 
-use crate::{append::rewrite_append_queue, expired::Purged};
+use crate::append::rewrite_append_queue;
+use crate::expired::Purged;
 use crate::expired_files::{PurgeCounts, purge_expired_files, sync_and_rewrite};
 use log::Log;
 use raft_log_dual_pipes::PipeLog;
+use raft_log_memtables::MemTables;
 use raft_log_purge_copy::raft_log_block_cache::BlockCache;
 use raft_log_purge_policy::{Thresholds, is_any_past};
 use raft_log_record_base::{FileSeq, Result};
-use raft_log_memtables::MemTables;
 use std::alloc::Global;
 
 /// Purges both queues as `purge_expired_files` does. If neither is past its threshold, nothing is counted.

@@ -25,15 +25,15 @@ ghost use Rattle.raft_log_purge.specs.Expired.{
 use crate::append::{rewrite_synced, up_to};
 use log::Log;
 use raft_log_dual_pipes::PipeLog;
-use raft_log_purge_copy::write_tombstones;
+use raft_log_memtables::MemTables;
 use raft_log_purge_copy::raft_log_block_cache::BlockCache;
+use raft_log_purge_copy::write_tombstones;
 use raft_log_purge_policy::{
     GroupLists, Rounds, Survey, Thresholds, Watermarks, answered_groups, append_watermarks,
     survey_groups, survey_unless_known, takes_append,
 };
 use raft_log_record_base::{FileId, FileSeq, LogQueue, Result};
 use raft_log_record_items::LogItem;
-use raft_log_memtables::MemTables;
 use std::alloc::{AllocError, Global};
 
 /// What a purge returns, and what it counted on its way.

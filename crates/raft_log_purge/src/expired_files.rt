@@ -24,11 +24,11 @@ use crate::expired::{Purged, purge_append, survey_if_past};
 use crate::rewrite_queue::rewrite_rewrite_queue;
 use log::Log;
 use raft_log_dual_pipes::PipeLog;
+use raft_log_memtable::GlobalStats;
+use raft_log_memtables::MemTables;
 use raft_log_purge_copy::raft_log_block_cache::BlockCache;
 use raft_log_purge_policy::{Rounds, Survey, Thresholds, takes_rewrite};
 use raft_log_record_base::{LogQueue, Result};
-use raft_log_memtables::MemTables;
-use raft_log_memtable::GlobalStats;
 use std::alloc::Global;
 
 /// What is counted from one purge of a log to the next.

@@ -3,9 +3,9 @@
 ghost use Rattle.raft_log_memtables.specs.Tables.{shown_of};
 ghost use Rattle.raft_log_purge.specs.Garbage.{CountsGarbage, CountsPast, StandsPast};
 
-use raft_log_record_base::{FileSeq, LogQueue};
-use raft_log_memtables::MemTables;
 use raft_log_memtable::GlobalStats;
+use raft_log_memtables::MemTables;
+use raft_log_record_base::{FileSeq, LogQueue};
 
 /// Counts what these groups have live past a file of Rewrite as written there again, and as much as garbage.
 pub(crate) fn count_restated(

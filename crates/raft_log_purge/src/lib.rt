@@ -16,6 +16,6 @@ pub mod rewrite_queue;
 pub use counted::{purge_and_count, rewrite_and_count, rewrite_append_and_count};
 pub use expired::{Purged, purge_append};
 pub use expired_files::PurgeCounts;
-pub use raft_log_purge_copy::raft_log_block_cache;
 pub use raft_log_purge_copy;
+pub use raft_log_purge_copy::raft_log_block_cache;
 pub use rewrite_queue::rewrite_rewrite_queue;

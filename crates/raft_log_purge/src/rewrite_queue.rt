@@ -11,12 +11,12 @@ ghost use Rattle.raft_log_purge.specs.RewriteQueue.{FailsToRewriteRewrite, Resta
 use crate::garbage::count_restated;
 use log::Log;
 use raft_log_dual_pipes::PipeLog;
+use raft_log_memtable::GlobalStats;
+use raft_log_memtables::MemTables;
 use raft_log_purge_copy::delete_stale_files;
 use raft_log_purge_copy::raft_log_block_cache::BlockCache;
 use raft_log_purge_copy::restating::compact_rewrite_groups;
 use raft_log_record_base::{LogQueue, Result};
-use raft_log_memtables::MemTables;
-use raft_log_memtable::GlobalStats;
 use std::alloc::Global;
 
 /// Rewrites Rewrite. It rotates; all groups are restated, and it is synced. The garbage is taken off the counts; then

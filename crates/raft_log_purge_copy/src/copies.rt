@@ -18,9 +18,9 @@ use crate::syncing::sync_if_due;
 use log::Log;
 use raft_log_block_cache::SignedBatch;
 use raft_log_dual_pipes::PipeLog;
+use raft_log_memtables::MemTables;
 use raft_log_record_base::{FileSeq, LogQueue, Result};
 use raft_log_record_batches::LogBatch;
-use raft_log_memtables::MemTables;
 use std::alloc::Global;
 
 /// Writes a batch of copies to Rewrite as one record, and moves what it copies there: items in Append in files up to

@@ -8,10 +8,10 @@ ghost use Rattle.raft_log_record_batches.specs.Entries.{IsEntriesRefusal, indexe
 ghost use Rattle.raft_log_memtables.specs.Tables.{shown_of};
 ghost use Rattle.raft_log_purge_copy.specs.Entries.{AreNext, IsRunBatch};
 
+use raft_log_memtables::MemTables;
 use raft_log_record_base::{FileSeq, Result};
 use raft_log_record_batches::LogBatch;
 use raft_log_record_items::{EntryIndex, RawMessage};
-use raft_log_memtables::MemTables;
 use std::alloc::{AllocError, Global};
 
 /// How many bytes of entries are copied at once, unless a single entry has more.

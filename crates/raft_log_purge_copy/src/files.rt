@@ -7,8 +7,8 @@ ghost use Rattle.raft_log_purge_copy.specs.Files.{FailsToLoseFiles, LosesFiles};
 use log::Log;
 use raft_log_block_cache::BlockCache;
 use raft_log_dual_pipes::PipeLog;
-use raft_log_record_base::{FileId, FileSeq, LogQueue, Result};
 use raft_log_memtables::MemTables;
+use raft_log_record_base::{FileId, FileSeq, LogQueue, Result};
 use std::alloc::Global;
 
 /// Takes the files of a queue below the least one in use out of its live range, but none from the limit on. Returns

@@ -18,8 +18,8 @@ use crate::rewriting::copy_entries;
 use log::Log;
 use raft_log_block_cache::BlockCache;
 use raft_log_dual_pipes::PipeLog;
-use raft_log_record_base::{FileSeq, Result};
 use raft_log_memtables::MemTables;
+use raft_log_record_base::{FileSeq, Result};
 use std::alloc::Global;
 
 /// Rewrites groups, one after another: nothing of them is left in Append in files up to the gate. Syncs Rewrite after

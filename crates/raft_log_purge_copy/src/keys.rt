@@ -13,10 +13,10 @@ ghost use Rattle.raft_log_purge_copy.specs.Syncing.{HandsCountOn};
 use crate::copies::write_copies;
 use log::Log;
 use raft_log_dual_pipes::PipeLog;
+use raft_log_memtables::MemTables;
 use raft_log_record_base::{FileSeq, Result};
 use raft_log_record_batches::LogBatch;
 use raft_log_record_items::Bytes;
-use raft_log_memtables::MemTables;
 use std::alloc::{AllocError, Global};
 
 /// Copies all values that a group has in Append in files up to the gate. Writes them to Rewrite as one record; then

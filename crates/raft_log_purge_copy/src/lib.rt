@@ -26,7 +26,7 @@ pub use copies::write_copies;
 pub use files::delete_stale_files;
 pub use groups::{rewrite_group, rewrite_groups};
 pub use keys::copy_keys;
-pub use marks::{write_tombstones, rewrite_marks};
+pub use marks::{rewrite_marks, write_tombstones};
 pub use raft_log_block_cache;
 pub use rewriting::copy_entries;
 pub use stale::purge_all_stale;

@@ -15,10 +15,10 @@ ghost use Rattle.raft_log_purge_copy.specs.Refusals.{AreUnmarked};
 use crate::record::record_of;
 use log::Log;
 use raft_log_dual_pipes::PipeLog;
+use raft_log_memtables::MemTables;
 use raft_log_record_base::{Error, LogQueue, Result};
 use raft_log_record_batches::LogBatch;
 use raft_log_record_items::{LogItem, LogItemContent, OpType};
-use raft_log_memtables::MemTables;
 use std::alloc::Global;
 
 /// Writes the owed tombstones to Rewrite as one record, and syncs it; then they are no longer owed. If none is owed,

@@ -11,10 +11,10 @@ ghost use Rattle.raft_log_purge_copy.specs.Pieces.{AddsKeys, BuildsPiece, FailsT
 use crate::entries::run_batch;
 use raft_log_block_cache::BlockCache;
 use raft_log_dual_pipes::PipeLog;
+use raft_log_memtables::MemTables;
 use raft_log_record_base::Result;
 use raft_log_record_batches::LogBatch;
 use raft_log_record_items::{Bytes, EntryIndex, RawMessage};
-use raft_log_memtables::MemTables;
 use std::alloc::{AllocError, Global};
 
 /// How many bytes of entries are written at once, unless a single entry has more.

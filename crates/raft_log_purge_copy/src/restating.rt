@@ -24,11 +24,11 @@ use crate::taking::{first_file, write_last};
 use log::Log;
 use raft_log_block_cache::BlockCache;
 use raft_log_dual_pipes::PipeLog;
+use raft_log_memtable_index::GroupFiles;
+use raft_log_memtables::MemTables;
 use raft_log_record_base::Result;
 use raft_log_record_batches::{AtomicGroupBuilder, LogBatch};
 use raft_log_record_items::{Bytes, EntryIndex};
-use raft_log_memtables::MemTables;
-use raft_log_memtable_index::GroupFiles;
 use std::alloc::Global;
 
 /// Restates groups, one after another: all that each has in Rewrite is then in files from the one that was active

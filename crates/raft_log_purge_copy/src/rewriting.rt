@@ -12,9 +12,9 @@ use crate::entries::{next_entries, run_batch};
 use log::Log;
 use raft_log_block_cache::BlockCache;
 use raft_log_dual_pipes::PipeLog;
+use raft_log_memtables::MemTables;
 use raft_log_record_base::{FileSeq, Result};
 use raft_log_record_items::RawMessage;
-use raft_log_memtables::MemTables;
 use std::alloc::Global;
 
 /// Copies a group's first entries in Append, all in files up to the gate, as many as a batch may have. Returns

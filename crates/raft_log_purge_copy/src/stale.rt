@@ -11,8 +11,8 @@ use crate::marks::rewrite_marks;
 use log::Log;
 use raft_log_block_cache::BlockCache;
 use raft_log_dual_pipes::PipeLog;
-use raft_log_record_base::{LogQueue, Result};
 use raft_log_memtables::MemTables;
+use raft_log_record_base::{LogQueue, Result};
 use std::alloc::Global;
 
 /// Takes all files that have nothing in use out of both queues. Syncs Append, writes the owed tombstones, and then

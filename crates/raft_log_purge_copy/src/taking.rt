@@ -24,10 +24,10 @@ use crate::sync_if_due;
 use log::Log;
 use raft_log_block_cache::SignedBatch;
 use raft_log_dual_pipes::PipeLog;
+use raft_log_memtables::MemTables;
 use raft_log_record_base::{FileBlockHandle, FileSeq, LogQueue, Result};
 use raft_log_record_batches::LogBatch;
 use raft_log_record_items::LogItem;
-use raft_log_memtables::MemTables;
 use std::alloc::{AllocError, Global};
 
 /// Writes the last record that restates a group to Rewrite. Then moves what all of the group's records have to where

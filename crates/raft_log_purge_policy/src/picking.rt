@@ -15,8 +15,8 @@ ghost use Rattle.raft_log_purge_policy.specs.Picking.{
 use crate::Watermarks;
 use crate::rounds::Rounds;
 use crate::rules::{asks, rewrites};
-use raft_log_memtables::MemTables;
 use raft_log_memtable::MemTable;
+use raft_log_memtables::MemTables;
 use std::alloc::{AllocError, Global};
 
 /// A group with so many entries in Rewrite, or fewer, isn't returned for those.

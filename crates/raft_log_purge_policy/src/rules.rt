@@ -15,8 +15,8 @@ ghost use Rattle.raft_log_purge_policy.specs.Rules.{
 
 use crate::Watermarks;
 use crate::rounds::ROUNDS_OF_ASKING;
-use raft_log_record_base::{FileId, FileSeq, LogQueue};
 use raft_log_memtable::MemTable;
+use raft_log_record_base::{FileId, FileSeq, LogQueue};
 
 /// A group with so many entries is heavy.
 const HEAVY_ENTRIES: usize = 32;

@@ -7,8 +7,8 @@ ghost use Rattle.raft_log_purge_policy.specs.Surveying.{SurveysIfTold, Surveys};
 use crate::Watermarks;
 use crate::picking::{GroupLists, pick};
 use crate::rounds::Rounds;
-use raft_log_record_items::LogItem;
 use raft_log_memtables::MemTables;
+use raft_log_record_items::LogItem;
 use std::alloc::{AllocError, Global};
 
 /// What a purge of Append has to know of all groups before it begins.

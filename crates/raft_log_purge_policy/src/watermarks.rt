@@ -14,8 +14,8 @@ ghost use Rattle.raft_log_purge_policy.specs.Watermarks.{
 
 use crate::thresholds::Thresholds;
 use raft_log_dual_pipes::PipeLog;
-use raft_log_record_base::{FileSeq, LogQueue};
 use raft_log_memtable::GlobalStats;
+use raft_log_record_base::{FileSeq, LogQueue};
 
 /// A group is old if it has something in an Append file below this share of the live range.
 const COMPACT_THOUSANDTHS: u32 = 200;

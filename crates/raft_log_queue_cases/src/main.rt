@@ -12,6 +12,8 @@ mod slow_reader;
 mod sweeps;
 mod written;
 
+use log::sink::Discard;
+use log::{LevelFilter, Logged};
 use raft_cases::play;
 use std::io;
 use std::process::ExitCode;
@@ -19,5 +21,6 @@ use written::Written;
 
 fn main(rt: HostRuntime) -> io::Result<ExitCode> {
     let mut written = Written::new(rt.alloc());
-    play(&rt, &mut written)
+    let quiet = Logged::new(&rt, LevelFilter::Off, Discard);
+    play(&quiet, &mut written)
 }

@@ -2,11 +2,14 @@
 use crate::outcomes::{failed, made, refused};
 use log::sink::Memory;
 use raft_cases::{CaseFault, Command};
+use raft_log_active_file::{
+    File, LogLayout, PipeFormat, append_record, begin_queue, drop_file, reopen_file, rotate_over,
+    rotate_to_new, sync_records,
+};
+use raft_log_file_format::LogFileFormat;
+use raft_log_file_writer::{LogFileWriter, build_header};
 use raft_log_fs::{Handle, Permission};
 use raft_log_fs_memory::MemoryFileSystem;
-use raft_log_file_format::LogFileFormat;
-use raft_log_active_file::{File, LogLayout, PipeFormat, append_record, begin_queue, drop_file, reopen_file, rotate_over, rotate_to_new, sync_records};
-use raft_log_file_writer::{LogFileWriter, build_header};
 use raft_log_record_base::{LogQueue, Version};
 use std::alloc::{AllocError, Global};
 use std::io::ErrorKind;

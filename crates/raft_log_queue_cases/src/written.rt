@@ -4,10 +4,16 @@ use crate::outcomes::{done, failed};
 use crate::pipes::{Pipe, open_pipe, play_on_pipe};
 use crate::queues::{Queue, begin, file_path, play_on_queue};
 use crate::sweeps::{play_pair, play_sweep};
+use log::Log;
 use log::sink::Memory;
 use raft_cases::{CaseFault, Column, Command, play_on_files};
 use raft_log_fs_memory::MemoryFileSystem;
 use std::alloc::Global;
+use std::fs::File;
+use std::rt::Files;
+use std::sync::Wait;
+use std::thread::Threads;
+use std::time::Clock;
 
 /// A file system in memory, and what writes its files.
 #[derive(Drop)]
@@ -86,7 +92,9 @@ impl Column for Written {
         Ok(())
     }
 
-    fn answer(&mut self, command: &mut Command) -> Result<String, CaseFault> {
+    fn answer<
+        R: Threads + Wait + Clock + Log + Sync + Files<File = File> + AllocGlobal + Clone + Drop,
+    >(&mut self, _rt: &R, command: &mut Command) -> Result<String, CaseFault> {
         if let Some(answer) = play_on_files(self.alloc, &mut self.system, command)? {
             return Ok(answer);
         }

@@ -10,11 +10,10 @@ pub mod log_batch;
 pub use atomic_group::AtomicGroupBuilder;
 pub use entry_writer::{EntrySlices, EntryWriter};
 pub use log_batch::{BatchState, LogBatch};
-pub use raft_log_record_frames::LogItemBatch;
 pub use raft_log_record_frames::{
-    LOG_BATCH_HEADER_LEN, decode_entries_block, decode_footer, decode_header,
+    AtomicGroupStatus, LOG_BATCH_HEADER_LEN, LogItemBatch, Marking, decode_entries_block,
+    decode_footer, decode_header,
 };
-pub use raft_log_record_frames::{AtomicGroupStatus, Marking};
 pub use raft_log_record_items::{
     Bytes, Command, CompressionType, EntryIndex, EntryIndexes, Error, FileBlockHandle, FileId,
     FileSeq, KeyValue, LogFileContext, LogItem, LogItemContent, LogQueue, Message, MessageExt,

@@ -7,8 +7,10 @@ ghost use Rattle.raft_log_record_frames.specs.Marking.{has_mark_key};
 ghost use Rattle.raft_log_record_batches.specs.Batch.{max_entries_len, kept_buffer, roomy};
 ghost use Rattle.raft_log_record_batches.specs.Key.{IsKeyRefusal, IsMarkRefusal};
 
-use raft_log_record_frames::{LOG_BATCH_HEADER_LEN, LogItemBatch, MARK_GROUP, MARK_KEY, Marking, items_size};
 use raft_log_record_frames::record::{are_bytes, fill_record, write_checksum};
+use raft_log_record_frames::{
+    LOG_BATCH_HEADER_LEN, LogItemBatch, MARK_GROUP, MARK_KEY, Marking, items_size,
+};
 use raft_log_record_items::{
     Bytes, Command, Error, FileBlockHandle, LogFileContext, LogItem, Message, Result,
 };

@@ -1,11 +1,17 @@
 //! The column: the state of a case, and who plays which command.
 use crate::names;
 use crate::settings::Settings;
+use log::Log;
 use raft_cases::{CaseFault, Column, Command};
 use raft_log_batch_commands::{Batches, List, Voters};
 use raft_log_record_commands::play_on_records;
 use raft_log_table_commands::{Table, Tables, play_replay};
 use std::alloc::{AllocError, Global};
+use std::fs::File;
+use std::rt::Files;
+use std::sync::Wait;
+use std::thread::Threads;
+use std::time::Clock;
 
 /// What a case has built so far.
 #[derive(Drop)]
@@ -60,7 +66,9 @@ impl Column for Records {
         Ok(())
     }
 
-    fn answer(&mut self, command: &mut Command) -> Result<String, CaseFault> {
+    fn answer<
+        R: Threads + Wait + Clock + Log + Sync + Files<File = File> + AllocGlobal + Clone + Drop,
+    >(&mut self, _rt: &R, command: &mut Command) -> Result<String, CaseFault> {
         let name = String::from_str(self.alloc, command.name())?;
         if let Some(answer) = compute(self.alloc, name.as_str(), command)? {
             return Ok(answer);

@@ -6,11 +6,14 @@ mod names;
 mod settings;
 
 use column::Records;
+use log::sink::Discard;
+use log::{LevelFilter, Logged};
 use raft_cases::play;
 use std::io;
 use std::process::ExitCode;
 
 fn main(rt: HostRuntime) -> io::Result<ExitCode> {
     let mut records = Records::new(rt.alloc())?;
-    play(&rt, &mut records)
+    let quiet = Logged::new(&rt, LevelFilter::Off, Discard);
+    play(&quiet, &mut records)
 }

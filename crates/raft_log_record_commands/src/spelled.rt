@@ -3,8 +3,8 @@ use crate::words::{bytes_in, number_in};
 use raft_cases::CaseFault;
 use raft_log_record_base::codec::append_var_u64;
 use raft_log_record_base::{Error, FileBlockHandle, FileId};
-use raft_log_record_items::{Bytes, Command, EntryIndexes, LogItem, OpType};
 use raft_log_record_frames::{AtomicGroupStatus, MARK_GROUP, MARK_KEY, mark_value};
+use raft_log_record_items::{Bytes, Command, EntryIndexes, LogItem, OpType};
 use std::alloc::Global;
 use std::str::Split;
 

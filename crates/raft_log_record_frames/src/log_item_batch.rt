@@ -2,8 +2,9 @@
 ghost use Rattle.std.specs.Prelude.{◌≡◌, ◌-◌, ◌^◌, min, slice_get};
 ghost use Rattle.raft_log_record_frames.specs.ItemBatch.{content_size, items_size, all_entries};
 
+use crate::decode_placed_footer;
+use crate::record::append_footer;
 use raft_log_record_base::codec::or_cut_back;
-use crate::{decode_placed_footer, record::append_footer};
 use raft_log_record_items::items::{copied, lay_out, set_written};
 use raft_log_record_items::{
     Bytes, Command, CompressionType, EntryIndex, EntryIndexes, FileBlockHandle, LogFileContext,

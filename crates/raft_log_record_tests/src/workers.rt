@@ -6,9 +6,9 @@ use raft_log_record_base::{Error, FileId, LogQueue, Result};
 use raft_log_record_commands::spelled::items;
 use raft_log_record_items::LogItem;
 use raft_log_record_items::items::copied;
-use raft_log_table_commands::show_tables;
-use raft_log_replay_context::MemTableRecoverContextFactory;
 use raft_log_replay::{ReplayMachine, ReplaySource, replay_segments};
+use raft_log_replay_context::MemTableRecoverContextFactory;
+use raft_log_table_commands::show_tables;
 use std::alloc::Global;
 use std::thread::Threads;
 

@@ -12,10 +12,10 @@ pub use raft_log_record_base::{
 pub use raft_log_record_batches::{AtomicGroupBuilder, BatchState, LogBatch, LogItemBatch};
 pub use raft_log_record_checksum::{crc32, hash_u64, unhash_u64};
 pub use raft_log_record_frames::{
-    LOG_BATCH_HEADER_LEN, decode_entries_block, decode_footer, decode_header,
+    AtomicGroupStatus, LOG_BATCH_HEADER_LEN, Marking, decode_entries_block, decode_footer,
+    decode_header,
 };
 pub use raft_log_record_items::{
     Bytes, Command, CompressionType, EntryIndex, EntryIndexes, KeyValue, LogItem, LogItemContent,
     Message, MessageExt, OpType,
 };
-pub use raft_log_record_frames::{AtomicGroupStatus, Marking};

@@ -5,12 +5,12 @@ ghost use Rattle.raft_log_record_base.specs.declared.errors.Error.TheVariants.{M
 ghost use Rattle.raft_log_recovery_scan.specs.Metadata.{ChangesNoFile};
 
 use log::Log;
-use raft_log_fs::FileSystem;
 use raft_log_active_file::File;
+use raft_log_fs::FileSystem;
+use raft_log_record_base::Result;
 use raft_log_recovery_scan::FileKind;
 use raft_log_recovery_scan::scanning::ScannedFiles;
 use raft_log_recovery_scan::scanning::metadata::clear_metadata;
-use raft_log_record_base::Result;
 use std::alloc::Global;
 
 /// Deletes what the file system keeps beside files below the first ones of both queues; a failure is logged. Fails

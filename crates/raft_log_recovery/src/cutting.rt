@@ -4,8 +4,8 @@ ghost use Rattle.std.specs.Prelude.{◌≡◌, ◌≤◌, length, IfErr, OnOk};
 ghost use Rattle.raft_log_recovery.specs.Cutting.{CutsEach, CutsOne, FailsToCutEach, FailsToCutOne};
 
 use log::{Log, warn};
-use raft_log_fs::FileSystem;
 use raft_log_active_file::File;
+use raft_log_fs::FileSystem;
 use raft_log_recovery_read::FileEnding;
 use std::io::ErrorKind;
 

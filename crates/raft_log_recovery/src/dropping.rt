@@ -5,8 +5,8 @@ ghost use Rattle.raft_log_file_format.specs.Name.{IsNameRefusal};
 ghost use Rattle.raft_log_recovery.specs.Dropping.{DropsEach, DropsOrNot, FailsToDropEach};
 
 use log::{Log, warn};
-use raft_log_fs::FileSystem;
 use raft_log_active_file::{File, PipeFormat};
+use raft_log_fs::FileSystem;
 use raft_log_record_base::Result;
 use std::alloc::Global;
 

@@ -7,13 +7,13 @@ ghost use Rattle.raft_log_recovery.specs.Finishing.{IsWantedAs, TellsUnread};
 
 use crate::paths::paths;
 use crate::recovered_queue::RecoveredQueue;
-use raft_log_file_format::LogFileFormat;
 use raft_log_active_file::{File, LogLayout};
 use raft_log_dual_pipes::FoundPipe;
+use raft_log_file_format::LogFileFormat;
 use raft_log_file_pipe::{FoundFiles, NewFiles, PipeSettings};
 use raft_log_file_settings::Config;
-use raft_log_recovery_read::FileEnding;
 use raft_log_record_base::{Error, LogQueue, Result};
+use raft_log_recovery_read::FileEnding;
 use std::alloc::Global;
 use std::collections::VecDeque;
 

@@ -6,10 +6,10 @@ ghost use Rattle.raft_log_recovery.specs.Making.{FailsToMake, FailsToMakeEach, M
 
 use crate::filling::fill_or_not;
 use log::Log;
-use raft_log_fs::{FileSystem, Handle, Permission};
+use raft_log_active_file::{File, PipeFormat};
 use raft_log_file_format::LogFileFormat;
 use raft_log_file_pipe::new_files::choose_directory;
-use raft_log_active_file::{File, PipeFormat};
+use raft_log_fs::{FileSystem, Handle, Permission};
 use raft_log_record_base::{Error, FileSeq, Result};
 use std::alloc::Global;
 

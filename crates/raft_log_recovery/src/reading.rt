@@ -4,14 +4,12 @@ ghost use Rattle.std.specs.Prelude.{IfErr, IfOk};
 ghost use Rattle.std.specs.Thread.{IsSync};
 ghost use Rattle.raft_log_recovery.specs.Reading.{HasReadFiles, FilesAreUnread};
 
-use raft_log_fs::FileSystem;
 use raft_log_active_file::File;
+use raft_log_fs::FileSystem;
+use raft_log_record_base::Result;
 use raft_log_recovery_read::{FileEnding, QueueSegments};
 use raft_log_recovery_scan::RecoveryConfig;
-use raft_log_record_base::Result;
-use raft_log_replay::{
-    Factory, ReadSegments, ReplayMachine, ReplayThreads, replay_segments_by,
-};
+use raft_log_replay::{Factory, ReadSegments, ReplayMachine, ReplayThreads, replay_segments_by};
 use std::alloc::Global;
 use std::marker::Send;
 use std::thread::{Threads, join};

@@ -7,8 +7,8 @@ ghost use Rattle.raft_log_recovery.specs.Readying.{FailsToMakeMissing, FailsToRe
 use crate::dropping::drop_newest;
 use crate::making::make_files;
 use log::Log;
-use raft_log_fs::FileSystem;
 use raft_log_active_file::{DEFAULT_FIRST_FILE_SEQ, File, PipeFormat};
+use raft_log_fs::FileSystem;
 use raft_log_record_base::{FileSeq, Result};
 use std::alloc::Global;
 

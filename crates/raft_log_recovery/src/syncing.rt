@@ -3,8 +3,8 @@
 ghost use Rattle.std.specs.Prelude.{IfErr, OnOk};
 ghost use Rattle.raft_log_recovery.specs.Syncing.{FailsToSyncEach, SyncsEach};
 
-use raft_log_fs::FileSystem;
 use raft_log_active_file::File;
+use raft_log_fs::FileSystem;
 use std::io::ErrorKind;
 
 /// Syncs each of these files, in order. If it fails, those before the failed one are synced.

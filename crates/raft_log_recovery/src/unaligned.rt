@@ -3,8 +3,8 @@
 ghost use Rattle.std.specs.Prelude.{◌↔◌, IsTrue};
 ghost use Rattle.raft_log_recovery.specs.Unaligned.{AreUnaligned, TellsAligned};
 
-use raft_log_recovery_read::FileEnding;
 use raft_log_record_base::Error;
+use raft_log_recovery_read::FileEnding;
 use std::alloc::Global;
 
 /// Whether none of the files has an alignment.

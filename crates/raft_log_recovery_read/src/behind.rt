@@ -14,8 +14,8 @@ ghost use Rattle.raft_log_recovery_read.specs.Records.{StopsGood};
 
 use crate::steps::{Next, check_block, next_batch, next_record};
 use crate::taking::{take, take_noted};
-use raft_log_fs::FileSystem;
 use raft_log_file_reader::LogItemBatchFileReader;
+use raft_log_fs::FileSystem;
 use raft_log_record_base::{Error, FileBlockHandle, FileId, Result};
 use raft_log_record_items::LogItem;
 use raft_log_replay::ReplayMachine;

@@ -1,7 +1,7 @@
 //! What was found of a log file.
 
-use raft_log_fs::Handle;
 use raft_log_file_format::LogFileFormat;
+use raft_log_fs::Handle;
 use raft_log_record_base::{Error, FileId};
 
 /// A log file that was found.

@@ -8,8 +8,8 @@ ghost use Rattle.raft_log_file_reader.specs.declared.open_file.OpenFile.{OpenFil
 ghost use Rattle.raft_log_recovery_read.specs.Steps.{StandsAs, ChecksBlock, TakesNextBatch, TakesWholeRecord};
 
 use crate::damage::damage;
-use raft_log_fs::FileSystem;
 use raft_log_file_reader::LogItemBatchFileReader;
+use raft_log_fs::FileSystem;
 use raft_log_record_base::{Error, FileBlockHandle, Result};
 use raft_log_record_items::LogItem;
 use std::alloc::Global;

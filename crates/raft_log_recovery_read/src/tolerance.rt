@@ -7,9 +7,9 @@ ghost use Rattle.raft_log_recovery_read.specs.Tolerance.{FailsToReadFound, IsTol
 
 use crate::found_file::{FoundFile, ListedFile};
 use crate::reading::read_file;
-use raft_log_fs::FileSystem;
 use raft_log_file_reader::LogItemBatchFileReader;
 use raft_log_file_settings::RecoveryMode;
+use raft_log_fs::FileSystem;
 use raft_log_record_base::Result;
 use raft_log_replay::ReplayMachine;
 use std::alloc::Global;

@@ -13,10 +13,10 @@ use crate::part::GroupPart;
 use crate::pieces::GroupPieces;
 use crate::settle::{settle_all, settle_whole};
 use crate::written::written_count;
-use raft_log_record_base::{Error, FileId, FileSeq, LogQueue, Result};
-use raft_log_record_items::LogItem;
-use raft_log_record_frames::{AtomicGroupStatus, Marking};
 use raft_log_memtables::MemTables;
+use raft_log_record_base::{Error, FileId, FileSeq, LogQueue, Result};
+use raft_log_record_frames::{AtomicGroupStatus, Marking};
+use raft_log_record_items::LogItem;
 use std::alloc::Global;
 
 /// The state of a worker that reads one segment of a queue: the tables of all groups, and the pieces of atomic groups

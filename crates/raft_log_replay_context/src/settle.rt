@@ -7,10 +7,10 @@ ghost use Rattle.raft_log_replay_context.specs.Pieces.{ends_with, with_file};
 ghost use Rattle.raft_log_replay_context.specs.Noting.{is_listed, NotesAll, SettlesAll, SettlesGroup, SettlesWhole};
 
 use crate::part::GroupPart;
+use raft_log_memtable_index::GroupFiles;
+use raft_log_memtables::MemTables;
 use raft_log_record_base::{FileSeq, Result};
 use raft_log_record_items::LogItem;
-use raft_log_memtables::MemTables;
-use raft_log_memtable_index::GroupFiles;
 use std::alloc::{AllocError, Global};
 
 /// Applies these atomic groups, one after the other.

@@ -1,13 +1,13 @@
 //! Records of a queue, read in one piece and in segments that are joined.
 use crate::tables::show_tables;
 use raft_cases::{CaseFault, Command};
+use raft_log_memtables::MemTables;
 use raft_log_record_base::{FileId, LogQueue, Result};
 use raft_log_record_commands::answers::{failed, push_line};
 use raft_log_record_commands::spelled::items;
 use raft_log_record_commands::words::{number_in, numbers, queue_in};
 use raft_log_record_items::LogItem;
 use raft_log_record_items::items::copied;
-use raft_log_memtables::MemTables;
 use raft_log_replay_context::MemTableRecoverContext;
 use std::alloc::Global;
 

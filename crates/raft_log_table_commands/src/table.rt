@@ -1,13 +1,13 @@
 //! The table of one group: its steps.
 use crate::table_reads;
 use raft_cases::{CaseFault, Command};
+use raft_log_memtable::{GlobalStats, MemTable};
+use raft_log_memtable_index::GroupFiles;
 use raft_log_record_base::{Error, FileBlockHandle, FileId, LogQueue};
 use raft_log_record_commands::answers::{done, failed};
 use raft_log_record_commands::spelled::entries;
 use raft_log_record_commands::words::numbers;
 use raft_log_record_items::{Bytes, EntryIndexes};
-use raft_log_memtable_index::GroupFiles;
-use raft_log_memtable::{GlobalStats, MemTable};
 use std::alloc::Global;
 
 /// The table of a case, and the counts of all groups.

@@ -1,10 +1,10 @@
 //! What is read of the table of one group.
 use raft_cases::{CaseFault, Command, show_bytes};
+use raft_log_memtable::MemTable;
 use raft_log_record_base::LogQueue;
 use raft_log_record_commands::answers::{failed, push_line, queue_name, show_entry, truth};
 use raft_log_record_commands::words::{byte_lists, file};
 use raft_log_record_items::{Bytes, EntryIndex};
-use raft_log_memtable::MemTable;
 use std::alloc::{AllocError, Global};
 
 /// Plays a command that reads the table; none if it is none of these.

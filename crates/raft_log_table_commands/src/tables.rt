@@ -1,13 +1,13 @@
 //! The tables of all groups: segments that are read and joined, and batches that are written.
 use crate::table_reads::show_table;
 use raft_cases::{CaseFault, Command};
+use raft_log_memtable_index::GroupFiles;
+use raft_log_memtables::MemTables;
 use raft_log_record_base::{Error, FileId, LogQueue};
 use raft_log_record_commands::answers::{done, failed, show_items};
 use raft_log_record_commands::spelled::items;
 use raft_log_record_commands::words::{file, numbers};
 use raft_log_record_items::LogItem;
-use raft_log_memtables::MemTables;
-use raft_log_memtable_index::GroupFiles;
 use std::alloc::{AllocError, Global};
 
 /// The tables of a case: those of the oldest segment first. A command is for the newest.

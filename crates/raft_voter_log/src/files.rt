@@ -9,8 +9,9 @@ ghost use Rattle.raft_voter_outline.specs.Kept.{outlines_in};
 ghost use Rattle.raft_voter_log.specs.Instance.{AreSame, HasWorkers, log_disk};
 ghost use Rattle.raft_voter_log.specs.Leaving.{FilesLeave};
 
-use crate::{causes::unread_cause, voters::LogVoters};
+use crate::causes::unread_cause;
 use crate::faults::{fault_of, remainder_of};
+use crate::voters::LogVoters;
 use log::sink::Discard;
 use log::{LevelFilter, Log, Logged};
 use raft_log_engine::{Config, EnginePipes, FileSystem, MemoryFileSystem, Nobody, PipeLog, fork};

@@ -3,10 +3,10 @@
 ghost use Rattle.raft_log_engine.specs.raft_log_engine_core.specs.Reads.{shows_of};
 ghost use Rattle.raft_voter_log.specs.Purges.{PurgesKeepOrFail, RefusedPurgesHaveReasons, RunsRefuseForReasons};
 
+use crate::{LogFiles, LogVoters};
 use log::Log;
 use raft_log_engine::{EnginePipes, MemoryFileSystem, Nobody, PipeLog};
 use raft_voter::RoundService;
-use crate::{LogFiles, LogVoters};
 use raft_voter_world::{VoterDisk, VoterStorage};
 
 /// A purge in a run changes no voter, whether it succeeds or fails. If it leaves a store failed, a file call failed in

@@ -3,10 +3,10 @@
 ghost use Rattle.raft_log_engine.specs.raft_log_engine_core.specs.Reads.{shows_of};
 ghost use Rattle.raft_voter_log.specs.Sessions.{ForeignRecordsBreakPremise, RunsAskNothing};
 
+use crate::{LogFiles, LogVoters};
 use log::Log;
 use raft_log_engine::{EnginePipes, MemoryFileSystem, Nobody, PipeLog};
 use raft_voter::RoundService;
-use crate::{LogFiles, LogVoters};
 use raft_voter_world::{VoterDisk, VoterStorage};
 
 /// Runs over a log in which stores are opened, serve, are purged, and crash while they run. If each crash leaves in the

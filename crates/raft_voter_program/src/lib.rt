@@ -15,8 +15,8 @@ mod saving;
 mod setup;
 mod writing;
 
-pub use arguments::{Arguments, USAGE};
 pub use crate::{exit_status, has_arguments};
+pub use arguments::{Arguments, USAGE};
 pub use listing::list_voters;
 pub use loading::load;
 pub use raft_voter_log;

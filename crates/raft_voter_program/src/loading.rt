@@ -2,12 +2,12 @@
 ghost use Rattle.std.specs.Prelude.{IfOk, OnErr};
 ghost use Rattle.raft_voter_program.specs.Loading.{IsLoaded, Loads, LoadsEarly};
 
+use crate::list_voters;
 use crate::setup::{USUAL_DIRECTORY, usual_config};
 use log::{Log, error};
 use raft_log_directory_copies::{CopyFault, load_directory};
 use raft_log_engine::MemoryFileSystem;
 use raft_voter::RoundService;
-use crate::list_voters;
 use raft_voter_log::{LogFiles, LogVoters};
 use raft_voter_world::VoterDisk;
 use std::alloc::Global;

@@ -4,7 +4,10 @@ ghost use Rattle.raft_voter_program.specs.Run.{Ends, EndsEarly, WritesSession};
 ghost use Rattle.raft_voter_program.specs.Setup.{log_setup};
 
 use crate::arguments::{Arguments, USAGE};
-use crate::{exit_status, loading::load, saving::save, setup::LogSetup, write_whole};
+use crate::loading::load;
+use crate::saving::save;
+use crate::setup::LogSetup;
+use crate::{exit_status, write_whole};
 use log::Log;
 use raft_voter::RoundService;
 use raft_voter_log::{LogFiles, LogVoters};
@@ -113,11 +116,5 @@ pub fn run<R: Threads + Log + Sync, I: Read, W: Write>(
         ⟦<LogFiles as VoterDisk<R, LogVoters>>⟧.disk log_setup) false input
         (W.contents writer.old) (W.contents writer.new))) }
 {
-    crate::run::<R, LogVoters, LogFiles, LogSetup, I, W>(
-        rt,
-        alloc,
-        &LogSetup {},
-        reader,
-        writer,
-    )
+    crate::run::<R, LogVoters, LogFiles, LogSetup, I, W>(rt, alloc, &LogSetup {}, reader, writer)
 }

@@ -6,7 +6,8 @@ ghost use Rattle.raft_voter_program.specs.Run.{EndsEarly, WritesSession};
 ghost use Rattle.raft_voter_program.specs.Keeping.{AreFilesIn, AreKept, EndsKept, IsToldOrUnkept};
 ghost use Rattle.raft_voter_program.specs.Setup.{log_setup};
 
-use crate::{run_leaving, setup::LogSetup};
+use crate::run_leaving;
+use crate::setup::LogSetup;
 use log::{Log, error};
 use raft_log_directory_copies::{CopyFault, StoredFile, gather, write_directory};
 use raft_log_engine::{FileSystem, MemoryFileSystem};

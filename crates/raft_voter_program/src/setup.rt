@@ -5,10 +5,10 @@ ghost use Rattle.std.specs.String.{string_bytes};
 ghost use Rattle.raft_log_file_settings.specs.Settings.{settings_of};
 ghost use Rattle.raft_voter_program.specs.Setup.{IsUnset, log_setup, refusal_of, TellsSettings, usual_settings};
 
+use crate::{NoFiles, StoreSetup};
 use log::Log;
 use raft_log_engine::{Config, Error};
 use raft_voter_log::{LogFiles, LogVoters};
-use crate::{NoFiles, StoreSetup};
 use std::alloc::{AllocError, Global};
 
 /// The directory of the log if a session has no settings.

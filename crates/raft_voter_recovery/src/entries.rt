@@ -8,8 +8,8 @@ ghost use Rattle.raft_voter_recovery.specs.Entries.{AreNoEntries, ReadsPiece};
 ghost use Rattle.raft_voter_recovery.specs.Reading.{IsUnreadFor};
 
 use crate::Unread;
-use raft_log_engine_core::LogEngine;
 use raft_log_dual_pipes::PipeLog;
+use raft_log_engine_core::LogEngine;
 use raft_log_record_items::{RawEntries, RawMessage};
 use raft_voter_messages::{Entry, StoredFault, read_entry};
 use std::alloc::Global;

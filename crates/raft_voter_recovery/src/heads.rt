@@ -5,8 +5,8 @@ ghost use Rattle.raft_voter_recovery.specs.Groups.{ForeignPairs, PairsTell, Read
 ghost use Rattle.raft_voter_recovery.specs.Reading.{IsUnreadFor};
 
 use crate::Unread;
-use raft_log_engine_core::LogEngine;
 use raft_log_dual_pipes::PipeLog;
+use raft_log_engine_core::LogEngine;
 use raft_log_record_items::Bytes;
 use raft_voter_messages::{MAX_NUMBER, VoterState, read_state};
 

@@ -12,8 +12,8 @@ ghost use Rattle.raft_voter_recovery.specs.Terms.{KnowsTerms};
 use crate::Unread;
 use crate::heads::{Head, read_head};
 use crate::terms::read_terms_piece;
-use raft_log_engine_core::LogEngine;
 use raft_log_dual_pipes::PipeLog;
+use raft_log_engine_core::LogEngine;
 use raft_voter_outline::{Outline, Outlines};
 use std::alloc::Global;
 

@@ -9,8 +9,8 @@ ghost use Rattle.raft_voter_recovery.specs.Terms.{AddsTerms, AddsTold, AreNotTol
 
 use crate::Unread;
 use crate::entry_head::{EntryHead, EntryHeads};
-use raft_log_engine_core::LogEngine;
 use raft_log_dual_pipes::PipeLog;
+use raft_log_engine_core::LogEngine;
 use raft_voter_outline::Outline;
 use std::alloc::Global;
 

@@ -5,8 +5,8 @@ ghost use Rattle.raft_voter_shared_log.specs.GoingOn.{ClosedStoresGoOn};
 ghost use Rattle.raft_voter_shared_log.specs.Joining.{JoinedOpeningsAreExplained};
 ghost use Rattle.raft_voter_shared_log.specs.LogOpenings.{LogOpeningsAreExplained, SettledStoresMean};
 
-use raft_log_fs::FileSystem;
 use raft_log_engine::{EnginePipes, Nobody, PipeLog};
+use raft_log_fs::FileSystem;
 use raft_voter::RoundService;
 use raft_voter_world::{VoterDisk, VoterStorage};
 

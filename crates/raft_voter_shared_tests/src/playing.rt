@@ -20,7 +20,7 @@ use std::thread::Threads;
 pub enum Play {
     /// All is handed in.
     All,
-    /// All is handed in, with the two threads' parts swapped.
+    /// All is handed in, and each thread has the seat of the other.
     Swapped,
     /// The replies of a receipt are taken away.
     Changed,
@@ -47,20 +47,17 @@ fn settle_two<L: Opening + Send + Sync, R: Threads + Wait + Send + Sync>(
         alloc, store, blank, 1024,
     );
     let second = first.split()?;
-    let lent = &shared;
-    let (one, other) = if play == Play::Swapped {
-        thread::join(
-            rt,
-            move || two_rounds(rt, alloc, lent, second, 2, before),
-            move || two_rounds(rt, alloc, lent, first, 1, before),
-        )
+    let (first, second) = if play == Play::Swapped {
+        (second, first)
     } else {
-        thread::join(
-            rt,
-            move || two_rounds(rt, alloc, lent, first, 1, before),
-            move || two_rounds(rt, alloc, lent, second, 2, before),
-        )
+        (first, second)
     };
+    let lent = &shared;
+    let (one, other) = thread::join(
+        rt,
+        move || two_rounds(rt, alloc, lent, first, 1, before),
+        move || two_rounds(rt, alloc, lent, second, 2, before),
+    );
     hand_in(alloc, shared, one?, other?, play)
 }
 
@@ -74,7 +71,7 @@ fn hand_in<L: Opening, R: Wait>(
 ) -> Option<Result<Settled<PlainVoters>, (SettleCause, usize, usize)>>
     requires { L.all ≡ L.parts }
 {
-    if !rises(&one) || !rises(&other) {
+    if !rises(&one, 1) || !rises(&other, 2) {
         return None;
     }
     let mut seats = Vec::new(alloc);
@@ -110,13 +107,12 @@ fn counted<L: Opening, R: Wait>(
     (fault.cause, fault.seats.len(), fault.receipts.len())
 }
 
-/// Whether a seat's entry was read back, at a later place, by its own next turn.
-fn rises<L: Opening>(told: &Told<L>) -> bool {
-    let byte = if told.brought.seat == 0 { 1 } else { 2 };
-    told.brought.place < told.read.place
-        && told.brought.turn == 0
-        && told.read.turn == 1
-        && has_entry(&told.read, byte)
+/// Whether a seat's entry of this byte was read back, at a later place, by its own next turn.
+fn rises<L: Opening>(told: &Told<L>, byte: u8) -> bool {
+    (told.brought.place < told.read.place)
+        & (told.brought.turn == 0)
+        & (told.read.turn == 1)
+        & has_entry(&told.read, byte)
 }
 
 /// Two threads serve two rounds each over a ledger of 1,024 parts, and the store is settled.

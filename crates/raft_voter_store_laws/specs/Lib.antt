@@ -7,4 +7,5 @@ pub mod Opens
 pub use Rattle.raft_voter_store
 pub mod Reuse
 pub mod Workers
+
 -- libraries below, re-exported to crates above

@@ -1,19 +1,24 @@
-//! Want of memory, to be run with each allocation refused in turn.
-use crate::requests::append_behind;
-use raft_voter::{Items, Memory, Reply, Request, Voter};
+//! Voters and outlines that run out of memory: a failed call changes nothing, and the same call then succeeds.
+use raft_voter::{Items, Memory, Outline, Request, Voter};
 use std::alloc::Global;
 use std::test::Fail;
 
-/// An Append of these terms, each entry with one byte.
+/// An append of entries of these terms after index 0, each with one byte.
 fn append(alloc: Global, terms: &[u64]) -> Result<Request, Memory> {
-    let mut sent = Items::new(alloc);
+    let mut entries = Items::new(alloc);
     for term in terms {
-        sent.push((*term, Items::from_slice(alloc, &[7])?))?;
+        entries.push((*term, Items::from_slice(alloc, &[7])?))?;
     }
-    Ok(append_behind(0, sent))
+    Ok(Request::Append {
+        term: 1,
+        prev_index: 0,
+        prev_term: 0,
+        commit: 0,
+        entries,
+    })
 }
 
-/// Where memory is refused the voter is as before, and the same request then gets its reply.
+/// Whether a voter that runs out of memory is as before; the same request then succeeds.
 fn step(voter: &mut Voter, request: &Request) -> Result<bool, Memory> {
     let before = voter.state();
     match voter.step(request) {
@@ -26,14 +31,36 @@ fn step(voter: &mut Voter, request: &Request) -> Result<bool, Memory> {
     }
 }
 
+/// Whether an outline without room for a change is as before; there is room then, and the change is made.
+fn take(outline: &mut Outline, request: &Request) -> Result<bool, Memory> {
+    let Some(change) = outline.decide(request).change else {
+        return Ok(true);
+    };
+    let before = outline.state();
+    let mut is_kept = true;
+    if outline.reserve(&change, request).is_err() {
+        is_kept = outline.state() == before;
+        outline.reserve(&change, request)?;
+    }
+    outline.apply(&change, request);
+    Ok(is_kept)
+}
+
 #[test]
 fn refused_memory_changes_nothing(rt: HostRuntime) -> Result<(), Fail> {
-    let alloc = rt.alloc();
-    let mut voter = Voter::new(alloc);
-    assert!(rt; step(&mut voter, &append(alloc, &[1, 1, 2])?)?);
-    assert!(rt; step(&mut voter, &append(alloc, &[1, 3, 4])?)?);
+    let mut voter = Voter::new(rt.alloc());
+    assert!(rt; step(&mut voter, &append(rt.alloc(), &[1, 1, 2])?)?);
+    assert!(rt; step(&mut voter, &append(rt.alloc(), &[1, 3, 4])?)?);
     assert!(rt; step(&mut voter, &Request::Read { from: 1, to: 4 })?);
     assert!(rt; voter.state().last_term == 4);
-    assert!(rt; matches!(voter.step(&Request::Status)?, Reply::Status(_)));
+    Ok(())
+}
+
+#[test]
+fn refused_room_changes_no_outline(rt: HostRuntime) -> Result<(), Fail> {
+    let mut outline = Outline::new(rt.alloc());
+    assert!(rt; take(&mut outline, &append(rt.alloc(), &[1, 1, 2, 2])?)?);
+    assert!(rt; take(&mut outline, &append(rt.alloc(), &[1, 1, 3])?)?);
+    assert!(rt; outline.state().last_term == 3);
     Ok(())
 }

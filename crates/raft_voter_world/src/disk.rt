@@ -4,7 +4,9 @@ ghost use Rattle.std.specs.Thread.{IsSync};
 ghost use Rattle.raft_voter.specs.Service.{IsFromOutside};
 ghost use Rattle.raft_voter_world.specs.Stores.{FindsVoters, LeavesInFiles, LeavesStanding, LeavesUnder, StaysInFiles};
 
-use crate::{event::Left, faults::Fault, store::VoterStorage};
+use crate::event::Left;
+use crate::faults::Fault;
+use crate::store::VoterStorage;
 use raft_voter::{Cause, FilesRefused, Memory};
 use std::alloc::Global;
 use std::thread::Threads;

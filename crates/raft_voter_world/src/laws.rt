@@ -2,7 +2,8 @@
 ghost use Rattle.raft_voter_world.specs.Alike.{AllReplyAlike};
 ghost use Rattle.raft_voter_world.specs.Run.{AllExplained, AllTransparent};
 
-use crate::{disk::VoterDisk, store::VoterStorage};
+use crate::disk::VoterDisk;
+use crate::store::VoterStorage;
 use raft_voter::RoundService;
 
 /// If nothing was lost, and each store that was opened serves some voters, then voters that never fail explain the

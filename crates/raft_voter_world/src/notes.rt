@@ -5,7 +5,8 @@ ghost use Rattle.raft_voter.specs.Voters.{world_of};
 ghost use Rattle.raft_voter_world.specs.Places.{IsPlaceFound};
 ghost use Rattle.raft_voter_world.specs.Notes.{cut_of, NotesAnswered, NotesCut, NotesIdle, Settles, NotesShown};
 
-use crate::{places::find_place, report::WorldReport};
+use crate::places::find_place;
+use crate::report::WorldReport;
 use raft_voter::{Items, Memory, Round, Transcript, Voters};
 use std::alloc::Global;
 

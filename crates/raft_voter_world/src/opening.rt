@@ -4,7 +4,9 @@ ghost use Rattle.raft_voter.specs.Voters.{world_of};
 ghost use Rattle.raft_voter_world.specs.Openings.{ComesOf, ComesOut};
 ghost use Rattle.raft_voter_world.specs.Stores.{world_in};
 
-use crate::{disk::VoterDisk, event::Left, store::VoterStorage};
+use crate::disk::VoterDisk;
+use crate::event::Left;
+use crate::store::VoterStorage;
 use raft_voter::{Memory, Voter, Voters};
 use std::alloc::Global;
 use std::thread::Threads;

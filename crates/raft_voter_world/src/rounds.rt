@@ -2,8 +2,8 @@
 
 ghost use Rattle.raft_voter_world.specs.Independent.{RoundsAreIndependent, RunsAreIndependent, WholeRoundsAreIndependent};
 
-use raft_voter::RoundService;
 use crate::{VoterDisk, VoterStorage};
+use raft_voter::RoundService;
 
 /// If a store refused only requests out of range in its rounds, each group got the replies of a voter of its own. That
 /// voter took the group's requests, one after another. The requests of other groups, and the split into rounds, make no

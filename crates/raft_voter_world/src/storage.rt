@@ -4,9 +4,11 @@ ghost use Rattle.raft_voter_world.specs.History.{Crashes, has_stopped, IsClosedA
 ghost use Rattle.raft_voter_world.specs.History.Change.{arms, copies};
 ghost use Rattle.raft_voter_world.specs.Storages.{IsServed, KeepsIfClosed, PurgesIfOpen};
 
-use crate::{disk::VoterDisk, event::Left, store::VoterStorage};
+use crate::disk::VoterDisk;
+use crate::event::Left;
 use crate::faults::{Fault, Purge};
 use crate::serving::{Served, answered, cut_off};
+use crate::store::VoterStorage;
 use raft_voter::{Cause, Items, Memory, Request};
 use std::alloc::Global;
 

@@ -7,10 +7,14 @@ ghost use Rattle.raft_voter_world.specs.Steps.{event_of, Falling, IsReady, IsSte
 
 mod running;
 
-use crate::{disk::VoterDisk, notes::Notes, serving::Served, storage::Storage, store::VoterStorage};
+use crate::disk::VoterDisk;
 use crate::event::{Event, Left};
 use crate::faults::{Fault, Purge};
+use crate::notes::Notes;
 use crate::opening::{Opened, open_files};
+use crate::serving::Served;
+use crate::storage::Storage;
+use crate::store::VoterStorage;
 use raft_voter::{Items, Memory, Request};
 pub use running::run_world;
 use std::alloc::Global;

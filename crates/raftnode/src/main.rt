@@ -11,8 +11,8 @@ mod settings;
 
 use asking::{Asked, USAGE};
 use log::Log;
-use raft_log_fs_os::{DirectoryFileSystem, FileDevice, make_directory, open_directories};
 use raft_log_engine::{Config, FileSystem};
+use raft_log_fs_os::{DirectoryFileSystem, FileDevice, make_directory, open_directories};
 use raft_voter_node::run;
 use refusal::Refusal;
 use settings::settings;

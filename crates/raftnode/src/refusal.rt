@@ -1,6 +1,6 @@
 //! Why the program ends with status 1.
-use raft_log_fs_os::DirectoryFault;
 use raft_log_engine::Error as LogError;
+use raft_log_fs_os::DirectoryFault;
 use std::alloc::AllocError;
 use std::io;
 use thiserror::Error;

@@ -13,10 +13,10 @@ ghost use Rattle.raft_log_engine_core.specs.Touching.{StaysPurged};
 use super::LogEngine;
 use raft_log_block_cache::BlockCache;
 use raft_log_dual_pipes::PipeLog;
+use raft_log_extents::Bounds;
+use raft_log_memtable::MemTable;
 use raft_log_record_base::{Error, FileBlockHandle, Result};
 use raft_log_record_items::{EntryIndex, Message, MessageExt};
-use raft_log_memtable::MemTable;
-use raft_log_extents::Bounds;
 use std::alloc::Global;
 use std::io::ErrorKind;
 

@@ -7,10 +7,10 @@ ghost use Rattle.raft_log_engine_core.specs.Purging.{CountsBrought, IsPurgedBy};
 
 use super::LogEngine;
 use log::Log;
-use raft_log_fs::FileSystem;
-use raft_log_file_listeners::{EventListener, Nobody, PurgeHook, ToldPipes};
 use raft_log_dual_pipes::{DualPipes, OpenRefused, PipeLog};
+use raft_log_file_listeners::{EventListener, Nobody, PurgeHook, ToldPipes};
 use raft_log_file_settings::Config;
+use raft_log_fs::FileSystem;
 use raft_log_open::{OpenedLog, open_directory};
 use raft_log_purge_policy::Thresholds;
 use raft_log_replay::ReplayThreads;

@@ -23,7 +23,8 @@ ghost use Rattle.raft_log_engine_core.specs.Touching.{StaysPurged};
 use super::LogEngine;
 use log::Log;
 use raft_log_dual_pipes::PipeLog;
-use raft_log_purge::{purge_and_count, raft_log_purge_copy::purge_all_stale, rewrite_and_count, rewrite_append_and_count};
+use raft_log_purge::raft_log_purge_copy::purge_all_stale;
+use raft_log_purge::{purge_and_count, rewrite_and_count, rewrite_append_and_count};
 use raft_log_record_base::{Error, FileSeq, Result};
 
 impl<P: PipeLog> LogEngine<P> {

@@ -11,9 +11,9 @@ ghost use Rattle.raft_log_engine_core.specs.Reads.{shows_of, IsFailed, IsUncopie
 
 use super::LogEngine;
 use raft_log_dual_pipes::PipeLog;
+use raft_log_memtable::MemTable;
 use raft_log_record_base::{Error, Result};
 use raft_log_record_items::Bytes;
-use raft_log_memtable::MemTable;
 
 impl<P: PipeLog> LogEngine<P> {
     /// The index of a group's first entry, if it has one. Fails with `Failed` if the engine has failed.

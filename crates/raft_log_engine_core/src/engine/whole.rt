@@ -7,8 +7,8 @@ ghost use Rattle.raft_log_engine_core.specs.Touching.{StaysPurged};
 ghost use Rattle.raft_log_engine_core.specs.Whole.{used_size, ArmsEngine, TellsSpan};
 
 use super::LogEngine;
-use raft_log_fs::Fault;
 use raft_log_dual_pipes::PipeLog;
+use raft_log_fs::Fault;
 use raft_log_record_base::{Error, FileSeq, LogQueue, Result};
 
 impl<P: PipeLog> LogEngine<P> {

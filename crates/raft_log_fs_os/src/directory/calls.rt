@@ -1,6 +1,8 @@
 //! The calls.
 use super::DirectoryFileSystem;
-use crate::{device::Device, directory::checks::stopping, durable};
+use crate::device::Device;
+use crate::directory::checks::stopping;
+use crate::durable;
 use raft_log_fs::{Fault, FileSystem, Handle, Permission};
 use raft_log_fs_state::Node;
 use std::io::ErrorKind;

@@ -5,8 +5,8 @@ ghost use Rattle.raft_log_memtable.specs.Files.{least_rewritten, min_file, noted
 ghost use Rattle.raft_log_memtable.specs.Table.{promise, shown, IsBoundAs};
 
 use super::MemTable;
-use raft_log_record_base::{FileSeq, LogQueue};
 use raft_log_memtable_index::{GroupFiles, lesser};
+use raft_log_record_base::{FileSeq, LogQueue};
 
 impl MemTable {
     /// The least file of a queue in use, if there is one. For Append it is the file of the first appended entry or of a

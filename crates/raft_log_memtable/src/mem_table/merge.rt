@@ -19,8 +19,8 @@ ghost use Rattle.raft_log_memtable.specs.Table.{promise, replay_of, shown, windo
 
 use super::MemTable;
 use crate::ends::Ends;
-use raft_log_record_base::{Error, Result};
 use raft_log_memtable_index::{GroupFiles, lesser};
+use raft_log_record_base::{Error, Result};
 use std::alloc::AllocError;
 
 impl MemTable {

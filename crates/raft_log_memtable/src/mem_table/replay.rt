@@ -11,9 +11,9 @@ ghost use Rattle.raft_log_memtable.specs.Room.{IsForgotten};
 ghost use Rattle.raft_log_memtable.specs.Table.{promise, replay_of, runs_of, shown, IsBoundAs, RunRefused};
 
 use super::MemTable;
+use raft_log_memtable_index::HeldValue;
 use raft_log_record_base::{FileSeq, LogQueue, Result};
 use raft_log_record_items::{Bytes, EntryIndex};
-use raft_log_memtable_index::HeldValue;
 use std::alloc::AllocError;
 
 impl MemTable {

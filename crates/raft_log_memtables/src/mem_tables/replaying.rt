@@ -19,9 +19,9 @@ ghost use Rattle.raft_log_memtables.specs.Tables.{counts, has_table, promise_of,
 
 use super::{MemTables, is_mark};
 use crate::group_table::GroupTable;
+use raft_log_memtable_index::GroupFiles;
 use raft_log_record_base::{FileSeq, LogQueue, Result};
 use raft_log_record_items::LogItem;
-use raft_log_memtable_index::GroupFiles;
 
 impl MemTables {
     /// Applies the items of a record that was read in this file of Append. A mark says nothing.

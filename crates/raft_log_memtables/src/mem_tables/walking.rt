@@ -9,8 +9,8 @@ ghost use Rattle.raft_log_memtables.specs.Walking.{is_listed, IsLeastInTable, Is
 
 use super::MemTables;
 use crate::group_table::GroupTable;
-use raft_log_record_base::{FileSeq, LogQueue};
 use raft_log_memtable::MemTable;
+use raft_log_record_base::{FileSeq, LogQueue};
 use std::alloc::AllocError;
 use std::collections::btree_map::Iter;
 

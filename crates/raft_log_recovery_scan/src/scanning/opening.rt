@@ -12,10 +12,10 @@ ghost use Rattle.raft_log_recovery_scan.specs.Opened.{AreOpen, FailsToLook, IsOp
 use super::directories::refusal;
 use super::found::FoundFile;
 use crate::file_kind::{FileKind, FileName};
-use raft_log_fs::{FileSystem, Handle, Permission};
-use raft_log_file_format::LogFileFormat;
 use raft_log_active_file::{File, PathId, place_of};
+use raft_log_file_format::LogFileFormat;
 use raft_log_file_settings::RecoveryMode;
+use raft_log_fs::{FileSystem, Handle, Permission};
 use raft_log_record_base::{Error, Result};
 use std::alloc::Global;
 

@@ -5,8 +5,11 @@ ghost use Rattle.raft_voter_world.specs.Played.{Ended, HasPlayed, Stands};
 ghost use Rattle.raft_voter_world.specs.Steps.{IsReady, IsStep};
 
 use super::World;
-use crate::{disk::VoterDisk, faults::Purge, report::WorldReport, store::VoterStorage};
+use crate::disk::VoterDisk;
 use crate::event::{Event, Left};
+use crate::faults::Purge;
+use crate::report::WorldReport;
+use crate::store::VoterStorage;
 use raft_voter::Memory;
 use std::alloc::Global;
 use std::collections::VecDeque;

@@ -9,7 +9,7 @@ use Rattle.raft_voter_session.specs.Told.{SessionContent}
 use Rattle.raft_voter_session.specs.Session.{session_of}
 use Rattle.raft_voter_program.specs.Run.{EndsEarly, IsUntoldFor, MayWrite, refused_text}
 use Rattle.raft_voter_program.specs.Leaving.{EndsLeaving, MayWriteLeaving}
-use Rattle.raft_voter_program.specs.declared.run_running.Ended.{Ended}
+use Rattle.raft_voter_program.specs.declared.over_store.Ended.{Ended}
 use Rattle.raft_voter_program.specs.Writing.{StopsWithin, TakesFront}
 
 too_long : (n : ℕ) (bytes : List ℕ) → nat_le (length (take (n + 1) bytes)) n ≡ nat_le (length bytes) n

@@ -5,7 +5,7 @@ use Rattle.raft_voter.specs.Service.{Service}
 use Rattle.raft_voter_world.specs.Stores.{Disk, Upkeep}
 use Rattle.raft_voter_session.specs.Told.{SessionContent}
 use Rattle.raft_voter_session.specs.Session.{session_of}
-use Rattle.raft_voter_program.specs.RunSetup.{Setup}
+use Rattle.raft_voter_program.specs.StoreSetup.{Setup}
 use Rattle.raft_voter_program.specs.Run.{Ends, IsUntoldFor, MayWrite, TellsLines, WritesSession}
 use Rattle.raft_voter_program.specs.Writing.{StopsWithin}
 use Rattle.raft_voter_program.specs.Leaving.{EndsLeaving, MayWriteLeaving, TellsLinesLeaving, WritesLeaving}

@@ -7,7 +7,7 @@ use Rattle.raft_log_record_base.specs.declared.errors.Error.{Error}
 use Rattle.raft_log_record_base.specs.declared.errors.Error.TheVariants as errors
 use Rattle.raft_log_file_settings.specs.Reading.{GivesSettingsOf}
 use Rattle.raft_log_file_settings.specs.declared.config.Config.{Config}
-use Rattle.raft_voter_program.specs.declared.run_setup.NoFiles.{NoFiles}
+use Rattle.raft_voter_program.specs.declared.store_setup.NoFiles.{NoFiles}
 use Rattle.raft_voter_program.specs.Setup.{IsUnset, refusal_of}
 
 -- a text that gives no settings tells none, or memory ran out

@@ -9,7 +9,7 @@ use Rattle.raft_voter_world.specs.Run.{IsRun}
 use Rattle.raft_voter_session.specs.declared.session.Session.{Session}
 use Rattle.raft_voter_session.specs.Told.{said}
 use Rattle.raft_voter_session.specs.Text.{transcript_text}
-use Rattle.raft_voter_program.specs.RunSetup.{Setup}
+use Rattle.raft_voter_program.specs.StoreSetup.{Setup}
 use Rattle.raft_voter_program.specs.Run.{IsJudged, SaysYes}
 use Rattle.raft_voter_program.specs.Leaving.{WritesLeaving}
 

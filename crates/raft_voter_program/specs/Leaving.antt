@@ -6,7 +6,7 @@ use Rattle.raft_voter_world.specs.Stores.{Disk, Upkeep}
 use Rattle.raft_voter_session.specs.Told.{SessionContent}
 use Rattle.raft_voter_session.specs.Session.{session_of}
 use Rattle.raft_voter_session.specs.Text.{unreadable_text}
-use Rattle.raft_voter_program.specs.RunSetup.{Setup}
+use Rattle.raft_voter_program.specs.StoreSetup.{Setup}
 use Rattle.raft_voter_program.specs.Run.{WritesRun, settings_refused}
 
 -- what is written for a session: the transcript of a run whose report has these files; or, if no files remain, that the

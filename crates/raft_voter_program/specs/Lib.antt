@@ -5,6 +5,6 @@ pub mod Lines
 pub mod Listing
 pub mod Loading
 pub mod Run
-pub mod RunSetup
+pub mod StoreSetup
 pub mod Setup
 pub mod Writing

@@ -14,7 +14,7 @@ use Rattle.raft_voter_world.specs.Run.{IsRun, moments_of}
 use Rattle.raft_voter_session.specs.Told.{SessionContent, told}
 use Rattle.raft_voter_session.specs.Session.{session_of}
 use Rattle.raft_voter_session.specs.Text.{transcript_text, unreadable_text}
-use Rattle.raft_voter_program.specs.RunSetup.{Setup}
+use Rattle.raft_voter_program.specs.StoreSetup.{Setup}
 use Rattle.raft_voter_program.specs.Writing.{StopsWithin}
 
 -- a transcript is written with its cuts, and with the verdict whether voters that never fail explain it

@@ -10,9 +10,9 @@ use Rattle.raft_log_file_settings.specs.Settings.{Settings, default_settings, se
 use Rattle.raft_log_file_settings.specs.declared.fault.ConfigFault.{ConfigFault}
 use Rattle.toml.specs.Parse.{parse_document}
 use Rattle.raft_voter_log.specs.declared.files.LogFiles.{LogFiles}
-use Rattle.raft_voter_program.specs.RunSetup.{Setup}
-use Rattle.raft_voter_program.specs.declared.run_setup.NoFiles.{NoFiles}
-use Rattle.raft_voter_program.specs.declared.run_setup.NoFiles.TheVariants as none
+use Rattle.raft_voter_program.specs.StoreSetup.{Setup}
+use Rattle.raft_voter_program.specs.declared.store_setup.NoFiles.{NoFiles}
+use Rattle.raft_voter_program.specs.declared.store_setup.NoFiles.TheVariants as none
 
 -- the settings if a session has none: the default ones, in the directory `raft`
 abbrev pub usual_settings : Settings

@@ -8,23 +8,23 @@
 mod arguments;
 mod listing;
 mod loading;
-mod run_running;
-mod run_setup;
+mod over_store;
 mod running;
 mod saving;
 mod setup;
+mod store_setup;
 mod writing;
 
-pub use crate::{exit_status, has_arguments};
 pub use arguments::{Arguments, USAGE};
 pub use listing::list_voters;
 pub use loading::load;
-pub use raft_voter_log;
-pub use run_running::{
-    Ended, exit_status, has_arguments, program, run, run_bytes, run_bytes_leaving, run_leaving,
+pub use over_store::{
+    Ended, exit_status, has_arguments, program_over, run_bytes, run_bytes_leaving, run_leaving,
+    run_over,
 };
-pub use run_setup::{NoFiles, StoreSetup};
+pub use raft_voter_log;
 pub use running::{program, run, start};
 pub use saving::{kept_files, save};
 pub use setup::LogSetup;
+pub use store_setup::{NoFiles, StoreSetup};
 pub use writing::write_whole;

@@ -4,7 +4,7 @@ ghost use Rattle.std.specs.IoError.{error_kind};
 ghost use Rattle.raft_voter_program.specs.Listing.{AreRising, ListsEarly, ListsVoters, MayList, TellsLines};
 ghost use Rattle.raft_voter_program.specs.Lines.{voter_text, voters_text};
 
-use crate::write_whole;
+use crate::writing::write_whole;
 use raft_voter::{Cause, Memory, Reply, Voter};
 use raft_voter_world::{VoterDisk, VoterStorage};
 use std::alloc::Global;

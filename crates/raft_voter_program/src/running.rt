@@ -5,9 +5,10 @@ ghost use Rattle.raft_voter_program.specs.Setup.{log_setup};
 
 use crate::arguments::{Arguments, USAGE};
 use crate::loading::load;
+use crate::over_store::{exit_status, program_over, run_over};
 use crate::saving::save;
 use crate::setup::LogSetup;
-use crate::{exit_status, write_whole};
+use crate::writing::write_whole;
 use log::Log;
 use raft_voter::RoundService;
 use raft_voter_log::{LogFiles, LogVoters};
@@ -65,7 +66,7 @@ fn print_usage<W: Write>(writer: &mut W) -> io::Result<u8>
     Ok(0)
 }
 
-/// The program of `raft_voter_program` over a store on a log: rejects arguments without reading anything, and runs a
+/// `program_over` with a store on a log: rejects arguments without reading anything, and runs a
 /// session without arguments. Fails with an `Err` if memory, the reader or the writer fails; then no verdict is
 /// claimed.
 pub fn program<R: Threads + Log + Sync, I: Read, W: Write>(
@@ -85,7 +86,7 @@ pub fn program<R: Threads + Log + Sync, I: Read, W: Write>(
         (W.contents writer.old) (W.contents writer.new))) }
     ensures unread { has_arguments ≡ true → reader.new ≡ reader.old }
 {
-    crate::program::<R, LogVoters, LogFiles, LogSetup, I, W>(
+    program_over::<R, LogVoters, LogFiles, LogSetup, I, W>(
         rt,
         has_arguments,
         alloc,
@@ -95,7 +96,7 @@ pub fn program<R: Threads + Log + Sync, I: Read, W: Write>(
     )
 }
 
-/// The run of `raft_voter_program` over a store on a log: reads a session, runs its events, and writes the transcript with
+/// `run_over` with a store on a log: reads a session, runs its events, and writes the transcript with
 /// a verdict. Or it writes that the settings are rejected, or which line is the first unreadable one.
 ///
 /// The status is 0 if the verdict is yes, 1 if it is no or the settings are rejected, and 2 for an unreadable line.
@@ -116,5 +117,5 @@ pub fn run<R: Threads + Log + Sync, I: Read, W: Write>(
         ⟦<LogFiles as VoterDisk<R, LogVoters>>⟧.disk log_setup) false input
         (W.contents writer.old) (W.contents writer.new))) }
 {
-    crate::run::<R, LogVoters, LogFiles, LogSetup, I, W>(rt, alloc, &LogSetup {}, reader, writer)
+    run_over::<R, LogVoters, LogFiles, LogSetup, I, W>(rt, alloc, &LogSetup {}, reader, writer)
 }

@@ -5,7 +5,7 @@ ghost use Rattle.std.specs.String.{string_bytes};
 ghost use Rattle.raft_log_file_settings.specs.Settings.{settings_of};
 ghost use Rattle.raft_voter_program.specs.Setup.{IsUnset, log_setup, refusal_of, TellsSettings, usual_settings};
 
-use crate::{NoFiles, StoreSetup};
+use crate::store_setup::{NoFiles, StoreSetup};
 use log::Log;
 use raft_log_engine::{Config, Error};
 use raft_voter_log::{LogFiles, LogVoters};

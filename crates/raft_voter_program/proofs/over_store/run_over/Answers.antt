@@ -1,5 +1,5 @@
 use Rattle.raft_voter_program.proofs.Left.{ends_known}
-use Rattle.raft_voter_program.proofs.run_running.run.Goals as goal
+use Rattle.raft_voter_program.proofs.over_store.run_over.Goals as goal
 
 pub returns-in-Ok-clause-ok : goal.returns-in-Ok-clause-ok
 returns-in-Ok-clause-ok g c =

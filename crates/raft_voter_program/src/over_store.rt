@@ -6,7 +6,7 @@ ghost use Rattle.raft_voter_session.specs.Text.{unreadable_text};
 ghost use Rattle.raft_voter_program.specs.Leaving.{EndsLeaving, MayWriteLeaving, WritesLeaving};
 ghost use Rattle.raft_voter_program.specs.Run.{Ends, EndsEarly, IsJudged, IsUntoldFor, settings_refused, WritesSession};
 
-use crate::setup::{NoFiles, StoreSetup};
+use crate::store_setup::{NoFiles, StoreSetup};
 use crate::writing::write_whole;
 use raft_voter::{Memory, Transcript, judge};
 use raft_voter_session::{Session, SessionFault, read_session, write_transcript, write_unreadable};
@@ -69,7 +69,7 @@ pub fn exit_status(ended: io::Result<u8>) -> u8
 
 /// The program. With arguments it rejects them and reads nothing; without arguments it runs a session. An `Err` says
 /// that memory ran out, or that the reader or the writer failed, and claims no verdict.
-pub fn program<
+pub fn program_over<
     R: Threads + Sync,
     S: VoterStorage<R> + Drop,
     F: VoterDisk<R, S> + Drop,
@@ -97,7 +97,7 @@ pub fn program<
         write_whole(writer, b"arguments refused\n")?;
         return Ok(ARGUMENTS_REFUSED);
     }
-    run::<R, S, F, C, I, W>(rt, alloc, setup, reader, writer)
+    run_over::<R, S, F, C, I, W>(rt, alloc, setup, reader, writer)
 }
 
 /// Reads a session, runs its events on a store with its settings, and writes the transcript with a verdict. If the
@@ -110,7 +110,7 @@ pub fn program<
 /// An `Err` says that memory ran out, or that the reader or the writer failed. Then nothing was written, or a prefix of
 /// what may be written, and no verdict is claimed. A session that is too long is read only as far as needed to
 /// recognize that.
-pub fn run<
+pub fn run_over<
     R: Threads + Sync,
     S: VoterStorage<R> + Drop,
     F: VoterDisk<R, S> + Drop,
@@ -132,7 +132,7 @@ pub fn run<
     }
 }
 
-/// Runs a session as `run` does. Returns the status and, if a verdict was written, the files that its run left.
+/// Runs a session as `run_over` does. Returns the status and, if a verdict was written, the files that its run left.
 pub fn run_leaving<
     R: Threads + Sync,
     S: VoterStorage<R> + Drop,
@@ -153,7 +153,7 @@ pub fn run_leaving<
     run_bytes_leaving::<R, S, F, C, W>(rt, alloc, setup, front.as_slice(), writer)
 }
 
-/// Runs the session of these bytes, and writes what `run` writes for it. An `Err` says that memory ran out, or that the
+/// Runs the session of these bytes, and writes what `run_over` writes for it. An `Err` says that memory ran out, or that the
 /// writer failed. If memory ran out, nothing was written and the error has that kind. If the writer failed, it took a
 /// prefix of what may be written.
 pub fn run_bytes<

@@ -1,5 +1,5 @@
 use Rattle.raft_voter_program.proofs.Fronts.{read_in_front}
-use Rattle.raft_voter_program.proofs.run_running.read_front.Goals as goal
+use Rattle.raft_voter_program.proofs.over_store.read_front.Goals as goal
 
 pub returns-clause-ok : goal.returns-clause-ok
 returns-clause-ok g c =

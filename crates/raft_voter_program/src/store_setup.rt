@@ -4,7 +4,7 @@ ghost use Rattle.std.specs.Option.{option_map};
 ghost use Rattle.std.specs.String.{string_bytes};
 ghost use Rattle.raft_voter.specs.Rounds.{fresh_world};
 ghost use Rattle.raft_voter.specs.Service.{uncut};
-ghost use Rattle.raft_voter_program.specs.RunSetup.{IsWithoutFiles};
+ghost use Rattle.raft_voter_program.specs.StoreSetup.{IsWithoutFiles};
 
 use raft_voter_world::{VoterDisk, VoterStorage};
 use std::alloc::Global;
@@ -20,7 +20,7 @@ pub enum NoFiles {
 
 /// Makes the files of a store that has no voters yet, by its settings.
 pub trait StoreSetup<R, S: VoterStorage<R>, F: VoterDisk<R, S>> {
-    ghost use Rattle.raft_voter_program.specs.RunSetup.{Setup};
+    ghost use Rattle.raft_voter_program.specs.StoreSetup.{Setup};
 
     /// Which files a settings text makes, and which text is rejected.
     ghost setup: { Setup F };

@@ -1,5 +1,5 @@
 use Rattle.raft_voter_program.proofs.Fronts.{on_err, refusal_within}
-use Rattle.raft_voter_program.proofs.run_running.program.Goals as goal
+use Rattle.raft_voter_program.proofs.over_store.program_over.Goals as goal
 
 pub returns-in_err-write_whole-clause-err : goal.returns-in_err-write_whole-clause-err
 returns-in_err-write_whole-clause-err g c =

@@ -1,7 +1,7 @@
 use Rattle.std.specs.IoError.{error_kind}
 use Rattle.std.specs.String.{string_bytes}
 use Rattle.raft_voter_program.proofs.Left.{on_any_err, untold}
-use Rattle.raft_voter_program.proofs.run_running.run_bytes_leaving.Goals as goal
+use Rattle.raft_voter_program.proofs.over_store.run_bytes_leaving.Goals as goal
 
 pub returns-in_err-write_whole-clause-err : goal.returns-in_err-write_whole-clause-err
 returns-in_err-write_whole-clause-err g c =

@@ -1,5 +1,5 @@
 use Rattle.raft_voter_program.proofs.Verdicts.{run_written}
-use Rattle.raft_voter_program.proofs.run_running.shown.Goals as goal
+use Rattle.raft_voter_program.proofs.over_store.shown.Goals as goal
 
 pub returns : goal.returns
 returns g c =

@@ -1,7 +1,7 @@
 -- What the settings of a store make.
 use Rattle.std.specs.Prelude.{ℕ, List, Option}
-use Rattle.raft_voter_program.specs.declared.run_setup.NoFiles.{NoFiles}
-use Rattle.raft_voter_program.specs.declared.run_setup.NoFiles.TheVariants.{Settings, Memory}
+use Rattle.raft_voter_program.specs.declared.store_setup.NoFiles.{NoFiles}
+use Rattle.raft_voter_program.specs.declared.store_setup.NoFiles.TheVariants.{Settings, Memory}
 
 -- which files a settings text, or none, makes, and which text is rejected
 pub record Setup (F : Type 0) : Type 1 where

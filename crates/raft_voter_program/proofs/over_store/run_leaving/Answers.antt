@@ -1,6 +1,6 @@
 use Rattle.std.specs.IoError.{error_kind}
 use Rattle.raft_voter_program.proofs.Fronts.{early_of_front, ends_of_front}
-use Rattle.raft_voter_program.proofs.run_running.run_leaving.Goals as goal
+use Rattle.raft_voter_program.proofs.over_store.run_leaving.Goals as goal
 
 pub returns-clause-ok : goal.returns-clause-ok
 returns-clause-ok g c =

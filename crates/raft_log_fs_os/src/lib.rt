@@ -16,7 +16,6 @@ pub mod opening;
 mod record;
 pub mod writing_back;
 
-pub use crate::DirectoryFileSystem;
 pub use device::Device;
 pub use directory::DirectoryFileSystem;
 pub use fault::DirectoryFault;

@@ -6,7 +6,6 @@
 
 pub mod appending;
 pub mod beginning;
-pub mod beside;
 pub mod closed;
 pub mod closing;
 pub mod dual_pipes;
@@ -14,10 +13,11 @@ pub mod failing;
 pub mod frame;
 pub mod images;
 pub mod laws;
-pub mod lying;
 pub mod on_disk;
+pub mod open_or_closed;
 pub mod opening;
 pub mod own;
+pub mod per_queue;
 pub mod pipe_log;
 pub mod purging;
 pub mod queues;

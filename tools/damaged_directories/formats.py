@@ -255,5 +255,5 @@ def read_file(bytes_, number, is_last):
         read.end = read.records[-1].end if read.records else (69 if read.version == 2 else 61)
         read.fault = corrupt("Entry block checksum mismatch")
     if is_last and read.alignment and not read.records:
-        return FileRead(fault=corrupt("log file header has an alignment, and no record behind it"))
+        return FileRead(fault=corrupt("log file header has an alignment, and no record after it"))
     return read

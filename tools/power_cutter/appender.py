@@ -71,7 +71,7 @@ def standing(told):
     for line in told.split("\n"):
         if line.endswith(" is kept"):
             break
-        front = f"{len(lines) + 1} stands: "
+        front = f"{len(lines) + 1} is kept: "
         if not line.startswith(front):
             raise Fault(f"in the place of line {len(lines) + 1} stands {line[:100]!r}")
         lines.append(line[len(front) :])
@@ -89,7 +89,7 @@ class Heard:
         at = stood = 0
         for line in told.split(b"\n")[:-1]:
             at += len(line) + 1
-            if b" stands: " in line and not self.ends:
+            if b" is kept: " in line and not self.ends:
                 stood += 1
                 continue
             if line.decode() != f"{len(lines) + len(self.ends) + 1} is kept" or len(self.ends) == len(sent) or stood != len(lines):

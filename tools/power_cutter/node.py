@@ -213,7 +213,7 @@ class Heard:
             self.hear_round(requests)
             return
         line = self.line()
-        if line != "purged" and not line.startswith("purge refused: "):
+        if line != "purged" and not line.startswith("purge failed: "):
             raise Fault(f"{kind} is answered {line!r}")
         self.refused_purges += line != "purged"
         self.worlds.append(self.worlds[-1])

@@ -95,7 +95,7 @@ class Room:
         if status != 0 and not (status == -9 and fault.startswith("kill")):
             raise Fault(f"status {status} of a run without a refused call")
         if heard and (heard.is_cut or heard.refused_purges):
-            raise Fault("a round is cut off, or a purge refused, without a cause")
+            raise Fault("a round is cut off, or a purge failed, without a cause")
         if heard and status == 0 and heard.answered() < len(heard.events):
             raise Fault(f"{heard.answered()} of {len(heard.events)} events are answered")
 

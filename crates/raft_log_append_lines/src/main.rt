@@ -38,7 +38,7 @@ fn tell<R: Print + AllocGlobal, F: FileSystem>(
     for index in first..last.saturating_add(1) {
         if let Some(entry) = engine.get_entry::<RawEntries>(GROUP, index)? {
             let text = String::from_utf8_lossy(rt.alloc(), entry.bytes.as_slice())?;
-            println!(rt; "{index} stands: {text}")?;
+            println!(rt; "{index} is kept: {text}")?;
         }
     }
     Ok(())

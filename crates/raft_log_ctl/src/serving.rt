@@ -139,9 +139,9 @@ fn tell<R: Eprint>(rt: &R, place: &Place, task: &Task, refusal: &Refusal) {
     let word = task.word();
     let told = match task {
         Task::Fork(target) => eprintln!(rt;
-            "raft_log_ctl: {word} of {directory} into {target} refused: {refusal}"
+            "raft_log_ctl: {word} of {directory} into {target} failed: {refusal}"
         ),
-        _ => eprintln!(rt; "raft_log_ctl: {word} of {directory} refused: {refusal}"),
+        _ => eprintln!(rt; "raft_log_ctl: {word} of {directory} failed: {refusal}"),
     };
     let _told = told.is_ok();
 }

@@ -113,7 +113,7 @@ fn report_write_fault<G: PipeFormat, F: FileSystem, L: Log>(
             Error::Io(kind)
         }
         WriteFault::Failed(kind) => {
-            error!(rt; "a refused write wasn't cut off: {kind}");
+            error!(rt; "a failed write wasn't truncated: {kind}");
             Error::Failed
         }
     }

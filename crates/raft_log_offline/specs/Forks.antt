@@ -46,7 +46,7 @@ pub data Forbids (s : Settings) (target : List ℕ) (d : Disk) (text : List ℕ)
   tolerates : s.enable_log_recycle ≡ false → s.recovery_mode ≡ TolerateAnyCorruption
       → text ≡ codes "recovery_mode shouldn't be TolerateAnyCorruption" → Forbids s target d text
   inside : MayBeCopied s → LiesInOne (directories_of s) target
-      → text ≡ codes "the target lies in the log's own directory" → Forbids s target d text
+      → text ≡ codes "the target is inside the log's own directory" → Forbids s target d text
   holds : MayBeCopied s → (LiesInOne (directories_of s) target → ⊥) → HoldsLogFile target d
       → text ≡ codes "the target holds log files" → Forbids s target d text
 

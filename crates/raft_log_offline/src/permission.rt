@@ -42,7 +42,7 @@ pub fn permit<F: FileSystem, L: Log>(
         return Err(invalid(alloc, "recovery_mode shouldn't be TolerateAnyCorruption"));
     }
     if lies_in_one(paths, target) {
-        return Err(invalid(alloc, "the target lies in the log's own directory"));
+        return Err(invalid(alloc, "the target is inside the log's own directory"));
     }
     if holds_log_file(file_system, target)? {
         return Err(invalid(alloc, "the target holds log files"));

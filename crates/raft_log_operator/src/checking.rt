@@ -39,7 +39,7 @@ pub fn check<F: FileSystem, W: Write>(
 /// Writes a line for each group of a queue that has a hole.
 fn write_holes<W: Write>(faults: &QueueFaults, out: &mut W) -> io::Result<()> {
     for (group, last) in &faults.holes {
-        writeln!(out, "group {group}: a hole behind entry {last}")?;
+        writeln!(out, "group {group}: a hole after entry {last}")?;
     }
     Ok(())
 }

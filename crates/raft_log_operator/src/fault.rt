@@ -21,7 +21,7 @@ pub enum CommandFault {
         error: LogError,
     },
     /// Writing the output failed.
-    #[error("the output was refused: {0}")]
+    #[error("writing the output failed: {0}")]
     Output(io::Error),
 }
 

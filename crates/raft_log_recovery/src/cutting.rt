@@ -45,7 +45,7 @@ fn cut_file<F: FileSystem, L: Log>(
         return Ok(());
     }
     let end = ending.end.unwrap_or(0);
-    warn!(rt; "log file {} is damaged, and is cut behind {end} bytes", file.seq);
+    warn!(rt; "log file {} is damaged: truncated after {end} bytes", file.seq);
     file_system.truncate(file.handle, end)?;
     file_system.sync(file.handle)
 }

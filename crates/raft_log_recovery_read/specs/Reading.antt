@@ -41,7 +41,7 @@ HasTornHeader last format bare = (last ≡ true) × (IsUnaligned format → ⊥)
 
 -- the message for such a header
 abbrev pub torn_header : List ℕ
-torn_header = codes "log file header has an alignment, and no record behind it"
+torn_header = codes "log file header has an alignment, and no record after it"
 
 -- What the bytes of a file read as, which is the last one of its queue or not. If they don't begin with a header, or
 -- with a torn one, they read as nothing, and that is the fault. Else they read as what follows the header.

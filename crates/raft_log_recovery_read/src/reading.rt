@@ -80,7 +80,7 @@ fn torn_header(alloc: Global) -> Result<Error>
     ensures ok { IfOk result (λ error. TellsFault error (corrupt torn_header)) }
     ensures err { IfErr result (λ error. error ≡ Memory) }
 {
-    let told = format!(in alloc; "log file header has an alignment, and no record behind it")?;
+    let told = format!(in alloc; "log file header has an alignment, and no record after it")?;
     Ok(Error::Corruption(told))
 }
 

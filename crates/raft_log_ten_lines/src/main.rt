@@ -25,6 +25,6 @@ fn save<R: Threads + Log + Sync>(rt: &R, alloc: Global) -> Result<Option<Vec<u8>
 fn main(rt: HostRuntime) -> io::Result<()> {
     match save(&rt, rt.alloc()) {
         Ok(found) => println!(rt; "group 1, key: {found:?}"),
-        Err(error) => println!(rt; "refused: {error}"),
+        Err(error) => println!(rt; "failed: {error}"),
     }
 }

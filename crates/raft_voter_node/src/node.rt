@@ -80,7 +80,7 @@ impl<F: FileSystem + Sync + Drop> Node<F> {
     fn purged(&self, purged: Result<()>) -> anyhow::Result<String> {
         match purged {
             Ok(()) => Ok(String::from_str(self.alloc, "purged\n")?),
-            Err(error) => Ok(format!(in self.alloc; "purge refused: {error}\n")?),
+            Err(error) => Ok(format!(in self.alloc; "purge failed: {error}\n")?),
         }
     }
 

@@ -9,7 +9,7 @@ use thiserror::Error;
 #[derive(Debug, Drop, Error)]
 pub enum Unread {
     /// The engine failed a read: it has failed, or didn't read a block of entries.
-    #[error("a read was refused: {0}")]
+    #[error("a read failed: {0}")]
     Engine(Refusal),
     /// The contents of this group aren't a voter.
     #[error("group {0} holds no voter")]

@@ -1,6 +1,6 @@
 -- What a caller does with the parts of a purge for one group.
 use Rattle.std.specs.Prelude.{ℕ}
-use Rattle.raft_log_directory_laws.specs.Calls.Which.{InAppend, InRewrite}
+use Rattle.raft_log_machine_laws.specs.Calls.Which.{InAppend, InRewrite}
 use Rattle.raft_log_dual_pipes.specs.Calls.{SyncsQueue}
 use Rattle.raft_log_dual_pipes.specs.Pipes.{LogPipes}
 use Rattle.raft_log_engine_core.specs.raft_log_engine_laws.specs.EngineState.{EngineState}

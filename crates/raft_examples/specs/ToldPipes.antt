@@ -1,6 +1,6 @@
 -- What a purge leaves that respects listeners.
 use Rattle.std.specs.Prelude.{ℕ, min, Option, Some, None}
-use Rattle.raft_log_directory_laws.specs.Calls.{Which}
+use Rattle.raft_log_machine_laws.specs.Calls.{Which}
 use Rattle.raft_log_dual_pipes.specs.Calls.{PurgesQueue}
 use Rattle.raft_log_dual_pipes.specs.Pipes.{LogPipes}
 use Rattle.raft_log_file_listeners.specs.Least.{BothHoldBack}

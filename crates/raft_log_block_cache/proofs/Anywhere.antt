@@ -10,8 +10,8 @@ use Rattle.raft_log_model_laws.specs.Groups.{Map, of_group, taken}
 use Rattle.raft_log_model_laws.specs.Renamed.{renamed, renamed_tagged}
 use Rattle.raft_log_model_laws.proofs.RenamedLaws.{of_group_renamed}
 use Rattle.std.proofs.lemmas.List.{length-map}
-use Rattle.raft_log_directory_laws.specs.Log.{View}
-use Rattle.raft_log_directory_laws.specs.Tables.{GrowsTo}
+use Rattle.raft_log_machine_laws.specs.Log.{View}
+use Rattle.raft_log_machine_laws.specs.Tables.{GrowsTo}
 use Rattle.raft_log_record_base.specs.declared.pipe_log.LogQueue.TheVariants.{Append}
 use Rattle.raft_log_record_base.specs.declared.pipe_log.FileBlockHandle.{FileBlockHandle}
 use Rattle.raft_log_record_items.specs.declared.entry.EntryIndex.{EntryIndex}

@@ -9,7 +9,7 @@ use Rattle.raft_log_file_writer.specs.LogQueue.{LogFiles, Past, recent, rotated}
 use Rattle.raft_log_active_file.specs.Queue.{past_bytes, settled, synced, whole, with_more, with_room}
 use Rattle.raft_log_file_pipe.specs.Files.{Listed}
 use Rattle.raft_log_dual_pipes.specs.Turning.{HasTaken, IsCutBack, IsOrGoesOn}
-use Rattle.raft_log_directory_laws.specs.Calls.Which.{InAppend, InRewrite}
+use Rattle.raft_log_machine_laws.specs.Calls.Which.{InAppend, InRewrite}
 use Rattle.raft_log_block_cache.specs.Stored.{CallsKeepBytes, CallsKeepLog, KeepsBytes, file_bytes}
 
 -- the same bytes, with nothing behind them

@@ -10,7 +10,7 @@ use Rattle.raft_log_active_file.specs.Queue.{past_bytes, settled, synced, whole}
 use Rattle.raft_log_file_pipe.specs.Files.{Listed}
 use Rattle.raft_log_file_pipe.specs.Reading.{IsReadAt}
 use Rattle.raft_log_file_pipe.specs.declared.pipe_files.PipeFiles.{PipeFiles}
-use Rattle.raft_log_directory_laws.specs.Calls.{Which}
+use Rattle.raft_log_machine_laws.specs.Calls.{Which}
 use Rattle.raft_log_dual_pipes.specs.Queues.{QueueLayout, IsQueueLayout}
 use Rattle.raft_log_dual_pipes.specs.State.{LogOnDisk, RunsQueue, Spanned, spanned_at}
 use Rattle.raft_log_dual_pipes.specs.Steps.{next_log}

@@ -3,8 +3,8 @@ use Rattle.std.specs.Prelude.{◌≡◌, ℕ, ◌≤◌, true, List, [], length,
 use Rattle.raft_log_model_laws.specs.Item.{Item, Tagged, Record, items_of}
 use Rattle.raft_log_model_laws.specs.Item.Item.{Run}
 use Rattle.raft_log_model_laws.specs.Groups.{Map, of_group}
-use Rattle.raft_log_directory_laws.specs.Tables.{GrowsTo}
-use Rattle.raft_log_directory_laws.specs.Log.{View}
+use Rattle.raft_log_machine_laws.specs.Tables.{GrowsTo}
+use Rattle.raft_log_machine_laws.specs.Log.{View}
 use Rattle.raft_log_record_base.specs.Files.{signature_of}
 use Rattle.raft_log_record_base.specs.declared.pipe_log.FileBlockHandle.{FileBlockHandle}
 use Rattle.raft_log_record_items.specs.declared.item.LogItem.{LogItem}

@@ -1,7 +1,7 @@
 //! What was written stays where it was written, and is read back from there.
 
 ghost use Rattle.raft_log_dual_pipes.specs.Queues.{layout_at};
-ghost use Rattle.raft_log_directory_laws.specs.Calls.{Which};
+ghost use Rattle.raft_log_machine_laws.specs.Calls.{Which};
 ghost use Rattle.raft_log_block_cache.specs.Stored.{CallsKeepBytes, CallsKeepLog, StoredBlockIsRead, StoredEntriesStay};
 ghost use Rattle.raft_log_block_cache.specs.Written.{AnyFileMayTakeIt, TakenEntriesAreStored, WrittenEntriesAreStored};
 

@@ -8,8 +8,8 @@ use Rattle.raft_log_active_file.proofs.Standing.{stands_rebased}
 use Rattle.raft_log_active_file.specs.Layout.{path_of}
 use Rattle.raft_log_active_file.specs.LastFile.{IsActiveTo}
 use Rattle.raft_log_file_pipe.specs.declared.pipe_files.PipeFiles.{PipeFiles}
-use Rattle.raft_log_directory_laws.specs.Calls.{from_at, queue_at}
-use Rattle.raft_log_directory_laws.specs.Moves.{grown}
+use Rattle.raft_log_machine_laws.specs.Calls.{from_at, queue_at}
+use Rattle.raft_log_machine_laws.specs.Moves.{grown}
 use Rattle.raft_log_dual_pipes.specs.Queues.{QueueLayout, TwoQueues, layout_at}
 use Rattle.raft_log_dual_pipes.specs.State.{Spanned, spanned_at, pipe_at, RunsQueue}
 use Rattle.raft_log_dual_pipes.specs.Turning.{in_span}

@@ -9,7 +9,7 @@ use Rattle.raft_log_fs.proofs.TouchingLaws.{names_same}
 use Rattle.raft_log_active_file.specs.Standing.{Names}
 use Rattle.raft_log_active_file.specs.Bridge.{IsFileQueue, GapsStay}
 use Rattle.raft_log_active_file.proofs.Standing.{place_moved}
-use Rattle.raft_log_directory_laws.specs.Calls.{ReadAgain, read_files}
+use Rattle.raft_log_machine_laws.specs.Calls.{ReadAgain, read_files}
 use Rattle.raft_log_dual_pipes.specs.Queues.{QueueLayout, IsQueueLayout, TwoQueues}
 use Rattle.raft_log_dual_pipes.specs.State.{Spanned}
 use Rattle.raft_log_dual_pipes.specs.Turning.{in_span}

@@ -11,7 +11,7 @@ use Rattle.raft_log_active_file.specs.LayoutLayout.{log_paths}
 use Rattle.raft_log_active_file.specs.declared.record.LogRecord.{LogRecord}
 use Rattle.raft_log_file_pipe.specs.Closing.{IsSettledBy, LeavesClosed, ReservesAll, StaysLeft, greatest_reserved}
 use Rattle.raft_log_file_pipe.specs.Files.{Listed}
-use Rattle.raft_log_directory_laws.specs.Calls.Which.{InAppend, InRewrite}
+use Rattle.raft_log_machine_laws.specs.Calls.Which.{InAppend, InRewrite}
 use Rattle.raft_log_dual_pipes.specs.Queues.{QueueLayout}
 use Rattle.raft_log_dual_pipes.specs.Own.{log_layout}
 use Rattle.raft_log_dual_pipes.proofs.CloseSteps.{closed_log_is_a_log, settled_log_is_a_log}

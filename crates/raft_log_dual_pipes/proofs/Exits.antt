@@ -14,7 +14,7 @@ use Rattle.raft_log_active_file.specs.Queue.{synced}
 use Rattle.raft_log_active_file.specs.declared.record.LogRecord.{LogRecord}
 use Rattle.raft_log_file_pipe.specs.Appending.{AppendsAt, AppendFails}
 use Rattle.raft_log_file_pipe.specs.Exits.{SyncsPipe, FailsToSyncPipe}
-use Rattle.raft_log_directory_laws.specs.Calls.{Which, FailsWhole}
+use Rattle.raft_log_machine_laws.specs.Calls.{Which, FailsWhole}
 use Rattle.raft_log_dual_pipes.specs.Queues.{QueueLayout}
 use Rattle.raft_log_dual_pipes.specs.State.{spanned_at, pipe_at, with_pipe, Run, Ties}
 use Rattle.raft_log_dual_pipes.specs.Turning.{in_span}

@@ -11,11 +11,11 @@ use Rattle.raft_log_file_pipe.specs.Appending.{AppendFails}
 use Rattle.raft_log_file_pipe.specs.Exits.{FailsToRotate, FailsToSyncPipe}
 use Rattle.raft_log_file_pipe.specs.declared.pipe_files.PipeFiles.{PipeFiles}
 use Rattle.raft_log_file_pipe.specs.declared.new_files.NewFiles.{NewFiles}
-use Rattle.raft_log_directory_laws.specs.Calls.{Which, LeavesOut}
-use Rattle.raft_log_directory_laws.specs.Calls.Which.{InAppend, InRewrite}
-use Rattle.raft_log_directory_laws.specs.Log.{View, LogEnds}
-use Rattle.raft_log_directory_laws.specs.Tables.{GrowsTo}
-use Rattle.raft_log_directory_laws.proofs.CallLaws.{stands_log, failed_whole, append_left_out, rewrite_left_out, append_may_be_there}
+use Rattle.raft_log_machine_laws.specs.Calls.{Which, LeavesOut}
+use Rattle.raft_log_machine_laws.specs.Calls.Which.{InAppend, InRewrite}
+use Rattle.raft_log_machine_laws.specs.Log.{View, LogEnds}
+use Rattle.raft_log_machine_laws.specs.Tables.{GrowsTo}
+use Rattle.raft_log_machine_laws.proofs.CallLaws.{stands_log, failed_whole, append_left_out, rewrite_left_out, append_may_be_there}
 use Rattle.raft_log_dual_pipes.specs.Queues.{TwoQueues, AreTwoQueues, layout_at, SaysRecord}
 use Rattle.raft_log_dual_pipes.specs.State.{LogOnDisk, Pipes, pipe_at, Ties}
 use Rattle.raft_log_dual_pipes.specs.Steps.{next_log}

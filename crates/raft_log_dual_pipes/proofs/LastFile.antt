@@ -18,8 +18,8 @@ use Rattle.raft_log_file_pipe.specs.Appending.AppendFails.{not_turned, not_writt
 use Rattle.raft_log_file_pipe.specs.Purging.{IsRaised}
 use Rattle.raft_log_file_pipe.specs.declared.new_files.NewFiles.{NewFiles}
 use Rattle.raft_log_file_pipe.specs.declared.pipe_files.PipeFiles.{PipeFiles}
-use Rattle.raft_log_directory_laws.specs.Calls.{Which}
-use Rattle.raft_log_directory_laws.specs.Calls.Which.{InAppend, InRewrite}
+use Rattle.raft_log_machine_laws.specs.Calls.{Which}
+use Rattle.raft_log_machine_laws.specs.Calls.Which.{InAppend, InRewrite}
 use Rattle.raft_log_dual_pipes.specs.State.{pipe_at}
 use Rattle.raft_log_dual_pipes.specs.LastFile.{IsNextIfFull, RaisesPipe, TurnsBehind, last_of}
 use Rattle.raft_log_dual_pipes.specs.Pipes.{LogPipes, OnePipe, files_of, layout_of, one_at}

@@ -6,9 +6,9 @@ use Rattle.raft_log_fs.specs.Touching.{TouchesOnlyNames}
 use Rattle.raft_log_active_file.specs.Bridge.{IsFileQueue, GapsStay}
 use Rattle.raft_log_active_file.proofs.Bridging.{takes_numbered_steps}
 use Rattle.raft_log_file_pipe.specs.declared.pipe_files.PipeFiles.{PipeFiles}
-use Rattle.raft_log_directory_laws.specs.Model.{Files}
-use Rattle.raft_log_directory_laws.specs.Calls.{Which, queue_at, from_at, put}
-use Rattle.raft_log_directory_laws.specs.Calls.Which.{InAppend, InRewrite}
+use Rattle.raft_log_machine_laws.specs.Model.{Files}
+use Rattle.raft_log_machine_laws.specs.Calls.{Which, queue_at, from_at, put}
+use Rattle.raft_log_machine_laws.specs.Calls.Which.{InAppend, InRewrite}
 use Rattle.raft_log_dual_pipes.specs.Queues.{QueueLayout, IsQueueLayout, TwoQueues, AreTwoQueues, layout_at}
 use Rattle.raft_log_dual_pipes.specs.State.{Spanned, LogOnDisk, spanned_at, with_spanned, Pipes, pipe_at, with_pipe, RunsQueue, Run, HoldsQueue, HoldsBoth, Ties}
 use Rattle.raft_log_dual_pipes.proofs.Aside.{name_stays, runs_stay, holds_stay}

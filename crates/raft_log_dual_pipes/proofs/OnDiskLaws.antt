@@ -14,12 +14,12 @@ use Rattle.raft_log_file_pipe.specs.Opening.{OpensPipe, OpenLeaves}
 use Rattle.raft_log_file_pipe.specs.declared.found_files.FoundFiles.{FoundFiles}
 use Rattle.raft_log_file_pipe.specs.declared.new_files.NewFiles.{NewFiles}
 use Rattle.raft_log_file_pipe.specs.declared.pipe_files.PipeFiles.{PipeFiles}
-use Rattle.raft_log_directory_laws.specs.Model.{no_files}
-use Rattle.raft_log_directory_laws.specs.Log.{View, IsLog}
-use Rattle.raft_log_directory_laws.specs.Calls.{Which}
-use Rattle.raft_log_directory_laws.specs.Calls.Which.{InAppend, InRewrite}
-use Rattle.raft_log_directory_laws.proofs.Sound.{fresh_sound}
-use Rattle.raft_log_directory_laws.proofs.CallLaws.{stands_log}
+use Rattle.raft_log_machine_laws.specs.Model.{no_files}
+use Rattle.raft_log_machine_laws.specs.Log.{View, IsLog}
+use Rattle.raft_log_machine_laws.specs.Calls.{Which}
+use Rattle.raft_log_machine_laws.specs.Calls.Which.{InAppend, InRewrite}
+use Rattle.raft_log_machine_laws.proofs.Sound.{fresh_sound}
+use Rattle.raft_log_machine_laws.proofs.CallLaws.{stands_log}
 use Rattle.raft_log_dual_pipes.specs.Queues.{TwoQueues, AreTwoQueues}
 use Rattle.raft_log_dual_pipes.specs.State.{LogOnDisk, Pipes, Ties}
 use Rattle.raft_log_dual_pipes.specs.Beginning.{begun_queue, stopped_log}

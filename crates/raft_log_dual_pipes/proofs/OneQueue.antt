@@ -19,7 +19,7 @@ use Rattle.raft_log_file_pipe.specs.Appending.{context_of, TurnsFirst, AppendsAt
 use Rattle.raft_log_file_pipe.specs.Appending.TurnsFirst.{stays, turns}
 use Rattle.raft_log_file_pipe.specs.declared.pipe_files.PipeFiles.{PipeFiles}
 use Rattle.raft_log_file_pipe.specs.declared.new_files.NewFiles.{NewFiles}
-use Rattle.raft_log_directory_laws.specs.Moves.{Moved, grown}
+use Rattle.raft_log_machine_laws.specs.Moves.{Moved, grown}
 use Rattle.raft_log_dual_pipes.specs.Queues.{QueueLayout, IsQueueLayout, SaysRecord}
 use Rattle.raft_log_dual_pipes.specs.Turning.{HasLast, IsOrGoesOn}
 use Rattle.raft_log_dual_pipes.specs.Quiet.{QuietTo}

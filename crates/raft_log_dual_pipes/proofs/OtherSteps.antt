@@ -18,11 +18,11 @@ use Rattle.raft_log_file_pipe.specs.Purging.{IsRaised, Purges, PurgeLeaves}
 use Rattle.raft_log_file_pipe.specs.declared.pipe_files.PipeFiles.{PipeFiles}
 use Rattle.raft_log_file_pipe.proofs.Lists.{span_end}
 use Rattle.raft_log_file_pipe.proofs.Turning.{pipe_same}
-use Rattle.raft_log_directory_laws.specs.Model.{Files}
-use Rattle.raft_log_directory_laws.specs.Moves.{settled_files, raised_files}
-use Rattle.raft_log_directory_laws.specs.Notes.{AllBelow}
-use Rattle.raft_log_directory_laws.specs.Calls.{Which, Raises, from_at, queue_at, put}
-use Rattle.raft_log_directory_laws.specs.Calls.Which.{InAppend, InRewrite}
+use Rattle.raft_log_machine_laws.specs.Model.{Files}
+use Rattle.raft_log_machine_laws.specs.Moves.{settled_files, raised_files}
+use Rattle.raft_log_machine_laws.specs.Notes.{AllBelow}
+use Rattle.raft_log_machine_laws.specs.Calls.{Which, Raises, from_at, queue_at, put}
+use Rattle.raft_log_machine_laws.specs.Calls.Which.{InAppend, InRewrite}
 use Rattle.raft_log_dual_pipes.specs.Queues.{QueueLayout, IsQueueLayout, TwoQueues, AreTwoQueues, layout_at}
 use Rattle.raft_log_dual_pipes.specs.State.{Spanned, LogOnDisk, spanned_at, with_spanned, Pipes, pipe_at, with_pipe, Run, Ties}
 use Rattle.raft_log_dual_pipes.specs.Turning.{in_span}

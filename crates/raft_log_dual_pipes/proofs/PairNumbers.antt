@@ -29,8 +29,8 @@ use Rattle.raft_log_file_pipe.specs.Purging.{HasFarFile, PurgeLeaves}
 use Rattle.raft_log_file_pipe.proofs.Lists.{span_end}
 use Rattle.raft_log_file_pipe.specs.declared.new_files.NewFiles.{NewFiles}
 use Rattle.raft_log_file_pipe.specs.declared.pipe_files.PipeFiles.{PipeFiles}
-use Rattle.raft_log_directory_laws.specs.Calls.{Which}
-use Rattle.raft_log_directory_laws.specs.Calls.Which.{InAppend, InRewrite}
+use Rattle.raft_log_machine_laws.specs.Calls.{Which}
+use Rattle.raft_log_machine_laws.specs.Calls.Which.{InAppend, InRewrite}
 use Rattle.raft_log_dual_pipes.specs.Queues.{IsQueueLayout, QueueLayout, SaysRecord, layout_at}
 use Rattle.raft_log_dual_pipes.specs.State.{pipe_at, spanned_at}
 use Rattle.raft_log_dual_pipes.proofs.Lifts.{run_at, told_at}

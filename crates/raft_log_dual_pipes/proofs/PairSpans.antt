@@ -10,7 +10,7 @@ use Rattle.raft_log_record_base.specs.declared.pipe_log.LogQueue.{LogQueue}
 use Rattle.raft_log_active_file.specs.declared.record.LogRecord.{LogRecord}
 use Rattle.raft_log_file_pipe.specs.Exits.{IsTurned, Rotates, RotationLeaves}
 use Rattle.raft_log_file_pipe.specs.Purging.{IsRaised, Purges, PurgeLeaves}
-use Rattle.raft_log_directory_laws.specs.Calls.{Which}
+use Rattle.raft_log_machine_laws.specs.Calls.{Which}
 use Rattle.raft_log_dual_pipes.specs.Queues.{QueueLayout, layout_at}
 use Rattle.raft_log_dual_pipes.specs.State.{spanned_at, pipe_at, with_pipe, Run}
 use Rattle.raft_log_dual_pipes.specs.Turning.{in_span}

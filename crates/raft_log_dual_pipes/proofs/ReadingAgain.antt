@@ -19,12 +19,12 @@ use Rattle.raft_log_fs.specs.Touching.{TouchesOnlyNames}
 use Rattle.raft_log_active_file.specs.Bridge.{IsFileQueue, GapsStay}
 use Rattle.raft_log_active_file.proofs.Bridging.{takes_numbered_steps}
 use Rattle.raft_log_file_pipe.specs.declared.pipe_files.PipeFiles.{PipeFiles}
-use Rattle.raft_log_directory_laws.specs.Model.{Files, Model, IsModelSound, machine_of, running}
-use Rattle.raft_log_directory_laws.specs.Log.{IsLog}
-use Rattle.raft_log_directory_laws.specs.Calls.{Which, ReadAgain, read_files, from_at, queue_at, put}
-use Rattle.raft_log_directory_laws.specs.Calls.Which.{InAppend, InRewrite}
-use Rattle.raft_log_directory_laws.proofs.Sound.{sound_step}
-use Rattle.raft_log_directory_laws.proofs.LogLaws.{kept_first}
+use Rattle.raft_log_machine_laws.specs.Model.{Files, Model, IsModelSound, machine_of, running}
+use Rattle.raft_log_machine_laws.specs.Log.{IsLog}
+use Rattle.raft_log_machine_laws.specs.Calls.{Which, ReadAgain, read_files, from_at, queue_at, put}
+use Rattle.raft_log_machine_laws.specs.Calls.Which.{InAppend, InRewrite}
+use Rattle.raft_log_machine_laws.proofs.Sound.{sound_step}
+use Rattle.raft_log_machine_laws.proofs.LogLaws.{kept_first}
 use Rattle.raft_log_dual_pipes.specs.Queues.{TwoQueues, AreTwoQueues, layout_at}
 use Rattle.raft_log_dual_pipes.specs.State.{Spanned, LogOnDisk, spanned_at, Ties}
 use Rattle.raft_log_dual_pipes.specs.OpenOrClosed.{OpenPipes, with_open, IsOpenOrClosed}

@@ -25,7 +25,7 @@ use Rattle.raft_log_file_pipe.specs.Appending.AppendFails.{not_turned, not_writt
 use Rattle.raft_log_file_pipe.specs.declared.pipe_files.PipeFiles.{PipeFiles}
 use Rattle.raft_log_file_pipe.specs.declared.new_files.NewFiles.{NewFiles}
 use Rattle.raft_log_file_pipe.proofs.Turning.{pipe_same}
-use Rattle.raft_log_directory_laws.specs.Moves.{Moved, grown}
+use Rattle.raft_log_machine_laws.specs.Moves.{Moved, grown}
 use Rattle.raft_log_dual_pipes.specs.Queues.{QueueLayout, IsQueueLayout, SaysRecord}
 use Rattle.raft_log_dual_pipes.specs.State.{AreThere}
 use Rattle.raft_log_dual_pipes.specs.Turning.{IsOrGoesOn, HasTaken, IsCutBack}

@@ -14,10 +14,10 @@ use Rattle.raft_log_active_file.proofs.Standing.{stands_rebased}
 use Rattle.raft_log_active_file.specs.Rotation.{StandsWithRecords}
 use Rattle.raft_log_file_writer.specs.LogQueue.{HoldsLast}
 use Rattle.raft_log_file_pipe.specs.declared.pipe_files.PipeFiles.{PipeFiles}
-use Rattle.raft_log_directory_laws.specs.Model.{Files}
-use Rattle.raft_log_directory_laws.specs.Moves.{grown, settled_files}
-use Rattle.raft_log_directory_laws.specs.Calls.{Which, from_at, queue_at, put}
-use Rattle.raft_log_directory_laws.specs.Calls.Which.{InAppend, InRewrite}
+use Rattle.raft_log_machine_laws.specs.Model.{Files}
+use Rattle.raft_log_machine_laws.specs.Moves.{grown, settled_files}
+use Rattle.raft_log_machine_laws.specs.Calls.{Which, from_at, queue_at, put}
+use Rattle.raft_log_machine_laws.specs.Calls.Which.{InAppend, InRewrite}
 use Rattle.raft_log_dual_pipes.specs.Queues.{QueueLayout, TwoQueues, AreTwoQueues, layout_at}
 use Rattle.raft_log_dual_pipes.specs.State.{Spanned, LogOnDisk, spanned_at, with_spanned, Pipes, pipe_at, Run, HoldsBoth, Ties}
 use Rattle.raft_log_dual_pipes.specs.Turning.{in_span}

@@ -10,8 +10,8 @@ use Rattle.raft_log_active_file.specs.Bridge.{IsFileQueue}
 use Rattle.raft_log_active_file.proofs.Beginning.{begins_numbered}
 use Rattle.raft_log_machine_laws.specs.Files.{fresh_files}
 use Rattle.raft_log_active_file.specs.Standing.{Names}
-use Rattle.raft_log_directory_laws.specs.Images.{empty_file}
-use Rattle.raft_log_directory_laws.proofs.LogLaws.{nothing_is_log}
+use Rattle.raft_log_machine_laws.specs.DirectoryImages.{empty_file}
+use Rattle.raft_log_machine_laws.proofs.LogLaws.{nothing_is_log}
 use Rattle.raft_log_dual_pipes.specs.Queues.{TwoQueues}
 use Rattle.raft_log_dual_pipes.specs.State.{Spanned}
 use Rattle.raft_log_dual_pipes.specs.Crash.{IsReadAs, MayRead, readings_of}

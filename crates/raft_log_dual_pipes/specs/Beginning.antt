@@ -6,8 +6,8 @@ use Rattle.raft_log_file_writer.specs.LogFormat.{Format}
 use Rattle.raft_log_file_writer.specs.LogQueue.{Past, IsAbsent, kept_to}
 use Rattle.raft_log_active_file.specs.Queue.{with_room}
 use Rattle.raft_log_active_file.specs.Beginning.{fresh_queue}
-use Rattle.raft_log_directory_laws.specs.Model.{no_files}
-use Rattle.raft_log_directory_laws.specs.Log.{IsLogOf}
+use Rattle.raft_log_machine_laws.specs.Model.{no_files}
+use Rattle.raft_log_machine_laws.specs.Log.{IsLogOf}
 use Rattle.raft_log_dual_pipes.specs.Queues.{TwoQueues}
 use Rattle.raft_log_dual_pipes.specs.State.{Spanned, LogOnDisk, Ties}
 use Rattle.raft_log_dual_pipes.specs.Crash.{readings_of}

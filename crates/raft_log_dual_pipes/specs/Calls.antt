@@ -10,7 +10,7 @@ use Rattle.raft_log_record_base.specs.declared.pipe_log.LogFileContext.{LogFileC
 use Rattle.raft_log_active_file.specs.Queue.{synced}
 use Rattle.raft_log_active_file.specs.declared.record.LogRecord.{LogRecord}
 use Rattle.raft_log_file_pipe.specs.Purging.{IsInSpan}
-use Rattle.raft_log_directory_laws.specs.Calls.{Which, Appends, CutsBack, FailsWhole, LeavesOut, MayAppend, Raises, Settles, Syncs}
+use Rattle.raft_log_machine_laws.specs.Calls.{Which, Appends, CutsBack, FailsWhole, LeavesOut, MayAppend, Raises, Settles, Syncs}
 use Rattle.raft_log_dual_pipes.specs.Queues.{layout_at, SaysRecord}
 use Rattle.raft_log_dual_pipes.specs.State.{spanned_at, pipe_at, Ties}
 use Rattle.raft_log_dual_pipes.specs.Turning.{GoesOnInNext, HasLast, HasTaken, IsCutBack, IsOrGoesOn}

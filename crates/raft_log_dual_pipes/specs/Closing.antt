@@ -9,10 +9,10 @@ use Rattle.raft_log_active_file.specs.Rotation.{StandsWithRecords}
 use Rattle.raft_log_file_pipe.specs.Files.{Listed}
 use Rattle.raft_log_file_pipe.specs.Closing.{AreBelow, IsSettledBy, LeavesClosed, StaysLeft}
 use Rattle.raft_log_file_pipe.specs.declared.pipe_files.PipeFiles.{PipeFiles}
-use Rattle.raft_log_directory_laws.specs.Model.{Files}
-use Rattle.raft_log_directory_laws.specs.Moves.{Moved}
-use Rattle.raft_log_directory_laws.specs.Calls.{Which, LeavesOut, Settles, FailsWhole}
-use Rattle.raft_log_directory_laws.specs.Log.{View, IsAt, ViewEndsAt}
+use Rattle.raft_log_machine_laws.specs.Model.{Files}
+use Rattle.raft_log_machine_laws.specs.Moves.{Moved}
+use Rattle.raft_log_machine_laws.specs.Calls.{Which, LeavesOut, Settles, FailsWhole}
+use Rattle.raft_log_machine_laws.specs.Log.{View, IsAt, ViewEndsAt}
 use Rattle.raft_log_dual_pipes.specs.Queues.{TwoQueues, AreTwoQueues, layout_at}
 use Rattle.raft_log_dual_pipes.specs.State.{LogOnDisk, spanned_at, Pipes, Run, Ties}
 use Rattle.raft_log_dual_pipes.specs.Turning.{in_span}

@@ -7,8 +7,8 @@ use Rattle.raft_log_fs.specs.Image.{IsImage, IsSound}
 use Rattle.raft_log_file_writer.specs.LogFormat.{Format}
 use Rattle.raft_log_file_writer.specs.LogQueue.{Found, NoChanceInLast, ReadsFrom}
 use Rattle.raft_log_active_file.specs.Bridge.{logged}
-use Rattle.raft_log_directory_laws.specs.Model.{Files}
-use Rattle.raft_log_directory_laws.specs.Images.{Readings, Allows, empty_file}
+use Rattle.raft_log_machine_laws.specs.Model.{Files}
+use Rattle.raft_log_machine_laws.specs.DirectoryImages.{Readings, Allows, empty_file}
 use Rattle.raft_log_dual_pipes.specs.Queues.{TwoQueues, AreTwoQueues}
 use Rattle.raft_log_dual_pipes.specs.State.{LogOnDisk, HoldsBoth, Ties}
 

@@ -10,10 +10,10 @@ use Rattle.raft_log_file_pipe.specs.Appending.{AppendFails}
 use Rattle.raft_log_file_pipe.specs.Exits.{FailsToRotate, FailsToSyncPipe}
 use Rattle.raft_log_file_pipe.specs.declared.pipe_files.PipeFiles.{PipeFiles}
 use Rattle.raft_log_file_pipe.specs.declared.new_files.NewFiles.{NewFiles}
-use Rattle.raft_log_directory_laws.specs.Calls.{Which}
-use Rattle.raft_log_directory_laws.specs.Calls.Which.{InAppend}
-use Rattle.raft_log_directory_laws.specs.Log.{View}
-use Rattle.raft_log_directory_laws.specs.Tables.{GrowsTo}
+use Rattle.raft_log_machine_laws.specs.Calls.{Which}
+use Rattle.raft_log_machine_laws.specs.Calls.Which.{InAppend}
+use Rattle.raft_log_machine_laws.specs.Log.{View}
+use Rattle.raft_log_machine_laws.specs.Tables.{GrowsTo}
 use Rattle.raft_log_dual_pipes.specs.Queues.{TwoQueues, AreTwoQueues, layout_at, SaysRecord}
 use Rattle.raft_log_dual_pipes.specs.State.{Pipes, pipe_at}
 use Rattle.raft_log_dual_pipes.specs.OpenOrClosed.{OpenPipes, both_open, with_open}

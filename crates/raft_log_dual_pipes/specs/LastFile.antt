@@ -4,7 +4,7 @@ use Rattle.std.specs.Prelude.{◌≡◌, ◌⊎◌, ℕ, suc}
 use Rattle.raft_log_record_base.specs.declared.errors.Error.{Error}
 use Rattle.raft_log_record_base.specs.declared.errors.Error.TheVariants as errors
 use Rattle.raft_log_file_pipe.specs.Purging.{IsRaised}
-use Rattle.raft_log_directory_laws.specs.Calls.{Which}
+use Rattle.raft_log_machine_laws.specs.Calls.{Which}
 use Rattle.raft_log_dual_pipes.specs.State.{pipe_at}
 use Rattle.raft_log_dual_pipes.specs.Numbers.{IsFull}
 use Rattle.raft_log_dual_pipes.specs.Pipes.{LogPipes, files_of, one_at}

@@ -5,7 +5,7 @@ use Rattle.raft_log_record_base.specs.declared.errors.Error.{Error}
 use Rattle.raft_log_record_base.specs.declared.errors.Error.TheVariants as errors
 use Rattle.raft_log_record_base.specs.declared.pipe_log.LogFileContext.{LogFileContext}
 use Rattle.raft_log_file_pipe.specs.Purging.{HasFarFile}
-use Rattle.raft_log_directory_laws.specs.Calls.{Which}
+use Rattle.raft_log_machine_laws.specs.Calls.{Which}
 use Rattle.raft_log_dual_pipes.specs.Queues.{layout_at, SaysRecord}
 use Rattle.raft_log_dual_pipes.specs.State.{pipe_at}
 use Rattle.raft_log_dual_pipes.specs.Pipes.{LogPipes, LogSense, RunsOn, LogRecordValue, State, files_of, one_at, queue_of, queues}

@@ -12,7 +12,7 @@ use Rattle.raft_log_file_pipe.specs.Opening.{OpensPipe, OpenLeaves}
 use Rattle.raft_log_file_pipe.specs.declared.found_files.FoundFiles.{FoundFiles}
 use Rattle.raft_log_file_pipe.specs.declared.new_files.NewFiles.{NewFiles}
 use Rattle.raft_log_file_pipe.specs.declared.pipe_files.PipeFiles.{PipeFiles}
-use Rattle.raft_log_directory_laws.specs.Log.{View, IsLog, IsLogOf}
+use Rattle.raft_log_machine_laws.specs.Log.{View, IsLog, IsLogOf}
 use Rattle.raft_log_dual_pipes.specs.Queues.{TwoQueues, AreTwoQueues}
 use Rattle.raft_log_dual_pipes.specs.State.{LogOnDisk, Pipes, Run, Ties}
 use Rattle.raft_log_dual_pipes.specs.Crash.{readings_of}

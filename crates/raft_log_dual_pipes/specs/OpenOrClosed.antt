@@ -8,10 +8,10 @@ use Rattle.raft_log_file_writer.specs.LogQueue.{Past, LogFiles}
 use Rattle.raft_log_active_file.specs.Beginning.{IsFresh}
 use Rattle.raft_log_file_pipe.specs.declared.pipe_files.PipeFiles.{PipeFiles}
 use Rattle.raft_log_model_laws.specs.Groups.{Map}
-use Rattle.raft_log_directory_laws.specs.Model.{Files}
-use Rattle.raft_log_directory_laws.specs.Calls.{Which}
-use Rattle.raft_log_directory_laws.specs.Calls.Which.{InAppend, InRewrite}
-use Rattle.raft_log_directory_laws.specs.Log.{IsLog, IsLogOf}
+use Rattle.raft_log_machine_laws.specs.Model.{Files}
+use Rattle.raft_log_machine_laws.specs.Calls.{Which}
+use Rattle.raft_log_machine_laws.specs.Calls.Which.{InAppend, InRewrite}
+use Rattle.raft_log_machine_laws.specs.Log.{IsLog, IsLogOf}
 use Rattle.raft_log_dual_pipes.specs.Queues.{QueueLayout, TwoQueues, AreTwoQueues}
 use Rattle.raft_log_dual_pipes.specs.State.{Spanned, LogOnDisk, Pipes, Run, RunsQueue, HoldsQueue, HoldsBoth, HasSpan, Ties}
 use Rattle.raft_log_dual_pipes.specs.Crash.{readings_of, AllowsIn}

@@ -16,7 +16,7 @@ use Rattle.raft_log_file_pipe.specs.Exits.{IsTurned, Rotates, RotationLeaves, Sy
 use Rattle.raft_log_file_pipe.specs.Purging.{IsRaised, Purges, PurgeLeaves}
 use Rattle.raft_log_file_pipe.specs.declared.pipe_files.PipeFiles.{PipeFiles}
 use Rattle.raft_log_file_pipe.specs.declared.new_files.NewFiles.{NewFiles}
-use Rattle.raft_log_directory_laws.specs.Calls.{Which, Appends, CutsBack, LeavesOut, MayAppend, Syncs, Settles, FailsWhole, Raises}
+use Rattle.raft_log_machine_laws.specs.Calls.{Which, Appends, CutsBack, LeavesOut, MayAppend, Syncs, Settles, FailsWhole, Raises}
 use Rattle.raft_log_dual_pipes.specs.Queues.{TwoQueues, AreTwoQueues, layout_at, SaysRecord}
 use Rattle.raft_log_dual_pipes.specs.State.{LogOnDisk, spanned_at, Ties}
 use Rattle.raft_log_dual_pipes.specs.Turning.{GoesOnInNext, IsOrGoesOn, HasTaken, IsCutBack}

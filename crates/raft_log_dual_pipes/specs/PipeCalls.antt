@@ -15,7 +15,7 @@ use Rattle.raft_log_file_pipe.specs.Calls.{DropsBy}
 use Rattle.raft_log_file_pipe.specs.Doing.{AppendsBy, FailsToAppendBy, FailsToPurgeBy, FailsToSyncBy, FailsToTurnBy, TurnsPipeBy}
 use Rattle.raft_log_file_pipe.specs.declared.pipe_files.PipeFiles.{PipeFiles}
 use Rattle.raft_log_file_pipe.specs.declared.single_pipe.PipeSettings.{PipeSettings}
-use Rattle.raft_log_directory_laws.specs.Calls.{Which}
+use Rattle.raft_log_machine_laws.specs.Calls.{Which}
 use Rattle.raft_log_dual_pipes.specs.Queues.{QueueLayout}
 use Rattle.raft_log_dual_pipes.specs.Pipes.{LogPipes, OnePipe, is_failed, layout_of, one_at}
 

@@ -12,8 +12,8 @@ use Rattle.raft_log_active_file.specs.Paths.{directory_at}
 use Rattle.raft_log_file_pipe.specs.declared.pipe_files.PipeFiles.{PipeFiles}
 use Rattle.raft_log_file_pipe.specs.declared.single_pipe.PipeSettings.{PipeSettings}
 use Rattle.raft_log_file_pipe.specs.Files.{Listed}
-use Rattle.raft_log_directory_laws.specs.Calls.{Which}
-use Rattle.raft_log_directory_laws.specs.Calls.Which.{InAppend, InRewrite}
+use Rattle.raft_log_machine_laws.specs.Calls.{Which}
+use Rattle.raft_log_machine_laws.specs.Calls.Which.{InAppend, InRewrite}
 use Rattle.raft_log_dual_pipes.specs.Queues.{QueueLayout, TwoQueues}
 use Rattle.raft_log_dual_pipes.specs.State.{LogOnDisk, Pipes, pipe_at, Run}
 use Rattle.raft_log_dual_pipes.specs.Own.{log_layout, log_queues}

@@ -7,8 +7,8 @@ use Rattle.raft_log_record_base.specs.declared.pipe_log.LogFileContext.{LogFileC
 use Rattle.raft_log_file_format.specs.Header.{header_bytes}
 use Rattle.raft_log_file_format.specs.declared.header.LogFileFormat.{LogFileFormat}
 use Rattle.raft_log_active_file.specs.Layout.{FilePaths, IsLayout}
-use Rattle.raft_log_directory_laws.specs.Calls.{Which}
-use Rattle.raft_log_directory_laws.specs.Calls.Which.{InAppend, InRewrite}
+use Rattle.raft_log_machine_laws.specs.Calls.{Which}
+use Rattle.raft_log_machine_laws.specs.Calls.Which.{InAppend, InRewrite}
 
 -- how the files of a queue are written, which paths are its own, and the path of each file
 pub record QueueLayout (R : Type 0) : Type 1 where

@@ -6,7 +6,7 @@ use Rattle.raft_log_fs.specs.Disk.{Disk}
 use Rattle.raft_log_file_writer.specs.LogFormat.{Format}
 use Rattle.raft_log_file_writer.specs.LogQueue.{LogFiles}
 use Rattle.raft_log_active_file.specs.Bridge.{IsFileQueue}
-use Rattle.raft_log_directory_laws.specs.Moves.{Moved}
+use Rattle.raft_log_machine_laws.specs.Moves.{Moved}
 
 -- whichever numbered files the queue had, quiet events turn them into those of the other queue
 abbrev pub QuietTo : {R E V : Type 0} → (R → Record E V) → Format R → ℕ → LogFiles R → Disk → LogFiles R

@@ -18,10 +18,10 @@ use Rattle.raft_log_file_pipe.specs.Opening.{HasOwnHeader, OpensPipe, OpenLeaves
 use Rattle.raft_log_file_pipe.specs.declared.found_files.FoundFiles.{FoundFiles}
 use Rattle.raft_log_file_pipe.specs.declared.new_files.NewFiles.{NewFiles}
 use Rattle.raft_log_file_pipe.specs.declared.pipe_files.PipeFiles.{PipeFiles}
-use Rattle.raft_log_directory_laws.specs.Model.{Files}
-use Rattle.raft_log_directory_laws.specs.Log.{View, IsLog}
-use Rattle.raft_log_directory_laws.specs.Calls.{Which, ReadAgain, IsMadeOf, Replays, read_files, records_read, from_at, queue_at, put}
-use Rattle.raft_log_directory_laws.specs.Calls.Which.{InAppend, InRewrite}
+use Rattle.raft_log_machine_laws.specs.Model.{Files}
+use Rattle.raft_log_machine_laws.specs.Log.{View, IsLog}
+use Rattle.raft_log_machine_laws.specs.Calls.{Which, ReadAgain, IsMadeOf, Replays, read_files, records_read, from_at, queue_at, put}
+use Rattle.raft_log_machine_laws.specs.Calls.Which.{InAppend, InRewrite}
 use Rattle.raft_log_dual_pipes.specs.Queues.{QueueLayout, TwoQueues, AreTwoQueues, layout_at}
 use Rattle.raft_log_dual_pipes.specs.State.{Spanned, LogOnDisk, spanned_at, with_spanned, IsStopped, HasSpan, Ties}
 use Rattle.raft_log_dual_pipes.specs.Crash.{IsLeftByCrash}

@@ -9,9 +9,9 @@ use Rattle.raft_log_active_file.specs.Bridge.{IsFileQueue}
 use Rattle.raft_log_active_file.specs.Rotation.{StandsWithRecords}
 use Rattle.raft_log_file_pipe.specs.Files.{IsPipe}
 use Rattle.raft_log_file_pipe.specs.declared.pipe_files.PipeFiles.{PipeFiles}
-use Rattle.raft_log_directory_laws.specs.Model.{Files}
-use Rattle.raft_log_directory_laws.specs.Calls.{Which}
-use Rattle.raft_log_directory_laws.specs.Calls.Which.{InAppend, InRewrite}
+use Rattle.raft_log_machine_laws.specs.Model.{Files}
+use Rattle.raft_log_machine_laws.specs.Calls.{Which}
+use Rattle.raft_log_machine_laws.specs.Calls.Which.{InAppend, InRewrite}
 use Rattle.raft_log_dual_pipes.specs.Queues.{QueueLayout, TwoQueues}
 
 -- a queue on a disk: the number of its live range's first file, and its files with their records

@@ -16,7 +16,7 @@ use Rattle.raft_log_file_pipe.specs.Appending.{AppendsAt, AppendFails}
 use Rattle.raft_log_file_pipe.specs.Exits.{RotationLeaves}
 use Rattle.raft_log_file_pipe.specs.declared.pipe_files.PipeFiles.{PipeFiles}
 use Rattle.raft_log_file_pipe.specs.declared.new_files.NewFiles.{NewFiles}
-use Rattle.raft_log_directory_laws.specs.Calls.{Which, Appends, CutsBack, LeavesOut, MayAppend}
+use Rattle.raft_log_machine_laws.specs.Calls.{Which, Appends, CutsBack, LeavesOut, MayAppend}
 use Rattle.raft_log_dual_pipes.specs.Queues.{QueueLayout, IsQueueLayout, TwoQueues, AreTwoQueues, layout_at, SaysRecord}
 use Rattle.raft_log_dual_pipes.specs.State.{Spanned, LogOnDisk, spanned_at, with_spanned, Pipes, pipe_at, with_pipe, RunsQueue, Run, HoldsQueue, HoldsBoth, Ties}
 use Rattle.raft_log_dual_pipes.specs.Turning.{IsOrGoesOn, HasLast, HasTaken, IsCutBack, in_span}

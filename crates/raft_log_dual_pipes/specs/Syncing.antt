@@ -10,8 +10,8 @@ use Rattle.raft_log_active_file.specs.Queue.{synced}
 use Rattle.raft_log_file_pipe.specs.Exits.{IsTurned, Rotates, RotationLeaves, SyncsPipe}
 use Rattle.raft_log_file_pipe.specs.Purging.{IsRaised, Purges, PurgeLeaves}
 use Rattle.raft_log_file_pipe.specs.declared.pipe_files.PipeFiles.{PipeFiles}
-use Rattle.raft_log_directory_laws.specs.Model.{Files}
-use Rattle.raft_log_directory_laws.specs.Calls.{Which, MovedIn, Raises, Settles, Syncs, put}
+use Rattle.raft_log_machine_laws.specs.Model.{Files}
+use Rattle.raft_log_machine_laws.specs.Calls.{Which, MovedIn, Raises, Settles, Syncs, put}
 use Rattle.raft_log_dual_pipes.specs.Queues.{TwoQueues, AreTwoQueues, layout_at}
 use Rattle.raft_log_dual_pipes.specs.State.{LogOnDisk, spanned_at, with_spanned, Pipes, pipe_at, with_pipe, Run, HoldsBoth, Ties}
 use Rattle.raft_log_dual_pipes.specs.Crash.{AllowsIn}

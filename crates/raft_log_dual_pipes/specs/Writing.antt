@@ -10,9 +10,9 @@ use Rattle.raft_log_record_base.specs.declared.pipe_log.LogFileContext.{LogFileC
 use Rattle.raft_log_file_pipe.specs.Appending.{AppendsAt}
 use Rattle.raft_log_file_pipe.specs.declared.pipe_files.PipeFiles.{PipeFiles}
 use Rattle.raft_log_file_pipe.specs.declared.new_files.NewFiles.{NewFiles}
-use Rattle.raft_log_directory_laws.specs.Calls.Which.{InAppend}
-use Rattle.raft_log_directory_laws.specs.Log.{View, IsAt}
-use Rattle.raft_log_directory_laws.specs.Tables.{GrowsTo}
+use Rattle.raft_log_machine_laws.specs.Calls.Which.{InAppend}
+use Rattle.raft_log_machine_laws.specs.Log.{View, IsAt}
+use Rattle.raft_log_machine_laws.specs.Tables.{GrowsTo}
 use Rattle.raft_log_dual_pipes.specs.Queues.{TwoQueues, AreTwoQueues, SaysRecord}
 use Rattle.raft_log_dual_pipes.specs.State.{LogOnDisk, Pipes, with_pipe, Run, Ties}
 

@@ -1,6 +1,6 @@
 -- libraries below, re-exported to crates above
 pub use Rattle.raft_log_model_laws
-pub use Rattle.raft_log_directory_laws
+pub use Rattle.raft_log_machine_laws
 pub use Rattle.raft_log_record_base
 pub use Rattle.raft_log_record_items
 pub use Rattle.raft_log_record_frames

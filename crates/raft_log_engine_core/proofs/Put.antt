@@ -13,7 +13,7 @@ use Rattle.raft_log_record_frames.specs.Meaning.{tagged_items}
 use Rattle.raft_log_record_batches.specs.Batch.{Batch, IsButBuffer, IsReadyForEach, emptied}
 use Rattle.raft_log_record_batches.specs.declared.log_batch.BatchState.TheVariants.{Populated}
 use Rattle.raft_log_block_cache.specs.Signing.{SaysItself, signed_for}
-use Rattle.raft_log_directory_laws.specs.Calls.Which.{InAppend}
+use Rattle.raft_log_machine_laws.specs.Calls.Which.{InAppend}
 use Rattle.raft_log_memtable_index.specs.Shown.{Shown}
 use Rattle.raft_log_memtables.specs.declared.mem_tables.MemTables.{MemTables}
 use Rattle.raft_log_memtables.specs.Batch.{BatchRefused, IsReadyFor, all_shown, counts_at_end}

@@ -3,7 +3,7 @@ use Rattle.std.specs.Prelude.{◌≡◌, ◌⊎◌, ◌+◌, ◌-◌, ◌^◌, m
 use Rattle.raft_log_record_base.specs.declared.errors.Error.{Error}
 use Rattle.raft_log_record_base.specs.declared.pipe_log.LogQueue.{LogQueue}
 use Rattle.raft_log_record_items.specs.Message.{Parses}
-use Rattle.raft_log_directory_laws.specs.Calls.Which.{InAppend, InRewrite}
+use Rattle.raft_log_machine_laws.specs.Calls.Which.{InAppend, InRewrite}
 use Rattle.raft_log_dual_pipes.specs.State.{pipe_at}
 use Rattle.raft_log_fs.specs.declared.handle.Fault.{Fault}
 use Rattle.raft_log_dual_pipes.specs.Pipes.{ArmsPipes, LogPipes, files_of, which_of}

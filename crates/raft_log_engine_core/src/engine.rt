@@ -48,7 +48,7 @@ impl<P: PipeLog> LogEngine<P> {
     ghost use Rattle.raft_log_engine_core.specs.Reads.{shows_of};
     ghost use Rattle.raft_log_engine_core.specs.Room.{IsMadeIfTried, IsMadeUnlessFailed, KeepsLittle, PutFails, StaysWritable};
     ghost use Rattle.raft_log_engine_core.specs.Touching.{LeavesFiles, LeavesRecord, StaysPurged, WritesFiles, WritesRecord};
-    ghost use Rattle.raft_log_directory_laws.specs.Calls.Which.{InAppend};
+    ghost use Rattle.raft_log_machine_laws.specs.Calls.Which.{InAppend};
     ghost use Rattle.raft_log_dual_pipes.specs.Calls.{FailsToSyncQueue, SyncsQueue};
     ghost use Rattle.std.specs.Prelude.{false, true};
     ghost use Rattle.raft_log_fs.specs.Causes.{IsLater};

@@ -13,10 +13,10 @@ use Rattle.raft_log_active_file.specs.declared.record.LogRecord.{LogRecord}
 use Rattle.raft_log_record_frames.specs.Meaning.{tagged_items}
 use Rattle.raft_log_record_batches.specs.Batch.{Batch}
 use Rattle.raft_log_block_cache.specs.Signing.{SaysItself, record_said, signed_for}
-use Rattle.raft_log_directory_laws.specs.Calls.Which.{InAppend}
-use Rattle.raft_log_directory_laws.specs.Log.{IsAt, View}
-use Rattle.raft_log_directory_laws.specs.Log.{ViewEndsAt as ViewEnds}
-use Rattle.raft_log_directory_laws.proofs.CallLaws.{append_answered, append_synced}
+use Rattle.raft_log_machine_laws.specs.Calls.Which.{InAppend}
+use Rattle.raft_log_machine_laws.specs.Log.{IsAt, View}
+use Rattle.raft_log_machine_laws.specs.Log.{ViewEndsAt as ViewEnds}
+use Rattle.raft_log_machine_laws.proofs.CallLaws.{append_answered, append_synced}
 use Rattle.raft_log_extents.specs.declared.place.Place.{Place}
 use Rattle.raft_log_memtable_index.specs.declared.group_files.GroupFiles.{GroupFiles}
 use Rattle.raft_log_memtable_index.specs.Shown.{IsOrderly, Shown, all_stepped, stepped}

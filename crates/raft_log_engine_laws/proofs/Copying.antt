@@ -18,8 +18,8 @@ use Rattle.raft_log_record_batches.specs.Batch.{Batch, block_place}
 use Rattle.raft_log_record_batches.specs.Places.{entry_bytes}
 use Rattle.raft_log_extents.specs.Entries.{place_of}
 use Rattle.raft_log_block_cache.specs.Signing.{SaysItself, signed_for}
-use Rattle.raft_log_directory_laws.specs.Calls.Which.{InRewrite}
-use Rattle.raft_log_directory_laws.specs.Tables.{CarriesTo}
+use Rattle.raft_log_machine_laws.specs.Calls.Which.{InRewrite}
+use Rattle.raft_log_machine_laws.specs.Tables.{CarriesTo}
 use Rattle.raft_log_extents.specs.declared.place.Place.{Place}
 use Rattle.raft_log_memtable_index.specs.Shown.{Shown, IsOrderly}
 use Rattle.raft_log_memtable_index.specs.Bridge.{CanAllMove, CanMove, Located, Move, all_moved, in_queue, items_of as copies_of, located, moved}

@@ -17,8 +17,8 @@ use Rattle.raft_log_record_base.specs.declared.pipe_log.FileBlockHandle.{FileBlo
 use Rattle.raft_log_record_frames.specs.declared.status.AtomicGroupStatus.TheVariants as statuses
 use Rattle.raft_log_record_batches.specs.Batch.{Batch}
 use Rattle.raft_log_block_cache.specs.Signing.{signed_for}
-use Rattle.raft_log_directory_laws.specs.Calls.Which.{InRewrite}
-use Rattle.raft_log_directory_laws.proofs.GroupCalls.{end_answered, end_may_be_there}
+use Rattle.raft_log_machine_laws.specs.Calls.Which.{InRewrite}
+use Rattle.raft_log_machine_laws.proofs.GroupCalls.{end_answered, end_may_be_there}
 use Rattle.raft_log_block_cache.specs.raft_log_dual_pipes.specs.Crash.{AllowsIn}
 use Rattle.raft_log_block_cache.specs.raft_log_dual_pipes.specs.State.{Ties}
 use Rattle.raft_log_block_cache.specs.raft_log_dual_pipes.specs.Steps.{next_log}

@@ -12,8 +12,8 @@ use Rattle.raft_log_record_base.specs.declared.errors.Error.TheVariants as error
 use Rattle.raft_log_record_base.specs.declared.pipe_log.FileBlockHandle.{FileBlockHandle}
 use Rattle.raft_log_record_batches.specs.Batch.{Batch}
 use Rattle.raft_log_block_cache.specs.Signing.{signed_for}
-use Rattle.raft_log_directory_laws.specs.Calls.Which.{InAppend}
-use Rattle.raft_log_directory_laws.proofs.Follows.{taken_twice}
+use Rattle.raft_log_machine_laws.specs.Calls.Which.{InAppend}
+use Rattle.raft_log_machine_laws.proofs.Follows.{taken_twice}
 use Rattle.raft_log_block_cache.specs.raft_log_memtables.specs.declared.mem_tables.MemTables.{MemTables}
 use Rattle.raft_log_block_cache.specs.raft_log_memtables.specs.Batch.{all_shown, counts_at_end}
 use Rattle.raft_log_block_cache.specs.raft_log_dual_pipes.specs.Pipes.{LogPipes, LogRecordValue, is_failed}

@@ -20,8 +20,8 @@ use Rattle.raft_log_record_batches.specs.Batch.{Batch, block_place}
 use Rattle.raft_log_record_batches.specs.Places.{entry_bytes}
 use Rattle.raft_log_record_batches.proofs.PlacedMeanings.{read_means_what_was_added}
 use Rattle.raft_log_block_cache.specs.Signing.{record_said}
-use Rattle.raft_log_directory_laws.specs.Log.{View}
-use Rattle.raft_log_directory_laws.specs.Tables.{GrowsTo}
+use Rattle.raft_log_machine_laws.specs.Log.{View}
+use Rattle.raft_log_machine_laws.specs.Tables.{GrowsTo}
 use Rattle.raft_log_extents.specs.declared.place.Place.{Place}
 use Rattle.raft_log_memtable_index.specs.Shown.{Shown, IsOrderly}
 use Rattle.raft_log_memtable_index.specs.Bridge.{Located, table_of}

@@ -3,8 +3,8 @@ use Rattle.std.proofs.Common.{◌≡◌, ◌⊎◌, ℕ, ◌≤◌, None, List, 
 use Rattle.raft_log_fs.specs.Disk.{Disk}
 use Rattle.raft_log_file_writer.specs.LogQueue.{LogFiles}
 use Rattle.raft_log_active_file.specs.declared.record.LogRecord.{LogRecord}
-use Rattle.raft_log_directory_laws.specs.Calls.Which.{InAppend}
-use Rattle.raft_log_directory_laws.specs.Log.{IsAt, ViewEndsAt}
+use Rattle.raft_log_machine_laws.specs.Calls.Which.{InAppend}
+use Rattle.raft_log_machine_laws.specs.Log.{IsAt, ViewEndsAt}
 use Rattle.raft_log_model_laws.specs.Groups.{taken}
 use Rattle.raft_log_block_cache.specs.raft_log_dual_pipes.specs.State.{Ties}
 use Rattle.raft_log_block_cache.specs.raft_log_dual_pipes.specs.Steps.{next_log}

@@ -3,7 +3,7 @@ use Rattle.std.proofs.Common.{◌≡◌, false, List, [], ◌++◌, refl, sym, �
 use Rattle.raft_log_model_laws.specs.Groups.{taken}
 use Rattle.raft_log_record_base.specs.declared.pipe_log.LogQueue.TheVariants.{Append, Rewrite}
 use Rattle.raft_log_file_writer.specs.LogQueue.{LogFiles}
-use Rattle.raft_log_directory_laws.specs.Log.{IsLog}
+use Rattle.raft_log_machine_laws.specs.Log.{IsLog}
 use Rattle.raft_log_active_file.specs.declared.record.LogRecord.{LogRecord}
 use Rattle.raft_log_active_file.specs.LayoutLayoutLaws.{files_are_told, is_layout, queues_are_apart}
 use Rattle.raft_log_block_cache.specs.raft_log_dual_pipes.specs.Queues.{AreTwoQueues}

@@ -12,11 +12,11 @@ use Rattle.raft_log_record_base.specs.declared.errors.Error.{Error}
 use Rattle.raft_log_record_base.specs.declared.errors.Error.TheVariants as errors
 use Rattle.raft_log_active_file.specs.declared.record.LogRecord.{LogRecord}
 use Rattle.raft_log_machine_laws.specs.Whereabouts.{OwesNothing}
-use Rattle.raft_log_directory_laws.specs.Calls.{Raises, Which}
-use Rattle.raft_log_directory_laws.specs.Calls.Which.{InAppend, InRewrite}
-use Rattle.raft_log_directory_laws.specs.Log.{IsLog, IsSettled, View}
-use Rattle.raft_log_directory_laws.specs.Notes.{AppendStandsFrom, IsAppended, IsInRewrite, RewriteStandsFrom}
-use Rattle.raft_log_directory_laws.proofs.GroupCalls.{append_raise_failed, append_raise_settled, rewrite_raise_failed, rewrite_raise_settled}
+use Rattle.raft_log_machine_laws.specs.Calls.{Raises, Which}
+use Rattle.raft_log_machine_laws.specs.Calls.Which.{InAppend, InRewrite}
+use Rattle.raft_log_machine_laws.specs.Log.{IsLog, IsSettled, View}
+use Rattle.raft_log_machine_laws.specs.Notes.{AppendStandsFrom, IsAppended, IsInRewrite, RewriteStandsFrom}
+use Rattle.raft_log_machine_laws.proofs.GroupCalls.{append_raise_failed, append_raise_settled, rewrite_raise_failed, rewrite_raise_settled}
 use Rattle.raft_log_extents.specs.declared.place.Place.{Place}
 use Rattle.raft_log_memtable_index.specs.declared.group_files.GroupFiles.{GroupFiles}
 use Rattle.raft_log_memtable_index.specs.Shown.{KeyValue, Shown, is_in_append, whereabouts}

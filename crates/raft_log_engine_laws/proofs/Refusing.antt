@@ -9,10 +9,10 @@ use Rattle.raft_log_record_base.specs.declared.errors.Error.TheVariants as error
 use Rattle.raft_log_active_file.specs.declared.record.LogRecord.{LogRecord}
 use Rattle.raft_log_record_batches.specs.Batch.{Batch}
 use Rattle.raft_log_block_cache.specs.Signing.{signed_for}
-use Rattle.raft_log_directory_laws.specs.Calls.Which.{InAppend}
-use Rattle.raft_log_directory_laws.specs.Log.{View, LogEnds}
-use Rattle.raft_log_directory_laws.proofs.CallLaws.{append_cut_back, append_left_out, append_may_be_there, failed_whole}
-use Rattle.raft_log_directory_laws.proofs.Follows.{taken_twice}
+use Rattle.raft_log_machine_laws.specs.Calls.Which.{InAppend}
+use Rattle.raft_log_machine_laws.specs.Log.{View, LogEnds}
+use Rattle.raft_log_machine_laws.proofs.CallLaws.{append_cut_back, append_left_out, append_may_be_there, failed_whole}
+use Rattle.raft_log_machine_laws.proofs.Follows.{taken_twice}
 use Rattle.raft_log_block_cache.specs.raft_log_memtables.specs.Batch.{all_shown}
 use Rattle.raft_log_block_cache.specs.raft_log_dual_pipes.specs.Crash.{AllowsIn}
 use Rattle.raft_log_block_cache.specs.raft_log_dual_pipes.specs.Failing.{failed_pipe}

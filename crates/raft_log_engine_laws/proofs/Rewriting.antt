@@ -23,12 +23,12 @@ use Rattle.raft_log_record_frames.specs.Meaning.{marked, tagged_items}
 use Rattle.raft_log_record_batches.specs.Batch.{Batch}
 use Rattle.raft_log_record_batches.specs.Places.{entry_bytes}
 use Rattle.raft_log_block_cache.specs.Signing.{SaysItself, signed_for}
-use Rattle.raft_log_directory_laws.specs.Calls.{Appends, MayAppend}
-use Rattle.raft_log_directory_laws.specs.Calls.Which.{InRewrite}
-use Rattle.raft_log_directory_laws.specs.Log.{IsAt, IsLog, View}
-use Rattle.raft_log_directory_laws.specs.Tables.{CarriesTo}
-use Rattle.raft_log_directory_laws.proofs.CallLaws.{copies_answered, copies_may_be_there, rewrite_left_out}
-use Rattle.raft_log_directory_laws.proofs.SettledLaws.{cut_back_settles, rewrite_settles}
+use Rattle.raft_log_machine_laws.specs.Calls.{Appends, MayAppend}
+use Rattle.raft_log_machine_laws.specs.Calls.Which.{InRewrite}
+use Rattle.raft_log_machine_laws.specs.Log.{IsAt, IsLog, View}
+use Rattle.raft_log_machine_laws.specs.Tables.{CarriesTo}
+use Rattle.raft_log_machine_laws.proofs.CallLaws.{copies_answered, copies_may_be_there, rewrite_left_out}
+use Rattle.raft_log_machine_laws.proofs.SettledLaws.{cut_back_settles, rewrite_settles}
 use Rattle.raft_log_memtable_index.specs.Shown.{Shown}
 use Rattle.raft_log_memtable_index.specs.Bridge.{dels, marks, unmarked, without}
 use Rattle.raft_log_block_cache.specs.raft_log_memtables.specs.Owing.{AreOwedAt}

@@ -8,13 +8,13 @@ use Rattle.raft_log_record_base.specs.declared.errors.Error.{Error}
 use Rattle.raft_log_record_base.specs.declared.errors.Error.TheVariants as errors
 use Rattle.raft_log_active_file.specs.declared.record.LogRecord.{LogRecord}
 use Rattle.raft_log_active_file.specs.Queue.{synced}
-use Rattle.raft_log_directory_laws.specs.Calls.{Which}
-use Rattle.raft_log_directory_laws.specs.Calls.Which.{InAppend, InRewrite}
-use Rattle.raft_log_directory_laws.specs.Log.{Follows, IsAt, IsLog, IsSettled, LogEnds, View}
-use Rattle.raft_log_directory_laws.specs.Model.{with_append, with_rewrite}
-use Rattle.raft_log_directory_laws.proofs.CallLaws.{failed_whole, rewrite_synced, stands_log}
-use Rattle.raft_log_directory_laws.proofs.Follows.{append_follows, rewrite_follows}
-use Rattle.raft_log_directory_laws.proofs.SettledLaws.{append_settles, rewrite_settles, settled_stays, sync_settles}
+use Rattle.raft_log_machine_laws.specs.Calls.{Which}
+use Rattle.raft_log_machine_laws.specs.Calls.Which.{InAppend, InRewrite}
+use Rattle.raft_log_machine_laws.specs.Log.{Follows, IsAt, IsLog, IsSettled, LogEnds, View}
+use Rattle.raft_log_machine_laws.specs.Model.{with_append, with_rewrite}
+use Rattle.raft_log_machine_laws.proofs.CallLaws.{failed_whole, rewrite_synced, stands_log}
+use Rattle.raft_log_machine_laws.proofs.Follows.{append_follows, rewrite_follows}
+use Rattle.raft_log_machine_laws.proofs.SettledLaws.{append_settles, rewrite_settles, settled_stays, sync_settles}
 use Rattle.raft_log_block_cache.specs.raft_log_dual_pipes.specs.Crash.{AllowsIn}
 use Rattle.raft_log_block_cache.specs.raft_log_dual_pipes.specs.Failing.{failed_pipe}
 use Rattle.raft_log_block_cache.specs.raft_log_dual_pipes.specs.OpenOrClosed.{OpenPipes, IsOpenOrClosed, both_open, with_open}

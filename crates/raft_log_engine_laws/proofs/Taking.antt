@@ -16,7 +16,7 @@ use Rattle.raft_log_block_cache.specs.raft_log_memtables.specs.declared.group_ta
 use Rattle.raft_log_block_cache.specs.raft_log_memtables.specs.Joining.{noted_in}
 use Rattle.raft_log_block_cache.specs.raft_log_memtables.specs.Rewriting.{all_rewritten}
 use Rattle.raft_log_block_cache.specs.raft_log_memtables.specs.Tables.{replayed_in, replayed_of, shown_in, shown_of}
-use Rattle.raft_log_directory_laws.specs.Calls.Which.{InRewrite}
+use Rattle.raft_log_machine_laws.specs.Calls.Which.{InRewrite}
 use Rattle.raft_log_block_cache.specs.raft_log_dual_pipes.specs.Steps.{next_log}
 use Rattle.raft_log_memtable_index.specs.Bridge.{Located}
 use Rattle.raft_log_block_cache.specs.Stored.{entries_at}

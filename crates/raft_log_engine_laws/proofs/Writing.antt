@@ -17,11 +17,11 @@ use Rattle.raft_log_record_frames.specs.declared.status.AtomicGroupStatus.TheVar
 use Rattle.raft_log_record_frames.specs.Meaning.{part_of}
 use Rattle.raft_log_record_batches.specs.Batch.{Batch}
 use Rattle.raft_log_block_cache.specs.Signing.{signed_for}
-use Rattle.raft_log_directory_laws.specs.Calls.{IsInGroup, LeavesOut, Syncs}
-use Rattle.raft_log_directory_laws.specs.Calls.Which.{InRewrite}
-use Rattle.raft_log_directory_laws.proofs.CallLaws.{begin_may_be_there, group_begun}
-use Rattle.raft_log_directory_laws.proofs.GroupCalls.{group_left_out, middle_answered, middle_may_be_there}
-use Rattle.raft_log_directory_laws.proofs.SettledLaws.{sync_settles}
+use Rattle.raft_log_machine_laws.specs.Calls.{IsInGroup, LeavesOut, Syncs}
+use Rattle.raft_log_machine_laws.specs.Calls.Which.{InRewrite}
+use Rattle.raft_log_machine_laws.proofs.CallLaws.{begin_may_be_there, group_begun}
+use Rattle.raft_log_machine_laws.proofs.GroupCalls.{group_left_out, middle_answered, middle_may_be_there}
+use Rattle.raft_log_machine_laws.proofs.SettledLaws.{sync_settles}
 use Rattle.raft_log_block_cache.specs.raft_log_dual_pipes.specs.Crash.{AllowsIn}
 use Rattle.raft_log_block_cache.specs.raft_log_dual_pipes.specs.Own.{log_layout}
 use Rattle.raft_log_block_cache.specs.raft_log_dual_pipes.specs.Queues.{SaysRecord}

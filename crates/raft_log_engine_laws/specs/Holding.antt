@@ -3,7 +3,7 @@
 use Rattle.std.specs.Prelude.{◌≡◌, ◌≤◌, ℕ, List, ◌++◌, Some}
 use Rattle.raft_log_model_laws.specs.Groups.{taken}
 use Rattle.raft_log_fs.specs.Disk.{Disk}
-use Rattle.raft_log_directory_laws.specs.Log.{IsAt, View}
+use Rattle.raft_log_machine_laws.specs.Log.{IsAt, View}
 use Rattle.raft_log_block_cache.specs.raft_log_dual_pipes.specs.State.{Ties}
 use Rattle.raft_log_block_cache.specs.raft_log_dual_pipes.specs.OpenOrClosed.{OpenPipes}
 use Rattle.raft_log_block_cache.specs.raft_log_dual_pipes.specs.Failing.{LogEndsLying}

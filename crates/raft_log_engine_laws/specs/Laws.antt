@@ -8,7 +8,7 @@ use Rattle.raft_log_record_base.specs.declared.pipe_log.FileBlockHandle.{FileBlo
 use Rattle.raft_log_record_frames.specs.Meaning.{tagged_items}
 use Rattle.raft_log_record_batches.specs.Batch.{Batch}
 use Rattle.raft_log_block_cache.specs.Signing.{SaysItself, signed_for}
-use Rattle.raft_log_directory_laws.specs.Calls.Which.{InAppend}
+use Rattle.raft_log_machine_laws.specs.Calls.Which.{InAppend}
 use Rattle.raft_log_block_cache.specs.raft_log_memtables.specs.Batch.{MayFollowAll, all_shown}
 use Rattle.raft_log_block_cache.specs.raft_log_dual_pipes.specs.OpenOrClosed.{both_open}
 use Rattle.raft_log_block_cache.specs.raft_log_dual_pipes.specs.OnDisk.{LogLiesOn}

@@ -12,7 +12,7 @@ use Rattle.raft_log_record_frames.specs.Meaning.{tagged_items}
 use Rattle.raft_log_record_batches.specs.Batch.{Batch}
 use Rattle.raft_log_record_batches.specs.Places.{entry_bytes}
 use Rattle.raft_log_block_cache.specs.Signing.{SaysItself, signed_for}
-use Rattle.raft_log_directory_laws.specs.Notes.{GoesOnFrom}
+use Rattle.raft_log_machine_laws.specs.Notes.{GoesOnFrom}
 use Rattle.raft_log_extents.specs.declared.place.Place.{Place}
 use Rattle.raft_log_memtable_index.specs.Bridge.{Located}
 use Rattle.raft_log_memtable_index.specs.Noted.{FilesRise}

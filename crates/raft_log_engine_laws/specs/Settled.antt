@@ -1,6 +1,6 @@
 -- An engine with nothing pending in its log: a purge needs this before files go.
 use Rattle.std.specs.Prelude.{◌≡◌, List}
-use Rattle.raft_log_directory_laws.specs.Log.{IsSettled}
+use Rattle.raft_log_machine_laws.specs.Log.{IsSettled}
 use Rattle.raft_log_block_cache.specs.raft_log_dual_pipes.specs.State.{Ties}
 use Rattle.raft_log_block_cache.specs.raft_log_memtables.specs.Views.{AreMeant, view_of}
 use Rattle.raft_log_block_cache.specs.Stored.{AreStored, entries_at}

@@ -4,7 +4,7 @@ use Rattle.raft_log_record_base.specs.declared.pipe_log.FileBlockHandle.{FileBlo
 use Rattle.raft_log_record_frames.specs.declared.status.AtomicGroupStatus.TheVariants.{End}
 use Rattle.raft_log_record_batches.specs.Batch.{Batch}
 use Rattle.raft_log_block_cache.specs.Signing.{signed_for}
-use Rattle.raft_log_directory_laws.specs.Calls.Which.{InRewrite}
+use Rattle.raft_log_machine_laws.specs.Calls.Which.{InRewrite}
 use Rattle.raft_log_memtable_index.specs.declared.group_files.GroupFiles.{GroupFiles}
 use Rattle.raft_log_memtable_index.specs.Shown.{IsOrderly}
 use Rattle.raft_log_memtable_index.specs.Bridge.{Located}

@@ -16,7 +16,7 @@ use Rattle.raft_log_block_cache.specs.raft_log_memtables.specs.Batch.{MayFollowA
 use Rattle.raft_log_block_cache.specs.Written.{placed_items}
 use Rattle.raft_log_block_cache.specs.raft_log_dual_pipes.specs.Pipes.{LogRecordValue}
 use Rattle.raft_log_block_cache.specs.raft_log_dual_pipes.specs.Numbers.{HasLastNumber}
-use Rattle.raft_log_directory_laws.specs.Calls.Which.{InAppend}
+use Rattle.raft_log_machine_laws.specs.Calls.Which.{InAppend}
 use Rattle.raft_log_engine_laws.specs.EngineState.{IsWellMarked, IsWritable, KeepsOrForgets, LogDirectories, LogMap, EngineState, has_failed, said_of}
 use Rattle.raft_log_engine_laws.specs.Syncing.{RunsOnSame, SyncsAppend}
 use Rattle.raft_log_engine_laws.specs.Trying.{TriesTwiceInVain}

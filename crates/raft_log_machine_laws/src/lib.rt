@@ -12,13 +12,26 @@
 //! * [`wrong_rules`]: rules that look right, and what each loses.
 #![tactic(auto)]
 
+pub mod append_calls;
 pub mod example;
+pub mod file_system;
 pub mod files;
 pub mod images;
-#[cfg(test)]
 mod laws_at_numbers;
+pub mod log;
 pub mod machine;
+pub mod model;
+pub mod moves;
+pub mod notes;
+pub mod open;
+pub mod pipes;
 pub mod purge;
 pub mod replay;
+pub mod rewrite_calls;
 pub mod survival;
+pub mod writes;
 pub mod wrong_rules;
+
+
+#[cfg(test)]
+

@@ -18,7 +18,7 @@ use Rattle.raft_log_machine_laws.specs.Survival.{IsSpoken}
 use Rattle.raft_log_machine_laws.proofs.TruthGrows.{spoken_after}
 use Rattle.raft_log_machine_laws.proofs.TruthCarries.{differ}
 use Rattle.raft_log_machine_laws.proofs.Starts.{spoken_newer}
-use Rattle.raft_log_directory_laws.specs.Notes.{IsAppended, IsInRewrite}
+use Rattle.raft_log_machine_laws.specs.Notes.{IsAppended, IsInRewrite}
 use Rattle.raft_log_extents.specs.declared.place.Place.{Place}
 use Rattle.raft_log_memtable_index.specs.declared.group_files.GroupFiles.{GroupFiles}
 use Rattle.raft_log_memtable_index.specs.Shown.{KeyValue, Shown, with_held, with_run, with_compact, stepped, all_stepped, whereabouts, is_in_append, span, IsOrderly, MayFollow, MayAllFollow}

@@ -5,7 +5,7 @@ use Rattle.raft_log_model_laws.specs.Item.Item.{Run}
 use Rattle.raft_log_model_laws.specs.Meaning.{Slot, says}
 use Rattle.raft_log_model_laws.specs.Meaning.Slot.{Index, Key}
 use Rattle.raft_log_machine_laws.specs.Survival.{IsSpoken}
-use Rattle.raft_log_directory_laws.specs.Notes.{IsAppended, IsInRewrite}
+use Rattle.raft_log_machine_laws.specs.Notes.{IsAppended, IsInRewrite}
 use Rattle.raft_log_extents.specs.declared.place.Place.{Place}
 use Rattle.raft_log_memtable_index.specs.declared.group_files.GroupFiles.{GroupFiles}
 use Rattle.raft_log_memtable_index.specs.Shown.{KeyValue, Shown, whereabouts}

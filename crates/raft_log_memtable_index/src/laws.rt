@@ -5,7 +5,7 @@ ghost use Rattle.raft_log_model_laws.specs.Item.{Item};
 ghost use Rattle.raft_log_model_laws.specs.Meaning.{Slot, Content, after};
 ghost use Rattle.raft_log_model_laws.specs.Table.{content};
 ghost use Rattle.raft_log_machine_laws.specs.Whereabouts.{CarriesAll, GrowsBy};
-ghost use Rattle.raft_log_directory_laws.specs.Notes.{IsInRewrite};
+ghost use Rattle.raft_log_machine_laws.specs.Notes.{IsInRewrite};
 ghost use Rattle.raft_log_extents.specs.declared.place.Place.{Place};
 ghost use Rattle.raft_log_memtable_index.specs.declared.group_files.GroupFiles.{GroupFiles};
 ghost use Rattle.raft_log_memtable_index.specs.Shown.{

@@ -6,8 +6,8 @@ use Rattle.raft_log_model_laws.specs.Meaning.Slot.{Index, Key}
 use Rattle.raft_log_model_laws.specs.Groups.{Map, of_group}
 use Rattle.raft_log_machine_laws.specs.Survival.{IsSpoken}
 use Rattle.raft_log_machine_laws.specs.Whereabouts.{CarriesAll}
-use Rattle.raft_log_directory_laws.specs.Notes.{IsAppended, IsInRewrite}
-use Rattle.raft_log_directory_laws.specs.Tables.{NotesCarry, NotesShrink}
+use Rattle.raft_log_machine_laws.specs.Notes.{IsAppended, IsInRewrite}
+use Rattle.raft_log_machine_laws.specs.Tables.{NotesCarry, NotesShrink}
 use Rattle.raft_log_memtable_index.specs.Shown.{Shown, whereabouts}
 use Rattle.raft_log_memtable_index.specs.Noted.{AreUpTo, file_at, noted_at}
 use Rattle.raft_log_memtable_index.specs.Bridge.{AllOwed, CanAllMove, Located, Move, all_moved, items_of as copies_of, marks, unmarked, without}

@@ -8,7 +8,7 @@ use Rattle.raft_log_machine_laws.specs.Machine.{AllFit, IsJoined}
 use Rattle.raft_log_machine_laws.specs.Survival.{IsSpoken}
 use Rattle.raft_log_machine_laws.specs.Unbroken.{joined}
 use Rattle.raft_log_machine_laws.specs.Whereabouts.{CarriesAll}
-use Rattle.raft_log_directory_laws.specs.Notes.{IsAppended, IsInRewrite}
+use Rattle.raft_log_machine_laws.specs.Notes.{IsAppended, IsInRewrite}
 use Rattle.raft_log_memtable_index.specs.declared.group_files.GroupFiles.{GroupFiles}
 use Rattle.raft_log_memtable_index.specs.Shown.{Shown, IsOrderly, whereabouts}
 use Rattle.raft_log_memtable_index.specs.Noted.{file_at, noted_at, with_note}

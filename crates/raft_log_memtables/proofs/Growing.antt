@@ -7,8 +7,8 @@ use Rattle.raft_log_model_laws.specs.Groups.{Map, of_group, taken}
 use Rattle.raft_log_model_laws.proofs.RenamedLaws.{of_group_renamed}
 use Rattle.raft_log_machine_laws.specs.Survival.{IsSpoken}
 use Rattle.raft_log_machine_laws.specs.Whereabouts.{GrowsBy}
-use Rattle.raft_log_directory_laws.specs.Notes.{IsAppended}
-use Rattle.raft_log_directory_laws.specs.Tables.{NotesGrow, NotesStay}
+use Rattle.raft_log_machine_laws.specs.Notes.{IsAppended}
+use Rattle.raft_log_machine_laws.specs.Tables.{NotesGrow, NotesStay}
 use Rattle.raft_log_extents.specs.declared.place.Place.{Place}
 use Rattle.raft_log_memtable_index.specs.Shown.{Shown, whereabouts}
 use Rattle.raft_log_memtable_index.specs.Noted.{file_at}

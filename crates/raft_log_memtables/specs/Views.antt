@@ -2,10 +2,10 @@
 use Rattle.std.specs.Prelude.{◌≡◌, ℕ, Bool, true, false, if◌then◌else◌, List, [], ◌∷◌, ◌++◌}
 use Rattle.raft_log_model_laws.specs.Item.{Record, Tagged, items_of}
 use Rattle.raft_log_model_laws.specs.Groups.{Map, of_group, taken}
-use Rattle.raft_log_directory_laws.specs.Log.{View}
+use Rattle.raft_log_machine_laws.specs.Log.{View}
 use Rattle.raft_log_machine_laws.specs.Machine.{AllFit, IsJoined}
 use Rattle.raft_log_machine_laws.specs.Unbroken.{joined}
-use Rattle.raft_log_directory_laws.specs.Tables.{CarriesTo, EndsGroupTo, GrowsTo}
+use Rattle.raft_log_machine_laws.specs.Tables.{CarriesTo, EndsGroupTo, GrowsTo}
 use Rattle.raft_log_extents.specs.declared.place.Place.{Place}
 use Rattle.raft_log_memtable_index.specs.declared.group_files.GroupFiles.{GroupFiles}
 use Rattle.raft_log_memtable_index.specs.Shown.{Shown, IsOrderly, whereabouts}

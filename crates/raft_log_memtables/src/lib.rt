@@ -1,5 +1,5 @@
 //! The memtables of all groups, and how they are rebuilt from segments of the log. The laws in `views` tie each change
-//! of them to a change of the view in `raft_log_directory_laws`.
+//! of them to a change of the view in `raft_log_machine_laws`.
 #![tactic(auto)]
 
 mod group_table;

@@ -1,7 +1,7 @@
 -- Append's span has one file once all of it was rewritten.
 use Rattle.std.proofs.Common.{◌≡◌, ◌≤◌, ℕ, suc, List, inl, inr, sym, ap, ◌∙◌, arith}
 use Rattle.raft_log_file_writer.specs.LogQueue.{LogFiles}
-use Rattle.raft_log_directory_laws.specs.Calls.Which.{InAppend}
+use Rattle.raft_log_machine_laws.specs.Calls.Which.{InAppend}
 use Rattle.raft_log_dual_pipes.specs.Pipes.{LogPipes, RunsOn, LogRecordValue, State}
 use Rattle.raft_log_dual_pipes.specs.Calls.{PurgesQueue, RotatesQueue, SyncsQueue}
 use Rattle.raft_log_purge_copy.specs.raft_log_engine_laws.specs.EngineState.{LogDirectories, LogMap, EngineState, sense}

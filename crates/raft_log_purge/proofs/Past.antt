@@ -10,7 +10,7 @@ use Rattle.raft_log_fs.specs.Causes.{IsLater}
 use Rattle.raft_log_record_base.specs.declared.errors.Error.{Error}
 use Rattle.raft_log_record_base.specs.declared.errors.Error.TheVariants as errors
 use Rattle.raft_log_record_base.specs.declared.pipe_log.LogQueue.TheVariants.{Append}
-use Rattle.raft_log_directory_laws.specs.Calls.Which.{InAppend, InRewrite}
+use Rattle.raft_log_machine_laws.specs.Calls.Which.{InAppend, InRewrite}
 use Rattle.raft_log_memtable_index.specs.Shown.{Shown}
 use Rattle.raft_log_memtable.specs.Files.{IsLeastInAppend}
 use Rattle.raft_log_memtable.proofs.Leasts.{front_is_least}

@@ -1,7 +1,7 @@
 //! Append is rewritten up to a file, and the files up to it go.
 
 ghost use Rattle.std.specs.Prelude.{◌≡◌, true, IfErr, IfOk, OnErr, OnOk};
-ghost use Rattle.raft_log_directory_laws.specs.Calls.Which.{InAppend};
+ghost use Rattle.raft_log_machine_laws.specs.Calls.Which.{InAppend};
 ghost use Rattle.raft_log_fs.specs.Causes.{IsLater};
 ghost use Rattle.raft_log_dual_pipes.specs.Calls.{FailsToRotateQueue, TellsFailure};
 ghost use Rattle.raft_log_dual_pipes.specs.Numbers.{EndsNumbers};

@@ -14,7 +14,7 @@ use Rattle.raft_log_record_frames.specs.Meaning.{tagged_items}
 use Rattle.raft_log_record_batches.specs.declared.log_batch.BatchState.TheVariants.{Populated}
 use Rattle.raft_log_record_batches.specs.Batch.{Batch, IsButBuffer, block_place, written_at}
 use Rattle.raft_log_block_cache.specs.Signing.{signed_for}
-use Rattle.raft_log_directory_laws.specs.Calls.Which.{InRewrite}
+use Rattle.raft_log_machine_laws.specs.Calls.Which.{InRewrite}
 use Rattle.raft_log_extents.specs.Entries.{place_of}
 use Rattle.raft_log_memtable_index.specs.Shown.{Shown}
 use Rattle.raft_log_memtables.specs.declared.mem_tables.MemTables.{MemTables}

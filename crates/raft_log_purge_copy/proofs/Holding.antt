@@ -13,7 +13,7 @@ use Rattle.raft_log_record_frames.specs.declared.status.AtomicGroupStatus.TheVar
 use Rattle.raft_log_active_file.specs.Queue.{synced}
 use Rattle.raft_log_record_batches.specs.Batch.{Batch}
 use Rattle.raft_log_block_cache.specs.Signing.{signed_for}
-use Rattle.raft_log_directory_laws.specs.Calls.Which.{InRewrite}
+use Rattle.raft_log_machine_laws.specs.Calls.Which.{InRewrite}
 use Rattle.raft_log_dual_pipes.specs.Own.{log_layout}
 use Rattle.raft_log_dual_pipes.specs.Queues.{SaysRecord}
 use Rattle.raft_log_dual_pipes.specs.Steps.{next_log}

@@ -41,8 +41,8 @@ use Rattle.raft_log_memtable_index.specs.Shown.{KeyValue}
 use Rattle.raft_log_memtable_index.specs.Bridge.{Located, bytes_held}
 use Rattle.raft_log_memtable_index.specs.Listing.{ListsAll, asked_bytes, is_asked}
 use Rattle.raft_log_block_cache.specs.Signing.{signed_for}
-use Rattle.raft_log_directory_laws.specs.Calls.{Which}
-use Rattle.raft_log_directory_laws.specs.Calls.Which.{InAppend, InRewrite}
+use Rattle.raft_log_machine_laws.specs.Calls.{Which}
+use Rattle.raft_log_machine_laws.specs.Calls.Which.{InAppend, InRewrite}
 use Rattle.raft_log_dual_pipes.specs.Own.{log_layout}
 use Rattle.raft_log_dual_pipes.specs.Queues.{SaysRecord}
 use Rattle.raft_log_dual_pipes.specs.State.{pipe_at}

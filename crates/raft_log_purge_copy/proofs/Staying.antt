@@ -5,7 +5,7 @@ use Rattle.raft_log_record_frames.specs.declared.marking.Marking.TheVariants.{Un
 use Rattle.raft_log_model_laws.specs.Item.Record.{Plain}
 use Rattle.raft_log_record_batches.specs.Batch.{Batch}
 use Rattle.raft_log_block_cache.specs.Signing.{signed_for}
-use Rattle.raft_log_directory_laws.specs.Calls.Which.{InRewrite}
+use Rattle.raft_log_machine_laws.specs.Calls.Which.{InRewrite}
 use Rattle.raft_log_dual_pipes.specs.Steps.{next_log}
 use Rattle.raft_log_dual_pipes.specs.Pipes.{LogPipes, RunsOn, State}
 use Rattle.raft_log_dual_pipes.specs.Calls.{AppendsTo, SyncsQueue}

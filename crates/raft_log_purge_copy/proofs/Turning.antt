@@ -8,7 +8,7 @@ use Rattle.raft_log_record_base.specs.declared.errors.Error.TheVariants as error
 use Rattle.raft_log_record_base.specs.declared.pipe_log.LogQueue.{LogQueue}
 use Rattle.raft_log_record_base.specs.declared.pipe_log.LogQueue.TheVariants.{Append, Rewrite}
 use Rattle.raft_log_machine_laws.specs.Whereabouts.{OwesNothing}
-use Rattle.raft_log_directory_laws.specs.Calls.Which.{InAppend}
+use Rattle.raft_log_machine_laws.specs.Calls.Which.{InAppend}
 use Rattle.raft_log_memtable_index.specs.Shown.{Shown, whereabouts}
 use Rattle.raft_log_memtables.specs.declared.mem_tables.MemTables.{MemTables}
 use Rattle.raft_log_dual_pipes.specs.Pipes.{LogPipes, LogRecordValue, is_failed, which_of}

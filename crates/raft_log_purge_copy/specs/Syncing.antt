@@ -1,6 +1,6 @@
 -- Rewrite is synced when that is due.
 use Rattle.std.specs.Prelude.{◌≡◌, ◌+◌, ◌-◌, ◌^◌, ◌<◌, ◌≤◌, ◌⊎◌, ℕ, List, [], ◌∷◌, false, if◌then◌else◌, min, nat_lt}
-use Rattle.raft_log_directory_laws.specs.Calls.Which.{InRewrite}
+use Rattle.raft_log_machine_laws.specs.Calls.Which.{InRewrite}
 use Rattle.raft_log_record_base.specs.declared.pipe_log.FileBlockHandle.{FileBlockHandle}
 use Rattle.raft_log_block_cache.specs.Signing.{signed_for}
 use Rattle.raft_log_dual_pipes.specs.Pipes.{LogPipes, is_failed}

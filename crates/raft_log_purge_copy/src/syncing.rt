@@ -2,7 +2,7 @@
 
 ghost use Rattle.std.specs.Prelude.{◌≡◌, ◌≤◌, true, IfErr, OnErr, OnOk};
 ghost use Rattle.raft_log_record_base.specs.declared.errors.Error.TheVariants as errors;
-ghost use Rattle.raft_log_directory_laws.specs.Calls.Which.{InRewrite};
+ghost use Rattle.raft_log_machine_laws.specs.Calls.Which.{InRewrite};
 ghost use Rattle.raft_log_fs.specs.Causes.{IsLater};
 ghost use Rattle.raft_log_dual_pipes.specs.Calls.{FailsToSyncQueue};
 ghost use Rattle.raft_log_dual_pipes.specs.Pipes.{is_failed};

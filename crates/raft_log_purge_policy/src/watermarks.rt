@@ -1,7 +1,7 @@
 //! Which queues a purge collects, and how far.
 
 ghost use Rattle.std.specs.Prelude.{◌≡◌, ◌↔◌, ◌<◌, IsTrue};
-ghost use Rattle.raft_log_directory_laws.specs.Calls.Which.{InAppend};
+ghost use Rattle.raft_log_machine_laws.specs.Calls.Which.{InAppend};
 ghost use Rattle.raft_log_dual_pipes.specs.Pipes.{which_of};
 ghost use Rattle.raft_log_purge_policy.specs.Watermarks.{
   IsAnyPast,

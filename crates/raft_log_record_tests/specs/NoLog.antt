@@ -1,7 +1,7 @@
 -- A file system that never holds a log, and the files of one.
 use Rattle.std.specs.Prelude.{◌≡◌, ℕ, [], ◌∷◌}
-use Rattle.raft_log_directory_laws.specs.Images.{Readings, empty_file}
-use Rattle.raft_log_directory_laws.specs.Model.{Files, no_files}
+use Rattle.raft_log_machine_laws.specs.DirectoryImages.{Readings, empty_file}
+use Rattle.raft_log_machine_laws.specs.Model.{Files, no_files}
 
 -- a file system that is its own only image, and an empty file 1 is read of each queue
 abbrev pub no_log : {D : Type 0} → Readings D ℕ ℕ

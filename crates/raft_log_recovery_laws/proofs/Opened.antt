@@ -20,11 +20,11 @@ use Rattle.raft_log_machine_laws.specs.Images.{IsOneRun}
 use Rattle.raft_log_machine_laws.specs.Directory.{IsRising}
 use Rattle.raft_log_machine_laws.specs.Recovery.{IsRecovered}
 use Rattle.raft_log_record_base.specs.declared.pipe_log.LogQueue.TheVariants.{Append, Rewrite}
-use Rattle.raft_log_directory_laws.specs.Calls.{records_read, read_files, IsMadeOf, ReadAgain}
-use Rattle.raft_log_directory_laws.specs.Model.{running, Files, IsModelSound, Model}
-use Rattle.raft_log_directory_laws.specs.Notes.{IsAmong, RecordLiesIn, SpeaksFrom, SpeaksIn}
-use Rattle.raft_log_directory_laws.specs.Log.{IsLog, Stands}
-use Rattle.raft_log_directory_laws.proofs.OpenLaws.{one_run, read_stands}
+use Rattle.raft_log_machine_laws.specs.Calls.{records_read, read_files, IsMadeOf, ReadAgain}
+use Rattle.raft_log_machine_laws.specs.Model.{running, Files, IsModelSound, Model}
+use Rattle.raft_log_machine_laws.specs.Notes.{IsAmong, RecordLiesIn, SpeaksFrom, SpeaksIn}
+use Rattle.raft_log_machine_laws.specs.Log.{IsLog, Stands}
+use Rattle.raft_log_machine_laws.proofs.OpenLaws.{one_run, read_stands}
 use Rattle.raft_log_memtable_index.specs.Shown.{whereabouts, Shown}
 use Rattle.raft_log_memtable_index.specs.Bridge.{located, Located}
 use Rattle.raft_log_memtable_index.specs.Noted.{file_at, noted_at}

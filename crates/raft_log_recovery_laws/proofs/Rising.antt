@@ -16,7 +16,7 @@ use Rattle.raft_log_machine_laws.specs.Directory.{IsRising}
 use Rattle.raft_log_machine_laws.specs.Files.{LogFile}
 use Rattle.raft_log_machine_laws.specs.Unbroken.{IsUnbroken, UnbrokenFrom}
 use Rattle.raft_log_machine_laws.proofs.TruthRaises.{no_entry, no_word, speaks_above}
-use Rattle.raft_log_directory_laws.specs.Model.{Files}
+use Rattle.raft_log_machine_laws.specs.Model.{Files}
 use Rattle.raft_log_extents.specs.declared.place.Place.{Place}
 use Rattle.raft_log_memtable_index.specs.Shown.{KeyValue}
 use Rattle.raft_log_memtable_index.specs.Bridge.{located, Located}

@@ -15,7 +15,7 @@ use Rattle.raft_log_dual_pipes.specs.OnDisk.{LogLiesOn}
 use Rattle.raft_log_dual_pipes.specs.Pipes.{LogRecordValue, files_of}
 use Rattle.raft_log_dual_pipes.specs.Queues.{QueueLayout}
 use Rattle.raft_log_dual_pipes.specs.State.{RunsQueue, Spanned, Ties}
-use Rattle.raft_log_directory_laws.proofs.CallLaws.{stands_log}
+use Rattle.raft_log_machine_laws.proofs.CallLaws.{stands_log}
 use Rattle.raft_log_engine_laws.specs.raft_log_active_file.specs.declared.record.LogRecord.{LogRecord}
 use Rattle.raft_log_engine_laws.specs.raft_log_memtables.specs.Views.{view_of}
 use Rattle.raft_log_engine_laws.specs.EngineState.{LogDirectories, LogMap, EngineState, log_in}

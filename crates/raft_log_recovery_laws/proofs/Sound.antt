@@ -20,9 +20,9 @@ use Rattle.raft_log_machine_laws.proofs.ImageLaws.{opens}
 use Rattle.raft_log_machine_laws.specs.Unbroken.{IsUnbroken, UnbrokenFrom}
 use Rattle.raft_log_machine_laws.proofs.FitLaws.{RecordsFit-back}
 use Rattle.raft_log_machine_laws.proofs.ReplayLaws.{replays}
-use Rattle.raft_log_directory_laws.specs.Model.{machine_of, running, Files, IsModelSound, Model}
-use Rattle.raft_log_directory_laws.specs.Calls.{read_files, ReadAgain}
-use Rattle.raft_log_directory_laws.proofs.Sound.{sound_step}
+use Rattle.raft_log_machine_laws.specs.Model.{machine_of, running, Files, IsModelSound, Model}
+use Rattle.raft_log_machine_laws.specs.Calls.{read_files, ReadAgain}
+use Rattle.raft_log_machine_laws.proofs.Sound.{sound_step}
 use Rattle.raft_log_memtable_index.specs.Shown.{KeyValue}
 use Rattle.raft_log_memtable_index.specs.Bridge.{Located}
 use Rattle.raft_log_memtable_index.specs.Replayed.{told}

@@ -11,7 +11,7 @@ use Rattle.raft_log_active_file.specs.Standing.{Names}
 use Rattle.raft_log_active_file.specs.declared.format.File.{File}
 use Rattle.raft_log_engine_laws.specs.raft_log_active_file.specs.declared.record.LogRecord.{LogRecord}
 use Rattle.raft_log_recovery_read.specs.declared.file_ending.FileEnding.{FileEnding}
-use Rattle.raft_log_directory_laws.specs.Log.{IsLog}
+use Rattle.raft_log_machine_laws.specs.Log.{IsLog}
 use Rattle.raft_log_dual_pipes.specs.Queues.{AreTwoQueues, QueueLayout, TwoQueues}
 use Rattle.raft_log_dual_pipes.specs.State.{HasSpan, LogOnDisk, Spanned, Ties}
 use Rattle.raft_log_dual_pipes.specs.Reopening.{RestBoth, RestsQueue}

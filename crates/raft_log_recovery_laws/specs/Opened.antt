@@ -7,7 +7,7 @@ use Rattle.raft_log_replay_context.specs.Records.{ReadRecord}
 use Rattle.raft_log_replay_context.specs.Context.{ComesOver, HasRead}
 use Rattle.raft_log_replay_context.specs.Batches.{HasReadBatches}
 use Rattle.raft_log_replay_context.specs.declared.context.MemTableRecoverContext.{MemTableRecoverContext}
-use Rattle.raft_log_directory_laws.specs.Log.{IsLog}
+use Rattle.raft_log_machine_laws.specs.Log.{IsLog}
 use Rattle.raft_log_dual_pipes.specs.State.{Ties}
 use Rattle.raft_log_dual_pipes.specs.Reopening.{ReadsBothAgain}
 use Rattle.raft_log_dual_pipes.specs.Pipes.{LogPipes, RunsOn, State}

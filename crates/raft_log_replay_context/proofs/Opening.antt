@@ -24,9 +24,9 @@ use Rattle.raft_log_machine_laws.specs.Recovery.{IsRecovered}
 use Rattle.raft_log_machine_laws.specs.Survival.{IsSpoken}
 use Rattle.raft_log_machine_laws.proofs.TruthGrows.{spoken_now}
 use Rattle.raft_log_machine_laws.proofs.TruthRaises.{no_word}
-use Rattle.raft_log_directory_laws.specs.Calls.{IsMadeOf}
-use Rattle.raft_log_directory_laws.specs.Model.{Files}
-use Rattle.raft_log_directory_laws.specs.Notes.{AllFrom, IsAmong, IsAppended, IsInRewrite, RecordLiesIn, SpeaksFrom, SpeaksIn}
+use Rattle.raft_log_machine_laws.specs.Calls.{IsMadeOf}
+use Rattle.raft_log_machine_laws.specs.Model.{Files}
+use Rattle.raft_log_machine_laws.specs.Notes.{AllFrom, IsAmong, IsAppended, IsInRewrite, RecordLiesIn, SpeaksFrom, SpeaksIn}
 use Rattle.raft_log_extents.specs.declared.place.Place.{Place}
 use Rattle.raft_log_memtable_index.specs.Shown.{is_in_append, whereabouts, KeyValue, Shown}
 use Rattle.raft_log_memtable_index.specs.Bridge.{in_queue, located, Located}

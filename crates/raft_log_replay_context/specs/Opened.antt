@@ -7,7 +7,7 @@ use Rattle.raft_log_model_laws.specs.Tidy.{Tidy}
 use Rattle.raft_log_machine_laws.specs.Files.{span, LogFile}
 use Rattle.raft_log_machine_laws.specs.Directory.{IsRising}
 use Rattle.raft_log_machine_laws.specs.Images.{IsOneRun}
-use Rattle.raft_log_directory_laws.specs.Model.{Files}
+use Rattle.raft_log_machine_laws.specs.Model.{Files}
 use Rattle.raft_log_memtable_index.specs.Bridge.{Located}
 use Rattle.raft_log_memtable_index.specs.Shown.{KeyValue}
 use Rattle.raft_log_memtable_index.specs.Replayed.{told}

@@ -11,7 +11,7 @@ use Rattle.raft_log_record_batches.specs.Batch.{Batch}
 use Rattle.raft_log_engine_laws.specs.EngineState.{LogDirectories, IsWellMarked, IsWritable, LogMap, EngineState, has_failed, said_of}
 use Rattle.raft_log_engine_laws.specs.Holding.{EndsAt}
 use Rattle.raft_log_engine_laws.specs.Writing.{IsUnfit, Leaves, PipesRefused}
-use Rattle.raft_log_directory_laws.specs.Calls.Which.{InAppend}
+use Rattle.raft_log_machine_laws.specs.Calls.Which.{InAppend}
 use Rattle.raft_log_engine_laws.specs.raft_log_dual_pipes.specs.Numbers.{HasLastNumber}
 use Rattle.raft_log_engine_laws.specs.raft_log_dual_pipes.specs.Pipes.{LogRecordValue}
 use Rattle.raft_log_engine_laws.specs.raft_log_memtables.specs.Batch.{MayFollowAll}

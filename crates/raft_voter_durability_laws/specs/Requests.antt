@@ -11,7 +11,7 @@ use Rattle.raft_log_record_batches.specs.Batch.{Batch}
 use Rattle.raft_log_record_batches.specs.Places.{entry_bytes}
 use Rattle.raft_log_engine_laws.specs.EngineState.{LogDirectories, IsWritable, LogMap, EngineState, has_failed}
 use Rattle.raft_log_engine_laws.specs.Holding.{EndsAt, Represents, IsRecoverableAs}
-use Rattle.raft_log_directory_laws.specs.Calls.Which.{InAppend}
+use Rattle.raft_log_machine_laws.specs.Calls.Which.{InAppend}
 use Rattle.raft_log_engine_laws.specs.raft_log_memtable.specs.Reads.{entry_at}
 use Rattle.raft_log_engine_laws.specs.raft_log_dual_pipes.specs.Numbers.{HasLastNumber}
 use Rattle.raft_log_engine_laws.specs.raft_log_dual_pipes.specs.Pipes.{LogRecordValue}

@@ -16,7 +16,7 @@ use Rattle.raft_log_record_base.specs.declared.pipe_log.LogQueue.TheVariants.{Ap
 use Rattle.raft_log_dual_pipes.specs.LastFiles.{EndsThere, KeepsOwn}
 use Rattle.raft_log_dual_pipes.proofs.LastFiles.{behind_is, blank_ends, content_is}
 use Rattle.raft_log_dual_pipes.proofs.Rotations.{calls_leave_room, used_files_meet_the_premise}
-use Rattle.raft_log_directory_laws.specs.Calls.Which.{InAppend, InRewrite}
+use Rattle.raft_log_machine_laws.specs.Calls.Which.{InAppend, InRewrite}
 use Rattle.raft_voter_durability_laws.specs.raft_log_engine_laws.specs.raft_log_active_file.specs.declared.record.LogRecord.{LogRecord}
 use Rattle.raft_voter_durability_laws.specs.raft_log_engine_laws.specs.raft_log_active_file.specs.Layout.{log_format, log_paths}
 use Rattle.raft_voter_durability_laws.specs.raft_log_engine_laws.specs.raft_log_active_file.specs.Paths.{IsOwnPath}

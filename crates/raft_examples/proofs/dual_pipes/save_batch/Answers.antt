@@ -1,5 +1,5 @@
 use Rattle.std.proofs.Common.{subst}
-use Rattle.raft_log_directory_laws.specs.Calls.Which.{InAppend}
+use Rattle.raft_log_machine_laws.specs.Calls.Which.{InAppend}
 use Rattle.raft_log_dual_pipes.specs.Calls.{AppendsTo}
 use Rattle.raft_log_block_cache.specs.Signing.{signed_for}
 use Rattle.raft_examples.proofs.dual_pipes.save_batch.Goals as goal

@@ -2,7 +2,7 @@ use Rattle.std.proofs.Common.{◌≡◌, ◌<◌, ◌∙◌, ℕ, ap, ap₂, sub
 use Rattle.raft_log_record_base.specs.declared.pipe_log.FileId.{FileId}
 use Rattle.raft_log_record_base.specs.declared.pipe_log.LogQueue.{LogQueue}
 use Rattle.raft_log_record_base.specs.declared.pipe_log.LogQueue.TheVariants.{Append}
-use Rattle.raft_log_directory_laws.specs.Calls.Which.{InAppend}
+use Rattle.raft_log_machine_laws.specs.Calls.Which.{InAppend}
 use Rattle.raft_log_dual_pipes.specs.Pipes.{which_of}
 use Rattle.raft_log_dual_pipes.specs.Calls.{FailsToPurgeQueue, PurgesQueue}
 use Rattle.raft_log_dual_pipes.specs.Numbers.{EndsNumbersBelow}

@@ -1,4 +1,4 @@
-use Rattle.raft_log_directory_laws.specs.Calls.Which.{InAppend, InRewrite}
+use Rattle.raft_log_machine_laws.specs.Calls.Which.{InAppend, InRewrite}
 use Rattle.raft_log_dual_pipes.proofs.PairSpans.{span_told}
 use Rattle.raft_log_dual_pipes.proofs.dual_pipes.DualPipesPipeLog.file_span.Goals as goal
 

@@ -1,6 +1,6 @@
 use Rattle.std.proofs.Common.{map, refl, sym, ◌∙◌, ap}
 use Rattle.std.specs.String.{string_bytes}
-use Rattle.raft_log_directory_laws.specs.Calls.Which.{InAppend, InRewrite}
+use Rattle.raft_log_machine_laws.specs.Calls.Which.{InAppend, InRewrite}
 use Rattle.raft_log_dual_pipes.specs.Pipes.{LogPipes, OnePipe}
 use Rattle.raft_log_dual_pipes.proofs.PairNumbers.{purge_ends_when}
 use Rattle.raft_log_dual_pipes.proofs.LastFile.{raises_when}

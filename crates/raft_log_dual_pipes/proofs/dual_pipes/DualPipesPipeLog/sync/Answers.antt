@@ -1,6 +1,6 @@
 use Rattle.std.proofs.Common.{map, refl, sym, ◌∙◌, ap}
 use Rattle.std.specs.String.{string_bytes}
-use Rattle.raft_log_directory_laws.specs.Calls.Which.{InAppend, InRewrite}
+use Rattle.raft_log_machine_laws.specs.Calls.Which.{InAppend, InRewrite}
 use Rattle.raft_log_dual_pipes.proofs.Exits.{sync_refused, syncs_when}
 use Rattle.raft_log_dual_pipes.proofs.Pairing.{either_false, when_alive}
 use Rattle.raft_log_dual_pipes.proofs.dual_pipes.DualPipesPipeLog.sync.Goals as goal

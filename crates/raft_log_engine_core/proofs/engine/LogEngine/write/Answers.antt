@@ -4,7 +4,7 @@ use Rattle.raft_log_purge.specs.raft_log_engine_laws.specs.EngineState.{shows}
 use Rattle.raft_log_purge.specs.raft_log_engine_laws.specs.Writing.{WritesBytes}
 use Rattle.raft_log_engine_core.specs.Touching.{WritesFiles}
 use Rattle.raft_log_record_base.specs.declared.pipe_log.LogQueue.TheVariants.{Append}
-use Rattle.raft_log_directory_laws.specs.Calls.Which.{InAppend}
+use Rattle.raft_log_machine_laws.specs.Calls.Which.{InAppend}
 use Rattle.raft_log_dual_pipes.specs.LastFile.{last_of}
 use Rattle.raft_log_dual_pipes.proofs.Telling.{hears_none}
 use Rattle.raft_log_engine_core.proofs.Hearing.{heard_not_synced, heard_synced, heard_unsynced}

@@ -1,0 +1,13 @@
+pub mod Batches
+pub mod Changing
+pub mod Copies
+pub mod Crashing
+pub mod Ending
+pub mod Keys
+pub mod Lives
+pub mod Purging
+pub mod Saving
+pub mod Serving
+pub mod Standing
+pub mod Unsynced
+pub mod Voting

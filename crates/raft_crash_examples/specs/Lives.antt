@@ -1,0 +1,74 @@
+-- Lives of a log, and what a key reads as after them.
+use Rattle.std.specs.Prelude.{◌≡◌, ℕ, List, [], ◌∷◌, ◌++◌, Option, None, map}
+use Rattle.raft_log_engine.specs.raft_log_model_laws.specs.Groups.{taken}
+use Rattle.raft_log_engine.specs.raft_log_fs.specs.Disk.{Disk}
+use Rattle.raft_log_engine.specs.raft_log_file_settings.specs.declared.config.Config.{Config}
+use Rattle.raft_log_engine.specs.raft_log_memtables.specs.declared.mem_tables.MemTables.{MemTables}
+use Rattle.raft_log_engine.specs.raft_log_dual_pipes.specs.Pipes.{LogPipes}
+use Rattle.raft_log_engine.specs.raft_log_engine_laws.specs.EngineState.{LogDirectories, LogMap, EngineState}
+use Rattle.raft_log_engine.specs.raft_log_engine_laws.specs.Holding.{Represents}
+use Rattle.raft_log_engine.specs.raft_log_open.specs.Opening.{OpensDirectory}
+use Rattle.raft_log_recovery_laws.specs.Bare.{IsBare}
+use Rattle.raft_log_recovery_laws.specs.ByCalls.{home_of}
+use Rattle.raft_log_recovery_laws.specs.Opened.{HoldsFresh}
+use Rattle.raft_crash_examples.specs.declared.changing.KeyChange.{KeyChange}
+use Rattle.raft_crash_examples.specs.declared.lives.Life.{Life}
+use Rattle.raft_crash_examples.specs.Changing.{said_by}
+use Rattle.raft_crash_examples.specs.Ending.{Ends, EndsWithoutChance}
+use Rattle.raft_crash_examples.specs.Keys.{value_behind}
+use Rattle.raft_crash_examples.specs.Saving.{Loads}
+
+-- The log of these settings was opened, and each of the changes was written durably: any map that the log had became
+-- that map with the changes, and nothing is pending.
+pub record OpensAndChanges {F : Type 0} (disk : F → Disk) (tells : F → List ℕ → ℕ → Type 0) (config : Config)
+    (changes : List KeyChange) (old : F) (engine : EngineState) : Type 0 where
+  pub pipes : LogPipes
+  pub tables : MemTables
+  pub opens : OpensDirectory disk tells config old pipes tables
+  pub changed : (home : LogDirectories) (m : LogMap) → HoldsFresh home pipes tables m
+      → Represents home engine (taken m (map said_by changes)) []
+
+-- One life: the log was opened with settings that name its directories, its keys were changed, and it ended.
+pub record LivesOnce {F C : Type 0} (disk : F → Disk) (tells : F → List ℕ → ℕ → Type 0) (life : Life C)
+    (old new : F) : Type 0 where
+  pub config : Config
+  pub names : home_of config ≡ home_of life.config
+  pub engine : EngineState
+  pub changes : OpensAndChanges disk tells config life.changes.items old engine
+  pub ends : Ends life.ending engine (disk new)
+
+-- one life after another
+abbrev pub LivesOn : {F C : Type 0} → (F → Disk) → (F → List ℕ → ℕ → Type 0) → List (Life C) → F → F → Type 0
+LivesOn disk tells [] old new = new ≡ old
+LivesOn {F} disk tells (life ∷ lives) old new =
+    (between : F) × LivesOnce disk tells life old between × LivesOn disk tells lives between new
+
+-- all lives are in these directories
+abbrev pub AllLiveIn : {C : Type 0} → LogDirectories → List (Life C) → Type 0
+AllLiveIn home [] = Unit {0}
+AllLiveIn home (life ∷ lives) = (home_of life.config ≡ home) × AllLiveIn home lives
+
+-- none of their ends left a CRC collision
+abbrev pub LivesWithoutChance : {F C : Type 0} → (disk : F → Disk) → (tells : F → List ℕ → ℕ → Type 0) → LogDirectories
+    → (lives : List (Life C)) → (old new : F) → LivesOn disk tells lives old new → Type 0
+LivesWithoutChance disk tells home [] old new on = Unit {0}
+LivesWithoutChance disk tells home (life ∷ lives) old new on =
+    EndsWithoutChance home life.ending on.1.engine (disk on.0)
+    × LivesWithoutChance disk tells home lives on.0 new on.2
+
+-- the changes of all lives, in order
+abbrev pub changes_of : {C : Type 0} → List (Life C) → List KeyChange
+changes_of [] = []
+changes_of (life ∷ lives) = life.changes.items ++ changes_of lives
+
+-- Lives were lived one after another, and a key was read from the log that they left. Suppose that there was no log at
+-- first, all settings name the same directories, and there is no CRC collision. Then the key has the value that the
+-- changes of all lives give it.
+pub record ReadsTheFold {F C : Type 0} (disk : F → Disk) (tells : F → List ℕ → ℕ → Type 0) (lives : List (Life C))
+    (last : Config) (group : ℕ) (key : List ℕ) (old : F) (found : Option (List ℕ)) : Type 0 where
+  pub left : F
+  pub on : LivesOn disk tells lives old left
+  pub loads : Loads disk tells last group key left found
+  pub folded : IsBare last (disk old) → AllLiveIn (home_of last) lives
+      → LivesWithoutChance disk tells (home_of last) lives old left on
+      → found ≡ value_behind group key (changes_of lives) None

@@ -1,0 +1,42 @@
+-- Changing keys of a log, purging the log, and losing power.
+use Rattle.std.specs.Prelude.{◌≡◌, ℕ, List, [], Option, None, map}
+use Rattle.raft_log_machine_laws.specs.Fresh.{nothing_stands}
+use Rattle.raft_log_engine.specs.raft_log_model_laws.specs.Groups.{taken}
+use Rattle.raft_log_engine.specs.raft_log_fs.specs.Disk.{Disk}
+use Rattle.raft_log_engine.specs.raft_log_fs.specs.Image.{IsImage}
+use Rattle.raft_log_engine.specs.raft_log_file_settings.specs.declared.config.Config.{Config}
+use Rattle.raft_log_engine.specs.raft_log_engine_laws.specs.EngineState.{LogDirectories, LogMap, EngineState}
+use Rattle.raft_log_recovery_laws.specs.Bare.{IsBare}
+use Rattle.raft_log_recovery_laws.specs.ByCalls.{home_of}
+use Rattle.raft_crash_examples.specs.declared.changing.KeyChange.{KeyChange}
+use Rattle.raft_crash_examples.specs.Changing.{said_by}
+use Rattle.raft_crash_examples.specs.Keys.{value_behind}
+use Rattle.raft_crash_examples.specs.Lives.{OpensAndChanges}
+use Rattle.raft_crash_examples.specs.Saving.{Loads}
+use Rattle.raft_crash_examples.specs.Standing.{CrashesWithoutChance, RunsOrIsLeft}
+
+-- any map that the log had, with nothing pending, it still has, though the engine may have failed
+abbrev pub KeepsTheMap : EngineState → EngineState → Type 0
+KeepsTheMap s t = (home : LogDirectories) (m : LogMap) → RunsOrIsLeft home s m [] → RunsOrIsLeft home t m []
+
+-- the map of a log that began with these changes
+abbrev pub map_of : List KeyChange → LogMap
+map_of changes = taken nothing_stands (map said_by changes)
+
+-- Keys of a log were changed, it was purged, which succeeded or failed, the power went, and a key was read. Suppose
+-- that there was no log at first, both settings name the same directories, and there is no CRC collision. Then the key
+-- has the value that the changes give it.
+pub record ReadsBehindPurges {F : Type 0} (disk : F → Disk) (tells : F → List ℕ → ℕ → Type 0) (config : Config)
+    (changes : List KeyChange) (again : Config) (group : ℕ) (key : List ℕ) (old : F) (found : Option (List ℕ))
+    : Type 0 where
+  pub changed : EngineState
+  pub opens : OpensAndChanges disk tells config changes old changed
+  pub engine : EngineState
+  pub purges : KeepsTheMap changed engine
+  pub left : F
+  pub crashes : IsImage engine.pipes.disk (disk left)
+  pub loads : Loads disk tells again group key left found
+  pub kept : IsBare config (disk old) → home_of again ≡ home_of config
+      → (runs : RunsOrIsLeft (home_of config) engine (map_of changes) [])
+      × (CrashesWithoutChance (home_of config) engine (map_of changes) [] runs (disk left)
+      → found ≡ value_behind group key changes None)

@@ -1,0 +1,16 @@
+//! Callers of an engine across a crash: what succeeded before it is there after it, whatever it left.
+#![tactic(auto)]
+
+pub mod batches;
+pub mod changing;
+pub mod copies;
+pub mod crashing;
+pub mod ending;
+pub mod laws;
+pub mod lives;
+pub mod purging;
+pub mod saving;
+pub mod serving;
+pub mod unsynced;
+pub mod voting;
+

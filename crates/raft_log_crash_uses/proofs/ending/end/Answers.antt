@@ -1,4 +1,0 @@
-use Rattle.raft_log_crash_uses.proofs.ending.end.Goals as goal
-
-pub returns-in-Close : goal.returns-in-Close
-returns-in-Close g c = rw c.in-Close.is c.close.ensures.held

@@ -1,5 +1,0 @@
-use Rattle.raft_log_crash_uses.proofs.Copied.{copies_read_alike}
-use Rattle.raft_log_crash_uses.proofs.laws.copies_read_alike.Goals as goal
-
-pub returns : goal.returns
-returns g c = copies_read_alike g.F.FileSystem.disk g.F.FileSystem.tells_space g.met.F.FileSystem.sound

@@ -1,8 +1,0 @@
-use Rattle.raft_log_crash_uses.proofs.Folded.{opens_and_changes}
-use Rattle.raft_log_crash_uses.proofs.lives.change_keys.Goals as goal
-
-pub returns : goal.returns
-returns g c =
-    record {
-      ok = opens_and_changes g.F.FileSystem.disk g.F.FileSystem.tells_space c.args.config c.args.changes.now c.args.files _ _ c.in-Ok.engine.tables c.in-Ok.engine.cache c.in-Ok.ensures.ok c.in-Ok.ensures.none c.in_ok-write_changes.ensures.ok;
-    }

@@ -1,5 +1,0 @@
-use Rattle.raft_log_directory_laws.proofs.LogLaws.{promise}
-use Rattle.raft_log_directory_laws.proofs.log.crash_keeps_what_is_synced.Goals as goal
-
-pub returns : goal.returns
-returns g c = promise g.D.LogImages.readings

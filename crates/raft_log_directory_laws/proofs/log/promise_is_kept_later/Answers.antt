@@ -1,5 +1,0 @@
-use Rattle.raft_log_directory_laws.proofs.LogLaws.{promise_later}
-use Rattle.raft_log_directory_laws.proofs.log.promise_is_kept_later.Goals as goal
-
-pub returns : goal.returns
-returns g c = promise_later g.D.LogImages.readings

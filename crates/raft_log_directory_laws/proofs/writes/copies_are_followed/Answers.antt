@@ -1,5 +1,0 @@
-use Rattle.raft_log_directory_laws.proofs.StandsLaws.{stands_carried}
-use Rattle.raft_log_directory_laws.proofs.writes.copies_are_followed.Goals as goal
-
-pub returns : goal.returns
-returns g c = stands_carried

@@ -1,5 +1,0 @@
-use Rattle.raft_log_directory_laws.proofs.StandsLaws.{stands_ended}
-use Rattle.raft_log_directory_laws.proofs.writes.ended_group_is_followed.Goals as goal
-
-pub returns : goal.returns
-returns g c = stands_ended

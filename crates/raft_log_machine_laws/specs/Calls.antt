@@ -1,0 +1,138 @@
+-- What a pipe's calls do, in terms of the numbered files alone. `ties` says which files may be there while the pipe
+-- runs, `allows` which files the images allow. A pipe's own model of its files satisfies these definitions.
+use Rattle.std.specs.Prelude.{◌≡◌, ℕ, ◌⊎◌, List, [], ◌++◌}
+use Rattle.raft_log_model_laws.specs.Item.{Record, Tagged}
+use Rattle.raft_log_model_laws.specs.Groups.{Map, appended, directory_meaning}
+use Rattle.raft_log_machine_laws.specs.Files.{FileQueue, LogFile, queue_of, records_of}
+use Rattle.raft_log_machine_laws.specs.Images.{IsOneRun}
+use Rattle.raft_log_machine_laws.specs.Recovery.{IsRecovered}
+use Rattle.raft_log_machine_laws.specs.Model.{Files, with_append, with_rewrite}
+use Rattle.raft_log_machine_laws.specs.Moves.{Moved, grown, settled_files, raised_files}
+use Rattle.raft_log_machine_laws.specs.Notes.{AllBelow, AreNoted, AreNotedInRewrite, GoesOnFrom}
+use Rattle.raft_log_machine_laws.specs.Log.{View, Stands}
+
+-- one of the two queues
+pub data Which : Type 0 where
+  InAppend : Which
+  InRewrite : Which
+
+-- the files of one of the two queues
+abbrev pub queue_at : {E V : Type 0} → Which → Files E V → FileQueue E V
+queue_at InAppend f = f.append
+queue_at InRewrite f = f.rewrite
+
+-- the number from which the files of one queue count
+abbrev pub from_at : {E V : Type 0} → Which → Files E V → ℕ
+from_at InAppend f = f.append_from
+from_at InRewrite f = f.rewrite_from
+
+-- the files with another such queue
+abbrev pub put : {E V : Type 0} → Which → Files E V → ℕ → FileQueue E V → Files E V
+put InAppend f from q = with_append f from q
+put InRewrite f from q = with_rewrite f from q
+
+-- the queue's files after some quiet events, such as a rotation
+abbrev pub MovedIn : {E V : Type 0} → Which → Files E V → Type 0
+MovedIn which f = Moved (from_at which f) (queue_at which f)
+
+-- some quiet events happen, then the record is appended to file n
+abbrev pub Appends : {S E V : Type 0} → (S → Files E V → Type 0) → Which → Record E V → ℕ → S → S → Type 0
+Appends {S} {E} {V} ties which y n s t =
+    (f : Files E V) → ties s f
+    → (a : MovedIn which f) × (a.queue.last ≡ n) × ties t (put which f a.from (grown a.queue y))
+
+-- the record wasn't written: what was written of it was truncated, and that was synced
+abbrev pub CutsBack : {S E V : Type 0} → (S → Files E V → Type 0) → Which → S → S → Type 0
+CutsBack {S} {E} {V} ties which s t =
+    (f : Files E V) → ties s f → (a : MovedIn which f) × ties t (put which f a.from (settled_files a.queue))
+
+-- no record is written; some quiet events may have happened
+abbrev pub LeavesOut : {S E V : Type 0} → (S → Files E V → Type 0) → Which → S → S → Type 0
+LeavesOut {S} {E} {V} ties which s t =
+    (f : Files E V) → ties s f → (a : MovedIn which f) × ties t (put which f a.from a.queue)
+
+-- the pipe failed, and the record may be there or not
+abbrev pub MayAppend : {S E V : Type 0} → (S → Files E V → Type 0) → (S → Files E V → Type 0) → Which
+    → Record E V → S → S → Type 0
+MayAppend {S} {E} {V} ties allows which y s t =
+    (f : Files E V) → ties s f
+    → (a : MovedIn which f)
+    × (allows t (put which f a.from a.queue) ⊎ allows t (put which f a.from (grown a.queue y)))
+
+-- the queue's last file is synced
+abbrev pub Syncs : {S E V : Type 0} → (S → Files E V → Type 0) → Which → S → S → Type 0
+Syncs {S} {E} {V} ties which s t =
+    (f : Files E V) → ties s f → ties t (put which f (from_at which f) (settled_files (queue_at which f)))
+
+-- all that was written to the queue is synced: by a sync, by a rotation, or after a truncation
+abbrev pub Settles : {S E V : Type 0} → (S → Files E V → Type 0) → Which → S → S → Type 0
+Settles {S} {E} {V} ties which s t =
+    (f : Files E V) → ties s f
+    → (a : MovedIn which f) × (a.queue.pending ≡ []) × ties t (put which f a.from a.queue)
+
+-- the pipe failed, and the files that were there are among those the images allow
+abbrev pub FailsWhole : {S E V : Type 0} → (S → Files E V → Type 0) → (S → Files E V → Type 0) → S → S
+    → Type 0
+FailsWhole {S} {E} {V} ties allows s t = (f : Files E V) → ties s f → allows t f
+
+-- the live range begins at file n or before it, and some of the files below may be lost
+abbrev pub Raises : {S E V : Type 0} → (S → Files E V → Type 0) → (S → Files E V → Type 0) → Which → ℕ → S → S
+    → Type 0
+Raises {S} {E} {V} ties become which n s t =
+    (f : Files E V) → ties s f
+    → (out stay : List (LogFile E V)) × (out ++ stay ≡ (queue_at which f).full) × AllBelow n out
+    × ((a : Moved (from_at which f) (raised_files (queue_at which f) out stay))
+    × become t (put which f a.from a.queue))
+
+-- what an open reads of a queue: which of the gone files are in the live range again, and which of the unsynced records
+-- an image kept
+pub record ReadAgain {E V : Type 0} (q : FileQueue E V) : Type 0 where
+  pub below : List (LogFile E V)
+  pub again : List (LogFile E V)
+  pub kept : List (Record E V)
+  pub lost : List (Record E V)
+  pub gone : below ++ again ≡ q.gone
+  pub image : kept ++ lost ≡ q.pending
+
+-- the files once these records are synced
+abbrev pub read_files : {E V : Type 0} → (q : FileQueue E V) → ReadAgain q → FileQueue E V
+read_files q r =
+    record q { gone = r.below; full = r.again ++ q.full; synced = q.synced ++ r.kept; pending = [] }
+
+-- the records that are read
+abbrev pub records_read : {E V : Type 0} → (q : FileQueue E V) → ReadAgain q → List (Record E V)
+records_read q r = records_of r.again ++ ((queue_of q).live ++ r.kept)
+
+-- the view is built from what was read of both queues, which is now in these files
+pub record IsMadeOf {E V : Type 0} (v : View E V) (rewrite append : List (Record E V)) (f : Files E V)
+    : Type 0 where
+  pub map : v.map ≡ directory_meaning rewrite append
+  pub whereabouts : (g : ℕ)
+      → IsRecovered (directory_meaning rewrite append g) (appended g append) (v.whereabouts g)
+  pub noted : AreNoted v.whereabouts v.noted f.append
+  pub noted_in_rewrite : AreNotedInRewrite v.map v.whereabouts v.noted_in_rewrite f.rewrite
+
+-- an open: for any files that may have been there, it read some image of them and synced what it read. If each group's
+-- entries were one run, the view is built from it
+abbrev pub Replays : {S E V : Type 0} → (S → Files E V → Type 0) → (S → Files E V → Type 0) → View E V → S → S
+    → Type 0
+Replays {S} {E} {V} allows ties v s t =
+    (f : Files E V) → allows s f
+    → (r : ReadAgain f.rewrite) × (a : ReadAgain f.append)
+    × ties t (record f { rewrite = read_files f.rewrite r; append = read_files f.append a })
+    × (((g : ℕ) → IsOneRun (directory_meaning (records_read f.rewrite r) (records_read f.append a) g))
+    → IsMadeOf v (records_read f.rewrite r) (records_read f.append a)
+    (record f { rewrite = read_files f.rewrite r; append = read_files f.append a }))
+
+-- a pipe that is nothing but its files: exactly these are there
+abbrev pub IsExactly : {E V : Type 0} → Files E V → Files E V → Type 0
+IsExactly s f = f ≡ s
+
+-- the view is true, and Rewrite ends with an atomic group that began in file `from` and has not ended
+pub record IsInGroup {E V : Type 0} (may_be : Files E V → Type 0) (v : View E V) (m : Map E V)
+    (pending : List (Record E V)) (from n : ℕ) (first : List (Tagged E V)) (more : List (List (Tagged E V)))
+    : Type 0 where
+  pub files : Files E V
+  pub stands : Stands v files m pending
+  pub there : may_be files
+  pub group : GoesOnFrom files.rewrite from n first more

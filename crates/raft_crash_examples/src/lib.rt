@@ -13,4 +13,3 @@ pub mod saving;
 pub mod serving;
 pub mod unsynced;
 pub mod voting;
-

@@ -4,7 +4,10 @@ ghost use Rattle.std.specs.Prelude.{IfOk, option_map};
 ghost use Rattle.raft_log_engine.specs.raft_log_engine_core.specs.Reads.{shows_of};
 ghost use Rattle.raft_crash_examples.specs.Purging.{KeepsTheMap, ReadsBehindPurges};
 
-use crate::{changing::KeyChange, ending::Crash, lives::change_keys, saving::load};
+use crate::changing::KeyChange;
+use crate::ending::Crash;
+use crate::lives::change_keys;
+use crate::saving::load;
 use log::Log;
 use raft_log_engine::{Config, FileSystem, LogEngine, PipeLog, Result};
 use std::alloc::Global;

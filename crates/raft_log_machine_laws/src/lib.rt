@@ -17,6 +17,7 @@ pub mod example;
 pub mod file_system;
 pub mod files;
 pub mod images;
+#[cfg(test)]
 mod laws_at_numbers;
 pub mod log;
 pub mod machine;
@@ -31,7 +32,3 @@ pub mod rewrite_calls;
 pub mod survival;
 pub mod writes;
 pub mod wrong_rules;
-
-
-#[cfg(test)]
-

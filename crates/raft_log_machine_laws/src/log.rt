@@ -14,7 +14,8 @@ ghost use Rattle.raft_log_machine_laws.specs.DirectoryImages.{
 };
 ghost use Rattle.raft_log_machine_laws.specs.Log.{IsAt, IsLog, IsLogOf, View};
 
-use crate::{file_system::LogImages, pipes::TiedFiles};
+use crate::file_system::LogImages;
+use crate::pipes::TiedFiles;
 
 /// A file system without log files is an empty log.
 pub fn no_files_are_the_log_of_nothing<D: LogImages>()

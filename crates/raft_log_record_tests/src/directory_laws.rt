@@ -2,7 +2,11 @@
 
 ghost use Rattle.raft_log_record_tests.specs.NoLog.{no_log, IsEmpty};
 
-use raft_log_machine_laws::{append_calls, file_system::LogImages, log, model, moves, notes, open, pipes, pipes::TiedFiles, rewrite_calls, writes};
+use raft_log_machine_laws::file_system::LogImages;
+use raft_log_machine_laws::pipes::TiedFiles;
+use raft_log_machine_laws::{
+    append_calls, log, model, moves, notes, open, pipes, rewrite_calls, writes,
+};
 
 struct NoLog;
 

@@ -1,5 +1,13 @@
+pub mod Alike
+pub mod Arming
+pub mod Causing
 pub mod Crashes
+pub mod Finding
+pub mod Forking
 pub mod Homes
+pub mod Lengths
+pub mod Listed
+pub mod Losses
 pub mod Opening
 pub mod Opens
 pub mod Purging
@@ -7,4 +15,5 @@ mod Refusing
 pub mod Resting
 pub mod RunsPurging
 pub mod Standing
+mod UsedFiles
 pub mod Walking

@@ -9,9 +9,9 @@ use Rattle.raft_voter_log.specs.Leaving.{FilesLeave, SparesFiles}
 use Rattle.raft_voter_log.specs.Leaving.FilesLeave.{bare, left, rests}
 use Rattle.raft_voter_log.proofs.Homes.{some_append, some_rewrite}
 use Rattle.raft_voter_log.proofs.Opens.{memory_sound}
-use Rattle.raft_voter_store_laws.specs.Workers.{AreAStores}
-use Rattle.raft_voter_store_laws.specs.Workers.AreAStores.{bare as are_bare, left as are_left, rests as rest}
-use Rattle.raft_voter_store_laws.proofs.Alike.{workers_open_alike}
+use Rattle.raft_voter_log.specs.StoreWorkers.{AreAStores}
+use Rattle.raft_voter_log.specs.StoreWorkers.AreAStores.{bare as are_bare, left as are_left, rests as rest}
+use Rattle.raft_voter_log.proofs.Alike.{workers_open_alike}
 use Rattle.raft_voter_log.specs.Workers.{AnyWorkersOpenAlike}
 
 -- what is known of files says what they are

@@ -30,7 +30,7 @@ use Rattle.raft_voter_log.specs.Leaving.{FilesLeave, SparesFiles, SparesStore}
 use Rattle.raft_voter_log.specs.Leaving.FilesLeave.{bare, left, rests}
 use Rattle.raft_voter_log.proofs.Homes.{one_home}
 use Rattle.raft_voter_log.proofs.Opens.{follows_none, memory_sound}
-use Rattle.raft_voter_store_laws.proofs.Losses.{foreign_records_are_chance, losses_leave_no_chance}
+use Rattle.raft_voter_log.proofs.Losses.{foreign_records_are_chance, losses_leave_no_chance}
 use Rattle.raft_voter_log.specs.Sessions.{ForeignRecordsBreakPremise, OnlyLoses}
 
 -- no log began in the files, or a crash left them: of these nothing is asked

@@ -33,8 +33,8 @@ use Rattle.raft_voter_world.proofs.Serves.{stores_of_runs_serve}
 use Rattle.raft_voter_world.proofs.Told.{each_purge_has_its_cause}
 use Rattle.raft_voter_log.specs.Causes.{cause_of, purge_cause}
 use Rattle.raft_voter_log.specs.Instance.{PurgesLog, StopsPurgeAs, log_upkeep}
-use Rattle.raft_voter_store_laws.specs.Causes.{StopsPurge, VotersHaveReason}
-use Rattle.raft_voter_store_laws.proofs.Causing.{failed_purges_have_failed, purges_tell_causes}
+use Rattle.raft_voter_log.specs.StoreCauses.{StopsPurge, VotersHaveReason}
+use Rattle.raft_voter_log.proofs.Causing.{failed_purges_have_failed, purges_tell_causes}
 use Rattle.raft_voter_log.specs.Purges.{PurgesKeepOrFail, RefusedPurgesHaveReasons, RunsRefuseForReasons}
 
 abbrev KeepsOrFails : LogDirectories → World → EngineState → EngineState → Type 0

@@ -1,7 +1,15 @@
 pub mod Causes
+pub mod Chance
 pub mod Faults
+pub mod Forking
 pub mod Instance
+pub mod Kept
+pub mod Laws
 pub mod Leaving
+pub mod Opens
 pub mod Purges
+pub mod Reuse
 pub mod Sessions
+pub mod StoreCauses
+pub mod StoreWorkers
 pub mod Workers

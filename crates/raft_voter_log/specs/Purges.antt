@@ -22,7 +22,7 @@ use Rattle.raft_voter_world.specs.Run.{IsRun, moments_of}
 use Rattle.raft_voter_world.specs.Stores.{Disk, Upkeep}
 use Rattle.raft_voter_world.specs.Causes.{IsOfRun}
 use Rattle.raft_voter_log.specs.Causes.{cause_of}
-use Rattle.raft_voter_store_laws.specs.Causes.{VotersHaveReason}
+use Rattle.raft_voter_log.specs.StoreCauses.{VotersHaveReason}
 
 -- A purge in a run keeps the voters if it succeeds. If it fails, either the voters are kept as well; or the store has
 -- failed because a file call failed, and its log means just these voters.

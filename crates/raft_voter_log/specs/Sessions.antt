@@ -21,7 +21,7 @@ use Rattle.raft_voter_world.specs.Run.{IsRun, moments_of}
 use Rattle.raft_voter_world.specs.Stores.{Disk, Upkeep}
 use Rattle.raft_voter_log.specs.declared.files.LogFiles.{LogFiles}
 use Rattle.raft_voter_log.specs.Leaving.{SparesStore}
-use Rattle.raft_voter_store_laws.specs.Chance.{LeavesForeign, LosesWrites}
+use Rattle.raft_voter_log.specs.Chance.{LeavesForeign, LosesWrites}
 
 -- A running store crashed, and left in its active files only what it had written there.
 abbrev pub OnlyLoses : Config → EngineState → OnDisk → Type 0

@@ -9,7 +9,7 @@ use Rattle.raft_voter.specs.Service.{CutRound}
 use Rattle.raft_voter_log.specs.declared.files.LogFiles.{LogFiles}
 use Rattle.raft_voter_log.specs.Instance.{OpensFiles}
 use Rattle.raft_voter_log.specs.Leaving.{FilesLeave, SparesFiles}
-use Rattle.raft_voter_store_laws.specs.Workers.{AreAlike}
+use Rattle.raft_voter_log.specs.StoreWorkers.{AreAlike}
 
 -- If it is known what is left in files, and they have no CRC collision, opens with any two numbers of workers are
 -- alike. The stores serve the same voters with the same outlines, and list them alike.

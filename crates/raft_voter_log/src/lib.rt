@@ -3,14 +3,22 @@
 #![tactic(auto)]
 
 mod causes;
+pub mod chance;
 mod faults;
 mod files;
+pub mod forks;
+pub mod kept;
 pub mod logs;
+pub mod opens;
 pub mod plain;
 pub mod purges;
+pub mod reuse;
 pub mod sessions;
+pub mod store_causes;
+pub mod store_workers;
 mod voters;
 pub mod workers;
 
 pub use files::LogFiles;
+pub use raft_voter_store;
 pub use voters::LogVoters;

@@ -5,15 +5,15 @@ ghost use Rattle.raft_log_dual_pipes.specs.HoldingBack.{PipesHoldBack};
 ghost use Rattle.raft_log_recovery_laws.specs.ByCalls.{home_of};
 ghost use Rattle.raft_log_record_base.specs.declared.pipe_log.LogQueue.TheVariants.{Append};
 ghost use Rattle.raft_voter_outline.specs.Kept.{outlines_in};
-ghost use Rattle.raft_voter_store_laws.specs.raft_voter_store.specs.Service.{service_in};
+ghost use Rattle.raft_voter_log.specs.raft_voter_store.specs.Service.{service_in};
 ghost use Rattle.raft_voter_log.specs.Instance.{log_upkeep};
 
 use crate::causes::{purge_cause, unread_cause};
 use crate::faults::fault_of;
+use crate::raft_voter_store::VoterStore;
 use log::Log;
 use raft_log_engine::{Config, EnginePipes, FileSystem, MemoryFileSystem, Nobody, PipeLog};
 use raft_voter::{Cause, Items, Memory, Reply, Request, RoundFault, RoundService, Voter};
-use raft_voter_store_laws::raft_voter_store::VoterStore;
 use raft_voter_world::{Fault, Purge, VoterStorage};
 use std::alloc::Global;
 

@@ -8,7 +8,7 @@ use Rattle.raft_log_recovery_laws.specs.ByCalls.{home_of}
 use Rattle.raft_voter.specs.Service.{CutRound, MayFollow}
 use Rattle.raft_voter_durability_laws.specs.Standing.{IsLeftAmong}
 use Rattle.raft_voter_durability_laws.proofs.Keeping.{left_alone}
-use Rattle.raft_voter_store_laws.proofs.Finding.{crashed_voters_are_found, left_voters_are_found}
+use Rattle.raft_voter_log.proofs.Finding.{crashed_voters_are_found, left_voters_are_found}
 use Rattle.raft_voter_store.specs.Service.{LeavesAt}
 use Rattle.raft_voter_store.specs.Service.LeavesAt.{left as is_left, running}
 use Rattle.raft_voter_log.specs.Instance.{ClosesStore}

@@ -17,8 +17,8 @@ use Rattle.raft_voter.specs.Rounds.{World, fresh_world}
 use Rattle.raft_voter.specs.Service.{CutRound, IsOpenAt, MayFollow}
 use Rattle.raft_voter_outline.specs.Kept.{outlines_in}
 use Rattle.raft_voter_durability_laws.specs.Standing.{IsLeftAmong, Keeps}
-use Rattle.raft_voter_store_laws.specs.Opens.{ServesFound}
-use Rattle.raft_voter_store_laws.proofs.Finding.{first_opens_are_fresh}
+use Rattle.raft_voter_log.specs.Opens.{ServesFound}
+use Rattle.raft_voter_log.proofs.Finding.{first_opens_are_fresh}
 use Rattle.raft_voter_store.specs.Service.{LeavesAt}
 use Rattle.raft_voter_store.specs.Service.LeavesAt.{left as is_left, running}
 use Rattle.raft_voter_store.proofs.Serving.{open_in}

@@ -10,7 +10,7 @@ use Rattle.raft_log_file_settings.specs.declared.config.Config.{Config}
 use Rattle.raft_voter.specs.Rounds.{World}
 use Rattle.raft_voter.specs.Service.{CutRound, MayFollow}
 use Rattle.raft_voter_durability_laws.specs.Standing.{IsLeftAmong}
-use Rattle.raft_voter_store_laws.specs.Opens.{FindsVoters}
+use Rattle.raft_voter_log.specs.Opens.{FindsVoters}
 use Rattle.raft_voter_store.specs.Service.{LeavesAt}
 use Rattle.raft_voter_log.specs.Instance.{ClosesStore}
 

@@ -12,7 +12,7 @@ use std::alloc::Global;
 impl<F: FileSystem + Sync> LogVoterStore<EnginePipes<F, Nobody>> {
     /// Copies the log of a store that nobody has open, as named by these settings, into a directory, which is created
     /// if it doesn't exist. Returns the paths of the copies, each of which is synced. A store that is opened over the
-    /// copy has the voters of its source (`raft_voter_store_laws`).
+    /// copy has the voters of its source (`raft_voter_log`).
     ///
     /// If it fails, for any reason, the source is unchanged.
     ///

@@ -1,0 +1,39 @@
+-- Files that are used again, and files that a crash leaves unchanged, of a running engine, and so of a run.
+use Rattle.std.specs.Prelude.{◌≡◌, List, []}
+use Rattle.raft_log_fs.specs.Disk.{Disk}
+use Rattle.raft_log_fs.specs.Image.{IsImage}
+use Rattle.raft_log_file_format.specs.declared.header.LogFileFormat.{LogFileFormat}
+use Rattle.raft_log_file_writer.specs.LogFormat.{Format}
+use Rattle.raft_log_file_pipe.specs.declared.pipe_files.PipeFiles.{PipeFiles}
+use Rattle.raft_log_dual_pipes.specs.LastFiles.{EndsThere, KeepsOwn, NextIsUsed}
+use Rattle.raft_log_machine_laws.specs.Calls.{Which}
+use Rattle.raft_voter_durability_laws.specs.raft_log_engine_laws.specs.raft_log_active_file.specs.declared.record.LogRecord.{LogRecord}
+use Rattle.raft_voter_durability_laws.specs.raft_log_engine_laws.specs.raft_log_dual_pipes.specs.PipeCalls.{PipeRotates}
+use Rattle.raft_voter_durability_laws.specs.raft_log_engine_laws.specs.raft_log_dual_pipes.specs.Pipes.{LogPipes, LogRecordValue, one_at}
+use Rattle.raft_voter_durability_laws.specs.raft_log_engine_laws.specs.raft_log_dual_pipes.specs.Queues.{layout_at}
+use Rattle.raft_voter_durability_laws.specs.raft_log_engine_laws.specs.Holding.{Represents}
+use Rattle.raft_voter_durability_laws.specs.raft_log_engine_laws.specs.EngineState.{LogDirectories, LogMap, EngineState, log_in}
+use Rattle.raft_voter_log.specs.Chance.{LosesOwn}
+
+-- If no record begins after the records of an active file, and a crash leaves it unchanged, its records are whole: such
+-- a crash only loses writes, whatever map the engine's log is.
+abbrev pub StandingFilesOnlyLose : Type 0
+StandingFilesOnlyLose = (which : Which) (home : LogDirectories) (e : EngineState) (m : LogMap) (pending : List LogRecordValue)
+    → Represents home e m pending
+    → EndsThere (layout_at which (log_in home)).format (one_at which e.pipes).files e.pipes.disk
+    → (image : Disk) → KeepsOwn (one_at which e.pipes).files e.pipes.disk image
+    → LosesOwn (layout_at which (log_in home)).format (one_at which e.pipes).files e.pipes.disk image
+
+-- the pipe's next rotation creates a file, or uses one that had another number
+pub data NextIsKnown (F : Format LogRecord) (format : LogFileFormat) (files : PipeFiles) (d : Disk) : Type 0 where
+  made : files.recycled.items ≡ [] → NextIsKnown F format files d
+  used : NextIsUsed F format files d → NextIsKnown F format files d
+
+-- Right after a rotation to such a file every crash only loses writes, whatever bytes the file held.
+abbrev pub RotatedFilesOnlyLose : Type 0
+RotatedFilesOnlyLose = (which : Which) (home : LogDirectories) (e : EngineState) (m : LogMap) (pending : List LogRecordValue)
+    → Represents home e m pending
+    → NextIsKnown (layout_at which (log_in home)).format (one_at which e.pipes).settings.new_files.format
+    (one_at which e.pipes).files e.pipes.disk
+    → (v : LogPipes) → PipeRotates which e.pipes v → (image : Disk) → IsImage v.disk image
+    → LosesOwn (layout_at which (log_in home)).format (one_at which v).files v.disk image

@@ -1,0 +1,19 @@
+//! What follows from a store keeping its voters.
+
+ghost use Rattle.raft_voter_log.specs.Kept.{ArmsKeepVoters, KeptVotersAreTold, VotersHaveNoOwnKey};
+
+/// A store that keeps voters lists just these. A call that keeps them, as every purge does, succeeded or failed,
+/// therefore changes nothing of the list.
+pub fn kept_voters_are_told()
+    ensures { KeptVotersAreTold }
+{}
+
+/// No group of a store's log has one of the log's own keys, so no purge fails for one.
+pub fn voters_have_no_own_key()
+    ensures { VotersHaveNoOwnKey }
+{}
+
+/// Arming a fault that makes no place unreadable changes no voter.
+pub fn arms_keep_voters()
+    ensures { ArmsKeepVoters }
+{}

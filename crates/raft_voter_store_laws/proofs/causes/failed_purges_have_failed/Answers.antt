@@ -1,5 +1,0 @@
-use Rattle.raft_voter_store_laws.proofs.Causing.{failed_purges_have_failed}
-use Rattle.raft_voter_store_laws.proofs.causes.failed_purges_have_failed.Goals as goal
-
-pub returns : goal.returns
-returns c = failed_purges_have_failed

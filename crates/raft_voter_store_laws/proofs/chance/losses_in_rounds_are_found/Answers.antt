@@ -1,5 +1,0 @@
-use Rattle.raft_voter_store_laws.proofs.Losses.{losses_in_rounds_are_found}
-use Rattle.raft_voter_store_laws.proofs.chance.losses_in_rounds_are_found.Goals as goal
-
-pub returns : goal.returns
-returns g c = losses_in_rounds_are_found g.F.FileSystem.disk g.F.FileSystem.tells_space

@@ -1,5 +1,0 @@
-use Rattle.raft_voter_store_laws.proofs.Losses.{losses_leave_no_chance}
-use Rattle.raft_voter_store_laws.proofs.chance.losses_leave_no_chance.Goals as goal
-
-pub returns : goal.returns
-returns c = losses_leave_no_chance

@@ -1,5 +1,0 @@
-use Rattle.raft_voter_store_laws.proofs.Losses.{zeros_begin_no_record}
-use Rattle.raft_voter_store_laws.proofs.chance.zeros_begin_no_record.Goals as goal
-
-pub returns : goal.returns
-returns c = zeros_begin_no_record

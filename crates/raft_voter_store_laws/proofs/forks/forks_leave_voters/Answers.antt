@@ -1,5 +1,0 @@
-use Rattle.raft_voter_store_laws.proofs.Forking.{forks_leave_voters}
-use Rattle.raft_voter_store_laws.proofs.forks.forks_leave_voters.Goals as goal
-
-pub returns : goal.returns
-returns c = forks_leave_voters

@@ -1,5 +1,0 @@
-use Rattle.raft_voter_store_laws.proofs.Forking.{own_directories_get_no_copy}
-use Rattle.raft_voter_store_laws.proofs.forks.own_directories_get_no_copy.Goals as goal
-
-pub returns : goal.returns
-returns c = own_directories_get_no_copy

@@ -1,5 +1,0 @@
-use Rattle.raft_voter_store_laws.proofs.Arming.{arms_keep_voters}
-use Rattle.raft_voter_store_laws.proofs.kept.arms_keep_voters.Goals as goal
-
-pub returns : goal.returns
-returns c = arms_keep_voters

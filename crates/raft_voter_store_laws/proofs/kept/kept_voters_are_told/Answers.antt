@@ -1,5 +1,0 @@
-use Rattle.raft_voter_store_laws.proofs.Listed.{kept_voters_are_told}
-use Rattle.raft_voter_store_laws.proofs.kept.kept_voters_are_told.Goals as goal
-
-pub returns : goal.returns
-returns c = kept_voters_are_told

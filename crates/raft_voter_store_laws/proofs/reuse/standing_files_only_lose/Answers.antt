@@ -1,5 +1,0 @@
-use Rattle.raft_voter_store_laws.proofs.UsedFiles.{standing_files_only_lose}
-use Rattle.raft_voter_store_laws.proofs.reuse.standing_files_only_lose.Goals as goal
-
-pub returns : goal.returns
-returns c = standing_files_only_lose

@@ -1,5 +1,0 @@
-use Rattle.raft_voter_store_laws.proofs.Alike.{workers_open_alike}
-use Rattle.raft_voter_store_laws.proofs.workers.workers_open_alike.Goals as goal
-
-pub returns : goal.returns
-returns g c = workers_open_alike g.F.FileSystem.disk g.F.FileSystem.tells_space

@@ -1,6 +1,3 @@
-mod Files
-pub mod Filling
-mod Made
-pub mod Pieces
-pub mod Resting
 pub mod Sharing
+pub mod Filling
+pub mod Resting

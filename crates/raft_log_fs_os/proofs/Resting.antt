@@ -7,8 +7,8 @@ use Rattle.raft_log_fs.specs.Calls.{created, with_directory}
 use Rattle.raft_log_fs.proofs.Updates.{file_here, file_apart}
 use Rattle.raft_log_fs_state.specs.declared.storage.Storage.{Storage}
 use Rattle.raft_log_fs_state.specs.Storage.{contents_of}
-use Rattle.raft_log_fs_os.specs.Device.{Trace, held_by, settled}
-use Rattle.raft_log_fs_os.specs.WritingBack.{LeavesBytes, RestsAt}
+use Rattle.raft_log_fs_traced.specs.Device.{Trace, held_by, settled}
+use Rattle.raft_log_fs_traced.specs.WritingBack.{LeavesBytes, RestsAt}
 use Rattle.raft_log_fs_os.specs.Loading.{AllRest, FillsFile, StandsAsFound, StaysSettled}
 
 pub rest_alike : (old new : Storage) → contents_of new ≡ contents_of old → AllRest old → AllRest new

@@ -1,8 +1,3 @@
-pub mod Device
-pub mod Directory
-pub mod Following
-pub mod Loading
 pub mod Noting
-pub mod Space
 pub mod Tracing
-pub mod WritingBack
+pub mod Loading

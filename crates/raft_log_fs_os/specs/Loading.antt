@@ -5,9 +5,9 @@ use Rattle.raft_log_fs.proofs.Props.{File-set}
 use Rattle.raft_log_fs.specs.Disk.{File, Disk, at_rest, with_file}
 use Rattle.raft_log_fs_state.specs.declared.storage.Storage.{Storage}
 use Rattle.raft_log_fs_state.specs.Storage.{contents_of}
-use Rattle.raft_log_fs_os.specs.Device.{Trace, held_by, settled}
+use Rattle.raft_log_fs_traced.specs.Device.{Trace, held_by, settled}
 use Rattle.raft_log_fs_state.specs.Steps.{size_of}
-use Rattle.raft_log_fs_os.specs.WritingBack.{LeavesBytes, RestsAt, WritesBack}
+use Rattle.raft_log_fs_traced.specs.WritingBack.{LeavesBytes, RestsAt, WritesBack}
 
 -- the file system runs, and no failure was counted or reported
 pub record StartsFresh (d : Disk) : Type 0 where

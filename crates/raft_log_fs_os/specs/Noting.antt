@@ -1,7 +1,7 @@
 -- How a call of the operating system is noted: its kind, a file, an offset or a size, and a path or bytes.
 use Rattle.std.specs.Prelude.{ℕ, List, slice_index, ◌==◌, if◌then◌else◌}
 use Rattle.raft_log_fs.specs.Disk.{Wrote, ShortenedTo, GrewTo}
-use Rattle.raft_log_fs_os.specs.Device.{DeviceCall, Created, Deleted, MadeDirectory, SyncedDirectory, Changed, Synced, WroteBack}
+use Rattle.raft_log_fs_traced.specs.Device.{DeviceCall, Created, Deleted, MadeDirectory, SyncedDirectory, Changed, Synced, WroteBack}
 
 -- the call of this kind, with this file, number, and path or bytes
 abbrev pub call_of_kind : ℕ → ℕ → ℕ → List ℕ → DeviceCall

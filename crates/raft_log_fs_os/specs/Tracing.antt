@@ -2,7 +2,7 @@
 use Rattle.std.specs.Prelude.{◌≡◌, []}
 use Rattle.raft_log_fs_state.specs.declared.storage.Storage.{Storage}
 use Rattle.raft_log_fs_state.specs.Storage.{contents_of}
-use Rattle.raft_log_fs_os.specs.Device.{Trace}
+use Rattle.raft_log_fs_traced.specs.Device.{Trace}
 use Rattle.raft_log_fs_os.specs.declared.file_device.FileDevice.{FileDevice}
 
 -- what the model was loaded with, and the calls since

@@ -2,9 +2,6 @@
 //! them. `CALLING.md` says what is trusted about it.
 #![tactic(auto)]
 
-pub mod device;
-pub mod directory;
-mod durable;
 pub mod fault;
 pub mod file_device;
 mod growing;
@@ -14,11 +11,8 @@ mod making_durable;
 mod open_file;
 pub mod opening;
 mod record;
-pub mod writing_back;
 
-pub use device::Device;
-pub use directory::DirectoryFileSystem;
 pub use fault::DirectoryFault;
 pub use file_device::FileDevice;
 pub use opening::{make_directory, open_directories, open_directories_for_reading};
-pub use writing_back::write_back;
+pub use raft_log_fs_traced::DirectoryFileSystem;

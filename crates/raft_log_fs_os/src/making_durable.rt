@@ -5,15 +5,15 @@
 //! Their bytes are written again, and then synced.
 ghost use Rattle.std.specs.Prelude.{◌≡◌, ◌<◌, length, OnOk};
 ghost use Rattle.raft_log_fs_state.specs.Storage.{IsStorageSound, contents_of};
-ghost use Rattle.raft_log_fs_os.specs.Device.{held_by, settled};
-ghost use Rattle.raft_log_fs_os.specs.WritingBack.{LeavesBytes};
+ghost use Rattle.raft_log_fs_traced.specs.Device.{held_by, settled};
+ghost use Rattle.raft_log_fs_traced.specs.WritingBack.{LeavesBytes};
 ghost use Rattle.raft_log_fs_os.specs.Loading.{AllRest, IsWrittenBack, StaysSettled};
 
 use super::fault::DirectoryFault;
 use super::file_device::PIECE;
 use super::log_names::{ListedFile, last_number};
-use crate::{Device, write_back};
 use raft_log_fs_state::Storage;
+use raft_log_fs_traced::{Device, write_back};
 use raft_log_record_base::{FileId, LogQueue};
 use std::alloc::Global;
 

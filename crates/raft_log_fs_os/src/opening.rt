@@ -1,7 +1,7 @@
 //! Opens the directories of a log: locks and loads them, and makes them durable if they may be written.
 ghost use Rattle.std.specs.Prelude.{◌≡◌, List, ℕ, None, IfOk};
-ghost use Rattle.raft_log_fs_os.specs.Directory.{calls_of};
-ghost use Rattle.raft_log_fs_os.specs.Space.{spaces_of};
+ghost use Rattle.raft_log_fs_traced.specs.Directory.{calls_of};
+ghost use Rattle.raft_log_fs_traced.specs.Space.{spaces_of};
 ghost use Rattle.raft_log_fs_os.specs.Loading.{StandsAsFound, StartsFresh};
 
 use super::fault::DirectoryFault;
@@ -9,8 +9,8 @@ use super::file_device::{FileDevice, PIECE};
 use super::load::{Access, Found};
 use super::log_names::{ListedFile, list_files};
 use super::making_durable::{sync_directories, write_back_last_files};
-use crate::{Device, DirectoryFileSystem};
 use raft_log_fs::FileSystem;
+use raft_log_fs_traced::{Device, DirectoryFileSystem};
 use std::fs::File;
 use std::io::ErrorKind;
 use std::path::Path;

@@ -1,7 +1,7 @@
 //! A list of calls that only clauses read.
 ghost use Rattle.std.specs.Prelude.{◌≡◌, List, [], ◌∷◌};
 ghost use Rattle.std.specs.Borrow.{ftrue};
-ghost use Rattle.raft_log_fs_os.specs.Device.{DeviceCall, Renamed};
+ghost use Rattle.raft_log_fs_traced.specs.Device.{DeviceCall, Renamed};
 ghost use Rattle.raft_log_fs_os.specs.Noting.{call_of};
 
 use std::marker::{Model, PhantomData};

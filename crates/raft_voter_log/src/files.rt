@@ -11,12 +11,12 @@ ghost use Rattle.raft_voter_log.specs.Leaving.{FilesLeave};
 
 use crate::causes::unread_cause;
 use crate::faults::{fault_of, remainder_of};
-use crate::raft_voter_store::VoterStore;
 use crate::voters::LogVoters;
 use log::sink::Discard;
 use log::{LevelFilter, Log, Logged};
 use raft_log_engine::{Config, EnginePipes, FileSystem, MemoryFileSystem, Nobody, PipeLog, fork};
 use raft_voter::{Cause, FilesRefused, Memory};
+use raft_voter_store::VoterStore;
 use raft_voter_world::{Fault, Left, VoterDisk};
 use std::alloc::Global;
 use std::thread::Threads;

@@ -10,10 +10,10 @@ ghost use Rattle.raft_voter_log.specs.Instance.{log_upkeep};
 
 use crate::causes::{purge_cause, unread_cause};
 use crate::faults::fault_of;
-use crate::raft_voter_store::VoterStore;
 use log::Log;
 use raft_log_engine::{Config, EnginePipes, FileSystem, MemoryFileSystem, Nobody, PipeLog};
 use raft_voter::{Cause, Items, Memory, Reply, Request, RoundFault, RoundService, Voter};
+use raft_voter_store::VoterStore;
 use raft_voter_world::{Fault, Purge, VoterStorage};
 use std::alloc::Global;
 

@@ -26,7 +26,7 @@ use denote.Triple.Spec.{Meets, triple_of}
 use denote.Triple.Table.{entered}
 use denote.Triple.Walked.{says, Stays, stay_ref, walk_of, AllGo, Goes-ref, Walks, ends_at, walked, walk_Meets}
 use Rattle.raft_log_fs_os.specs.declared.record.Record.{Record}
-use Rattle.raft_log_fs_os.specs.Device.{Renamed}
+use Rattle.raft_log_fs_traced.specs.Device.{Renamed}
 use Rattle.raft_log_fs_os.specs.contracts.record.Record as T
 use Rattle.raft_log_fs_os.specs.contracts.record.Record.note_rename.Key.{name as #it}
 use Rattle.raft_log_fs_os.specs.contracts.record.Record.note_rename as it

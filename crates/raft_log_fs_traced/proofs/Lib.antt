@@ -1,0 +1,3 @@
+mod Made
+mod Files
+pub mod Pieces

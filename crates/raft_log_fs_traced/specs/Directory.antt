@@ -1,0 +1,71 @@
+-- What a file system over a device shows, and how its calls fail.
+use Rattle.std.specs.Prelude.{◌≡◌, ◌⊎◌, ℕ, true, false, None, List, Result, Ok}
+use Rattle.std.specs.Result.{IfErr, OnOk, MatchResult}
+use Rattle.std.specs.declared.io.ErrorKind.{ErrorKind}
+use Rattle.raft_log_fs.specs.Disk.{Disk}
+use Rattle.raft_log_fs.specs.Calls.{IsToldAtStop, counted, at_stop}
+use Rattle.raft_log_fs.specs.Arguments.{WrongHandle, WrongWriter, WrongListing, IsAfterStop}
+use Rattle.raft_log_fs.specs.declared.handle.Handle.{Handle}
+use Rattle.raft_log_fs.specs.declared.handle.Permission.TheVariants.{ReadWrite}
+use Rattle.raft_log_fs_state.specs.Storage.{contents_of}
+use Rattle.raft_log_fs_traced.specs.Device.{Trace}
+use Rattle.raft_log_fs_traced.specs.Following.{shown}
+use Rattle.raft_log_fs_traced.specs.declared.device.Device as device
+use Rattle.raft_log_fs_traced.specs.declared.directory.DirectoryFileSystem.{DirectoryFileSystem}
+
+-- the disk with this many failures counted, which were reported as these kinds
+abbrev pub with_failures : ℕ → List ErrorKind → Disk → Disk
+with_failures failures kinds d = record d { failures = failures; kinds = kinds }
+
+-- A failure was counted and reported as its kind; or the count is full, the file system stopped, and the error isn't
+-- out of memory. Nothing else happened.
+abbrev pub FailsOnce : ErrorKind → ErrorKind → Disk → Disk → Type 0
+FailsOnce kind error old new =
+    ((error ≡ kind) × (new ≡ counted error old)) ⊎ (IsToldAtStop kind error × (new ≡ at_stop old))
+
+-- what is returned for a device call that succeeded or failed: a failed one is a stop
+abbrev pub IsToldOf : Result (Unit {0}) ErrorKind → Result (Unit {0}) ErrorKind → Type 0
+IsToldOf made result =
+    MatchResult made (λ v. result ≡ Ok v) (λ kind. IfErr result (IsToldAtStop kind) × OnOk result ⊥)
+
+-- the file system has stopped, or it runs and the path isn't a directory's
+abbrev pub LacksDirectory : List ℕ → Disk → ErrorKind → Type 0
+LacksDirectory path d error = IsAfterStop d error ⊎ ((d.stopped ≡ false) × WrongListing path d error)
+
+-- the file system has stopped, or it runs and the handle's file was deleted
+abbrev pub LacksFile : Handle → Disk → ErrorKind → Type 0
+LacksFile handle d error = IsAfterStop d error ⊎ ((d.stopped ≡ false) × WrongHandle handle d error)
+
+-- the file system has stopped, or it runs and the handle's file was deleted or the handle may only read
+abbrev pub LacksWriter : Handle → Disk → ErrorKind → Type 0
+LacksWriter handle d error = IsAfterStop d error ⊎ ((d.stopped ≡ false) × WrongWriter handle d error)
+
+module _ {D : Type 0} (g : device.Ghosts D) where
+  -- the disk of a file system over a device
+  abbrev pub disk_of : DirectoryFileSystem D g → Disk
+  disk_of system = shown (g.trace system.device) system.stopped system.failures system.kinds.told
+
+  -- what a file system's device had when it was opened, and the calls made on it since
+  abbrev pub calls_of : DirectoryFileSystem D g → Trace
+  calls_of system = g.trace system.device
+
+  -- the file system runs, and so its disk has what the model has
+  pub record Runs (system : DirectoryFileSystem D g) : Type 0 where
+    pub running : system.stopped ≡ false
+    pub same : disk_of system
+        ≡ with_failures system.failures system.kinds.told (contents_of system.storage)
+
+  -- the file system runs, and the path is a directory's
+  pub record RunsWithDirectory (path : List ℕ) (system : DirectoryFileSystem D g) : Type 0 where
+    pub runs : Runs system
+    pub there : (contents_of system.storage).directories path ≡ true
+
+  -- the file system runs, and the handle's file exists
+  pub record RunsWithFile (handle : Handle) (system : DirectoryFileSystem D g) : Type 0 where
+    pub runs : Runs system
+    pub there : (contents_of system.storage).files handle.file ≡ None → ⊥
+
+  -- the file system runs, the handle's file exists, and the handle may write
+  pub record RunsWithWriter (handle : Handle) (system : DirectoryFileSystem D g) : Type 0 where
+    pub file : RunsWithFile handle system
+    pub writes : handle.permission ≡ ReadWrite

@@ -1,0 +1,5 @@
+pub mod Device
+pub mod Following
+pub mod Directory
+pub mod Space
+pub mod WritingBack

@@ -9,7 +9,7 @@ use Rattle.raft_log_record_batches.specs.Batch.{max_entries_len}
 use Rattle.raft_log_record_batches.specs.Entries.{bytes_len, entries_items, joined}
 use Rattle.raft_log_record_batches.proofs.Entries.{joined-length}
 use Rattle.raft_log_record_batches.specs.Bounds.{key_value_len, record_bound}
-use Rattle.raft_log_record_batches.proofs.Bounds.{record_bound-append, record_bound-entries}
+use Rattle.raft_log_record_batches.proofs.BoundLemmas.{record_bound-append, record_bound-entries}
 use Rattle.raft_log_record_batches.proofs.Lengths.{no_record_is_longer}
 use Rattle.raft_log_engine_laws.specs.EngineState.{LogMap}
 use Rattle.raft_log_purge_copy.specs.Entries.{AreEntryBytes}

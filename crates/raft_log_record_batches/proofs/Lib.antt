@@ -1,5 +1,5 @@
 pub mod AtomicGroups
-pub mod Bounds
+pub mod BoundLemmas
 pub mod Buffer
 pub mod Encoded
 pub mod Entries

@@ -7,7 +7,7 @@ use Rattle.raft_log_record_frames.specs.ItemBatch.{command_item}
 use Rattle.raft_log_record_batches.specs.Batch.{Batch, Becomes, empty_batch, with_item}
 use Rattle.raft_log_record_batches.specs.EntriesFrom.{indexes_at}
 use Rattle.raft_log_record_batches.specs.Bounds.{batch_bound}
-use Rattle.raft_log_record_batches.proofs.Bounds.{additions_raise}
+use Rattle.raft_log_record_batches.proofs.BoundLemmas.{additions_raise}
 use Rattle.raft_log_record_batches.proofs.Lengths.{no_record_is_longer}
 use Rattle.raft_voter_messages.specs.declared.reply.VoterState.{VoterState}
 use Rattle.raft_voter_messages.specs.declared.request.Request.{Request}

@@ -37,7 +37,7 @@ use Rattle.raft_voter_log.specs.Instance.{AreSame, ClosesStore}
 use Rattle.raft_voter_log.specs.Leaving.{FilesLeave, SparesFiles, SparesStore}
 use Rattle.raft_voter_log.specs.Leaving.FilesLeave.{bare, left, rests}
 use Rattle.raft_voter_log.proofs.Homes.{leave_for, one_home, some_append, some_rewrite}
-use Rattle.raft_voter_log.proofs.Opens.{follows_none, memory_sound}
+use Rattle.raft_voter_log.proofs.OpenLemmas.{follows_none, memory_sound}
 
 -- A crash of what a crash left leaves the same.
 

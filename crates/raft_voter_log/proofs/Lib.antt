@@ -9,7 +9,7 @@ pub mod Lengths
 pub mod Listed
 pub mod Losses
 pub mod Opening
-pub mod Opens
+pub mod OpenLemmas
 pub mod Purging
 mod Refusing
 pub mod Resting

@@ -8,7 +8,7 @@ use Rattle.raft_voter_log.specs.declared.files.LogFiles.{LogFiles}
 use Rattle.raft_voter_log.specs.Leaving.{FilesLeave, SparesFiles}
 use Rattle.raft_voter_log.specs.Leaving.FilesLeave.{bare, left, rests}
 use Rattle.raft_voter_log.proofs.Homes.{some_append, some_rewrite}
-use Rattle.raft_voter_log.proofs.Opens.{memory_sound}
+use Rattle.raft_voter_log.proofs.OpenLemmas.{memory_sound}
 use Rattle.raft_voter_log.specs.StoreWorkers.{AreAStores}
 use Rattle.raft_voter_log.specs.StoreWorkers.AreAStores.{bare as are_bare, left as are_left, rests as rest}
 use Rattle.raft_voter_log.proofs.Alike.{workers_open_alike}

@@ -29,7 +29,7 @@ use Rattle.raft_voter_log.specs.Instance.{AreSame, CrashesUnder}
 use Rattle.raft_voter_log.specs.Leaving.{FilesLeave, SparesFiles, SparesStore}
 use Rattle.raft_voter_log.specs.Leaving.FilesLeave.{bare, left, rests}
 use Rattle.raft_voter_log.proofs.Homes.{one_home}
-use Rattle.raft_voter_log.proofs.Opens.{follows_none, memory_sound}
+use Rattle.raft_voter_log.proofs.OpenLemmas.{follows_none, memory_sound}
 use Rattle.raft_voter_log.proofs.Losses.{foreign_records_are_chance, losses_leave_no_chance}
 use Rattle.raft_voter_log.specs.Sessions.{ForeignRecordsBreakPremise, OnlyLoses}
 

@@ -1,4 +1,4 @@
-pub mod Bounds
+pub mod BoundLemmas
 pub mod EncodingSaying
 pub mod Entries
 pub mod Leading

@@ -20,7 +20,7 @@ use Rattle.raft_voter_outline.specs.declared.outline.decision.Write.TheVariants 
 use Rattle.raft_voter_outline.specs.Outlines.{sent_of}
 use Rattle.raft_voter_records.specs.Changes.{IsFresh, voter_key, with_change, with_state, with_stored, with_write}
 use Rattle.raft_voter_records.specs.Entries.{entry_texts}
-use Rattle.raft_voter_records.proofs.Bounds.{brought_small, bytes_len-entry_texts, length-entry_texts, total_bytes-drop}
+use Rattle.raft_voter_records.proofs.BoundLemmas.{brought_small, bytes_len-entry_texts, length-entry_texts, total_bytes-drop}
 use Rattle.raft_voter_records.specs.BoundsLaws.{RequestsTakeLittle, request_bound}
 
 -- a voter's state raises the bound by 79 bytes

@@ -30,7 +30,7 @@ use Rattle.raft_voter_outline.specs.State.{State}
 use Rattle.raft_voter_records.specs.Changes.{IsFresh, voter_key, with_change, with_state}
 use Rattle.raft_log_record_batches.specs.EntriesFrom.{indexes_at}
 use Rattle.raft_voter_records.specs.Entries.{entry_texts}
-use Rattle.raft_voter_records.proofs.Bounds.{brought_small, bytes_len-entry_texts, changes_in_range, length-entry_texts, total_bytes-drop}
+use Rattle.raft_voter_records.proofs.BoundLemmas.{brought_small, bytes_len-entry_texts, changes_in_range, length-entry_texts, total_bytes-drop}
 use Rattle.raft_log_record_batches.proofs.EntriesFrom.{length-indexes_from}
 use Rattle.raft_voter_records.specs.EncodingLaws.{ChangesAreShort}
 use Rattle.raft_voter_records.proofs.EncodingSaying.{filled}

@@ -13,7 +13,7 @@ use Rattle.raft_voter_store.specs.Service.{LeavesAt}
 use Rattle.raft_voter_store.specs.Service.LeavesAt.{left as is_left, running}
 use Rattle.raft_voter_log.specs.Instance.{ClosesStore}
 use Rattle.raft_voter_log.proofs.Homes.{some_append, some_rewrite}
-use Rattle.raft_voter_log.proofs.Opens.{follows_none}
+use Rattle.raft_voter_log.proofs.OpenLemmas.{follows_none}
 use Rattle.raft_voter_shared_log.specs.GoingOn.{ClosedStoresGoOn}
 
 -- an engine that holds a map hasn't failed

@@ -24,7 +24,7 @@ use Rattle.raft_voter_store.specs.Service.LeavesAt.{left as is_left, running}
 use Rattle.raft_voter_store.proofs.Serving.{open_in}
 use Rattle.raft_voter_log.specs.Leaving.{SparesStore}
 use Rattle.raft_voter_log.proofs.Homes.{bare_for, one_home, some_append, some_rewrite}
-use Rattle.raft_voter_log.proofs.Opens.{follows_none, opened_lives}
+use Rattle.raft_voter_log.proofs.OpenLemmas.{follows_none, opened_lives}
 use Rattle.raft_voter_shared_log.specs.declared.store.LogStore.{LogStore}
 use Rattle.raft_voter_shared_log.specs.GoingOn.{GoesOnBehindACrash, GoesOnInPlace}
 use Rattle.raft_voter_shared_log.specs.Joining.{AreJoined, BeginsFresh, GoesOn, IsFollowedBy, behind}

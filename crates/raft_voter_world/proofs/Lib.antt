@@ -1,7 +1,7 @@
-pub mod Alike
+pub mod AlikeLemmas
 mod Alone
 pub mod Believed
-pub mod PerQueue
+pub mod Beside
 pub mod Explaining
 pub mod FromFiles
 pub mod Going

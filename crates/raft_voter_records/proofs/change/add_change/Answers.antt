@@ -1,5 +1,5 @@
 use Rattle.std.proofs.lemmas.Result.{on_ok_weaker}
-use Rattle.raft_voter_records.proofs.Bounds.{then_state}
+use Rattle.raft_voter_records.proofs.BoundLemmas.{then_state}
 use Rattle.raft_voter_records.proofs.change.add_change.Goals as goal
 
 pub returns-in-Ok-clause-ok : goal.returns-in-Ok-clause-ok

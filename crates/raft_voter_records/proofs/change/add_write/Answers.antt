@@ -1,4 +1,4 @@
-use Rattle.raft_voter_records.proofs.Bounds.{memory_only}
+use Rattle.raft_voter_records.proofs.BoundLemmas.{memory_only}
 use Rattle.raft_voter_records.proofs.change.add_write.Goals as goal
 
 pub returns-in-Entries-clause-errors : goal.returns-in-Entries-clause-errors

@@ -1,4 +1,4 @@
-use Rattle.raft_voter_world.proofs.PerQueue.{stores_answer_alike}
+use Rattle.raft_voter_world.proofs.Beside.{stores_answer_alike}
 use Rattle.raft_voter_world.proofs.alike.stores_answer_alike.Goals as goal
 
 pub returns : goal.returns

@@ -1,4 +1,4 @@
-use Rattle.raft_voter_world.proofs.PerQueue.{stores_answer_as_models}
+use Rattle.raft_voter_world.proofs.Beside.{stores_answer_as_models}
 use Rattle.raft_voter_world.proofs.alike.stores_answer_as_models.Goals as goal
 
 pub returns : goal.returns

@@ -1,4 +1,4 @@
-use Rattle.raft_voter_world.proofs.Alike.{all_alike}
+use Rattle.raft_voter_world.proofs.AlikeLemmas.{all_alike}
 use Rattle.raft_voter_world.proofs.laws.stores_reply_alike.Goals as goal
 
 pub returns : goal.returns

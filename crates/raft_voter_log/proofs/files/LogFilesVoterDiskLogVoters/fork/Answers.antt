@@ -1,7 +1,7 @@
 use Rattle.raft_log_fs_memory.specs.Memory.{disk_of}
 use Rattle.raft_log_recovery_laws.specs.ForkLeaving.EndsFork.{answered, refused}
 use Rattle.raft_voter_log.proofs.Crashes.{copy_leaves}
-use Rattle.raft_voter_log.proofs.Opens.{memory_sound}
+use Rattle.raft_voter_log.proofs.OpenLemmas.{memory_sound}
 use Rattle.raft_voter_log.proofs.files.LogFilesVoterDiskLogVoters.fork.Goals as goal
 
 pub returns-in-Ok-clause-stands : goal.returns-in-Ok-clause-stands

@@ -1,6 +1,6 @@
 use Rattle.std.proofs.Common.{refl}
 use Rattle.raft_voter_log.specs.declared.voters.LogVoters.{LogVoters}
-use Rattle.raft_voter_log.proofs.Opens.{cause_outside, finds, refused_stands, refuses_as}
+use Rattle.raft_voter_log.proofs.OpenLemmas.{cause_outside, finds, refused_stands, refuses_as}
 use Rattle.raft_voter_log.proofs.files.LogFilesVoterDiskLogVoters.open.Goals as goal
 
 pub returns-in-Ok-open-clause-finds : goal.returns-in-Ok-open-clause-finds

@@ -1,7 +1,7 @@
 use Rattle.std.proofs.Common.{ℕ, ◌+◌, ◌<◌, List, length, get_or, refl, rules, arith}
 use Rattle.std.proofs.lemmas.Option.{slice_get-get_or}
 use Rattle.raft_voter_messages.specs.StoredForms.{entry_text}
-use Rattle.raft_voter_records.proofs.Bounds.{length-entry_texts, text_at}
+use Rattle.raft_voter_records.proofs.BoundLemmas.{length-entry_texts, text_at}
 use Rattle.raft_voter_records.proofs.stored_entries.StoredEntriesEntryWriter.append.Goals as goal
 
 pub bounds-self-place : goal.bounds-self-place

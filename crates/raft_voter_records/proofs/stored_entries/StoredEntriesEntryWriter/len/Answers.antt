@@ -1,5 +1,5 @@
 use Rattle.std.proofs.Common.{sym}
-use Rattle.raft_voter_records.proofs.Bounds.{length-entry_texts}
+use Rattle.raft_voter_records.proofs.BoundLemmas.{length-entry_texts}
 use Rattle.raft_voter_records.proofs.stored_entries.StoredEntriesEntryWriter.len.Goals as goal
 
 pub returns : goal.returns

@@ -6,7 +6,7 @@ use Rattle.raft_voter_messages.specs.declared.request.Request.{Request}
 use Rattle.raft_voter.specs.Rounds.{World}
 use Rattle.raft_voter.specs.Service.{IsOpenAt, Service, out_of_range, refused_from}
 use Rattle.raft_voter_world.specs.Alike.{AnswersRounds, refused_in}
-use Rattle.raft_voter_world.proofs.Alike.{all_alike}
+use Rattle.raft_voter_world.proofs.AlikeLemmas.{all_alike}
 use Rattle.raft_voter_world.specs.LawsAlike.{AreServed, RefusesOutOfRange, StoresAnswerAlike, StoresAnswerAsModels}
 use Rattle.raft_voter_world.proofs.Parted.{rounds_are_independent}
 

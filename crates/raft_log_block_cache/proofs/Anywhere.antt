@@ -28,7 +28,7 @@ use Rattle.raft_log_memtables.proofs.Applied.{items_renamed, written_items}
 use Rattle.raft_log_dual_pipes.specs.State.{LogOnDisk}
 use Rattle.raft_log_memtables.specs.Views.{AreMeant, view_of}
 use Rattle.raft_log_memtables.proofs.Growing.{view_grows}
-use Rattle.raft_log_memtables.proofs.OpenOrClosed.{written_in}
+use Rattle.raft_log_memtables.proofs.WrittenEntries.{written_in}
 use Rattle.raft_log_block_cache.specs.Stored.{AreStored, Each, EntryLiesIn, IsStored, entries_at, file_bytes, part, queue_in}
 use Rattle.raft_log_block_cache.specs.Written.{AnyFileMayTakeIt, IsLaidOver}
 use Rattle.raft_log_block_cache.proofs.Laid.{items_say}

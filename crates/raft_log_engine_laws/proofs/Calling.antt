@@ -36,7 +36,7 @@ use Rattle.raft_log_block_cache.proofs.Lasting.{written_entries_are_stored}
 use Rattle.raft_log_block_cache.proofs.WholeBlocks.{batch_whole}
 use Rattle.raft_log_block_cache.specs.raft_log_memtables.specs.Views.{AreMeant, LieIn, view_of}
 use Rattle.raft_log_block_cache.specs.raft_log_memtables.proofs.Growing.{view_grows}
-use Rattle.raft_log_block_cache.specs.raft_log_memtables.proofs.OpenOrClosed.{written_in}
+use Rattle.raft_log_block_cache.specs.raft_log_memtables.proofs.WrittenEntries.{written_in}
 use Rattle.raft_log_active_file.specs.Queue.{synced}
 use Rattle.raft_log_block_cache.specs.raft_log_dual_pipes.specs.Pipes.{LogPipes, RunsOn, LogRecordValue, State, queue_of}
 use Rattle.raft_log_block_cache.specs.raft_log_dual_pipes.specs.Calls.{AppendsTo, SyncsQueue}

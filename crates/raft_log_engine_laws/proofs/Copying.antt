@@ -37,7 +37,7 @@ use Rattle.raft_log_block_cache.proofs.Lasting.{written_entries_are_stored}
 use Rattle.raft_log_block_cache.proofs.WholeBlocks.{batch_whole}
 use Rattle.raft_log_block_cache.specs.raft_log_memtables.specs.Views.{AreMeant, ViewCarries, view_of}
 use Rattle.raft_log_block_cache.specs.raft_log_memtables.proofs.Carrying.{copies_on}
-use Rattle.raft_log_block_cache.specs.raft_log_memtables.proofs.OpenOrClosed.{written_in}
+use Rattle.raft_log_block_cache.specs.raft_log_memtables.proofs.WrittenEntries.{written_in}
 use Rattle.raft_log_block_cache.specs.raft_log_dual_pipes.specs.Pipes.{State}
 use Rattle.raft_log_block_cache.specs.raft_log_dual_pipes.specs.Calls.{AppendsTo, FailsToAppendTo}
 use Rattle.raft_log_engine_laws.specs.EngineState.{LogDirectories, IsLaidOut, KeepsOrForgets, LogMap, EngineState}

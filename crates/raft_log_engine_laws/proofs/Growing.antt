@@ -28,7 +28,7 @@ use Rattle.raft_log_memtable_index.specs.Bridge.{Located, table_of}
 use Rattle.raft_log_block_cache.specs.raft_log_memtables.specs.Batch.{MayFollowAll, all_shown, all_written}
 use Rattle.raft_log_block_cache.specs.raft_log_memtables.specs.Views.{LieIn, view_of}
 use Rattle.raft_log_block_cache.specs.raft_log_memtables.proofs.Growing.{view_grows}
-use Rattle.raft_log_block_cache.specs.raft_log_memtables.proofs.OpenOrClosed.{written_in}
+use Rattle.raft_log_block_cache.specs.raft_log_memtables.proofs.WrittenEntries.{written_in}
 use Rattle.raft_log_engine_laws.specs.EngineState.{IsLaidOut, IsWellMarked, LogMap, said_by, said_of}
 use Rattle.raft_log_record_base.specs.Files.{no_block}
 use Rattle.raft_log_engine_laws.specs.Writing.{items_at}

@@ -15,7 +15,7 @@ use Rattle.raft_log_memtable_index.proofs.Moving.{move_orderly}
 use Rattle.raft_log_memtable_index.proofs.Noting.{are_in, move_shrinks}
 use Rattle.raft_log_memtable_index.proofs.Rising.{copies_rise}
 use Rattle.raft_log_record_batches.specs.Batch.{block_place}
-use Rattle.raft_log_block_cache.specs.raft_log_memtables.proofs.OpenOrClosed.{written_in}
+use Rattle.raft_log_block_cache.specs.raft_log_memtables.proofs.WrittenEntries.{written_in}
 use Rattle.raft_log_engine_laws.specs.Writing.{items_at}
 use Rattle.raft_log_engine_laws.specs.Parts.{FilesGoUp, WrittenPart}
 use Rattle.raft_log_engine_laws.specs.Whole.{Filed, IsWholeCopy, MovedFilesRise, RunPiece, all_places, filed_in, filed_items, filed_moves, in_one, in_pieces, whole_moves}

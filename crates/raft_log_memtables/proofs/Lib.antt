@@ -17,4 +17,4 @@ pub mod Carrying
 pub mod Ending
 mod Fitting
 pub mod Growing
-pub mod OpenOrClosed
+pub mod WrittenEntries

@@ -1,4 +1,4 @@
-//! Append is rewritten behind each of some steps in turn, and what is read then.
+//! Append is rewritten after each of some steps in turn, and what is read then.
 use crate::player::Player;
 use log::Log;
 use raft_cases::{CaseFault, Command};
@@ -22,7 +22,7 @@ struct Plan {
 }
 
 /// Plays `sweep-rewrites`: for each of `steps`, which are joined by `+`, and for each way to rewrite Append, a line. The
-/// log is opened by `open`; the steps are played, and behind that one Append is rewritten. What `end` answers is asked
+/// log is opened by `open`; the steps are played, and after that one Append is rewritten. What `end` answers is asked
 /// after the log is closed and opened, and again after a whole rewrite, a close and an open.
 pub fn sweep_rewrites<'a, R: Threads + Log + Sync>(
     alloc: Global,
@@ -56,7 +56,7 @@ fn split(alloc: Global, list: &str) -> Result<Vec<String>, AllocError> {
     Ok(steps)
 }
 
-/// The line of a rewrite behind a step.
+/// The line of a rewrite after a step.
 fn row<'a, R: Threads + Log + Sync>(
     alloc: Global,
     player: &mut Player<'a, R>,

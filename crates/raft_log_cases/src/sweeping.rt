@@ -68,8 +68,8 @@ fn steps(alloc: Global, command: &mut Command) -> Result<Vec<Step>, CaseFault> {
 }
 
 /// Plays `sweep`: the steps of a list again and again, with the first changing call failing, with the second, and so on
-/// until a run has fewer. In each run an engine works again behind the failure, and the log has what it must: all that
-/// was synced, and nothing that wasn't written; also behind a crash. Shows how many calls failed, or the first one whose
+/// until a run has fewer. In each run an engine works again after the failure, and the log has what it must: all that
+/// was synced, and nothing that wasn't written; also after a crash. Shows how many calls failed, or the first one whose
 /// run went wrong.
 pub fn sweep<R: Threads + Log + Sync>(
     rt: &R,

@@ -31,7 +31,7 @@ const SEVENTH: &[u8] =
 const EIGHTH: &[u8] =
     b"\0\0\0\0\0\0\x1f\0\0\0\0\0\0\0\0\x15g\x76\x1b\xd4\x01\x01\x07\x01\x01\x08\x01\xd8\x19\x1e\xce";
 
-/// The first file: records at 128 and at 256, behind zeros.
+/// The first file: records at 128 and at 256, after zeros.
 const FIRST_PADDED: [&[u8]; 5] = [ALIGNED, &[0; 59], TWO_ENTRIES, &[0; 92], SEVENTH];
 
 /// The first file without padding.

@@ -58,7 +58,7 @@ fn restored(
     Voter::restore(alloc, state?, entries)
 }
 
-/// `[at= entries=]`: entries, each at the index behind the one before.
+/// `[at= entries=]`: entries, each at the index after the one before.
 fn entries_at(alloc: Global, command: &mut Command) -> Result<Items<Entry>, CaseFault> {
     let mut index = command.number_or("at", 0)?;
     let mut stored = Items::new(alloc);

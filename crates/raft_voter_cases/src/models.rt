@@ -27,8 +27,8 @@ pub fn take_first(
     Ok(())
 }
 
-/// A model takes the requests of an answered round, but for those whose reply is `Refused`; whether its replies are the
-/// round's.
+/// A model takes the requests of a round with replies, except those whose reply is `Refused`. Returns whether its
+/// replies are the round's.
 pub fn take_answered(
     model: &mut Voters,
     requests: &[(u64, Request)],

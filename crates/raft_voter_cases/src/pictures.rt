@@ -18,7 +18,7 @@ pub fn play_on_pictures(alloc: Global, command: &mut Command) -> Result<Option<S
     }
 }
 
-/// `escape bytes=`: a text as it stands in XML.
+/// `escape bytes=`: a text as it is written in XML.
 fn escape(alloc: Global, command: &mut Command) -> Result<String, CaseFault> {
     let Ok(text) = String::from_utf8(command.bytes("bytes")?) else {
         return Err(CaseFault::unreadable(alloc, "bytes"));

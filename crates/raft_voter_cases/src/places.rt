@@ -6,7 +6,7 @@ use raft_voter_messages::{Items, Request, Round, Transcript};
 use raft_voter_store::VoterStore;
 use std::alloc::Global;
 
-/// A store of voters whose log lies in memory.
+/// A store of voters whose log is in memory.
 pub type Store = VoterStore<MemoryFileSystem>;
 
 /// Who takes the requests of a case.

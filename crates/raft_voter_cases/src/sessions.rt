@@ -72,8 +72,8 @@ fn with_arguments<R: Threads + Log + Sync>(
     Ok(format!(in alloc; "{text}\n{} bytes unread", input.len())?)
 }
 
-/// `bytes=`, or `[config=] text= [repeat= times= then=]`: the bytes of a session. In texts `_` stands for a space and `;`
-/// for the end of a line, and in `repeat=` `#` for the number of the repetition.
+/// `bytes=`, or `[config=] text= [repeat= times= then=]`: the bytes of a session. In texts `_` is a space and `;`
+/// the end of a line, and in `repeat=` `#` is the number of the repetition.
 pub fn session_of(alloc: Global, command: &mut Command) -> Result<Vec<u8>, CaseFault> {
     if let Some(bytes) = command.bytes_if("bytes")? {
         return Ok(bytes);

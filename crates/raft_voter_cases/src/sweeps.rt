@@ -1,5 +1,5 @@
 //! A script is played again and again, each time with another changing call that fails: whatever a crash then leaves is
-//! opened, and its voters are those of the rounds that were answered, and of some first requests of one that was cut
+//! opened, and its voters are those of the rounds that got replies, and of some first requests of one that was cut
 //! off.
 mod playing;
 mod remainders;

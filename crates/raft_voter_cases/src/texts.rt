@@ -72,7 +72,7 @@ pub fn numbers_of(
     Ok(numbers)
 }
 
-/// Appends the text of a session: `_` stands for a space and `;` for the end of a line.
+/// Appends the text of a session: `_` is a space and `;` the end of a line.
 pub fn push_lines(text: &mut String, spelled: &str) -> Result<(), AllocError> {
     let mut is_first = true;
     for line in spelled.split(';') {
@@ -85,7 +85,7 @@ pub fn push_lines(text: &mut String, spelled: &str) -> Result<(), AllocError> {
     Ok(())
 }
 
-/// Appends a line: `_` stands for a space.
+/// Appends a line: `_` is a space.
 fn push_words(text: &mut String, line: &str) -> Result<(), AllocError> {
     let mut is_first = true;
     for word in line.split('_') {

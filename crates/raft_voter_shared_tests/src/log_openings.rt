@@ -10,7 +10,7 @@ use std::sync::Wait;
 use std::test::*;
 use std::thread::Threads;
 
-/// A store's rounds go behind the others, and a crash leaves this of its files.
+/// A store's rounds follow the others, and a crash leaves this of its files.
 fn end<R>(
     rt: &Quiet<'_, R>,
     settled: Settled<Store>,
@@ -28,7 +28,7 @@ fn end<R>(
     crash(rt, store, left)
 }
 
-/// Two threads bring an entry each at an index, and read it, at the store in these files, which is then closed behind a
+/// Two threads bring an entry each at an index, and read it, at the store in these files, which is then closed after a
 /// crash.
 fn served<R: Threads + Wait + Send + Sync>(
     rt: &Quiet<'_, R>,
@@ -43,7 +43,7 @@ fn served<R: Threads + Wait + Send + Sync>(
     end(rt, settled, &Remainder::LastSync, rounds)
 }
 
-/// The rounds of three openings, with a crash behind each.
+/// The rounds of three openings, with a crash after each.
 fn three_openings<R: Threads + Wait + Send + Sync>(rt: &R, alloc: Global) -> Option<Items<Round>> {
     let rt = quiet(rt);
     let mut rounds = Items::new(alloc);
@@ -73,7 +73,7 @@ fn failed<R: Threads + Wait + Send + Sync>(
 }
 
 /// The rounds of three openings, of which the second one's store fails in its round, and a crash leaves this of its
-/// files; the third brings both groups their entry at this index, behind what they have then.
+/// files; the third brings both groups their entry at this index, after what they have then.
 fn one_fails<R: Threads + Wait + Send + Sync>(
     rt: &R,
     alloc: Global,

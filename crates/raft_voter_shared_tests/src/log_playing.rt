@@ -30,7 +30,7 @@ pub enum Play {
     LeftOut,
 }
 
-/// What is told of a store that isn't settled.
+/// Why a store isn't settled.
 #[derive(Clone, Copy)]
 pub struct Unsettled {
     /// Why it isn't.
@@ -122,7 +122,7 @@ fn take_replies_away(alloc: Global, receipts: &mut Vec<Receipt>) {
     }
 }
 
-/// The store is settled, or told why not.
+/// Settles the store, or returns why not.
 fn settle<R, S: Maintenance<R> + Drop, L: Opening>(
     shared: SharedStore<R, S, L>,
     seats: Vec<Seat<L>>,
@@ -136,7 +136,7 @@ fn settle<R, S: Maintenance<R> + Drop, L: Opening>(
     }
 }
 
-/// What is told of a store that isn't settled.
+/// Why a store isn't settled.
 fn told<R, S: Maintenance<R> + Drop, L: Opening>(fault: SettleFault<R, S, L>) -> Unsettled {
     Unsettled {
         cause: fault.cause,

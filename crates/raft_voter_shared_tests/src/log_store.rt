@@ -1,4 +1,4 @@
-//! A store whose log lies in memory, and the runtime that it is handed.
+//! A store whose log is in memory, and the runtime that it is handed.
 use log::sink::Discard;
 use log::{LevelFilter, Logged};
 use raft_log_engine::{Config, MemoryFileSystem, ReadableSize, Remainder};
@@ -6,7 +6,7 @@ use raft_voter_shared_log::LogStore;
 use std::alloc::{AllocError, Global};
 use std::thread::Threads;
 
-/// A store whose log lies in memory.
+/// A store whose log is in memory.
 pub type Store = LogStore<MemoryFileSystem>;
 
 /// A runtime that logs nothing.

@@ -49,7 +49,7 @@ fn count(outcome: Outcome) -> usize {
     }
 }
 
-/// What is told where it isn't settled.
+/// Why the store isn't settled.
 fn refusal(outcome: Outcome) -> Option<Unsettled> {
     match outcome {
         Some(Err(refused)) => Some(refused),

@@ -8,7 +8,7 @@ use std::sync::Wait;
 use std::test::*;
 use std::thread::Threads;
 
-/// The store is closed, a crash comes, and it is opened again; its rounds go behind the others.
+/// The store is closed, a crash comes, and it is opened again; its rounds follow the others.
 fn open_again(
     alloc: Global,
     settled: Settled<PlainVoters>,
@@ -41,7 +41,7 @@ fn one_opening<R: Threads + Wait + Send + Sync>(
     }
 }
 
-/// The rounds of three openings, with a crash behind each.
+/// The rounds of three openings, with a crash after each.
 fn three_openings<R: Threads + Wait + Send + Sync>(rt: &R, alloc: Global) -> Option<Items<Round>> {
     let mut rounds = Items::new(alloc);
     let mut store = PlainVoters::open(alloc, PlainFile::new(alloc)).ok()?;

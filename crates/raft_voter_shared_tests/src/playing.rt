@@ -28,8 +28,8 @@ pub enum Play {
     LeftOut,
 }
 
-/// Two threads at seats of their own serve two rounds each, behind so many rounds that each served before, and
-/// then the store is settled. None where a round has no receipt.
+/// Two threads at seats of their own serve two rounds each, after so many rounds that each served before, and
+/// then the store is settled. Returns `None` if a round has no receipt.
 fn settle_two<L: Opening + Send + Sync, R: Threads + Wait + Send + Sync>(
     rt: &R,
     alloc: Global,

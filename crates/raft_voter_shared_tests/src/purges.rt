@@ -35,8 +35,8 @@ fn rewritten<R: Threads + Wait + Send + Sync>(
     served(rt, alloc, store, &[Step::Voted(5)])
 }
 
-/// Append's files behind a vote of term 5, and behind all of Append being rewritten. None where the vote isn't found then,
-/// or behind a close and an open.
+/// Append's files after a vote of term 5, and after all of Append was rewritten. Returns `None` if the vote isn't found
+/// then, or after a close and an open.
 fn spans<R: Threads + Wait + Send + Sync>(
     rt: &R,
     alloc: Global,
@@ -53,7 +53,7 @@ fn spans<R: Threads + Wait + Send + Sync>(
     Some((before, after))
 }
 
-/// A vote, and then so many entries of half a file, with a purge behind each.
+/// A vote, and then so many entries of half a file, with a purge after each.
 fn steps(alloc: Global, entries: u64) -> Option<Vec<Step>> {
     let mut steps = vec![in alloc; Step::Vote(1)].ok()?;
     for before in 0..entries {

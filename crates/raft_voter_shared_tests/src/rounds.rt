@@ -16,7 +16,7 @@ pub struct Told<L: Opening> {
     pub read: Receipt,
 }
 
-/// A leader's entry of this byte, behind so many others, of its term 1.
+/// A leader's entry of this byte, after so many others, of its term 1.
 fn bring(alloc: Global, before: u64, byte: u8) -> Option<Request> {
     let mut entries = Items::new(alloc);
     let bytes = Items::from_slice(alloc, &[byte]).ok()?;
@@ -43,7 +43,7 @@ fn ask<L: Opening, R: Wait>(
     shared.serve(rt, seat, &round).ok()
 }
 
-/// A seat's group brings an entry behind so many others, and reads it back; none where a round has no receipt.
+/// A seat's group brings an entry after so many others, and reads it back. Returns `None` if a round has no receipt.
 pub fn two_rounds<L: Opening, R: Wait>(
     rt: &R,
     alloc: Global,

@@ -76,7 +76,7 @@ where
     }
 }
 
-/// Whether the voter's state is told: candidate 2 has its vote in this term, and there is nothing else.
+/// Whether the reply is the voter's state: candidate 2 has its vote in this term, and there is nothing else.
 fn is_voted(replies: &[Reply], term: u64) -> bool {
     let voted = VoterState {
         term,

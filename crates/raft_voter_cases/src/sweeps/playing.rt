@@ -30,7 +30,7 @@ pub enum Swept {
 enum Ended {
     /// All were done.
     Done,
-    /// Something was refused, and what came behind it was done.
+    /// Something was refused, and what came after it was done.
     Refused,
     /// A round was cut off, or an open refused.
     CutOff,
@@ -156,7 +156,7 @@ impl Player {
         }
     }
 
-    /// The models take an answered round.
+    /// The models take a round with replies.
     fn answered(
         &mut self,
         requests: &[(u64, Request)],

@@ -19,7 +19,7 @@ const GAPS: [[bool; 3]; 4] = [
     [false, true, true],
 ];
 
-/// How many bytes are left of the change behind the first ones.
+/// How many bytes are left of the change after the first ones.
 const PART: usize = 40;
 
 /// Whether the voters are a model's, whatever a crash leaves: all, the first changes with a part of the next one or

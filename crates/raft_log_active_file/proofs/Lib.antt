@@ -10,4 +10,3 @@ pub mod Calls
 pub mod Rotating
 mod BegunFiles
 pub mod TakenUp
-pub mod Places

@@ -17,3 +17,4 @@ pub mod Rotation
 pub mod Standing
 pub mod States
 pub mod TakingUp
+pub mod PlaceLaws

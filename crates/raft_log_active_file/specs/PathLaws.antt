@@ -17,7 +17,7 @@ use Rattle.raft_log_fs.specs.Disk.{IsPathIn, IsPlain}
 use Rattle.raft_log_file_format.specs.Name.{IsNamed, EndsWith, number_text, reserved_suffix, signed_digits, sixteen_digits, suffix_of}
 use Rattle.raft_log_file_format.proofs.Names.{written_text}
 use Rattle.raft_log_active_file.specs.Layout.{has_sign, plain_place}
-use Rattle.raft_log_active_file.proofs.Places.{plain_first}
+use Rattle.raft_log_active_file.specs.PlaceLaws.{plain_first}
 use Rattle.raft_log_active_file.specs.Paths.{IsPathWith, reserved_suffix_of, directory_at, numbered_path, reserved_path}
 
 -- The name after the last slash.

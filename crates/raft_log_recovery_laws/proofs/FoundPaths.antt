@@ -5,7 +5,7 @@ use Rattle.raft_log_record_base.specs.declared.pipe_log.LogQueue.{LogQueue}
 use Rattle.raft_log_record_base.specs.declared.pipe_log.LogQueue.TheVariants as queues
 use Rattle.raft_log_file_format.specs.Name.{number_text, suffix_of}
 use Rattle.raft_log_active_file.specs.Layout.{has_sign, place_of, plain_place}
-use Rattle.raft_log_active_file.proofs.Places.{no_sign, plain_first, plain_second, some_sign}
+use Rattle.raft_log_active_file.specs.PlaceLaws.{no_sign, plain_first, plain_second, some_sign}
 use Rattle.raft_log_engine_laws.specs.raft_log_active_file.specs.Paths.{numbered_path}
 use Rattle.raft_log_recovery_scan.specs.Found.{found_path}
 use Rattle.raft_log_recovery_scan.specs.declared.scanning.found.FoundFile.{FoundFile}

@@ -3,8 +3,8 @@ use Rattle.std.specs.Option.{option_map}
 use Rattle.raft_voter_messages.specs.declared.reply.VoterState.{VoterState}
 
 -- A Raft server's state for one group: a voter. `vote` is the candidate it voted for in the current term. The base is
--- the last entry that was compacted, by its index and term. `commit` is the highest index known to be committed. The
--- log has the entries above the base, each with its term and its bytes.
+-- the last entry that a compaction or a snapshot covers, by its index and term. `commit` is the highest index known to
+-- be committed. The log has the entries above the base, each with its term and its bytes.
 pub record State : Type 0 where
   pub term : ℕ
   pub vote : Option ℕ

@@ -7,7 +7,7 @@ use Rattle.std.specs.Str.{all_ascii_digits, is_utf8}
 use Rattle.std.specs.Str.Parse.{digits_value_after}
 use Rattle.hex.specs.Hex.{decode_of}
 
--- the `?` of the logic: the second step, if the first returned a value
+-- the logic's `?`: the next step gets the value, and `None` stays `None`
 infixl 10 ◌>>=◌
 abbrev pub ◌>>=◌ : {A B : Type 0} → Option A → (A → Option B) → Option B
 None >>= f = None

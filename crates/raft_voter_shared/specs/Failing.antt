@@ -3,9 +3,8 @@ use Rattle.std.specs.Prelude.{◌≡◌, true, is_some, Option}
 use Rattle.raft_voter.specs.Service.{CutRound, IsOpenAt, Service}
 use Rattle.raft_voter_shared.specs.declared.failure.Failure.{Failure}
 
--- The store failed in the round `cut`, or in a purge, and `cut` is what it left. It was `before`, which served the
--- voters before the round. A file system call failed, and it was `after`, which had failed and left `cut`. What
--- `after` left is still left.
+-- The store once was `before`, which served the voters before the round `cut`. Then a file system call failed. The
+-- store was `after`, which had failed and left `cut`. `store` leaves every cut-off round that `after` left.
 pub record CameToFail {S : Type 0} (v : Service S) (cut : CutRound) (store : S) : Type 0 where
   pub before : S
   pub after : S
@@ -15,6 +14,6 @@ pub record CameToFail {S : Type 0} (v : Service S) (cut : CutRound) (store : S) 
   pub left : v.leaves after cut
   pub still : (stood : CutRound) → v.leaves after stood → v.leaves store stood
 
--- if a failure is noted, the store failed, and what it left then is `cut`
+-- if a failure is noted, the store failed in this way and left `cut`
 abbrev pub CameToFailAs : {S : Type 0} → Service S → Option Failure → CutRound → S → Type 0
 CameToFailAs v failure cut store = is_some failure ≡ true → ∥ CameToFail v cut store ∥₁

@@ -18,7 +18,7 @@ class_text mark = codes "<g class='" ++ mark_name mark
 unfoldable pub top_text : ℕ → List ℕ
 top_text top = codes "' transform='translate(0 " ++ decimal top
 
--- what is drawn in the line: the head's shape of this name
+-- what is drawn in a line: a reference to the shape that the head defines under the mark's name
 unfoldable pub use_text : Mark → List ℕ
 use_text mark = codes ")'><use href='#" ++ mark_name mark
 

@@ -16,7 +16,7 @@ pub data Which : Type 0 where
   InAppend : Which
   InRewrite : Which
 
--- the files of one of the two queues
+-- the files of this queue
 abbrev pub queue_at : {E V : Type 0} → Which → Files E V → FileQueue E V
 queue_at InAppend f = f.append
 queue_at InRewrite f = f.rewrite
@@ -113,8 +113,8 @@ pub record IsMadeOf {E V : Type 0} (v : View E V) (rewrite append : List (Record
   pub noted : AreNoted v.whereabouts v.noted f.append
   pub noted_in_rewrite : AreNotedInRewrite v.map v.whereabouts v.noted_in_rewrite f.rewrite
 
--- An open reads an image of any files that may be there, and syncs what it reads. If the entries of each raft group
--- are one run then, the view is built from what was read.
+-- For any files that may have been there, an open reads some image of them, and syncs what it reads. If the entries of
+-- each raft group are one run then, the view is built from what was read.
 abbrev pub Replays : {S E V : Type 0} → (S → Files E V → Type 0) → (S → Files E V → Type 0) → View E V → S → S
     → Type 0
 Replays {S} {E} {V} allows ties v s t =
@@ -129,8 +129,8 @@ Replays {S} {E} {V} allows ties v s t =
 abbrev pub IsExactly : {E V : Type 0} → Files E V → Files E V → Type 0
 IsExactly s f = f ≡ s
 
--- the view is true of some files that `may_be` allows, and Rewrite ends with atomic group `n`, which began in file
--- `from` or later and has no end yet
+-- The view is true of some files that `may_be` allows. Rewrite ends with atomic group `n`, which has no end yet, and
+-- whose records are in files from number `from` on.
 pub record IsInGroup {E V : Type 0} (may_be : Files E V → Type 0) (v : View E V) (m : Map E V)
     (pending : List (Record E V)) (from n : ℕ) (first : List (Tagged E V)) (more : List (List (Tagged E V)))
     : Type 0 where

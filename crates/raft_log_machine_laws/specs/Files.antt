@@ -75,8 +75,8 @@ queue_of q = record { gone = records_of q.gone; live = records_of q.full ++ q.sy
 abbrev pub store_of : {E V : Type 0} → FileQueue E V → FileQueue E V → Store E V
 store_of r a = record { rewrite = queue_of r; append = queue_of a }
 
--- A crash loses only the last of the pending batches, in terms of numbered files. For whatever prefixes of pending
--- records it leaves, there is one number of batches. A recovery then gets map `m` after that many batches, from every
+-- A crash loses at most a suffix of the pending `batches`. For whatever prefixes of pending records it leaves, there
+-- is one number of batches. A recovery then gets map `m` after that many batches, from every file at which it may
 -- start.
 abbrev pub SurvivesInFiles : {E V : Type 0} → ℕ → FileQueue E V → ℕ → FileQueue E V → Map E V
     → List (Record E V) → Type 0

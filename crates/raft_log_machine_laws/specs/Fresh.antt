@@ -5,7 +5,7 @@ use Rattle.raft_log_machine_laws.specs.Queue.{Queue}
 use Rattle.raft_log_machine_laws.specs.Whereabouts.{Whereabouts}
 use Rattle.raft_log_machine_laws.specs.Machine.{Machine}
 
--- a queue without records
+-- a queue that has no records
 abbrev pub empty_queue : {E V : Type 0} → Queue E V
 empty_queue = record { gone = []; live = []; pending = [] }
 

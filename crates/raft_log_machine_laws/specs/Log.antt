@@ -42,7 +42,7 @@ pub record Stands {E V : Type 0} (v : View E V) (f : Files E V) (m : Map E V) (p
   pub noted : AreNoted v.whereabouts v.noted f.append
   pub noted_in_rewrite : AreNotedInRewrite v.map v.whereabouts v.noted_in_rewrite f.rewrite
 
--- The view is true of Append's files `a`, which come from those of `f` by quiet events. The first few pending batches
+-- The view is still true after quiet events of Append, which change its files into `a`. The first few pending batches
 -- are now synced.
 pub record Follows {E V : Type 0} (v : View E V) (f : Files E V) (m : Map E V) (pending : List (Record E V))
     (a : Moved f.append_from f.append) : Type 0 where

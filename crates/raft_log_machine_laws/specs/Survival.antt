@@ -15,8 +15,8 @@ HoldsMap {E} {V} q m =
     → a_cut ++ a_back ≡ q.append.gone
     → directory_meaning (r_back ++ (q.rewrite.live ++ r_kept)) (a_back ++ q.append.live) g s ≡ m g s
 
--- A crash loses only the last of the pending batches. For whatever prefixes of pending records it leaves, there is one
--- number of batches. A recovery then gets map `m` after that many batches, from every start in both queues.
+-- A crash loses at most a suffix of the pending `batches`. For whatever prefixes of pending records it leaves, there
+-- is one number of batches. A recovery then gets map `m` after that many batches, from every start in both queues.
 abbrev pub Survives : {E V : Type 0} → Store E V → Map E V → List (Record E V) → Type 0
 Survives {E} {V} q m batches =
     (r_kept r_lost a_kept a_lost : List (Record E V)) → r_kept ++ r_lost ≡ q.rewrite.pending

@@ -43,14 +43,14 @@ pub record AreCorrect {E V : Type 0} (said : SaysOfSlot E V) (m : Slot → Optio
   pub below : (i : ℕ) → i < t.first → m (Index i) ≡ None
   pub above : (i : ℕ) → t.end ≤ i → m (Index i) ≡ None
   pub solid : (i : ℕ) → t.first ≤ i → i < t.end → (entry : Content E V) × (m (Index i) ≡ Some entry)
-  -- rewritten entries are in Rewrite's live range
+  -- entries that are stored in Rewrite are in its live range
   pub rewritten : (i : ℕ) → t.first ≤ i → i < t.split → said.rewrite (Index i) ≡ Some (m (Index i))
-  -- if there are entries in Append, Append's live range touches each of their indexes and all above
+  -- if entries are stored in Append, its live range touches each of their indexes and all above
   pub newer : (i : ℕ) → t.split ≤ i → t.split < t.end → IsSpoken (said.append (Index i))
   pub key_newer : (k : List ℕ) → t.appended k ≡ true → IsSpoken (said.append (Key k))
   pub key_older : (k : List ℕ) → t.appended k ≡ false
       → (m (Key k) ≡ None) ⊎ (said.rewrite (Key k) ≡ Some (m (Key k)))
-  -- while a Clean is owed, nothing of the group is in Rewrite
+  -- while a Clean is owed, nothing of the raft group is stored in Rewrite
   pub after_clean : t.cleaned ≡ true
       → (t.first ≡ t.split) × ((k : List ℕ) → t.appended k ≡ false → m (Key k) ≡ None)
   pub after_delete : (k : List ℕ) → t.deleted k ≡ true → t.appended k ≡ false → m (Key k) ≡ None

@@ -11,9 +11,11 @@ use Rattle.raft_log_model_laws.specs.Meaning.Content.{Entry, Value}
 unfoldable pub top : ℕ
 top = 2 ^ 64 - 1
 
--- The entries from `first` and below `split` are in Rewrite, those from `split` and below `end` in Append. The keys
--- `appended` are in Append, the others in Rewrite. Since tombstones were last written, Append has a Clean of the group
--- (`cleaned`), a Compact (`compacted`), or a Del of these keys (`deleted`).
+-- In which queue the content of a raft group is stored:
+-- - the entries from index `first` to below `split` in Rewrite, and those from `split` to below `end` in Append;
+-- - the values of the keys `appended` in Append, and those of all other keys in Rewrite;
+-- - owed tombstones: since tombstones were last written, Append has a Clean (`cleaned`), a Compact (`compacted`), or a
+--   Del of these keys (`deleted`).
 pub record Whereabouts : Type 0 where
   pub first : ℕ
   pub split : ℕ
@@ -74,15 +76,14 @@ RunStands m f es = (i : ℕ) → f ≤ i → i < f + length es → option_map En
 abbrev pub NothingRewritten : {E V : Type 0} → (Slot → Option (Content E V)) → Whereabouts → Type 0
 NothingRewritten m t = (t.first ≡ t.split) × ((k : List ℕ) → t.appended k ≡ false → m (Key k) ≡ None)
 
--- Rewrite may take the item if the group's map is m and its whereabouts are t, and then they are u:
--- * A run of the map's entries. It starts at a rewritten index or the first appended one, and ends at the last
---   rewritten entry or past it. To end past it, neither Clean nor Compact may be owed.
--- * A Clean that is owed, or if nothing of the group is in Rewrite: the last one may have been lost.
--- * A Compact of the first index if there are rewritten entries, otherwise of `top`.
--- * A Put of a key's value. If the value is in Append, neither Clean nor Del may be owed.
--- * A Del that is owed, or if the key isn't in Rewrite.
---
--- An engine may thus keep its sets of tombstones until they are synced, and write a tombstone again if it isn't sure.
+-- Rewrite may take the item, and the whereabouts are `t` before and `u` after it. The raft group has the content `m`.
+-- - A run has the map's entries. It starts at an index stored in Rewrite or the first one in Append, and ends at the
+--   last one in Rewrite or past it. To end past it, neither Clean nor Compact may be owed.
+-- - A Clean is owed, or nothing of the group is stored in Rewrite.
+-- - A Compact has the first index if there are entries in Rewrite, otherwise `top`.
+-- - A Put has a key's value. If that value is stored in Append, neither Clean nor Del may be owed.
+-- - A Del is owed, or the key has no value in Rewrite.
+-- An engine may write a tombstone again, and may thus keep its sets of tombstones until they are synced.
 abbrev pub Carries : {E V : Type 0} → (Slot → Option (Content E V)) → Whereabouts → Item E V → Whereabouts
     → Type 0
 Carries m t (Run f []) u = u ≡ t

@@ -19,7 +19,7 @@ contents (r ∷ rs) = items_of r ++ contents rs
 abbrev pub Open : Type 0 → Type 0 → Type 0
 Open E V = ℕ → Option (List (Tagged E V))
 
--- no atomic group is open
+-- no atomic group has begun and not ended
 abbrev pub none_open : {E V : Type 0} → Open E V
 none_open n = None
 

@@ -1,18 +1,18 @@
--- The items of a log. A batch is written as a record, which has items of several raft groups. A record may be one of
--- several that form an atomic group.
+-- The items of a log. A batch is written as a record, whose items may be of several raft groups. A record may be one
+-- of several that form an atomic group.
 use Rattle.std.specs.Prelude.{ℕ, List}
 
 -- an item of one raft group; type `E` represents an entry, as its bytes or its location, and `V` a key's value
 pub data Item (E V : Type 0) : Type 0 where
   -- consecutive entries from this index on; they replace all entries of the group from there on
   Run : ℕ → List E → Item E V
-  -- all entries and keys of the group are deleted
+  -- all entries and keys of the raft group are deleted
   Clean : Item E V
-  -- all entries below this index are deleted
+  -- all entries of the raft group below this index are deleted
   Compact : ℕ → Item E V
-  -- the key, a list of bytes, has this value
+  -- this key, a string of bytes, has this value
   Put : List ℕ → V → Item E V
-  -- the key is deleted
+  -- this key is deleted
   Del : List ℕ → Item E V
 
 -- an item, with the number of its raft group

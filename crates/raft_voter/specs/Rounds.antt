@@ -96,7 +96,7 @@ place_reached Cut size [] = 0
 place_reached Cut size (cut ∷ cuts) = cut
 
 -- if round `r` has replies, they are those that the voters of world `W` give; if it was cut off, the first of `cuts`
--- is a position in it
+-- is at most the number of its requests
 abbrev pub OutcomeHolds : Outcome → World → Round → List ℕ → Type 0
 OutcomeHolds (Answered replies) W r cuts = replies ≡ replies_of W r
 OutcomeHolds Cut W r cuts = HasCut (length r.requests) cuts
@@ -115,19 +115,19 @@ abbrev pub after_rounds : World → List Round → List ℕ → World
 after_rounds W [] cuts = W
 after_rounds W (r ∷ rounds) cuts = after_rounds (after_round W r cuts) rounds (cuts_after r.outcome cuts)
 
--- Voters that start in world `W` and never fail give exactly these rounds. They take all requests, except those at
--- refused positions and those from a round's cut on. There is one cut for each round that was cut off.
+-- Voters that start in world `W` and never fail give exactly the replies in these rounds. They take all requests,
+-- except those at refused positions and those from a round's cut on. There is one cut for each round that was cut off.
 abbrev pub ExplainsFrom : World → List Round → List ℕ → Type 0
 ExplainsFrom W [] cuts = cuts ≡ []
 ExplainsFrom W (r ∷ rounds) cuts =
     RoundHolds W r cuts × ExplainsFrom (after_round W r cuts) rounds (cuts_after r.outcome cuts)
 
--- fresh voters that never fail give exactly these rounds, with these cuts
+-- fresh voters that never fail give exactly the replies in these rounds, with these cuts
 abbrev pub Explains : List Round → List ℕ → Type 0
 Explains rounds cuts = ExplainsFrom fresh_world rounds cuts
 
--- voters that start in world `W` and never fail give exactly these rounds, with these cuts, and then are those of
--- world `X`
+-- Voters that start in world `W` and never fail give exactly the replies in these rounds, with these cuts. Afterwards
+-- they are those of world `X`.
 pub record Leads (W : World) (rounds : List Round) (cuts : List ℕ) (X : World) : Type 0 where
   pub explained : ExplainsFrom W rounds cuts
   pub reached : after_rounds W rounds cuts ≡ X

@@ -46,8 +46,8 @@ abbrev pub entries_in : Write → Request → List (ℕ × List ℕ)
 entries_in (Entries skipped index) q = drop skipped (sent_of q)
 entries_in _ q = []
 
--- The most runs of equal terms that the appended entries can add to an outline. They add so many if the entry before
--- them has another term.
+-- the most runs of equal terms that the appended entries can add to an outline: all of theirs, as after an entry of
+-- another term
 abbrev pub runs_needed : Write → Request → ℕ
 runs_needed w q = runs_behind None (entries_in w q)
 

@@ -56,7 +56,7 @@ pub record IsStorableRecord (r : ℕ × State) : Type 0 where
   pub group : r.0 < 2 ^ 64
   pub voter : IsStorable r.1
 
--- each of these records can be stored
+-- each of these records can be stored: its group is below 2^64, and its voter can be stored
 abbrev pub AreStorable : List (ℕ × State) → Type 0
 AreStorable [] = Unit {0}
 AreStorable (r ∷ records) = IsStorableRecord r × AreStorable records

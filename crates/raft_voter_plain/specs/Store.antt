@@ -45,7 +45,8 @@ refused_by false requests = out_of_range 0 requests
 refused_by true requests = []
 
 -- The plain store as a service. A close or a crash leaves voters that its file stores. It refuses exactly the requests
--- out of range. It can only fail in a round, from one that hadn't failed to one that has.
+-- out of range, or none in a round in which it failed. A file system call counts as failed if the store has failed
+-- since.
 abbrev pub plain_voters : Service PlainVoters
 plain_voters = record {
   serves = ServesVoters;

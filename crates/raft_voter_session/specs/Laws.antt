@@ -1,4 +1,4 @@
--- A law that follows from the definitions of sessions.
+-- The law of sessions: what is written is read back.
 use Rattle.std.specs.Prelude.{◌≡◌, ℕ, List, Option, Ok}
 use Rattle.std.specs.Option.{option_map}
 use Rattle.raft_voter_session.specs.Told.{Told}

@@ -42,13 +42,13 @@ read_at text = do
   to ← number_at from.1
   ends to.1 (group.0, Read from.0 to.0)
 
--- `status G`
+-- `status G`: the voter's state
 unfoldable pub status_at : List ℕ → Option (ℕ × Request)
 status_at text = do
   group ← number_at text
   ends group.1 (group.0, Status)
 
--- `retire G`
+-- `retire G`: the group's voter becomes a fresh one
 unfoldable pub retire_at : List ℕ → Option (ℕ × Request)
 retire_at text = do
   group ← number_at text

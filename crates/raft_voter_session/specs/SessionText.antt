@@ -18,7 +18,7 @@ use Rattle.raft_voter_session.specs.Text.{spaced, spaced_all}
 
 -- Lines.
 
--- the first word of a request's line
+-- the first word of a request's line: its kind
 abbrev pub request_word : Request → List ℕ
 request_word (Vote term candidate index last) = codes "vote"
 request_word (Append term prev prev_term commit sent) = codes "append"

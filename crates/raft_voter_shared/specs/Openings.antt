@@ -60,11 +60,13 @@ all_rounds ss = flat_map (λ s. s.journal) ss
 abbrev pub all_cuts : List Session → List ℕ
 all_cuts ss = flat_map (λ s. cuts_at s.journal s.failure s.place) ss
 
--- If openings lead from world `W` to `X`, their rounds lead from `W` to `X`, as those of voters that never fail.
+-- If openings lead from world `W` to `X`, voters that never fail give exactly the replies in their rounds. These
+-- voters start in world `W`, and then are those of world `X`.
 abbrev pub OpeningsLead : Type 0
 OpeningsLead = (W X : World) (ss : List Session) → Openings W ss X → Leads W (all_rounds ss) (all_cuts ss) X
 
--- If openings begin with fresh voters, fresh voters that never fail give exactly their rounds, with their cuts.
+-- If openings begin with fresh voters, fresh voters that never fail give exactly the replies in their rounds, with
+-- their cuts.
 abbrev pub OpeningsAreExplained : Type 0
 OpeningsAreExplained = (X : World) (ss : List Session) → Openings fresh_world ss X → Explains (all_rounds ss) (all_cuts ss)
 

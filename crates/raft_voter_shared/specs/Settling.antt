@@ -6,8 +6,8 @@ use Rattle.raft_voter_shared.specs.declared.settled.SettleCause.{SettleCause}
 use Rattle.raft_voter_shared.specs.declared.settled.SettleCause.TheVariants as causes
 use Rattle.raft_voter_shared.specs.Receipts.{AllRight, IsLeastWrong}
 
--- Why the store can't be settled: the seats have other than all `all` parts of the ledger, or they have all, and the
--- lowest wrong receipt is at `place`.
+-- Why the store can't be settled. `SeatCount`: the seats don't have all parts of the ledger, as `parts` isn't `all`.
+-- `Receipt place`: they have all, and `place` is the lowest one of a wrong receipt.
 abbrev pub IsCause : List Round → ℕ → ℕ → List Receipt → SettleCause → Type 0
 IsCause rounds all parts receipts causes.SeatCount = parts ≢ all
 IsCause rounds all parts receipts (causes.Receipt place) = (parts ≡ all) × IsLeastWrong rounds receipts place

@@ -1,4 +1,4 @@
--- A short round of two groups: a vote, a request out of range, and a vote of another group.
+-- An example: a short round with a vote for group 1, a request out of range for group 1, and a vote for group 2.
 use Rattle.std.specs.Prelude.{◌^◌, ℕ, List, [], ◌∷◌}
 use Rattle.raft_voter_messages.specs.declared.reply.Reply.{Reply}
 use Rattle.raft_voter_messages.specs.declared.reply.Reply.TheVariants.{Granted, Refused}

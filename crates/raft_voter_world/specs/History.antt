@@ -1,5 +1,5 @@
 -- A history: a list of moments. Each moment is one thing that happens to a store of voters or its files. An event of a
--- run makes one moment or several.
+-- run makes some moments, or none.
 use Rattle.std.specs.Prelude.{◌≡◌, ℕ, ◌≤◌, ◌==◌, Bool, true, false, if◌then◌else◌, List, [], ◌∷◌, length, Option, None, Some, map}
 use Rattle.std.specs.List.{flat_map}
 use Rattle.std.specs.String.{string_bytes}
@@ -85,7 +85,7 @@ rounds_in ms = flat_map rounds_of ms
 
 -- When each moment may happen.
 
--- the round was cut off, and none of its positions is refused, because no store was open
+-- the round was cut off and has no refused positions, as if no store is open
 abbrev pub IsIdle : Round → Type 0
 IsIdle round = (round.outcome ≡ Cut) × (round.refused ≡ [])
 

@@ -1,4 +1,4 @@
--- The outcomes of an open of a store's files.
+-- What may come out of an open of a store's files.
 use Rattle.std.specs.Prelude.{◌≡◌, ◌⊎◌, ℕ, true, false, List}
 use Rattle.raft_voter_outline.specs.State.{State}
 use Rattle.raft_voter.specs.Service.{Service}

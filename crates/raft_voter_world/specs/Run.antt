@@ -67,15 +67,14 @@ abbrev pub moments_of : {S F : Type 0} → List (List (Moment S F)) → List (Mo
 moments_of [] = []
 moments_of (ms ∷ mss) = ms ++ moments_of mss
 
--- Voters that never fail give exactly the rounds of `ms`, with their cuts. All voters that are possible after `cut`,
--- which is left at the end, are theirs after all rounds. The last round's cut may have to be another one for that, if
--- no open followed.
+-- Fresh voters that never fail give exactly the replies in the rounds of `ms`, with their cuts. After all rounds, they
+-- can be any voters that are possible after `cut`. Only the last round's cut may have to be another one for that.
 pub record EndsWell {S F : Type 0} (ms : List (Moment S F)) (cut : CutRound) : Type 0 where
   pub explained : Explains (rounds_in ms) (cuts_in 0 ms)
   pub found : (X : World) → MayFollow cut X → (place : ℕ) × Leads fresh_world (rounds_in ms) (cuts_in place ms) X
 
 -- In every history in which each open finds the first fitting position: if no open lost voters and each store that was
--- opened serves some, then fresh voters that never fail give exactly its rounds.
+-- opened serves some, then fresh voters that never fail give exactly the replies in its rounds.
 abbrev pub AllExplained : {S F : Type 0} → Service S → Upkeep S → Disk S F → Type 0
 AllExplained {S} {F} v u d =
     (files : F) (ms : List (Moment S F)) → Happen v u d (Closed files) ms → AreLeast (uncut fresh_world) ms
@@ -83,7 +82,7 @@ AllExplained {S} {F} v u d =
 
 -- In every history that starts with files that store no voter, and whose opens find the first fitting position, unless
 -- there is a CRC collision: each open shows voters that fit at some position. At the end, fresh voters that never fail
--- give exactly its rounds, and lead to the voters that are left.
+-- give exactly the replies in its rounds, and lead to the voters that are left.
 abbrev pub AllTransparent : {S F : Type 0} → Service S → Upkeep S → Disk S F → Type 0
 AllTransparent {S} {F} v u d =
     (files : F) (ms : List (Moment S F)) → Happen v u d (Closed files) ms → AreLeast (uncut fresh_world) ms
@@ -92,9 +91,9 @@ AllTransparent {S} {F} v u d =
 
 -- A run of these events that began with these files: what happened, what the report has, and what holds for it.
 -- - If no open lost voters and each store that was opened serves some, fresh voters that never fail give exactly the
---   rounds of the transcript.
+--   replies of the transcript.
 -- - Suppose the files stored no voter, and there was no CRC collision. Then no voters are lost, and such voters give
---   exactly these rounds and lead to the voters that are left.
+--   exactly these replies and lead to the voters that are left.
 pub record IsRun {S F : Type 0} (v : Service S) (u : Upkeep S) (d : Disk S F) (files : F) (events : List Event)
     (report : WorldReport F) : Type 0 where
   pub turns : List (List (Moment S F))

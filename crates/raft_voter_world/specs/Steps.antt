@@ -1,4 +1,4 @@
--- One event of a run.
+-- One event of a run: the moments that it makes, and what the notes have after it.
 use Rattle.std.specs.Prelude.{◌≡◌, ℕ, false, List, ◌++◌, None}
 use Rattle.raft_voter.specs.Service.{Service}
 use Rattle.raft_voter_world.specs.declared.event.Event.{Event}

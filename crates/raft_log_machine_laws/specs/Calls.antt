@@ -1,5 +1,6 @@
--- What the calls of a pipe do to the numbered files of its queue. `ties s f` says that a running pipe in state `s` may
--- have the files `f`. `allows s f` says that `f` allow each image that a crash may leave.
+-- What the calls of a pipe do to the numbered files of its queue. `ties s f`: a running pipe in state `s` may have the
+-- files `f`. `allows s f`: `f` allow each image that a crash may leave. Quiet events are syncs, rotations, and losses
+-- of files below the live range.
 use Rattle.std.specs.Prelude.{◌≡◌, ℕ, ◌⊎◌, List, [], ◌++◌}
 use Rattle.raft_log_model_laws.specs.Item.{Record, Tagged}
 use Rattle.raft_log_model_laws.specs.Groups.{Map, appended, directory_meaning}

@@ -1,5 +1,5 @@
 -- An engine's log as its callers see it: the map that is synced, and the pending batches. The engine's view of it:
--- where each entry and value is stored.
+-- where each entry and value is stored. `may_be` says which files may be on disk.
 use Rattle.std.specs.Prelude.{◌≡◌, ℕ, Bool, List, [], ◌++◌}
 use Rattle.raft_log_model_laws.specs.Item.{Record}
 use Rattle.raft_log_model_laws.specs.Groups.{Map, taken}

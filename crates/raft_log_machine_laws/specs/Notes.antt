@@ -1,5 +1,5 @@
--- The file that an engine notes for each slot. A queue's live range may begin at the lowest file noted for what the
--- queue has, but not later.
+-- For each slot, an engine notes a file of the queue that has the slot's content. The queue's live range may begin at
+-- the lowest noted file, or before it.
 use Rattle.std.specs.Prelude.{◌≡◌, ℕ, ◌<◌, ◌≤◌, ◌⊎◌, true, false, List, [], ◌∷◌, ◌++◌, None}
 use Rattle.raft_log_model_laws.specs.Item.{Record, Tagged, items_of}
 use Rattle.raft_log_model_laws.specs.Meaning.{Slot, says}

@@ -27,16 +27,16 @@ abbrev pub cut_count : List Round → ℕ
 cut_count [] = 0
 cut_count (r ∷ rounds) = cut_count_of r.outcome + cut_count rounds
 
--- If the rounds `first` lead from world W to X, and the rounds `later` from X to Y, then all of them lead from W to Y.
--- The cuts of both are joined too.
+-- Suppose the rounds `first` lead from world W to X, and the rounds `later` from X to Y. Then all of them lead from W
+-- to Y, with the cuts of both.
 abbrev pub RoundsJoin : Type 0
 RoundsJoin =
     (W X Y : World) (first later : List Round) (cuts cuts' : List ℕ) → Leads W first cuts X
     → Leads X later cuts' Y
     → Leads W (first ++ later) (cuts ++ cuts') Y
 
--- If the rounds `first ++ later` lead from world W to Y, then `first` leads from W to some world X, and `later` from X
--- to Y. Each part has the cuts of its own rounds.
+-- Suppose the rounds `first ++ later` lead from world W to Y. Then `first` leads from W to some world X, and `later`
+-- from X to Y. Each part has the cuts of its own rounds.
 abbrev pub RoundsPart : Type 0
 RoundsPart =
     (W Y : World) (first later : List Round) (cuts : List ℕ) → Leads W (first ++ later) cuts Y

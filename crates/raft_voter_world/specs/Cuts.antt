@@ -1,5 +1,5 @@
 -- The cut of a round without replies: the position in the round up to which its requests were taken. The next open
--- shows it.
+-- shows voters, and they fit the round at a position if taking the requests before it leads to them.
 use Rattle.std.specs.Prelude.{ℕ, ◌+◌, List, [], ◌∷◌, ◌++◌, length, None, unwrap_or}
 use Rattle.raft_voter_messages.specs.declared.round.Round.{Round}
 use Rattle.raft_voter.specs.Rounds.{World, after, taken_below}
@@ -58,7 +58,7 @@ lost_at event (opened workers store voters None now ∷ ms) = event ∷ lost_at 
 lost_at event (m ∷ ms) = lost_at event ms
 
 -- The events that lost voters, by number, where the first list of moments is that of `event`. An event is listed once
--- for each of its opens that shows voters that fit at no position.
+-- for each of its opens that lost voters, which means that it shows voters that fit at no position.
 abbrev pub lost_from : {S F : Type 0} → ℕ → List (List (Moment S F)) → List ℕ
 lost_from event [] = []
 lost_from event (ms ∷ mss) = lost_at event ms ++ lost_from (event + 1) mss

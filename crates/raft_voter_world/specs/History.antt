@@ -34,8 +34,8 @@ pub data Change : Type 0 where
   copies : List ℕ → Change
 
 -- One thing that happens, with the store or the files after it:
--- - `opened`: a store was opened by this many workers, and its voters were read. They fit the last cut-off round at
---   this position, or at none.
+-- - `opened`: a store was opened by this many workers, and its voters were read. Taking the requests of the last
+--   cut-off round before this position leads to them. Without one, no position does.
 -- - `unread`: a store was opened, but its voters couldn't be read. It was closed again, which left these files.
 -- - `fell`: a store was opened, but the disk stopped during the open. A crash left these files.
 -- - `unopened`: an open failed for a cause, and returned these files.
@@ -121,8 +121,8 @@ pub record IsUnopened {S F : Type 0} (v : Service S) (d : Disk S F) (files : F) 
   pub outside : IsFromOutside cause
   pub stands : LeavesStanding v d files files back
 
--- A crash of this storage left the files `left`, as `gone` asks, and the disk runs again. Without a CRC collision,
--- `left` leave every cut-off round that the storage left.
+-- A crash of this storage left the files `left`, and of the unsynced changes what `gone` says. The disk runs again.
+-- Without a CRC collision, `left` leave every cut-off round that the storage left.
 abbrev pub Crashes : {S F : Type 0} → Service S → Disk S F → Storage S F → Left → F → Type 0
 Crashes v d (Closed files) gone left =
     d.crashes files gone left × LeavesStanding v d files left left × (d.has_stopped left ≡ false)
@@ -183,14 +183,15 @@ abbrev pub has_stopped : {S F : Type 0} → Upkeep S → Disk S F → Storage S 
 has_stopped u d (Closed files) = d.has_stopped files
 has_stopped u d (Open store) = u.has_stopped store
 
--- if the disk of this storage has stopped, `ms` is a crash as `gone` asks; otherwise `ms` is empty
+-- if the disk of this storage has stopped, `ms` is a crash that leaves what `gone` says; otherwise `ms` is empty
 abbrev pub Falls :
     {S F : Type 0} → Upkeep S → Disk S F → Left → Storage S F → List (Moment S F) → Type 0
 Falls u d gone storage [] = has_stopped u d storage ≡ false
 Falls u d gone storage (crashed gone' files ∷ []) = (has_stopped u d storage ≡ true) × (gone' ≡ gone)
 Falls u d gone storage ms = ⊥
 
--- `ms` is one moment of which `IsSuch` is true; if the disk stopped in it, a crash as `gone` asks follows
+-- `ms` is one moment of which `IsSuch` is true; if the disk stopped in it, a crash follows that leaves what `gone`
+-- says
 abbrev pub One :
     {S F : Type 0} → Upkeep S → Disk S F → Left → (Moment S F → Type 0)
     → List (Moment S F) → Type 0

@@ -1,5 +1,5 @@
--- What holds for a run, for a reader who checks that there was no CRC collision. That premise depends on how it is
--- known what the files leave, and the reader may choose that knowledge after each moment.
+-- What holds for a run, for a reader who checks that there was no CRC collision. That condition depends on the proof
+-- of what the files leave. The reader may choose this proof after each moment.
 use Rattle.std.specs.Prelude.{List, [], ◌∷◌, ◌++◌, IsSome}
 use Rattle.raft_voter.specs.Rounds.{World, fresh_world}
 use Rattle.raft_voter.specs.Service.{CutRound, IsOpenAt, MayFollow, Service, uncut}
@@ -13,10 +13,10 @@ use Rattle.raft_voter_world.specs.History.Moment.{opened, unread, fell, unopened
 use Rattle.raft_voter_world.specs.Run.{EndsWell, IsRun, Knows, moments_of}
 use Rattle.raft_voter_world.specs.Stores.{Disk, Upkeep}
 
--- What holds from moment to moment, if storage `storage` is known to leave `cut`. After each moment, the storage
--- leaves the next cut-off round, and the reader continues with any knowledge of that. `End` is true at the end. Each
--- open shows voters that are possible, and finds their position. After a CRC collision, in files that an open reads or
--- a crash leaves, nothing is claimed.
+-- What holds from moment to moment, if storage `storage` leaves `cut` by the proof `known`. After each moment, the
+-- storage leaves the next cut-off round, and the reader continues with any proof of that. `End` is true at the end.
+-- Each open shows voters that are possible, and finds their position. After a CRC collision, in files that an open
+-- reads or a crash leaves, nothing is claimed.
 abbrev pub GoesBy :
     {S F : Type 0}
     → (v : Service S) (d : Disk S F) → (Storage S F → CutRound → Type 0)

@@ -73,8 +73,8 @@ pub record EndsWell {S F : Type 0} (ms : List (Moment S F)) (cut : CutRound) : T
   pub explained : Explains (rounds_in ms) (cuts_in 0 ms)
   pub found : (X : World) → MayFollow cut X → (place : ℕ) × Leads fresh_world (rounds_in ms) (cuts_in place ms) X
 
--- In every history in which each open finds the first fitting position: if no open lost voters and each store that was
--- opened serves some, then fresh voters that never fail give exactly the replies in its rounds.
+-- In every history in which each open finds the first fitting position, no open lost voters, and each store that was
+-- opened serves some: fresh voters that never fail give exactly the replies in its rounds.
 abbrev pub AllExplained : {S F : Type 0} → Service S → Upkeep S → Disk S F → Type 0
 AllExplained {S} {F} v u d =
     (files : F) (ms : List (Moment S F)) → Happen v u d (Closed files) ms → AreLeast (uncut fresh_world) ms
@@ -90,8 +90,8 @@ AllTransparent {S} {F} v u d =
     → Goes v d (λ storage cut. EndsWell ms cut) (Closed files) (uncut fresh_world) known ms
 
 -- A run of these events that began with these files: what happened, what the report has, and what holds for it.
--- - If no open lost voters and each store that was opened serves some, fresh voters that never fail give exactly the
---   replies of the transcript.
+-- - Suppose no open lost voters, and each store that was opened serves some. Then fresh voters that never fail give
+--   exactly the replies of the transcript.
 -- - Suppose the files stored no voter, and there was no CRC collision. Then no voters are lost, and such voters give
 --   exactly these replies and lead to the voters that are left.
 pub record IsRun {S F : Type 0} (v : Service S) (u : Upkeep S) (d : Disk S F) (files : F) (events : List Event)

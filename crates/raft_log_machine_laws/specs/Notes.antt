@@ -1,5 +1,5 @@
--- For each slot, an engine notes a file of the queue that has the slot's content. The queue's live range may begin at
--- the lowest noted file, or before it.
+-- For each slot, an engine notes a file of the queue. In Append, this file has the slot's content; in Rewrite, the
+-- content is in this file and later ones. The queue's live range may begin at the lowest noted file, or before it.
 use Rattle.std.specs.Prelude.{◌≡◌, ℕ, ◌<◌, ◌≤◌, ◌⊎◌, true, false, List, [], ◌∷◌, ◌++◌, None}
 use Rattle.raft_log_model_laws.specs.Item.{Record, Tagged, items_of}
 use Rattle.raft_log_model_laws.specs.Meaning.{Slot, says}

@@ -24,8 +24,8 @@ read_answer o from to =
     else if nat_lt (last_index o + 1) to then Told (Unknown (last_index o))
     else EntriesAnswer from to
 
--- write `w` of plan `p` changes nothing of outline `o`: it keeps the stored state and writes no entries, and a `Clean`
--- finds an empty log
+-- this write of plan `p` changes nothing of outline `o`: it keeps the stored state and writes no entries, and a
+-- `Clean` finds an empty log
 abbrev pub Stays : State → Plan → Write → Type 0
 Stays o p StateAlone = p.state ≡ stored_state o
 Stays o p (Entries skipped index) = ⊥

@@ -75,7 +75,7 @@ changed c sent v = record {
   log = log_written c.write sent v;
 }
 
--- Write `w` is possible for request `q` on the log of voter `v`:
+-- This write is possible for request `q` on the log of voter `v`:
 -- - `StateAlone` is for any request except Retire, and `Clean` only for Retire;
 -- - `Entries` appends at least one entry of `q`, and leaves no gap and no index out of range;
 -- - `CompactTo` has an index above the base and up to the last entry.

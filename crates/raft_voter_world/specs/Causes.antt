@@ -57,7 +57,8 @@ pub record WasPurged {S F : Type 0} (v : Service S) (u : Upkeep S) (purge : Purg
   pub ends : EndsPurge v u purge refusal old new
   pub keeps : KeepsVoters v old new
 
--- Each purge of a run happened to an open store, did what its contract allows, and kept the voters.
+-- Each purge of a run happened to an open store, and did what its contract allows. It kept the voters, unless the
+-- store has failed.
 abbrev pub EachPurgeHasItsCause : {S F : Type 0} → Service S → Upkeep S → Disk S F → Type 0
 EachPurgeHasItsCause {S} {F} v u d = (files : F) (events : List Event) (report : WorldReport F)
     → (run : IsRun v u d files events report)

@@ -1,5 +1,5 @@
--- Rounds in which only requests out of range were refused. Each group then gets the replies of a voter that sees no
--- other group's requests.
+-- Rounds in which exactly the requests out of range were refused. Each group then gets the replies of a voter that
+-- sees no other group's requests.
 use Rattle.std.specs.Prelude.{◌≡◌, ◌==◌, if◌then◌else◌, ℕ, List, [], ◌∷◌, ◌++◌, map}
 use Rattle.std.specs.List.{flat_map}
 use Rattle.raft_voter_messages.specs.declared.reply.Reply.{Reply}

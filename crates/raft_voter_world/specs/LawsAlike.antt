@@ -1,4 +1,4 @@
--- Two stores that get the same rounds, and refuse no requests but those out of range.
+-- What two stores reply to the same rounds, if they refuse exactly the requests out of range, or others too.
 use Rattle.std.specs.Prelude.{◌≡◌, ◌≤◌, ℕ, false, if◌then◌else◌, List, [], ◌∷◌, length, map}
 use Rattle.raft_voter_messages.specs.declared.reply.Reply.{Reply}
 use Rattle.raft_voter_messages.specs.declared.request.Request.{Request}

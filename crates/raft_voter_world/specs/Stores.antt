@@ -58,16 +58,16 @@ RefusesPurge TooLong before now = ⊥
 
 -- Disks.
 
--- A disk while no store is open on it. A store has the files only between an open and a close:
+-- A disk on which no store is open; a store that is named here is open on it:
 -- - `leaves`: the next open, even after a crash, finds only voters that are possible after this cut-off round;
 -- - `without_chance`: given that `files` leave this round, the second files have no CRC collision; they are what a
 --   crash left of `files`, or `files` themselves;
--- - `leaves_under`: a crash under this open store leaves only voters that are possible after this round;
+-- - `leaves_under`: a crash under this store leaves only voters that are possible after this round;
 -- - `spares`: given that, the files that such a crash left have no CRC collision;
 -- - `opens`: an open by this many workers may return this store;
 -- - `refuses`: such an open may fail for this cause, and then leaves the second files;
 -- - `closes`: a close of this store may leave these files;
--- - `crashes`, `crashes_under`: a crash may leave the second files, of the first files or under the open store;
+-- - `crashes`, `crashes_under`: a crash may leave the second files, of the first files or under this store;
 -- - `forks`: a copy into this directory may change the first files into the second, whether it succeeds or fails;
 -- - `arms`: arming this fault may change the first files into the second;
 -- - `has_stopped`: the disk has stopped.

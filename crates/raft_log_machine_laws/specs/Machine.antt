@@ -63,8 +63,8 @@ pub data Event (E V : Type 0) : Type 0 where
   LoseRewrite : (lost rest : List (Record E V)) → Event E V
   -- the engine fails
   Fail : Event E V
-  -- A crash or a close, and then an open. Of each queue's pending records, the prefix `kept` is kept. Of the records
-  -- below its live range, the suffix `back` is read.
+  -- A crash or a close, and then an open. Of the pending records, the prefixes `r_kept` of Rewrite and `a_kept` of
+  -- Append are kept. Of the records below the live ranges, the suffixes `r_back` and `a_back` are read.
   Reopen : (r_kept r_lost r_cut r_back a_kept a_lost a_cut a_back : List (Record E V)) → Event E V
 
 -- the live range of Rewrite ends with the records of atomic group `n`, which has no end yet
@@ -78,7 +78,7 @@ pub record IsJoined {E V : Type 0} (parts items : List (Item E V)) : Type 0 wher
   pub same_words : (s : Slot) → says s parts ≡ says s items
   pub no_more_holes : (w : Window) → NoHole w items → NoHole w parts
 
--- event `e` may happen to machine `w`, and changes it into `v`; conditions on raft groups are conditions on their
+-- this event may happen to machine `w`, and changes it into `v`; conditions on raft groups are conditions on their
 -- whereabouts
 abbrev pub Step : {E V : Type 0} → Event E V → Machine E V → Machine E V → Type 0
 Step (Take y) w v =

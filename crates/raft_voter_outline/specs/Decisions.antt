@@ -41,7 +41,7 @@ pub record SettlesPlan (o : State) (p : Plan) (d : Decision) : Type 0 where
 
 -- Changes, as they are made.
 
--- the entries of request `q` that write `w` appends to the log
+-- the entries of request `q` that this write appends to the log
 abbrev pub entries_in : Write → Request → List (ℕ × List ℕ)
 entries_in (Entries skipped index) q = drop skipped (sent_of q)
 entries_in _ q = []

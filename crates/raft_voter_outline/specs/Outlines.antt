@@ -113,7 +113,7 @@ append_write v term prev prev_term sent =
 abbrev pub all_gone : State → Write
 all_gone v = if length v.log == 0 then StateAlone else CompactTo (last_index v)
 
--- what request `q`, in range, writes to the log of voter `v`
+-- what this request, in range, writes to the log of voter `v`
 abbrev pub write_of : State → Request → Write
 write_of v (Append term prev prev_term commit sent) = append_write v term prev prev_term sent
 write_of v (Compact index) = if can_compact v index then CompactTo index else StateAlone
@@ -164,7 +164,7 @@ pub record Decides (o : State) (q : Request) (d : Decision) : Type 0 where
   pub answer : IsReplyOfEach o q d.answer
   pub change : MatchOption d.change (LeavesEach o q) (ChangesEach o q)
 
--- Request `q`, in range, needs copies of entries. It is an Append that is accepted and brings an entry that is new or
+-- This request, in range, needs copies of entries. It is an Append that is accepted and brings an entry that is new or
 -- differs, or a Read that returns at least one entry.
 abbrev pub WantsCopies : State → Request → Type 0
 WantsCopies v (Append term prev prev_term commit sent) =

@@ -13,7 +13,8 @@ use Rattle.raft_voter_shared.specs.declared.failure.Failure.{Failure}
 use Rattle.raft_voter_shared.specs.declared.failure.Failure.TheVariants.{InRound}
 use Rattle.raft_voter_shared.specs.Journal.{reached}
 
--- the first of these rounds as the one that was cut off, with the voters of world `W` before it; none without rounds
+-- the first of these rounds as the one that was cut off, with the voters of world `W` before it; without rounds, none
+-- was cut off
 abbrev pub cut_first : World → List Round → CutRound
 cut_first W [] = uncut W
 cut_first W (r ∷ rounds) = record { before = W; requests = r.requests; refused = r.refused }

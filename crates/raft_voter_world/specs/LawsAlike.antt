@@ -30,8 +30,8 @@ StoresAnswerAlike {S} {T} v w =
 
 -- A store and a model of it.
 
--- store `old` gave these replies to this round, and is `new` afterwards; this is all that the contract of a call
--- promises
+-- Store `old` gave these replies to this round, and is `new` afterwards. The round has at most 4,096 requests. The
+-- store may refuse what it refused, and hasn't failed.
 pub record IsServed {S : Type 0} (v : Service S) (requests : List (ℕ × Request)) (replies : List Reply) (old new : S)
     : Type 0 where
   pub answers : AnswersRound v requests replies old new
@@ -46,8 +46,8 @@ AreServed {S} v (requests ∷ rounds) (replies ∷ told) old new =
     (now : S) × IsServed v requests replies old now × AreServed v rounds told now new
 AreServed v rounds told old new = ⊥
 
--- unless the store has failed after a round, it may refuse only one list of positions: those of the requests out of
--- range
+-- if the store hasn't failed after a round, the positions that it may refuse in the round are exactly those of the
+-- requests out of range
 abbrev pub RefusesOutOfRange : {S : Type 0} → Service S → Type 0
 RefusesOutOfRange {S} v = (old new : S) (requests : List (ℕ × Request)) (refused : List ℕ)
     → v.is_failed new ≡ false → v.may_refuse old new requests refused → refused ≡ out_of_range 0 requests
@@ -61,8 +61,8 @@ AnswersAsModel {S} {T} model v =
     → IsOpenAt v first W → AreServed v rounds heard first last → refused_in heard ≡ map (out_of_range 0) rounds
     → AnsweredAlike model v W rounds told heard new last
 
--- if store `model` can only refuse the requests out of range, then store `v` gives its replies whenever `v` does the
--- same
+-- if store `model` can only refuse the requests out of range, then store `v` gives the model's replies whenever `v`
+-- refuses exactly these too
 abbrev pub StoresAnswerAsModels : {S T : Type 0} → Service S → Service T → Type 0
 StoresAnswerAsModels model v = RefusesOutOfRange model → AnswersAsModel model v
 

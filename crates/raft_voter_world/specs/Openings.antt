@@ -11,10 +11,10 @@ use Rattle.raft_voter_world.specs.declared.storage.Storage.TheVariants.{Open as 
 use Rattle.raft_voter_world.specs.History.{Crashes, IsOpened, IsUnopened}
 use Rattle.raft_voter_world.specs.Stores.{Disk, LeavesInFiles, StaysAsItWas, TellsVoters, Upkeep, world_in}
 
--- A store was opened, and `opened` is the outcome:
+-- What became of the open, after `store` was opened. There are three outcomes:
 -- - its voters were read, and are shown;
--- - or the disk had stopped, and a crash left the files;
--- - or the disk runs, the voters weren't read, and the store was closed again.
+-- - the disk had stopped, and a crash left the files;
+-- - the disk runs, the voters weren't read, and the store was closed again.
 abbrev pub ComesOf : {S F : Type 0} → Service S → Upkeep S → Disk S F → S → Left → Opened S F → Type 0
 ComesOf v u d store gone (Shown now voters) =
     (listed : List (ℕ × State)) × TellsVoters v store listed × StaysAsItWas v store now

@@ -1,5 +1,6 @@
--- What a pipe's calls do, in terms of the numbered files alone. `ties` says which files may be there while the pipe
--- runs, `allows` which files the images allow. A pipe's own model of its files satisfies these definitions.
+-- What the calls of a pipe do to the numbered files of its queue. `ties s f`: a running pipe in state `s` may have the
+-- files `f`. `allows s f`: `f` allow each image that a crash may leave. Quiet events are syncs, rotations, and losses
+-- of files below the live range.
 use Rattle.std.specs.Prelude.{◌≡◌, ℕ, ◌⊎◌, List, [], ◌++◌}
 use Rattle.raft_log_model_laws.specs.Item.{Record, Tagged}
 use Rattle.raft_log_model_laws.specs.Groups.{Map, appended, directory_meaning}
@@ -11,47 +12,48 @@ use Rattle.raft_log_machine_laws.specs.Moves.{Moved, grown, settled_files, raise
 use Rattle.raft_log_machine_laws.specs.Notes.{AllBelow, AreNoted, AreNotedInRewrite, GoesOnFrom}
 use Rattle.raft_log_machine_laws.specs.Log.{View, Stands}
 
--- one of the two queues
+-- one of the two queues, Append or Rewrite
 pub data Which : Type 0 where
   InAppend : Which
   InRewrite : Which
 
--- the files of one of the two queues
+-- the files of this queue
 abbrev pub queue_at : {E V : Type 0} → Which → Files E V → FileQueue E V
 queue_at InAppend f = f.append
 queue_at InRewrite f = f.rewrite
 
--- the number from which the files of one queue count
+-- the number at which this queue's files after the last gap start
 abbrev pub from_at : {E V : Type 0} → Which → Files E V → ℕ
 from_at InAppend f = f.append_from
 from_at InRewrite f = f.rewrite_from
 
--- the files with another such queue
+-- files `f` with `q` as the files of this queue, whose numbers after the last gap start at `from`
 abbrev pub put : {E V : Type 0} → Which → Files E V → ℕ → FileQueue E V → Files E V
 put InAppend f from q = with_append f from q
 put InRewrite f from q = with_rewrite f from q
 
--- the queue's files after some quiet events, such as a rotation
+-- this queue's files after some quiet events, such as a rotation
 abbrev pub MovedIn : {E V : Type 0} → Which → Files E V → Type 0
 MovedIn which f = Moved (from_at which f) (queue_at which f)
 
--- some quiet events happen, then the record is appended to file n
+-- the pipe appends the record to file `n`, after some quiet events
 abbrev pub Appends : {S E V : Type 0} → (S → Files E V → Type 0) → Which → Record E V → ℕ → S → S → Type 0
 Appends {S} {E} {V} ties which y n s t =
     (f : Files E V) → ties s f
     → (a : MovedIn which f) × (a.queue.last ≡ n) × ties t (put which f a.from (grown a.queue y))
 
--- the record wasn't written: what was written of it was truncated, and that was synced
+-- the pipe doesn't write the record: it truncates what it wrote of it, and syncs the file; quiet events may come
+-- before
 abbrev pub CutsBack : {S E V : Type 0} → (S → Files E V → Type 0) → Which → S → S → Type 0
 CutsBack {S} {E} {V} ties which s t =
     (f : Files E V) → ties s f → (a : MovedIn which f) × ties t (put which f a.from (settled_files a.queue))
 
--- no record is written; some quiet events may have happened
+-- the pipe writes no record, but some quiet events may happen
 abbrev pub LeavesOut : {S E V : Type 0} → (S → Files E V → Type 0) → Which → S → S → Type 0
 LeavesOut {S} {E} {V} ties which s t =
     (f : Files E V) → ties s f → (a : MovedIn which f) × ties t (put which f a.from a.queue)
 
--- the pipe failed, and the record may be there or not
+-- the pipe fails, after some quiet events, and the record is in the files or not
 abbrev pub MayAppend : {S E V : Type 0} → (S → Files E V → Type 0) → (S → Files E V → Type 0) → Which
     → Record E V → S → S → Type 0
 MayAppend {S} {E} {V} ties allows which y s t =
@@ -59,23 +61,23 @@ MayAppend {S} {E} {V} ties allows which y s t =
     → (a : MovedIn which f)
     × (allows t (put which f a.from a.queue) ⊎ allows t (put which f a.from (grown a.queue y)))
 
--- the queue's last file is synced
+-- the pipe syncs the active file of this queue
 abbrev pub Syncs : {S E V : Type 0} → (S → Files E V → Type 0) → Which → S → S → Type 0
 Syncs {S} {E} {V} ties which s t =
     (f : Files E V) → ties s f → ties t (put which f (from_at which f) (settled_files (queue_at which f)))
 
--- all that was written to the queue is synced: by a sync, by a rotation, or after a truncation
+-- nothing in this queue is pending any more, after some quiet events: a sync, a rotation, or a sync after a truncation
 abbrev pub Settles : {S E V : Type 0} → (S → Files E V → Type 0) → Which → S → S → Type 0
 Settles {S} {E} {V} ties which s t =
     (f : Files E V) → ties s f
     → (a : MovedIn which f) × (a.queue.pending ≡ []) × ties t (put which f a.from a.queue)
 
--- the pipe failed, and the files that were there are among those the images allow
+-- the pipe fails, and the files it had allow each image that a crash may leave
 abbrev pub FailsWhole : {S E V : Type 0} → (S → Files E V → Type 0) → (S → Files E V → Type 0) → S → S
     → Type 0
 FailsWhole {S} {E} {V} ties allows s t = (f : Files E V) → ties s f → allows t f
 
--- the live range begins at file n or before it, and some of the files below may be lost
+-- files with numbers below `n` leave the live range of this queue at its beginning; some quiet events may follow
 abbrev pub Raises : {S E V : Type 0} → (S → Files E V → Type 0) → (S → Files E V → Type 0) → Which → ℕ → S → S
     → Type 0
 Raises {S} {E} {V} ties become which n s t =
@@ -84,8 +86,8 @@ Raises {S} {E} {V} ties become which n s t =
     × ((a : Moved (from_at which f) (raised_files (queue_at which f) out stay))
     × become t (put which f a.from a.queue))
 
--- what an open reads of a queue: which of the gone files are in the live range again, and which of the unsynced records
--- an image kept
+-- What an open reads of a queue. Of the files below the live range, `again` are read and `below` aren't. Of the
+-- pending records, an image kept `kept` and lost `lost`.
 pub record ReadAgain {E V : Type 0} (q : FileQueue E V) : Type 0 where
   pub below : List (LogFile E V)
   pub again : List (LogFile E V)
@@ -94,16 +96,16 @@ pub record ReadAgain {E V : Type 0} (q : FileQueue E V) : Type 0 where
   pub gone : below ++ again ≡ q.gone
   pub image : kept ++ lost ≡ q.pending
 
--- the files once these records are synced
+-- the queue's files after the open: the live range has all files that were read, and their records are synced
 abbrev pub read_files : {E V : Type 0} → (q : FileQueue E V) → ReadAgain q → FileQueue E V
 read_files q r =
     record q { gone = r.below; full = r.again ++ q.full; synced = q.synced ++ r.kept; pending = [] }
 
--- the records that are read
+-- the records that the open reads of this queue
 abbrev pub records_read : {E V : Type 0} → (q : FileQueue E V) → ReadAgain q → List (Record E V)
 records_read q r = records_of r.again ++ ((queue_of q).live ++ r.kept)
 
--- the view is built from what was read of both queues, which is now in these files
+-- view `v` is built from these records of both queues, which are now in files `f`
 pub record IsMadeOf {E V : Type 0} (v : View E V) (rewrite append : List (Record E V)) (f : Files E V)
     : Type 0 where
   pub map : v.map ≡ directory_meaning rewrite append
@@ -112,8 +114,8 @@ pub record IsMadeOf {E V : Type 0} (v : View E V) (rewrite append : List (Record
   pub noted : AreNoted v.whereabouts v.noted f.append
   pub noted_in_rewrite : AreNotedInRewrite v.map v.whereabouts v.noted_in_rewrite f.rewrite
 
--- an open: for any files that may have been there, it read some image of them and synced what it read. If each group's
--- entries were one run, the view is built from it
+-- For any files that may have been there, an open reads some image of them, and syncs what it reads. If the entries of
+-- each raft group are one run then, the view is built from what was read.
 abbrev pub Replays : {S E V : Type 0} → (S → Files E V → Type 0) → (S → Files E V → Type 0) → View E V → S → S
     → Type 0
 Replays {S} {E} {V} allows ties v s t =
@@ -124,11 +126,12 @@ Replays {S} {E} {V} allows ties v s t =
     → IsMadeOf v (records_read f.rewrite r) (records_read f.append a)
     (record f { rewrite = read_files f.rewrite r; append = read_files f.append a }))
 
--- a pipe that is nothing but its files: exactly these are there
+-- the pipe has exactly these files: a pipe that is nothing else
 abbrev pub IsExactly : {E V : Type 0} → Files E V → Files E V → Type 0
 IsExactly s f = f ≡ s
 
--- the view is true, and Rewrite ends with an atomic group that began in file `from` and has not ended
+-- The view is true of some files that `may_be` allows. Rewrite ends with atomic group `n`, which has no end yet, and
+-- whose records are in files from number `from` on.
 pub record IsInGroup {E V : Type 0} (may_be : Files E V → Type 0) (v : View E V) (m : Map E V)
     (pending : List (Record E V)) (from n : ℕ) (first : List (Tagged E V)) (more : List (List (Tagged E V)))
     : Type 0 where

@@ -1,4 +1,4 @@
--- The machine, over numbered files.
+-- The machine together with the numbered files that have its records.
 use Rattle.std.specs.Prelude.{◌≡◌, ℕ, ◌<◌, List, [], ◌∷◌, ◌++◌}
 use Rattle.raft_log_model_laws.specs.Item.{Record}
 use Rattle.raft_log_model_laws.specs.Groups.{appended, rewritten}
@@ -10,8 +10,8 @@ use Rattle.raft_log_machine_laws.specs.Fresh.{fresh_machine}
 use Rattle.raft_log_machine_laws.specs.Files.{LogFile, FileQueue, FileEvent, FileStep, IsRead, records_of, span, numbered_from, store_of, fresh_files}
 use Rattle.raft_log_machine_laws.specs.Files.FileEvent.{Read}
 
--- a machine, and the files of Rewrite and of Append; the files that are not before a gap are numbered from these
--- numbers on
+-- A machine, and the files of both queues. The numbers of Rewrite's files after the last gap start at `rewrite_from`,
+-- those of Append's at `append_from`.
 pub record Directory (E V : Type 0) : Type 0 where
   pub machine : Machine E V
   pub rewrite : FileQueue E V
@@ -19,13 +19,14 @@ pub record Directory (E V : Type 0) : Type 0 where
   pub append : FileQueue E V
   pub append_from : ℕ
 
--- an event, and what happens to each queue's files with it
+-- an event of the machine, and what happens to the files of each queue with it
 pub record DirectoryEvent (E V : Type 0) : Type 0 where
   pub event : Event E V
   pub rewrite : FileEvent E V
   pub append : FileEvent E V
 
--- the event happens, the files change, and their records are the machine's
+-- The event changes the machine, and the files of both queues change with it. Afterwards the files have exactly the
+-- machine's records.
 pub record DirectoryStep {E V : Type 0} (e : DirectoryEvent E V) (d n : Directory E V) : Type 0 where
   pub step : Step e.event d.machine n.machine
   pub rewrite : FileStep e.rewrite d.rewrite n.rewrite
@@ -34,14 +35,14 @@ pub record DirectoryStep {E V : Type 0} (e : DirectoryEvent E V) (d n : Director
   pub rewrite_from : n.rewrite_from ≡ numbered_from d.rewrite_from e.rewrite
   pub append_from : n.append_from ≡ numbered_from d.append_from e.append
 
--- a whole schedule
+-- these events, one after another, change directory `d` into `n`
 abbrev pub DirectorySteps : {E V : Type 0} → Directory E V → List (DirectoryEvent E V) → Directory E V
     → Type 0
 DirectorySteps d [] n = n ≡ d
 DirectorySteps {E} {V} d (e ∷ es) n =
     (next : Directory E V) × DirectoryStep e d next × DirectorySteps next es n
 
--- a directory without records: each queue has an empty file 1
+-- a directory without records: each queue has an empty file of number 1
 abbrev pub fresh_directory : {E V : Type 0} → Directory E V
 fresh_directory = record {
   machine = fresh_machine;
@@ -51,14 +52,14 @@ fresh_directory = record {
   append_from = 1;
 }
 
--- the files' numbers rise
+-- each file has a higher number than the one before
 abbrev pub IsRising : {E V : Type 0} → List (LogFile E V) → Type 0
 IsRising [] = Unit {0}
 IsRising (f ∷ []) = Unit {0}
 IsRising (f ∷ g ∷ fs) = (f.number < g.number) × IsRising (g ∷ fs)
 
--- From every file at which a recovery may begin, and whatever the image kept of the unsynced records, reading succeeds.
--- Numbers rise, no run leaves a hole, and Rewrite's atomic groups are unbroken.
+-- A recovery can read both queues, from every file at which it may start, and for every prefix of the pending records.
+-- File numbers rise, no run leaves a hole, and no record comes between those of an atomic group of Rewrite.
 pub record ReplaysInFiles {E V : Type 0} (n : ℕ) (r : FileQueue E V) (k : ℕ) (a : FileQueue E V)
     : Type 0 where
   pub append : (kept lost : List (Record E V)) → kept ++ lost ≡ a.pending
@@ -69,8 +70,8 @@ pub record ReplaysInFiles {E V : Type 0} (n : ℕ) (r : FileQueue E V) (k : ℕ)
       → IsRising files × IsUnbroken (records_of files)
       × ((g : ℕ) → NoHole nothing (rewritten g (records_of files)))
 
--- a crash that kept these of the unsynced records, and an open that reads these of the gone files again; the files
--- `r_below` and `a_below` stay gone
+-- The event of a crash and an open. The crash kept these records of the pending ones. The open reads the files
+-- `r_again` and `a_again` below the live ranges again, but not `r_below` and `a_below`.
 abbrev pub opening : {E V : Type 0} → (r_kept r_lost a_kept a_lost : List (Record E V))
     → (r_below r_again a_below a_again : List (LogFile E V)) → DirectoryEvent E V
 opening r_kept r_lost a_kept a_lost r_below r_again a_below a_again = record {
@@ -81,7 +82,8 @@ opening r_kept r_lost a_kept a_lost r_below r_again a_below a_again = record {
   append = Read a_below a_again a_kept;
 }
 
--- these files can be opened after such a crash: there is an open after which they are the live ranges of both queues
+-- After a crash that kept these records, an open can read exactly the files `r_files` and `a_files`. These are then
+-- the live ranges of both queues.
 pub record CanBeOpened {E V : Type 0} (d : Directory E V) (r_kept r_lost a_kept a_lost : List (Record E V))
     (r_files a_files : List (LogFile E V)) : Type 0 where
   pub r_below : List (LogFile E V)
@@ -93,8 +95,8 @@ pub record CanBeOpened {E V : Type 0} (d : Directory E V) (r_kept r_lost a_kept 
   pub rewrite : span opened.rewrite [] ≡ r_files
   pub append : span opened.append [] ≡ a_files
 
--- from every file at which a recovery may begin, and whatever the image kept of the unsynced records, what is read can
--- be opened
+-- After every crash, each choice of files that a recovery may read can be opened, for every prefix of the pending
+-- records.
 abbrev pub OpensInFiles : {E V : Type 0} → Directory E V → Type 0
 OpensInFiles {E} {V} d =
     (r_kept r_lost a_kept a_lost : List (Record E V)) → r_kept ++ r_lost ≡ d.rewrite.pending

@@ -1,5 +1,5 @@
--- One group through two purges, a crash, and an open that reads the recycled files again. Entries and values
--- are numbers.
+-- An example: one raft group through two purges, a crash, and an open that reads recycled files again. Entries and
+-- values are numbers.
 use Rattle.std.specs.Prelude.{ℕ, true, false, if◌then◌else◌, ◌==◌, List, [], ◌∷◌}
 use Rattle.raft_log_model_laws.specs.Item.{Record}
 use Rattle.raft_log_model_laws.specs.Item.Item.{Run, Compact, Put}
@@ -11,21 +11,21 @@ use Rattle.raft_log_machine_laws.specs.Machine.{Event}
 use Rattle.raft_log_machine_laws.specs.Machine.Event.{Take, SyncAppend, SyncRewrite, WritePlain, RaiseAppend, Reopen}
 use Rattle.raft_log_machine_laws.specs.WrongRules.{tagged}
 
--- entries 1 to 3
+-- a batch with entries 1 to 3
 abbrev pub entries : Record ℕ ℕ
 entries = Plain (tagged 1 (Run 1 (11 ∷ 12 ∷ 13 ∷ []) ∷ []))
 
--- the entries below 3 are deleted, and a key is put
+-- a batch that deletes the entries below 3 and puts a key
 abbrev pub compaction : Record ℕ ℕ
 compaction = Plain (tagged 1 (Compact 3 ∷ Put (5 ∷ []) 50 ∷ []))
 
--- this group has these whereabouts, and every other group has nothing
+-- these whereabouts for raft group 1; every other group has nothing
 abbrev pub only : Whereabouts → ℕ → Whereabouts
 only t g = if 1 == g then t else nowhere
 
--- The first purge copies the entries, and their file leaves the live range. The second purge writes the tombstone and
--- copies the key, and the next file leaves the live range. Then the engine stops, and both files, which were kept for
--- recycling, are read again.
+-- The events. The first purge copies the entries to Rewrite, and their file leaves Append's live range. The second one
+-- writes a tombstone and copies the key, and the next file leaves. After a crash, an open reads both recycled files
+-- again.
 abbrev pub two_purges : List (Event ℕ ℕ)
 two_purges =
     Take entries ∷ SyncAppend
@@ -35,7 +35,7 @@ two_purges =
     ∷ RaiseAppend (compaction ∷ []) []
     ∷ Reopen [] [] [] [] [] [] [] (entries ∷ compaction ∷ []) ∷ []
 
--- the directory after that
+-- the records of both queues after these events
 abbrev pub purged_twice : Store ℕ ℕ
 purged_twice = record {
   rewrite = record {
@@ -48,8 +48,8 @@ purged_twice = record {
   append = record { gone = []; live = entries ∷ compaction ∷ []; pending = [] };
 }
 
--- The group's whereabouts in the directory after two purges and the open. Entry 3 and the key are in Append again, and
--- a tombstone is owed again.
+-- The whereabouts of raft group 1 after these events. Entry 3 and the key are in Append again, and a Compact is owed
+-- again.
 abbrev pub read_again : Whereabouts
 read_again = record {
   first = 3;

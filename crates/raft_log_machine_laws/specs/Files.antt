@@ -1,60 +1,60 @@
--- The numbered files of a queue, where reading them may start, and what may happen to them.
+-- The numbered files of a queue, at which of them a recovery may start, and what may happen to them.
 use Rattle.std.specs.Prelude.{◌≡◌, ℕ, ◌+◌, ◌<◌, ◌≤◌, List, [], ◌∷◌, ◌++◌, length, take}
 use Rattle.raft_log_model_laws.specs.Item.{Record}
 use Rattle.raft_log_model_laws.specs.Meaning.{Slot}
 use Rattle.raft_log_model_laws.specs.Groups.{Map, directory_meaning, taken}
 use Rattle.raft_log_machine_laws.specs.Queue.{Queue, Store}
 
--- a file: its number, and its records
+-- a segment file: its number, and its records
 pub record LogFile (E V : Type 0) : Type 0 where
   pub number : ℕ
   pub records : List (Record E V)
 
 -- the files of a queue, oldest first
 pub record FileQueue (E V : Type 0) : Type 0 where
-  -- before a gap: nothing reads them again
+  -- files before a gap in the numbers, which no recovery reads
   pub behind : List (LogFile E V)
-  -- below the live range and still on disk without a gap, as recycled ones are
+  -- files below the live range that are still on disk, without a gap up to it, as recycled ones are
   pub gone : List (LogFile E V)
-  -- the live range: its files except the active one; the active file's number, synced records and unsynced records
+  -- the live range: its files before the active one, and the active file's number, synced records and pending records
   pub full : List (LogFile E V)
   pub last : ℕ
   pub synced : List (Record E V)
   pub pending : List (Record E V)
 
--- all records of the files, in their order
+-- all records of these files, in their order
 abbrev pub records_of : {E V : Type 0} → List (LogFile E V) → List (Record E V)
 records_of [] = []
 records_of (f ∷ fs) = f.records ++ records_of fs
 
--- the files of the live range, in an image that kept these of the unsynced records
+-- the files of the live range, if an image kept the records `kept` of the pending ones
 abbrev pub span : {E V : Type 0} → FileQueue E V → List (Record E V) → List (LogFile E V)
 span q kept = q.full ++ record { number = q.last; records = q.synced ++ kept } ∷ []
 
--- all files of the queue, in an image that kept these of the unsynced records
+-- all files of the queue, if an image kept the records `kept` of the pending ones
 abbrev pub all_files : {E V : Type 0} → FileQueue E V → List (Record E V) → List (LogFile E V)
 all_files q kept = q.behind ++ (q.gone ++ span q kept)
 
--- the files have the numbers n, n + 1, ..
+-- the files have the consecutive numbers `n`, `n + 1` and so on
 abbrev pub NumberedFrom : {E V : Type 0} → ℕ → List (LogFile E V) → Type 0
 NumberedFrom n [] = Unit {0}
 NumberedFrom n (f ∷ fs) = (f.number ≡ n) × NumberedFrom (n + 1) fs
 
--- the files are below n, with a gap before n
+-- each of these files has a number below `n - 1`, so there is a gap between it and `n`
 abbrev pub AllBehind : {E V : Type 0} → ℕ → List (LogFile E V) → Type 0
 AllBehind n [] = Unit {0}
 AllBehind n (f ∷ fs) = (f.number + 1 < n) × AllBehind n fs
 
--- the files that are not before a gap are numbered from n on
+-- the files after the last gap have consecutive numbers from `n` on, and all others are before a gap
 abbrev pub IsNumbered : {E V : Type 0} → ℕ → FileQueue E V → Type 0
 IsNumbered n q = NumberedFrom n (q.gone ++ span q []) × AllBehind n q.behind
 
--- the first file of the live range
+-- the number of the first file of the live range
 abbrev pub first_file : {E V : Type 0} → ℕ → FileQueue E V → ℕ
 first_file n q = n + length q.gone
 
--- A recovery may read these of the files that are there: a suffix of them, numbered without a gap from s on. s is at
--- most `first`, the first file of the live range.
+-- A recovery may read the files `files` of those that are there, from file `s` on. They are a suffix with consecutive
+-- numbers, and begin no later than `first`, the first file of the live range.
 pub record IsReadOf {E V : Type 0} (first : ℕ) (there : List (LogFile E V)) (s : ℕ)
     (files : List (LogFile E V)) : Type 0 where
   pub low : s ≤ first
@@ -63,21 +63,21 @@ pub record IsReadOf {E V : Type 0} (first : ℕ) (there : List (LogFile E V)) (s
   pub numbered : NumberedFrom s files
   pub some : 0 < length files
 
--- a recovery may read these files of an image that kept these of the unsynced records
+-- a recovery may read these files from file `s` on, if an image kept the records `kept` of the pending ones
 abbrev pub IsRead : {E V : Type 0} → ℕ → FileQueue E V → List (Record E V) → ℕ → List (LogFile E V) → Type 0
 IsRead n q kept s files = IsReadOf (first_file n q) (all_files q kept) s files
 
--- the queue's records
+-- the records of these files, as a queue of the machine
 abbrev pub queue_of : {E V : Type 0} → FileQueue E V → Queue E V
 queue_of q = record { gone = records_of q.gone; live = records_of q.full ++ q.synced; pending = q.pending }
 
--- the records of both queues
+-- the records of Rewrite's files `r` and Append's files `a`
 abbrev pub store_of : {E V : Type 0} → FileQueue E V → FileQueue E V → Store E V
 store_of r a = record { rewrite = queue_of r; append = queue_of a }
 
--- A crash loses only pending batches, in terms of the numbered files. Whatever prefixes of the unsynced records an
--- image has, there is ONE number of batches for it. From every pair of starts of a recovery, the directory means the
--- map after that many batches.
+-- A crash loses at most a suffix of the pending `batches`. For whatever prefixes of pending records it leaves, there
+-- is one number of batches. A recovery then gets map `m` after that many batches, from every file at which it may
+-- start.
 abbrev pub SurvivesInFiles : {E V : Type 0} → ℕ → FileQueue E V → ℕ → FileQueue E V → Map E V
     → List (Record E V) → Type 0
 SurvivesInFiles {E} {V} n r k a m batches =
@@ -90,21 +90,21 @@ SurvivesInFiles {E} {V} n r k a m batches =
 
 -- what may happen to the files of a queue
 pub data FileEvent (E V : Type 0) : Type 0 where
-  -- the active file takes these records
+  -- these records are appended to the active file
   Grow : List (Record E V) → FileEvent E V
   -- the active file is synced
   Sync : FileEvent E V
   -- the active file is synced, and a new one with the next number becomes active
   Rotate : FileEvent E V
-  -- the live range begins later: the first files leave it, the others stay
+  -- the files `out` leave the live range at its beginning, and the files `stay` stay
   Raise : (out stay : List (LogFile E V)) → FileEvent E V
-  -- a file below the live range is deleted or renamed, perhaps one in the middle; the files before it are before a gap
-  -- from now on
+  -- a file below the live range is deleted or renamed; the files before it are before a gap then
   Lose : (before : List (LogFile E V)) (file : LogFile E V) (rest : List (LogFile E V)) → FileEvent E V
-  -- an image that kept these of the unsynced records is read: some of the gone files, and the live range
+  -- an open reads an image that kept these of the pending records: the files `again` below the live range, and the
+  -- live range
   Read : (below again : List (LogFile E V)) (kept : List (Record E V)) → FileEvent E V
 
--- what each event requires, and the files p after it
+-- the event may happen to files `q`, and changes them into `p`
 abbrev pub FileStep : {E V : Type 0} → FileEvent E V → FileQueue E V → FileQueue E V → Type 0
 FileStep (Grow ys) q p = p ≡ record q { pending = q.pending ++ ys }
 FileStep Sync q p = p ≡ record q { synced = q.synced ++ q.pending; pending = [] }
@@ -122,11 +122,11 @@ FileStep (Read below again kept) q p =
     (below ++ again ≡ q.gone)
     × (p ≡ record q { gone = below; full = again ++ q.full; synced = q.synced ++ kept; pending = [] })
 
--- the number from which the files that are not before a gap continue, after the event
+-- the number at which the files after the last gap start, after this event
 abbrev pub numbered_from : {E V : Type 0} → ℕ → FileEvent E V → ℕ
 numbered_from n (Lose before file rest) = n + (length before + 1)
 numbered_from n _ = n
 
--- a queue without records, with its file 1
+-- the files of a new queue: an empty file of number 1
 abbrev pub fresh_files : {E V : Type 0} → FileQueue E V
 fresh_files = record { behind = []; gone = []; full = []; last = 1; synced = []; pending = [] }

@@ -1,4 +1,5 @@
--- What every image has: the entries of each group are one run. Also what a recovery reads of an image.
+-- In each image that a crash may leave, the entries of each raft group are one run. Also what a recovery reads of an
+-- image.
 use Rattle.std.specs.Prelude.{◌≡◌, ℕ, ◌<◌, ◌≤◌, List, ◌++◌, Option, Some, None}
 use Rattle.raft_log_model_laws.specs.Item.{Record}
 use Rattle.raft_log_model_laws.specs.Meaning.{Slot, Content}
@@ -9,7 +10,8 @@ use Rattle.raft_log_machine_laws.specs.Queue.{Store, reread}
 use Rattle.raft_log_machine_laws.specs.Machine.{Machine, Event}
 use Rattle.raft_log_machine_laws.specs.Machine.Event.{Reopen}
 
--- exactly the indexes from the first on and below the end have entries; no index is 2^64 - 1
+-- the entries of the raft group are one run: each index from some first one to below some end has an entry, and no
+-- other; all are below 2^64 - 1
 pub record IsOneRun {E V : Type 0} (m : Slot → Option (Content E V)) : Type 0 where
   pub first : ℕ
   pub end : ℕ
@@ -18,13 +20,13 @@ pub record IsOneRun {E V : Type 0} (m : Slot → Option (Content E V)) : Type 0 
   pub above : (i : ℕ) → end ≤ i → m (Index i) ≡ None
   pub solid : (i : ℕ) → first ≤ i → i < end → (entry : Content E V) × (m (Index i) ≡ Some entry)
 
--- after each prefix of the pending batches, the entries of each group are one run; so they are in every image
+-- the entries of each raft group are one run after every prefix of the pending batches
 pub record HasRuns {E V : Type 0} (w : Machine E V) : Type 0 where
   pub runs : (g : ℕ) (kept lost : List (Record E V)) → kept ++ lost ≡ w.store.append.pending
       → IsOneRun (taken w.map kept g)
 
--- a crash and a recovery: an image kept these prefixes of the unsynced records of both queues, and these suffixes of
--- the gone records are read
+-- A crash and a recovery. The image kept `r_kept` and `a_kept`, prefixes of the pending records of Rewrite and Append.
+-- Of the records below the live ranges, the recovery reads the suffixes `r_back` and `a_back`.
 pub record Recovery {E V : Type 0} (q : Store E V) : Type 0 where
   pub r_kept : List (Record E V)
   pub r_lost : List (Record E V)
@@ -39,19 +41,19 @@ pub record Recovery {E V : Type 0} (q : Store E V) : Type 0 where
   pub a_image : a_kept ++ a_lost ≡ q.append.pending
   pub a_start : a_cut ++ a_back ≡ q.append.gone
 
--- the records of Rewrite that it reads
+-- the records of Rewrite that the recovery reads
 abbrev pub rewrite_read : {E V : Type 0} → (q : Store E V) → Recovery q → List (Record E V)
 rewrite_read q r = r.r_back ++ (q.rewrite.live ++ r.r_kept)
 
--- the records of Append that it reads
+-- the records of Append that the recovery reads
 abbrev pub append_read : {E V : Type 0} → (q : Store E V) → Recovery q → List (Record E V)
 append_read q r = r.a_back ++ (q.append.live ++ r.a_kept)
 
--- the event of that crash and that recovery
+-- the event of this crash and this recovery
 abbrev pub reopening : {E V : Type 0} → (q : Store E V) → Recovery q → Event E V
 reopening q r = Reopen r.r_kept r.r_lost r.r_cut r.r_back r.a_kept r.a_lost r.a_cut r.a_back
 
--- the directory after what was read is synced
+-- the directory after the recovery synced what it read
 abbrev pub reopened : {E V : Type 0} → (q : Store E V) → Recovery q → Store E V
 reopened q r = record {
   rewrite = reread q.rewrite r.r_cut r.r_back r.r_kept;

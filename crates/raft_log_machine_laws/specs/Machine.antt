@@ -1,4 +1,5 @@
--- The engine as a machine: its directory, the whereabouts of each group, and the events that may happen to them.
+-- The engine as a state machine: the records of both queues, the whereabouts of each raft group, and the events that
+-- may happen.
 use Rattle.std.specs.Prelude.{◌≡◌, ℕ, ◌+◌, ◌≤◌, Bool, true, false, List, [], ◌∷◌, ◌++◌, length}
 use Rattle.raft_log_model_laws.specs.Item.{Item, Tagged, Record, items_of}
 use Rattle.raft_log_model_laws.specs.Item.Item.{Run}
@@ -14,69 +15,71 @@ use Rattle.raft_log_machine_laws.specs.Whereabouts.{Whereabouts, top, GrowsBy, C
 use Rattle.raft_log_machine_laws.specs.Truth.{SaysOfSlot, AreCorrect}
 use Rattle.raft_log_machine_laws.specs.Recovery.{IsRecovered}
 
--- the run ends at or below `top`
+-- if the item is a run, the index after its last entry is at most 2^64 - 1
 abbrev pub Fits : {E V : Type 0} → Item E V → Type 0
 Fits (Run f es) = f + length es ≤ top
 Fits _ = Unit {0}
 
--- each run of these items ends at or below `top`
+-- for each run of these items, the index after its last entry is at most 2^64 - 1
 abbrev pub AllFit : {E V : Type 0} → List (Tagged E V) → Type 0
 AllFit [] = Unit {0}
 AllFit (x ∷ xs) = Fits x.item × AllFit xs
 
--- each run of the items of these records ends at or below `top`
+-- for each run of these records, the index after its last entry is at most 2^64 - 1
 abbrev pub RecordsFit : {E V : Type 0} → List (Record E V) → Type 0
 RecordsFit [] = Unit {0}
 RecordsFit (r ∷ rs) = AllFit (items_of r) × RecordsFit rs
 
--- an engine on its directory
+-- an engine and the records of its directory
 pub record Machine (E V : Type 0) : Type 0 where
   pub store : Store E V
-  -- the map that the synced records of Append mean
+  -- the map of Append's synced batches
   pub map : Map E V
-  -- the groups' whereabouts, for all records, synced or not
+  -- where each entry and value of a raft group is stored, also of pending batches
   pub whereabouts : ℕ → Whereabouts
-  -- after a failure the whereabouts mean nothing, until the directory is opened again
+  -- the engine has failed: the whereabouts may be wrong until the directory is opened again
   pub failed : Bool
 
 -- what may happen to an engine and its directory
 pub data Event (E V : Type 0) : Type 0 where
-  -- Append takes a record
+  -- a batch is appended to Append
   Take : Record E V → Event E V
-  -- a queue is synced whole: by a sync, by a rotation, or after a failed write was truncated and that was synced
+  -- all pending records of a queue are synced: by a sync, by a rotation, or after a failed write was truncated and
+  -- synced
   SyncAppend : Event E V
   SyncRewrite : Event E V
-  -- Rewrite takes a record: tombstones, copies of Append's entries and keys, or rewritten ones again
+  -- a plain record is appended to Rewrite: tombstones, copies of Append's entries and keys, or copies of what Rewrite
+  -- has
   WritePlain : List (Tagged E V) → Event E V
-  -- Rewrite takes a part of the atomic group of this number
+  -- a part of the atomic group of this number is appended to Rewrite
   WriteBegin : ℕ → List (Tagged E V) → Event E V
   WriteMiddle : ℕ → List (Tagged E V) → Event E V
   WriteEnd : ℕ → List (Tagged E V) → Event E V
-  -- a queue's live range begins later: the first list of records leaves it, the second stays
+  -- the records `out` leave a queue's live range at its beginning, and the records `stay` stay
   RaiseAppend : (out stay : List (Record E V)) → Event E V
   RaiseRewrite : (out stay : List (Record E V)) → Event E V
-  -- the oldest gone records are lost, and the second list remains
+  -- of a queue's records below the live range, the oldest, `lost`, are lost, and `rest` remain
   LoseAppend : (lost rest : List (Record E V)) → Event E V
   LoseRewrite : (lost rest : List (Record E V)) → Event E V
   -- the engine fails
   Fail : Event E V
-  -- A crash or a close, and an open. A prefix of each queue's unsynced records is kept. A suffix of the gone records is
-  -- read.
+  -- A crash or a close, and then an open. Of the pending records, the prefixes `r_kept` of Rewrite and `a_kept` of
+  -- Append are kept. Of the records below the live ranges, the suffixes `r_back` and `a_back` are read.
   Reopen : (r_kept r_lost r_cut r_back a_kept a_lost a_cut a_back : List (Record E V)) → Event E V
 
--- the records of an atomic group that has not ended are the last ones of Rewrite's live range
+-- the live range of Rewrite ends with the records of atomic group `n`, which has no end yet
 abbrev pub GoesOnWith : {E V : Type 0} → Queue E V → ℕ → List (Tagged E V) → List (List (Tagged E V)) → Type 0
 GoesOnWith {E} {V} q n first more =
     (front : List (Record E V)) × (q.live ++ q.pending ≡ front ++ begun n first more)
 
--- The items of an atomic group may be replaced by these: they say the same of each slot, and leave no hole unless these
--- do. Several runs, each at the end of the one before, may thus be taken as one.
+-- The items `items` may replace `parts`. They do the same to each slot, and `parts` leave no hole if `items` leave
+-- none. So several runs, each at the end of the one before, may count as one.
 pub record IsJoined {E V : Type 0} (parts items : List (Item E V)) : Type 0 where
   pub same_words : (s : Slot) → says s parts ≡ says s items
   pub no_more_holes : (w : Window) → NoHole w items → NoHole w parts
 
--- What each event requires, and the machine v after it, from w. Requirements on groups are requirements on their
--- whereabouts.
+-- this event may happen to machine `w`, and changes it into `v`; conditions on raft groups are conditions on their
+-- whereabouts
 abbrev pub Step : {E V : Type 0} → Event E V → Machine E V → Machine E V → Type 0
 Step (Take y) w v =
     (w.failed ≡ false)
@@ -147,12 +150,12 @@ Step (Reopen r_kept r_lost r_cut r_back a_kept a_lost a_cut a_back) w v =
       failed = false;
     }))
 
--- a whole schedule
+-- these events, one after another, change machine `w` into `v`
 abbrev pub Steps : {E V : Type 0} → Machine E V → List (Event E V) → Machine E V → Type 0
 Steps w [] v = v ≡ w
 Steps {E} {V} w (e ∷ es) v = (next : Machine E V) × Step e w next × Steps next es v
 
--- what the directory says of a group's slots
+-- what the records of these queues do to each slot of raft group `g`
 abbrev pub said_of : {E V : Type 0} → ℕ → Store E V → SaysOfSlot E V
 said_of g q = record {
   lowest = λ s. says s (rewritten g (all_records q.rewrite));
@@ -160,7 +163,8 @@ said_of g q = record {
   append = λ s. says s (appended g (q.append.live ++ q.append.pending));
 }
 
--- the invariant of the machine
+-- The invariant of the machine. The directory holds its map. No other record comes between those of an atomic group of
+-- Rewrite. Unless it has failed, its whereabouts agree with its records.
 pub record IsKept {E V : Type 0} (w : Machine E V) : Type 0 where
   pub holds : HoldsMap w.store w.map
   pub unbroken : IsUnbroken (all_records w.store.rewrite)

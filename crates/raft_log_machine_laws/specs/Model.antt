@@ -1,4 +1,5 @@
--- The model of a whole directory: the numbered files of both queues, what they mean, and where each thing is stored.
+-- The model of a directory: the numbered files of both queues, the map that they hold, and where each entry and value
+-- is stored.
 use Rattle.std.specs.Prelude.{ℕ, Bool, false}
 use Rattle.raft_log_model_laws.specs.Groups.{Map}
 use Rattle.raft_log_machine_laws.specs.Whereabouts.{Whereabouts}
@@ -8,25 +9,27 @@ use Rattle.raft_log_machine_laws.specs.Replay.{IsReplayable}
 use Rattle.raft_log_machine_laws.specs.Images.{HasRuns}
 use Rattle.raft_log_machine_laws.specs.Fresh.{nothing_stands, nowhere}
 
--- the numbered files of both queues: those after the last gap are numbered from these on
+-- the files of both queues; the numbers of Rewrite's after the last gap start at `rewrite_from`, of Append's at
+-- `append_from`
 pub record Files (E V : Type 0) : Type 0 where
   pub rewrite : FileQueue E V
   pub rewrite_from : ℕ
   pub append : FileQueue E V
   pub append_from : ℕ
 
--- the files, the map that is synced in them, and where each thing of it and of the pending batches is stored
+-- The files, the map of their synced batches, and in which queue each entry and value is stored, also of pending
+-- batches.
 pub record Model (E V : Type 0) : Type 0 where
   pub files : Files E V
   pub map : Map E V
   pub whereabouts : ℕ → Whereabouts
   pub failed : Bool
 
--- the model of files that an engine has open
+-- the model of an engine that is open on files `f` and hasn't failed
 abbrev pub running : {E V : Type 0} → Files E V → Map E V → (ℕ → Whereabouts) → Model E V
 running f m whereabouts = record { files = f; map = m; whereabouts = whereabouts; failed = false }
 
--- the machine of a model: its queues are those of the files
+-- the machine of this model, whose queues have the records of the files
 abbrev pub machine_of : {E V : Type 0} → Model E V → Machine E V
 machine_of d = record {
   store = store_of d.files.rewrite d.files.append;
@@ -35,7 +38,7 @@ machine_of d = record {
   failed = d.failed;
 }
 
--- all premises of the machine's laws, and each queue's files are numbered without a gap
+-- all invariants of the machine are true, and each queue's files are numbered without a gap from its number on
 pub record IsModelSound {E V : Type 0} (d : Model E V) : Type 0 where
   pub kept : IsKept (machine_of d)
   pub replay : IsReplayable (machine_of d)
@@ -43,18 +46,18 @@ pub record IsModelSound {E V : Type 0} (d : Model E V) : Type 0 where
   pub rewrite_numbers : IsNumbered d.files.rewrite_from d.files.rewrite
   pub append_numbers : IsNumbered d.files.append_from d.files.append
 
--- the files with other ones of Append, which are numbered from this number on
+-- files `f`, with `q` as Append's files, whose numbers after the last gap start at `from`
 abbrev pub with_append : {E V : Type 0} → Files E V → ℕ → FileQueue E V → Files E V
 with_append f from q = record f { append = q; append_from = from }
 
--- the files with other ones of Rewrite, which are numbered from this number on
+-- files `f`, with `q` as Rewrite's files, whose numbers after the last gap start at `from`
 abbrev pub with_rewrite : {E V : Type 0} → Files E V → ℕ → FileQueue E V → Files E V
 with_rewrite f from q = record f { rewrite = q; rewrite_from = from }
 
--- a directory in which nothing was ever written: two queues whose file 1 is empty
+-- the files of a directory in which nothing was ever written: each queue has an empty file of number 1
 abbrev pub no_files : {E V : Type 0} → Files E V
 no_files = record { rewrite = fresh_files; rewrite_from = 1; append = fresh_files; append_from = 1 }
 
--- the model of a directory in which nothing was ever written: the map is empty
+-- the model of a directory in which nothing was ever written
 abbrev pub fresh_model : {E V : Type 0} → Model E V
 fresh_model = record { files = no_files; map = nothing_stands; whereabouts = λ g. nowhere; failed = false }

@@ -1,10 +1,11 @@
--- What may happen to a queue's files while nothing is written: syncs, rotations, and losses of files.
+-- What may happen to a queue's files while nothing is written: a sync, a rotation, or the loss of a file below the
+-- live range.
 use Rattle.std.specs.Prelude.{◌≡◌, ℕ, ◌+◌, List, [], ◌∷◌, ◌++◌}
 use Rattle.raft_log_model_laws.specs.Item.{Record}
 use Rattle.raft_log_machine_laws.specs.Files.{LogFile, FileQueue, FileEvent, FileStep, numbered_from}
 use Rattle.raft_log_machine_laws.specs.Files.FileEvent.{Grow, Sync, Rotate, Raise, Lose, Read}
 
--- a quiet event: it appends no record, and the live range begins where it began
+-- the event is quiet: it is a sync, a rotation, or the loss of a file below the live range
 abbrev pub IsQuiet : {E V : Type 0} → FileEvent E V → Type 0
 IsQuiet (Grow ys) = ⊥
 IsQuiet Sync = Unit {0}
@@ -13,28 +14,29 @@ IsQuiet (Raise out stay) = ⊥
 IsQuiet (Lose before file rest) = Unit {0}
 IsQuiet (Read below again kept) = ⊥
 
--- these quiet events turn the files q, numbered from n on, into p, numbered from k on
+-- these quiet events change files `q` into files `p`; the numbers after the last gap start at `n` before and at `k`
+-- after
 abbrev pub Moves : {E V : Type 0} → ℕ → FileQueue E V → List (FileEvent E V) → ℕ → FileQueue E V → Type 0
 Moves n q [] k p = (k ≡ n) × (p ≡ q)
 Moves {E} {V} n q (e ∷ es) k p =
     (next : FileQueue E V) × IsQuiet e × FileStep e q next × Moves (numbered_from n e) next es k p
 
--- the files of a queue after some quiet events
+-- files `queue` come from files `q` by some quiet events; their numbers after the last gap start at `from`
 pub record Moved {E V : Type 0} (n : ℕ) (q : FileQueue E V) : Type 0 where
   pub events : List (FileEvent E V)
   pub from : ℕ
   pub queue : FileQueue E V
   pub moves : Moves n q events from queue
 
--- the record is appended to the active file
+-- the files after record `y` was appended to the active file
 abbrev pub grown : {E V : Type 0} → FileQueue E V → Record E V → FileQueue E V
 grown q y = record q { pending = q.pending ++ y ∷ [] }
 
--- the active file is synced
+-- the files after the active file was synced
 abbrev pub settled_files : {E V : Type 0} → FileQueue E V → FileQueue E V
 settled_files q = record q { synced = q.synced ++ q.pending; pending = [] }
 
--- the active file is synced, and an empty file of the next number follows
+-- the files after the active file was synced and an empty one with the next number became active
 abbrev pub rotated : {E V : Type 0} → FileQueue E V → FileQueue E V
 rotated q = record q {
   full = q.full ++ record { number = q.last; records = q.synced ++ q.pending } ∷ [];
@@ -43,7 +45,7 @@ rotated q = record q {
   pending = [];
 }
 
--- the live range begins later: its first files leave it, the others stay
+-- the files after the files `out` left the live range at its beginning and the files `stay` stayed
 abbrev pub raised_files : {E V : Type 0} → FileQueue E V → List (LogFile E V) → List (LogFile E V)
     → FileQueue E V
 raised_files q out stay = record q { gone = q.gone ++ out; full = stay }

@@ -1,4 +1,4 @@
--- What a purge does, and what it leaves.
+-- What a purge may do, and what may be read of the files after it.
 use Rattle.std.specs.Prelude.{◌≡◌, List, [], ◌∷◌, ◌++◌}
 use Rattle.raft_log_model_laws.specs.Item.{Record}
 use Rattle.raft_log_model_laws.specs.Groups.{Map, directory_meaning}
@@ -6,18 +6,18 @@ use Rattle.raft_log_machine_laws.specs.Queue.{Store}
 use Rattle.raft_log_machine_laws.specs.Machine.{Event}
 use Rattle.raft_log_machine_laws.specs.Machine.Event.{Take, Reopen}
 
--- the event is the engine's own: all are, except a record that Append takes and an open
+-- the engine does this on its own: the event is neither a batch that Append takes nor an open
 abbrev pub IsOwn : {E V : Type 0} → Event E V → Type 0
 IsOwn (Take y) = ⊥
 IsOwn (Reopen r_kept r_lost r_cut r_back a_kept a_lost a_cut a_back) = ⊥
 IsOwn _ = Unit {0}
 
--- all events are the engine's own, as those of a purge are, whether it succeeds or fails
+-- all these events are the engine's own, as those of a purge are
 abbrev pub AllOwn : {E V : Type 0} → List (Event E V) → Type 0
 AllOwn [] = Unit {0}
 AllOwn (e ∷ es) = IsOwn e × AllOwn es
 
--- a reading of the files, unchanged, from some start of each queue
+-- a reading of all records of the files, pending ones too, from some start in each queue
 pub record Reading {E V : Type 0} (q : Store E V) : Type 0 where
   pub r_cut : List (Record E V)
   pub r_back : List (Record E V)
@@ -26,7 +26,7 @@ pub record Reading {E V : Type 0} (q : Store E V) : Type 0 where
   pub r_start : r_cut ++ r_back ≡ q.rewrite.gone
   pub a_start : a_cut ++ a_back ≡ q.append.gone
 
--- the meaning of such a reading
+-- the map that this reading gets
 abbrev pub meaning_there : {E V : Type 0} → (q : Store E V) → Reading q → Map E V
 meaning_there q r =
     directory_meaning (r.r_back ++ (q.rewrite.live ++ q.rewrite.pending))

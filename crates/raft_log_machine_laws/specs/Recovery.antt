@@ -1,4 +1,4 @@
--- What an open knows about the whereabouts of a group, which it made from the files that it read.
+-- The whereabouts of a raft group that an open makes from the files that it read.
 use Rattle.std.specs.Prelude.{◌≡◌, ℕ, ◌+◌, ◌<◌, ◌≤◌, ◌⊎◌, nat_lt, Bool, true, false, ◌||◌, if◌then◌else◌, bytes_eq, List, [], ◌∷◌, length, Option, Some, None, is_some}
 use Rattle.raft_log_model_laws.specs.Item.{Item}
 use Rattle.raft_log_model_laws.specs.Item.Item.{Compact, Del}
@@ -9,28 +9,29 @@ use Rattle.raft_log_model_laws.specs.Table.{Table}
 use Rattle.raft_log_model_laws.specs.Summary.{Summary, directory_table}
 use Rattle.raft_log_machine_laws.specs.Whereabouts.{Whereabouts, top}
 
--- the items have a Compact
+-- one of the items is a Compact
 abbrev pub has_compact : {E V : Type 0} → List (Item E V) → Bool
 has_compact [] = false
 has_compact (Compact c ∷ xs) = true
 has_compact (x ∷ xs) = has_compact xs
 
--- the items have a Del of the key
+-- one of the items is a Del of key `k`
 abbrev pub has_del : {E V : Type 0} → List ℕ → List (Item E V) → Bool
 has_del k [] = false
 has_del k (Del l ∷ xs) = bytes_eq l k || has_del k xs
 has_del k (x ∷ xs) = has_del k xs
 
--- The tombstones that count as owed after this was read of Append: a Clean if there is one, otherwise each Compact and
--- each Del, and only a Del that is there. An additional Compact does no harm.
+-- Which tombstones are owed after an open read these items of Append. A Clean is owed exactly if there is one.
+-- Otherwise a Compact and each Del are owed if there is one. A Del isn't owed unless there is one; a Compact may be,
+-- which does no harm.
 pub record HasMarks {E V : Type 0} (append : List (Item E V)) (t : Whereabouts) : Type 0 where
   pub cleaned : t.cleaned ≡ has_clean append
   pub compacted : has_clean append ≡ false → has_compact append ≡ true → t.compacted ≡ true
   pub deleted : (k : List ℕ) → has_clean append ≡ false → has_del k append ≡ true → t.deleted k ≡ true
   pub was_deleted : (k : List ℕ) → t.deleted k ≡ true → has_del k append ≡ true
 
--- The whereabouts are right for a group. m is its map, and `append` what was read of it from Append's files. The
--- whereabouts have each thing where it is, and the tombstones from those files count as owed.
+-- Whereabouts `t` are right for a raft group with content `m`, if `append` was read of it from Append. They place in
+-- Append what Append's items have, and all else in Rewrite. The tombstones for Append's deletions are owed.
 pub record IsRecovered {E V : Type 0} (m : Slot → Option (Content E V)) (append : List (Item E V))
     (t : Whereabouts) : Type 0 where
   pub in_order : (t.first ≤ t.split) × (t.split ≤ t.end) × (t.end ≤ top)
@@ -45,8 +46,8 @@ pub record IsRecovered {E V : Type 0} (m : Slot → Option (Content E V)) (appen
   pub key_older : (k : List ℕ) → t.appended k ≡ false → (m (Key k) ≡ None) ⊎ (says (Key k) append ≡ None)
   pub marks : HasMarks append t
 
--- The whereabouts of the directory's table, which is made from a table of Rewrite and a summary of Append. What is in
--- the summary's table is in Append, all else in Rewrite.
+-- Whereabouts `t` are made from Rewrite's table and the summary of Append. What the summary's table has is in Append,
+-- and all else in Rewrite.
 pub record IsReadOff {E V : Type 0} (rewrite : Table E V) (append : Summary E V) (t : Whereabouts)
     : Type 0 where
   pub first : t.first ≡ (directory_table rewrite append).first
@@ -54,8 +55,8 @@ pub record IsReadOff {E V : Type 0} (rewrite : Table E V) (append : Summary E V)
   pub split : t.split ≡ (if nat_lt 0 (length append.table.entries) then append.table.first else t.end)
   pub appended : (k : List ℕ) → t.appended k ≡ is_some (append.table.values k)
 
--- Both place entries and keys alike. They differ only in the index of a group without entries, and in tombstones that
--- may count or not.
+-- Whereabouts `t` and `u` place entries and keys in the same queues. If there are no entries, their index may differ.
+-- An owed Compact or Del may differ too.
 pub record StandAlike (t u : Whereabouts) : Type 0 where
   pub entries : t.first < t.end → (u.first ≡ t.first) × (u.split ≡ t.split) × (u.end ≡ t.end)
   pub no_entries : t.first ≡ t.end → u.first ≡ u.end

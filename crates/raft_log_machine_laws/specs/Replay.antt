@@ -1,5 +1,5 @@
--- What a reading of the files requires in addition to their meaning: no run leaves a hole, and atomic groups are whole
--- or cut at an end of the list.
+-- What a recovery needs in order to read the files: no run leaves a hole, and no other record comes between those of
+-- an atomic group.
 use Rattle.std.specs.Prelude.{◌≡◌, ℕ, ◌≤◌, ◌⊎◌, false, List, ◌++◌}
 use Rattle.raft_log_model_laws.specs.Item.{Record}
 use Rattle.raft_log_model_laws.specs.Groups.{appended, rewritten}
@@ -9,7 +9,8 @@ use Rattle.raft_log_machine_laws.specs.Queue.{Store, all_records}
 use Rattle.raft_log_machine_laws.specs.Whereabouts.{Whereabouts}
 use Rattle.raft_log_machine_laws.specs.Machine.{Machine}
 
--- reading succeeds from every start of each queue, with every prefix of its unsynced records
+-- Reading both queues succeeds from every start, for every prefix of the pending records. No run leaves a hole, and no
+-- other record comes between those of an atomic group.
 pub record ReadsThrough {E V : Type 0} (q : Store E V) : Type 0 where
   pub append : (g : ℕ) (kept lost cut back : List (Record E V)) → kept ++ lost ≡ q.append.pending
       → cut ++ back ≡ q.append.gone
@@ -21,11 +22,12 @@ pub record ReadsThrough {E V : Type 0} (q : Store E V) : Type 0 where
       → cut ++ back ≡ q.rewrite.gone
       → IsUnbroken (back ++ (q.rewrite.live ++ kept))
 
--- the current run of Append alone is empty, or is the upper part of the group's entries
+-- current run `w` is empty, or it ends where the raft group's entries end and starts no lower than they do
 abbrev pub IsTopOf : Window → Whereabouts → Type 0
 IsTopOf w t = (w.end ≤ w.first) ⊎ ((w.end ≡ t.end) × (t.first ≤ w.first))
 
--- the invariant that ensures it
+-- The invariant that makes reading succeed. No run of Append's or of Rewrite's records leaves a hole. Unless the
+-- engine has failed, Append's current run is empty or the upper part of the group's entries.
 pub record IsReplayable {E V : Type 0} (w : Machine E V) : Type 0 where
   pub append_whole : (g : ℕ) → NoHole nothing (appended g (all_records w.store.append))
   pub rewrite_whole : (g : ℕ) → NoHole nothing (rewritten g (all_records w.store.rewrite))

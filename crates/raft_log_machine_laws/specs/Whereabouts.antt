@@ -1,5 +1,5 @@
--- The whereabouts of a group: in which queue its entries and values are, how writes change that, and which tombstones
--- are still owed to Rewrite.
+-- The whereabouts of a raft group: in which queue each of its entries and values is stored, and which tombstones are
+-- owed. A tombstone is owed if Append has a deletion that Rewrite hasn't got yet. Also how writes change whereabouts.
 use Rattle.std.specs.Prelude.{◌≡◌, ℕ, ◌+◌, ◌-◌, ◌^◌, ◌<◌, ◌≤◌, ◌⊎◌, min, max, Bool, true, false, if◌then◌else◌, bytes_eq, List, [], ◌∷◌, length, Option, Some, None, option_map, slice_get}
 use Rattle.raft_log_model_laws.specs.Item.{Item}
 use Rattle.raft_log_model_laws.specs.Item.Item.{Run, Clean, Compact, Put, Del}
@@ -7,13 +7,15 @@ use Rattle.raft_log_model_laws.specs.Meaning.{Slot, Content, says}
 use Rattle.raft_log_model_laws.specs.Meaning.Slot.{Index, Key}
 use Rattle.raft_log_model_laws.specs.Meaning.Content.{Entry, Value}
 
--- past every index: a Compact with it removes all entries
+-- above every index of an entry: a Compact with it removes all entries
 unfoldable pub top : ℕ
 top = 2 ^ 64 - 1
 
--- The entries from `first` and below `split` are in Rewrite, those from `split` and below `end` in Append. The keys
--- `appended` are in Append, the others in Rewrite. Since tombstones were last written, Append has a Clean of the group
--- (`cleaned`), a Compact (`compacted`), or a Del of these keys (`deleted`).
+-- In which queue the content of a raft group is stored:
+-- - the entries from index `first` to below `split` in Rewrite, and those from `split` to below `end` in Append;
+-- - the values of the keys `appended` in Append, and those of all other keys in Rewrite;
+-- - owed tombstones: since tombstones were last written, Append has a Clean (`cleaned`), a Compact (`compacted`), or a
+--   Del of these keys (`deleted`).
 pub record Whereabouts : Type 0 where
   pub first : ℕ
   pub split : ℕ
@@ -23,23 +25,24 @@ pub record Whereabouts : Type 0 where
   pub compacted : Bool
   pub deleted : List ℕ → Bool
 
--- the test with another result for one key
+-- the set of keys `test`, with `answer` for key `key`
 abbrev pub with_key : (List ℕ → Bool) → List ℕ → Bool → List ℕ → Bool
 with_key test key answer k = if bytes_eq key k then answer else test k
 
--- a run replaces all entries: it starts at or below the first entry, or there are no entries
+-- a run that starts at `f` replaces all entries: none is below `f`, or there are none
 abbrev pub Alone : Whereabouts → ℕ → Type 0
 Alone t f = (f ≤ t.first) ⊎ (t.first ≡ t.end)
 
--- a run continues the entries: it starts above the first of them, and at most at the index after the last
+-- a run that starts at `f` continues the entries: `f` is above the first of them, and at most at the index after the
+-- last
 abbrev pub GoesOn : Whereabouts → ℕ → Type 0
 GoesOn t f = (t.first < f) × (f ≤ t.end)
 
--- the first index after all entries below c are deleted
+-- the index of the first entry after a Compact with index `c`
 abbrev pub compacted_first : Whereabouts → ℕ → ℕ
 compacted_first t c = max t.first (min c t.end)
 
--- The whereabouts u after t, when Append takes the item. A Del may also count as a change of the group that requires a
+-- Append takes the item, and the whereabouts are `t` before and `u` after it. A Del may also make the engine owe a
 -- Compact, which does no harm.
 abbrev pub AppendTakes : {E V : Type 0} → Whereabouts → Item E V → Whereabouts → Type 0
 AppendTakes t (Run f []) u = u ≡ t
@@ -60,28 +63,27 @@ AppendTakes t (Del k) u =
       deleted = with_key t.deleted k true;
     })
 
--- the whereabouts after several items, taken in turn
+-- Append takes these items, one after another, and the whereabouts are `t` before and `u` after them
 abbrev pub GrowsBy : {E V : Type 0} → Whereabouts → List (Item E V) → Whereabouts → Type 0
 GrowsBy t [] u = u ≡ t
 GrowsBy t (x ∷ xs) u = (next : Whereabouts) × AppendTakes t x next × GrowsBy next xs u
 
--- the run's entries are those of the map
+-- the run of entries `es` at index `f` has the same entries as the map
 abbrev pub RunStands : {E V : Type 0} → (Slot → Option (Content E V)) → ℕ → List E → Type 0
 RunStands m f es = (i : ℕ) → f ≤ i → i < f + length es → option_map Entry (slice_get es (i - f)) ≡ m (Index i)
 
--- by these whereabouts nothing of the group is in Rewrite
+-- by these whereabouts, no entry or value of the raft group is stored in Rewrite
 abbrev pub NothingRewritten : {E V : Type 0} → (Slot → Option (Content E V)) → Whereabouts → Type 0
 NothingRewritten m t = (t.first ≡ t.split) × ((k : List ℕ) → t.appended k ≡ false → m (Key k) ≡ None)
 
--- Rewrite may take the item if the group's map is m and its whereabouts are t, and then they are u:
--- * A run of the map's entries. It starts at a rewritten index or the first appended one, and ends at the last
---   rewritten entry or past it. To end past it, neither Clean nor Compact may be owed.
--- * A Clean that is owed, or if nothing of the group is in Rewrite: the last one may have been lost.
--- * A Compact of the first index if there are rewritten entries, otherwise of `top`.
--- * A Put of a key's value. If the value is in Append, neither Clean nor Del may be owed.
--- * A Del that is owed, or if the key isn't in Rewrite.
---
--- An engine may thus keep its sets of tombstones until they are synced, and write a tombstone again if it isn't sure.
+-- Rewrite may take the item, and the whereabouts are `t` before and `u` after it. The raft group has the content `m`.
+-- - A run has the map's entries. It starts at an index stored in Rewrite or the first one in Append, and ends at the
+--   last one in Rewrite or past it. To end past it, neither Clean nor Compact may be owed.
+-- - A Clean is owed, or nothing of the group is stored in Rewrite.
+-- - A Compact has the first index if there are entries in Rewrite, otherwise `top`.
+-- - A Put has a key's value. If that value is stored in Append, neither Clean nor Del may be owed.
+-- - A Del is owed, or the key has no value in Rewrite.
+-- An engine may write a tombstone again, and may thus keep its sets of tombstones until they are synced.
 abbrev pub Carries : {E V : Type 0} → (Slot → Option (Content E V)) → Whereabouts → Item E V → Whereabouts
     → Type 0
 Carries m t (Run f []) u = u ≡ t
@@ -101,30 +103,30 @@ Carries m t (Del k) u =
     ((t.deleted k ≡ true) ⊎ (t.appended k ≡ false → m (Key k) ≡ None))
     × (u ≡ record t { deleted = with_key t.deleted k false })
 
--- Rewrite takes several items, one after another
+-- Rewrite may take these items, one after another, and the whereabouts are `t` before and `u` after them
 abbrev pub CarriesAll : {E V : Type 0} → (Slot → Option (Content E V)) → Whereabouts → List (Item E V)
     → Whereabouts → Type 0
 CarriesAll m t [] u = u ≡ t
 CarriesAll m t (x ∷ xs) u = (next : Whereabouts) × Carries m t x next × CarriesAll m next xs u
 
--- no tombstone is owed
+-- no tombstone of the raft group is owed
 abbrev pub OwesNothing : Whereabouts → Type 0
 OwesNothing t = (t.cleaned ≡ false) × (t.compacted ≡ false) × ((k : List ℕ) → t.deleted k ≡ false)
 
--- these items of Append have all that is in Append by these whereabouts
+-- these items of Append have each entry that these whereabouts place in Append, and touch each such key
 abbrev pub HasAppended : {E V : Type 0} → Whereabouts → List (Item E V) → Type 0
 HasAppended {E} {V} t kept =
     ((i : ℕ) → t.split ≤ i → i < t.end → (entry : Content E V) × (says (Index i) kept ≡ Some (Some entry)))
     × ((k : List ℕ) → t.appended k ≡ true → (value : Option (Content E V)) × (says (Key k) kept ≡ Some value))
 
--- these items of Rewrite have all that is in Rewrite by these whereabouts
+-- these items of Rewrite have each entry and value that these whereabouts place in Rewrite
 abbrev pub HasRewritten : {E V : Type 0} → (Slot → Option (Content E V)) → Whereabouts → List (Item E V)
     → Type 0
 HasRewritten m t kept =
     ((i : ℕ) → t.first ≤ i → i < t.split → says (Index i) kept ≡ Some (m (Index i)))
     × ((k : List ℕ) → t.appended k ≡ false → (m (Key k) ≡ None) ⊎ (says (Key k) kept ≡ Some (m (Key k))))
 
--- the whereabouts u are t, except that a group without entries may have another index
+-- whereabouts `u` are `t`; if the raft group has no entries, they may have another index for them
 abbrev pub IsRenumbered : Whereabouts → Whereabouts → Type 0
 IsRenumbered t u =
     (u ≡ t)

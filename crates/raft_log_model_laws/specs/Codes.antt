@@ -1,4 +1,4 @@
--- Codes of items and records, for ghost fields that keep lists of them.
+-- Encodings of items and records by simpler types. Ghost fields that keep lists of them need these.
 use Rattle.std.specs.Prelude.{◌≡◌, ◌⊎◌, ℕ, List, refl}
 use Rattle.std.specs.Coded.{Coded, code_by, coded×, coded⊎, coded_ℕ, coded_list}
 use base.Stored.{coded_unit}
@@ -9,7 +9,7 @@ use Rattle.raft_log_model_laws.specs.Item.Mark.{Begin, Middle, End}
 use Rattle.raft_log_model_laws.specs.Item.Record.{Plain, Part}
 
 module _ {E V : Type 0} where
-  -- an item as a sum of its kinds
+  -- the item as a value of a sum type, with one case for each kind of item
   abbrev pub item_parts : Item E V → (ℕ × List E) ⊎ (Unit {0} ⊎ (ℕ ⊎ ((List ℕ × V) ⊎ List ℕ)))
   item_parts (Run f es) = inl (f, es)
   item_parts Clean = inr (inl tt)
@@ -17,7 +17,7 @@ module _ {E V : Type 0} where
   item_parts (Put k v) = inr (inr (inr (inl (k, v))))
   item_parts (Del k) = inr (inr (inr (inr k)))
 
-  -- the item of such a sum
+  -- the item that such a value encodes
   abbrev pub item_from : (ℕ × List E) ⊎ (Unit {0} ⊎ (ℕ ⊎ ((List ℕ × V) ⊎ List ℕ))) → Item E V
   item_from (inl (f, es)) = Run f es
   item_from (inr (inl u)) = Clean
@@ -25,7 +25,7 @@ module _ {E V : Type 0} where
   item_from (inr (inr (inr (inl (k, v))))) = Put k v
   item_from (inr (inr (inr (inr k)))) = Del k
 
-  -- an item is put together again from its parts
+  -- taking an item apart and putting it together again returns the same item
   pub item_again : (x : Item E V) → item_from (item_parts x) ≡ x
   item_again (Run f es) = refl
   item_again Clean = refl
@@ -33,7 +33,7 @@ module _ {E V : Type 0} where
   item_again (Put k v) = refl
   item_again (Del k) = refl
 
--- the code of items, from codes of entries and of values
+-- the encoding of items, from those of entries and of values
 abbrev pub item_code : {E V : Type 0} → Coded E → Coded V → Coded (Item E V)
 item_code {E} {V} e v =
     code_by ((ℕ × List E) ⊎ (Unit {0} ⊎ (ℕ ⊎ ((List ℕ × V) ⊎ List ℕ))))
@@ -41,46 +41,46 @@ item_code {E} {V} e v =
     (coded⊎ coded_unit (coded⊎ coded_ℕ (coded⊎ (coded× (coded_list coded_ℕ) v) (coded_list coded_ℕ)))))
     item_parts item_from item_again
 
--- the code of tagged items: the group, then the item
+-- the encoding of items with their raft group: the group's number, then the item
 abbrev pub tagged_code : {E V : Type 0} → Coded E → Coded V → Coded (Tagged E V)
 tagged_code {E} {V} e v =
     code_by (ℕ × Item E V) (coded× coded_ℕ (item_code e v)) (λ x. (x.group, x.item))
     (λ p. record { group = p.0; item = p.1 }) (λ _. refl)
 
--- a mark as a sum of its kinds
+-- the mark as a value of a sum type, with one case for each kind of mark
 abbrev pub mark_parts : Mark → ℕ ⊎ (ℕ ⊎ ℕ)
 mark_parts (Begin n) = inl n
 mark_parts (Middle n) = inr (inl n)
 mark_parts (End n) = inr (inr n)
 
--- the mark of such a sum
+-- the mark that such a value encodes
 abbrev pub mark_from : ℕ ⊎ (ℕ ⊎ ℕ) → Mark
 mark_from (inl n) = Begin n
 mark_from (inr (inl n)) = Middle n
 mark_from (inr (inr n)) = End n
 
--- a mark is put together again from its parts
+-- taking a mark apart and putting it together again returns the same mark
 pub mark_again : (m : Mark) → mark_from (mark_parts m) ≡ m
 mark_again (Begin n) = refl
 mark_again (Middle n) = refl
 mark_again (End n) = refl
 
--- the code of marks
+-- the encoding of marks
 abbrev pub mark_code : Coded Mark
 mark_code = code_by (ℕ ⊎ (ℕ ⊎ ℕ)) (coded⊎ coded_ℕ (coded⊎ coded_ℕ coded_ℕ)) mark_parts mark_from mark_again
 
 module _ {E V : Type 0} where
-  -- a record as a sum of its two kinds
+  -- the record as a value of a sum type, with one case for each kind of record
   abbrev pub record_parts : Record E V → List (Tagged E V) ⊎ (Mark × List (Tagged E V))
   record_parts (Plain xs) = inl xs
   record_parts (Part m xs) = inr (m, xs)
 
-  -- the record of such a sum
+  -- the record that such a value encodes
   abbrev pub record_from : List (Tagged E V) ⊎ (Mark × List (Tagged E V)) → Record E V
   record_from (inl xs) = Plain xs
   record_from (inr (m, xs)) = Part m xs
 
-  -- a record is put together again from its parts
+  -- taking a record apart and putting it together again returns the same record
   pub record_again : (r : Record E V) → record_from (record_parts r) ≡ r
   record_again (Plain xs) = refl
   record_again (Part m xs) = refl

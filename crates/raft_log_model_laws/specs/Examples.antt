@@ -1,5 +1,4 @@
--- Short logs for the worked examples and for the rules that are wrong. A number identifies an entry, and so it does a
--- value.
+-- Short logs for worked examples, and for examples of wrong rules. Each entry and each value is a number.
 use Rattle.std.specs.Prelude.{ℕ, zero, suc, List, [], ◌∷◌, ◌++◌, Option, map, Some, None}
 use Rattle.raft_log_model_laws.specs.Item.{Item, Tagged, Record}
 use Rattle.raft_log_model_laws.specs.Item.Item.{Run, Compact, Put}
@@ -12,167 +11,167 @@ use Rattle.raft_log_model_laws.specs.Meaning.Content.{Entry}
 use Rattle.raft_log_model_laws.specs.Table.{Table, content}
 use Rattle.raft_log_model_laws.specs.Holes.{Window, nothing, window, holds_past, directory_by_intervals}
 
--- n numbers, one after another
+-- the `n` consecutive numbers from `first` on
 abbrev pub upward : ℕ → ℕ → List ℕ
 upward first zero = []
 upward first (suc n) = first ∷ upward (suc first) n
 
--- the contents of n consecutive indexes of a directory
+-- what is at `n` consecutive indexes of a directory, from `first` on
 abbrev pub shown : ℕ → ℕ → List (Item ℕ ℕ) → List (Item ℕ ℕ) → List (Option (Content ℕ ℕ))
 shown first n rewrite append = map (λ i. directory (Index i) rewrite append) (upward first n)
 
--- the key of a voter's state
+-- the key `voter`, whose value would be a voter's state
 abbrev pub voter : List ℕ
 voter = 118 ∷ 111 ∷ 116 ∷ 101 ∷ 114 ∷ []
 
--- the value of the key in a directory
+-- the value of the key `voter` in a directory
 abbrev pub voter_in : List (Item ℕ ℕ) → List (Item ℕ ℕ) → Option (Content ℕ ℕ)
 voter_in rewrite append = directory (Key voter) rewrite append
 
--- the value of the key if Rewrite's items were taken after Append's
+-- the value of the key `voter`, if Rewrite's items counted after Append's; this is a wrong rule
 abbrev pub voter_if_rewrite_last : List (Item ℕ ℕ) → List (Item ℕ ℕ) → Option (Content ℕ ℕ)
 voter_if_rewrite_last rewrite append = holds (Key voter) (append ++ rewrite)
 
--- the entry of raft group 1 at an index, from the records of Rewrite, if Append is empty
+-- the entry of raft group 1 at index `i`, if Rewrite has these records and Append is empty
 abbrev pub entry_in : ℕ → List (Record ℕ ℕ) → Option (Content ℕ ℕ)
 entry_in i rewrite = directory_meaning rewrite [] 1 (Index i)
 
--- the value of the key there
+-- the value of the key `voter` of raft group 1, if Rewrite has these records and Append is empty
 abbrev pub value_in : List (Record ℕ ℕ) → Option (Content ℕ ℕ)
 value_in rewrite = directory_meaning rewrite [] 1 (Key voter)
 
--- the current run of a list
+-- the current run after these items
 abbrev pub run_of : List (Item ℕ ℕ) → Window
 run_of xs = window nothing xs
 
--- above every index
+-- the greatest 64-bit number, which is above every entry's index
 abbrev pub top : ℕ
 top = 18446744073709551615
 
--- Rewrite after entries 1 to 20 were rewritten
+-- Rewrite with entries 1 to 20
 abbrev pub twenty : List (Item ℕ ℕ)
 twenty = Run 1 (upward 1 20) ∷ []
 
--- Append after two entries that replace the 15th and all after it, and a compaction past them
+-- Append with two entries that replace 15 and all later ones, and a compaction that removes both
 abbrev pub overwritten : List (Item ℕ ℕ)
 overwritten = Run 15 (115 ∷ 116 ∷ []) ∷ Compact 17 ∷ []
 
--- Append after the same two entries, and a compaction up to the second of them
+-- Append with the same two entries, and a compaction that removes the first of them
 abbrev pub truncated : List (Item ℕ ℕ)
 truncated = Run 15 (115 ∷ 116 ∷ []) ∷ Compact 16 ∷ []
 
--- ten entries of one file
+-- ten entries, each of them the number of their file
 abbrev pub ten : ℕ → List ℕ
 ten file = file ∷ file ∷ file ∷ file ∷ file ∷ file ∷ file ∷ file ∷ file ∷ file ∷ []
 
--- three runs, of ten entries each, from files 1, 2 and 3
+-- three runs of ten entries each, from files 1, 2 and 3; the last one replaces some of the second
 abbrev pub three_files : List (Item ℕ ℕ)
 three_files = Run 10 (ten 1) ∷ Run 20 (ten 2) ∷ Run 25 (ten 3) ∷ []
 
--- one purge: Rewrite before it
+-- Rewrite before a purge: entries 1 and 2, and an old value
 abbrev pub rewrite_before : List (Item ℕ ℕ)
 rewrite_before = Run 1 (1 ∷ 2 ∷ []) ∷ Put voter 1 ∷ []
 
--- Rewrite with the tombstone: a Compact above every index
+-- Rewrite after the purge wrote a tombstone: a Compact above every index
 abbrev pub rewrite_marked : List (Item ℕ ℕ)
 rewrite_marked = rewrite_before ++ Compact top ∷ []
 
--- Rewrite with entry 4 copied after the tombstone
+-- Rewrite after the purge copied entry 4
 abbrev pub rewrite_copied : List (Item ℕ ℕ)
 rewrite_copied = rewrite_marked ++ Run 4 (4 ∷ []) ∷ []
 
--- Append from file 6 on: entry 5 anew, and the last value
+-- Append, read from file 6 on: a new entry 5, and the last value
 abbrev pub append_from_6 : List (Item ℕ ℕ)
 append_from_6 = Run 5 (105 ∷ []) ∷ Put voter 3 ∷ []
 
--- Append from file 5 on: it begins with the Compact that the tombstone replaces
+-- Append, read from file 5 on: also the Compact that the tombstone replaces
 abbrev pub append_from_5 : List (Item ℕ ℕ)
 append_from_5 = Compact 4 ∷ append_from_6
 
--- Append from file 4 on: entries 3 to 5, and an older value
+-- Append, read from file 4 on: also entries 3 to 5, and an older value
 abbrev pub append_from_4 : List (Item ℕ ℕ)
 append_from_4 = Run 3 (3 ∷ 4 ∷ 5 ∷ []) ∷ Put voter 2 ∷ append_from_5
 
--- the contents of the indexes 0 to 6: entries 4 and 5
+-- what is at indexes 0 to 6: entries 4 and 5
 abbrev pub four_and_five : List (Option (Content ℕ ℕ))
 four_and_five = None ∷ None ∷ None ∷ None ∷ Some (Entry 4) ∷ Some (Entry 105) ∷ None ∷ []
 
--- a directory whose Append begins past the end of Rewrite's entry and later continues it: entry 6 in Rewrite
+-- Rewrite of a directory whose Append starts past it and comes back later: entry 6
 abbrev pub six : List (Item ℕ ℕ)
 six = Run 6 (6 ∷ []) ∷ []
 
--- the files that this directory's Append still has: entries 8 to 11, then 7 in their place
+-- what is left of this directory's Append: entries 8 to 11, then an entry 7 that replaces them
 abbrev pub eight_then_seven : List (Item ℕ ℕ)
 eight_then_seven = Run 8 (upward 8 4) ∷ Run 7 (7 ∷ []) ∷ []
 
--- the contents of n consecutive indexes of a table
+-- what is at `n` consecutive indexes of a table, from `first` on
 abbrev pub shown_in : Table ℕ ℕ → ℕ → ℕ → List (Option (Content ℕ ℕ))
 shown_in t first n = map (λ i. content t (Index i)) (upward first n)
 
--- the contents of the indexes 5 to 11 of that directory: entries 6 and 7
+-- what is at indexes 5 to 11 of that directory: entries 6 and 7
 abbrev pub six_and_seven : List (Option (Content ℕ ℕ))
 six_and_seven = None ∷ Some (Entry 6) ∷ Some (Entry 7) ∷ None ∷ None ∷ None ∷ None ∷ []
 
--- an item of this group
+-- the item, as one of raft group `g`
 abbrev pub of : ℕ → Item ℕ ℕ → Tagged ℕ ℕ
 of g x = record { group = g; item = x }
 
--- the begin of an atomic group in two records
+-- the first of an atomic group's two records, with entries 1 and 2
 abbrev pub first_part : List (Record ℕ ℕ)
 first_part = Part (Begin 1) (of 1 (Run 1 (1 ∷ 2 ∷ [])) ∷ []) ∷ []
 
--- the end of the atomic group in two records
+-- the second of this atomic group's two records, with entries 3 and 4
 abbrev pub second_part : List (Record ℕ ℕ)
 second_part = Part (End 1) (of 1 (Run 3 (3 ∷ 4 ∷ [])) ∷ []) ∷ []
 
--- a record with four entries
+-- a record with entries 1 to 4
 abbrev pub old_file : List (Record ℕ ℕ)
 old_file = Plain (of 1 (Run 1 (1 ∷ 2 ∷ 3 ∷ 4 ∷ [])) ∷ []) ∷ []
 
--- the first half of these entries, written again
+-- a record with entries 1 and 2, written again
 abbrev pub half : List (Record ℕ ℕ)
 half = Plain (of 1 (Run 1 (1 ∷ 2 ∷ [])) ∷ []) ∷ []
 
--- a hostile list: the second run starts past the end of the first
+-- an irregular list: the second run starts past the end of the first
 abbrev pub far_run : List (Item ℕ ℕ)
 far_run = Run 1 (1 ∷ 2 ∷ 3 ∷ []) ∷ Run 5 (5 ∷ []) ∷ []
 
--- the content of an index if a run past the end drops the earlier entries
+-- what is at index `i` after these runs, if a run past the end drops all earlier entries
 abbrev pub hole_at : ℕ → Option (Content ℕ ℕ)
 hole_at i = holds_past (Index i) far_run
 
--- the content of an index by the last word alone
+-- what is at index `i` after these runs, if only the last item that touches it counts
 abbrev pub last_word_at : ℕ → Option (Content ℕ ℕ)
 last_word_at i = holds (Index i) far_run
 
--- a hostile directory: ten entries in Rewrite
+-- Rewrite of an irregular directory: entries 1 to 10
 abbrev pub low_entries : List (Item ℕ ℕ)
 low_entries = Run 1 (upward 1 10) ∷ []
 
--- six entries in Append, after a gap
+-- Append of this directory: six entries after a gap
 abbrev pub far_entries : List (Item ℕ ℕ)
 far_entries = Run 25 (upward 25 6) ∷ []
 
--- the two entries that close the gap
+-- two more entries of Append, right after Rewrite's
 abbrev pub closing_run : List (Item ℕ ℕ)
 closing_run = Run 11 (11 ∷ 12 ∷ []) ∷ []
 
--- the content of an index of that directory, by intervals
+-- what is at index `i` of this directory, computed from the ends of runs
 abbrev pub with_gap : ℕ → Option (Content ℕ ℕ)
 with_gap i = directory_by_intervals i low_entries far_entries
 
--- the same after the gap is closed
+-- what is at index `i`, computed from the ends of runs, after the two entries
 abbrev pub gap_closed : ℕ → Option (Content ℕ ℕ)
 gap_closed i = directory_by_intervals i low_entries (far_entries ++ closing_run)
 
--- the begin of an atomic group that a segment's border cuts
+-- the begin of an atomic group with one value; a segment ends after it
 abbrev pub begun : List (Record ℕ ℕ)
 begun = Part (Begin 1) (of 1 (Put voter 1) ∷ []) ∷ []
 
--- the end of the group, and after it a newer value
+-- the end of this atomic group, and then a newer value
 abbrev pub ended_then_newer : List (Record ℕ ℕ)
 ended_then_newer = Part (End 1) [] ∷ Plain (of 1 (Put voter 2) ∷ []) ∷ []
 
--- the newer value between begin and end
+-- a newer value before the end of this atomic group
 abbrev pub newer_then_ended : List (Record ℕ ℕ)
 newer_then_ended = Plain (of 1 (Put voter 2) ∷ []) ∷ Part (End 1) [] ∷ []

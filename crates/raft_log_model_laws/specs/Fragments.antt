@@ -1,20 +1,21 @@
--- A segment of a queue, read by itself: what counts in it, and the pieces of atomic groups that its borders cut.
+-- A segment of a queue (not a segment file): consecutive records that are read on their own. What counts in it, and
+-- what it has of the atomic groups that begin before it or end after it.
 use Rattle.std.specs.Prelude.{ℕ, ◌≡◌, ◌==◌, List, [], ◌∷◌, ◌++◌, if◌then◌else◌}
 use Rattle.raft_log_model_laws.specs.Item.{Tagged, Record}
 use Rattle.raft_log_model_laws.specs.Item.Record.{Plain, Part}
 use Rattle.raft_log_model_laws.specs.Item.Mark.{Begin, Middle, End}
 use Rattle.raft_log_model_laws.specs.Groups.{of_group, settled}
 
--- what a segment does with the group of a number that may be open before it
+-- what a segment does with an atomic group that may be open before it
 pub data Head (E V : Type 0) : Type 0 where
-  -- the group continues with these items, and neither ends nor begins anew
+  -- these items are added to the group, which neither ends in the segment nor begins anew
   GoesOn : List (Tagged E V) → Head E V
-  -- the group ends, with these items up to its end
+  -- the group ends, and these items are added up to its end
   Ends : List (Tagged E V) → Head E V
-  -- a group of its number begins first: the open one is given up
+  -- another group of its number begins before it ends, so its items are dropped
   BeginsAnew : Head E V
 
--- what a segment does with the group of a number, which has these items so far
+-- what these records do with atomic group `n`, to which the items `xs` were added before
 abbrev pub head : {E V : Type 0} → ℕ → List (Tagged E V) → List (Record E V) → Head E V
 head n xs [] = GoesOn xs
 head n xs (Plain ys ∷ rs) = head n xs rs
@@ -22,7 +23,7 @@ head n xs (Part (Begin k) ys ∷ rs) = if k == n then BeginsAnew else head n xs 
 head n xs (Part (Middle k) ys ∷ rs) = if k == n then head n (xs ++ ys) rs else head n xs rs
 head n xs (Part (End k) ys ∷ rs) = if k == n then Ends (xs ++ ys) else head n xs rs
 
--- the heads of two segments, one after the other
+-- what two segments, one after the other, do with an atomic group
 abbrev pub then_head : {E V : Type 0} → Head E V → Head E V → Head E V
 then_head (GoesOn xs) (GoesOn ys) = GoesOn (xs ++ ys)
 then_head (GoesOn xs) (Ends ys) = Ends (xs ++ ys)
@@ -30,74 +31,74 @@ then_head (GoesOn xs) BeginsAnew = BeginsAnew
 then_head (Ends xs) h = Ends xs
 then_head BeginsAnew h = BeginsAnew
 
--- an atomic group that has begun and not ended, with what it has so far
+-- an atomic group that has begun and not ended: its number, and its items so far
 pub record Unfinished (E V : Type 0) : Type 0 where
   pub number : ℕ
   pub items : List (Tagged E V)
 
--- the groups except the one of that number
+-- these unfinished groups except that of number `n`
 abbrev pub without : {E V : Type 0} → ℕ → List (Unfinished E V) → List (Unfinished E V)
 without n [] = []
 without n (u ∷ us) = if u.number == n then without n us else u ∷ without n us
 
--- the group of that number gets more items
+-- these unfinished groups, with the items `ys` added to that of number `n`
 abbrev pub more : {E V : Type 0} → ℕ → List (Tagged E V) → List (Unfinished E V) → List (Unfinished E V)
 more n ys [] = []
 more n ys (u ∷ us) =
     record { number = u.number; items = if u.number == n then u.items ++ ys else u.items } ∷ more n ys us
 
--- the unfinished groups, in the order of their begins, after one more record
+-- the unfinished groups after one more record, in the order in which they began
 abbrev pub next_unfinished : {E V : Type 0} → List (Unfinished E V) → Record E V → List (Unfinished E V)
 next_unfinished us (Plain xs) = us
 next_unfinished us (Part (Begin n) xs) = without n us ++ (record { number = n; items = xs } ∷ [])
 next_unfinished us (Part (Middle n) xs) = more n xs us
 next_unfinished us (Part (End n) xs) = without n us
 
--- the unfinished groups after more records
+-- the unfinished groups after these records, if `us` were unfinished before
 abbrev pub unfinished_after : {E V : Type 0} → List (Unfinished E V) → List (Record E V)
     → List (Unfinished E V)
 unfinished_after us [] = us
 unfinished_after us (r ∷ rs) = unfinished_after (next_unfinished us r) rs
 
--- the groups that the records leave unfinished
+-- the atomic groups that begin in these records and don't end
 abbrev pub unfinished : {E V : Type 0} → List (Record E V) → List (Unfinished E V)
 unfinished rs = unfinished_after [] rs
 
--- the items that an unfinished group adds in the next segment
+-- the items that count if the next segment does this with an unfinished group, whose items so far are `xs`
 abbrev pub finish : {E V : Type 0} → List (Tagged E V) → Head E V → List (Tagged E V)
 finish xs (GoesOn ys) = []
 finish xs (Ends ys) = xs ++ ys
 finish xs BeginsAnew = []
 
--- that group if it is still unfinished after the next segment
+-- unfinished group `n` after the next segment, with its items so far; none if it isn't unfinished any more
 abbrev pub go_on : {E V : Type 0} → ℕ → List (Tagged E V) → Head E V → List (Unfinished E V)
 go_on n xs (GoesOn ys) = record { number = n; items = xs ++ ys } ∷ []
 go_on n xs (Ends ys) = []
 go_on n xs BeginsAnew = []
 
--- the items of all groups that one segment leaves unfinished and the next ends
+-- the items of those unfinished groups that the next segment ends
 abbrev pub completed : {E V : Type 0} → List (Unfinished E V) → (ℕ → Head E V) → List (Tagged E V)
 completed [] heads = []
 completed (u ∷ us) heads = finish u.items (heads u.number) ++ completed us heads
 
--- of all groups that one segment leaves unfinished, those still unfinished after the next
+-- those of the unfinished groups that are still unfinished after the next segment, with their items so far
 abbrev pub carried_on : {E V : Type 0} → List (Unfinished E V) → (ℕ → Head E V) → List (Unfinished E V)
 carried_on [] heads = []
 carried_on (u ∷ us) heads = go_on u.number u.items (heads u.number) ++ carried_on us heads
 
--- the summary of a segment: what counts in it, what it does with groups that are open before it, and which groups it
--- leaves unfinished
+-- The summary of a segment: the items that count in it, what it does with each atomic group that is open before it,
+-- and the groups that it leaves unfinished.
 pub record Segment (E V : Type 0) : Type 0 where
   pub counted : List (Tagged E V)
   pub heads : ℕ → Head E V
   pub left_open : List (Unfinished E V)
 
--- the segment of these records
+-- the summary of a segment that has these records
 abbrev pub segment : {E V : Type 0} → List (Record E V) → Segment E V
 segment rs = record { counted = settled rs; heads = λ n. head n [] rs; left_open = unfinished rs }
 
--- Merges two consecutive segments. What the later one completes comes after all of the earlier one, and before the rest
--- of the later one.
+-- The summary of two consecutive segments. First come the items of the earlier one, then those of groups that the
+-- later one ends, then the later one's own.
 abbrev pub merge : {E V : Type 0} → Segment E V → Segment E V → Segment E V
 merge a b = record {
   counted = a.counted ++ (completed a.left_open b.heads ++ b.counted);
@@ -105,23 +106,24 @@ merge a b = record {
   left_open = carried_on a.left_open b.heads ++ b.left_open;
 }
 
--- the two segments have the same items for each group, and the same pieces at their borders
+-- The two summaries have the same items for each raft group, do the same with each open atomic group, and leave the
+-- same ones unfinished.
 pub record IsSameSegment {E V : Type 0} (a b : Segment E V) : Type 0 where
   pub counted : (g : ℕ) → of_group g a.counted ≡ of_group g b.counted
   pub heads : (n : ℕ) → a.heads n ≡ b.heads n
   pub left_open : a.left_open ≡ b.left_open
 
--- consecutive segments, and the order in which they are merged
+-- consecutive segments as a tree: the order in which their summaries are merged
 pub data Bracketing (A : Type 0) : Type 0 where
   One : List A → Bracketing A
   Both : Bracketing A → Bracketing A → Bracketing A
 
--- all records of consecutive segments
+-- all records of these segments, in their order
 abbrev pub all_of : {A : Type 0} → Bracketing A → List A
 all_of (One rs) = rs
 all_of (Both s t) = all_of s ++ all_of t
 
--- consecutive segments, each read by itself, then merged
+-- the summary of these segments: each is summarized on its own, and the summaries are merged in this order
 abbrev pub merge_all : {E V : Type 0} → Bracketing (Record E V) → Segment E V
 merge_all (One rs) = segment rs
 merge_all (Both s t) = merge (merge_all s) (merge_all t)

@@ -1,36 +1,37 @@
--- The items of a log: each is of one group, and written in a record, which may be a part of an atomic group.
+-- The items of a log. A batch is written as a record, whose items may be of several raft groups. A record may be one
+-- of several that form an atomic group.
 use Rattle.std.specs.Prelude.{ℕ, List}
 
--- E represents an entry (its place in a file, or its length), V represents a key's value
+-- an item of one raft group; type `E` represents an entry, as its bytes or its location, and `V` a key's value
 pub data Item (E V : Type 0) : Type 0 where
-  -- consecutive entries, the first of them at this index; they replace all entries from there on
+  -- consecutive entries from this index on; they replace all entries of the group from there on
   Run : ℕ → List E → Item E V
-  -- all entries and keys of the group are deleted
+  -- all entries and keys of the raft group are deleted
   Clean : Item E V
-  -- all entries below this index are deleted
+  -- all entries of the raft group below this index are deleted
   Compact : ℕ → Item E V
-  -- the key, a list of bytes, has this value
+  -- this key, a string of bytes, has this value
   Put : List ℕ → V → Item E V
-  -- the key is deleted
+  -- this key is deleted
   Del : List ℕ → Item E V
 
--- an item with its group
+-- an item, with the number of its raft group
 pub record Tagged (E V : Type 0) : Type 0 where
   pub group : ℕ
   pub item : Item E V
 
--- which part of the atomic group of that number a record is
+-- which part of an atomic group a record is; the number is that of the atomic group
 pub data Mark : Type 0 where
   Begin : ℕ → Mark
   Middle : ℕ → Mark
   End : ℕ → Mark
 
--- what one write puts into a queue: items that count at once, or a part of an atomic group
+-- What one write appends to a queue: a plain record, whose items count at once, or a part of an atomic group.
 pub data Record (E V : Type 0) : Type 0 where
   Plain : List (Tagged E V) → Record E V
   Part : Mark → List (Tagged E V) → Record E V
 
--- the items of a record, whether they count or not
+-- the items of this record
 abbrev pub items_of : {E V : Type 0} → Record E V → List (Tagged E V)
 items_of (Plain xs) = xs
 items_of (Part m xs) = xs

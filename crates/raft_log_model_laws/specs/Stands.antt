@@ -1,4 +1,4 @@
--- The content of a slot without computing: the last item that touches the slot puts it there.
+-- What is in a slot, defined by a proof instead of a computation: the last item that touches the slot puts it there.
 use Rattle.std.specs.Prelude.{◌-◌, ◌≡◌, ◌<◌, ◌≤◌, List, [], ◌∷◌, ◌++◌, Some, slice_get, ⊤}
 use Rattle.raft_log_model_laws.specs.Item.{Item}
 use Rattle.raft_log_model_laws.specs.Item.Item.{Run, Clean, Compact, Put, Del}
@@ -6,7 +6,8 @@ use Rattle.raft_log_model_laws.specs.Meaning.{Slot, Content}
 use Rattle.raft_log_model_laws.specs.Meaning.Slot.{Index, Key}
 use Rattle.raft_log_model_laws.specs.Meaning.Content.{Entry, Value}
 
--- the item touches the slot: a run each index from its first on, a Compact each below it, a Clean all
+-- The item touches the slot. A run touches each index from its first on, a Compact each one below it, and a Clean all
+-- slots of the group. A Put and a Del touch their key.
 abbrev pub Speaks : {E V : Type 0} → Slot → Item E V → Type 0
 Speaks (Index i) (Run f []) = ⊥
 Speaks (Index i) (Run f (e ∷ es)) = f ≤ i
@@ -20,7 +21,7 @@ Speaks (Key k) (Compact c) = ⊥
 Speaks (Key k) (Put l v) = l ≡ k
 Speaks (Key k) (Del l) = l ≡ k
 
--- the item puts the content into the slot: a run puts an entry at an index that it covers, a Put the value of its key
+-- the item puts this content into the slot: a run an entry at one of its indexes, or a Put the value of its key
 abbrev pub Gives : {E V : Type 0} → Slot → Content E V → Item E V → Type 0
 Gives (Index i) (Entry e) (Run f es) = (f ≤ i) × (slice_get es (i - f) ≡ Some e)
 Gives (Index i) (Entry e) x = ⊥
@@ -29,12 +30,12 @@ Gives (Key k) (Value v) (Put l w) = (l ≡ k) × (w ≡ v)
 Gives (Key k) (Value v) x = ⊥
 Gives (Key k) (Entry e) x = ⊥
 
--- none of the items touches the slot
+-- none of these items touches the slot
 abbrev pub NoneSpeaks : {E V : Type 0} → Slot → List (Item E V) → Type 0
 NoneSpeaks s [] = ⊤
 NoneSpeaks s (x ∷ xs) = (Speaks s x → ⊥) × NoneSpeaks s xs
 
--- the last item that touches the slot puts this content there
+-- the last of these items that touches slot `s` puts content `c` there
 pub record StandsIn {E V : Type 0} (s : Slot) (c : Content E V) (xs : List (Item E V)) : Type 0 where
   pub before : List (Item E V)
   pub last : Item E V

@@ -1,4 +1,5 @@
--- A summary of a segment's items of one group: a table of their contents, and what the items do to earlier contents.
+-- The summary of a segment's items of one raft group: a table of what they leave, and what they delete of earlier
+-- items.
 use Rattle.std.specs.Prelude.{ℕ, ◌≡◌, ◌<◌, max, Bool, true, false, ◌&&◌, ◌||◌, not, List, [], ◌∷◌, Option, Some, None, option_map, if◌then◌else◌, nat_le, nat_lt, bytes_eq, length}
 use Rattle.std.specs.Option.{option_or}
 use Rattle.raft_log_model_laws.specs.Item.{Item}
@@ -11,7 +12,8 @@ use Rattle.raft_log_model_laws.specs.Table.{Table, content, span_of, no_table, c
 use Rattle.raft_log_model_laws.specs.Fragments.{Bracketing}
 use Rattle.raft_log_model_laws.specs.Fragments.Bracketing.{One, Both}
 
--- the table; whether the items had a Clean; their greatest Compact index, least start of a run, and deleted keys
+-- A table of what the items leave. `cleaned`: they have a Clean. `low`: the greatest index of a Compact. `high`: the
+-- lowest start of a run. `deleted`: they have a Del of this key.
 pub record Summary (E V : Type 0) : Type 0 where
   pub table : Table E V
   pub cleaned : Bool
@@ -19,7 +21,7 @@ pub record Summary (E V : Type 0) : Type 0 where
   pub high : Option ℕ
   pub deleted : List ℕ → Bool
 
--- the summary of no items
+-- the summary of an empty list of items
 abbrev pub no_summary : {E V : Type 0} → Summary E V
 no_summary = record { table = no_table; cleaned = false; low = 0; high = None; deleted = λ k. false }
 
@@ -37,26 +39,26 @@ abbrev pub summary_after : {E V : Type 0} → Summary E V → List (Item E V) �
 summary_after z [] = z
 summary_after z (x ∷ xs) = summary_after (step z x) xs
 
--- the summary of a list of items
+-- the summary of these items
 abbrev pub summary : {E V : Type 0} → List (Item E V) → Summary E V
 summary xs = summary_after no_summary xs
 
--- an index that the items don't touch
+-- the summarized items don't touch index `i`
 abbrev pub is_left : {E V : Type 0} → Summary E V → ℕ → Bool
 is_left z i = not z.cleaned && (nat_le z.low i && is_below i z.high)
 
--- the summary's word on a slot
+-- what the summarized items do to the slot; `None` if they don't touch it
 abbrev pub word : {E V : Type 0} → Summary E V → Slot → Option (Option (Content E V))
 word z (Index i) = if is_left z i then None else Some (content z.table (Index i))
 word z (Key k) =
     option_or (option_map (λ v. Some (Value v)) (z.table.values k))
     (if z.cleaned || z.deleted k then Some None else None)
 
--- the values of a later summary over those of an earlier table
+-- the values of keys after an earlier table `t` and the later items of summary `z`
 abbrev pub values_over : {E V : Type 0} → Table E V → Summary E V → List ℕ → Option V
 values_over t z k = option_or (z.table.values k) (if z.cleaned || z.deleted k then None else t.values k)
 
--- the table of two summaries: what the later one keeps of the earlier table, with the later run appended
+-- the table's entries after an earlier table `t` and the later items of summary `z`
 abbrev pub entries_over : {E V : Type 0} → Table E V → Summary E V → Table E V
 entries_over t z =
     if z.cleaned then z.table
@@ -64,12 +66,12 @@ entries_over t z =
     then run_onto (cut_from (compacted t z.low) z.high) z.table.first z.table.entries
     else cut_from (compacted t z.low) z.high)
 
--- the lesser of two bounds
+-- the lower of two bounds, where `None` is no bound
 abbrev pub lesser : Option ℕ → Option ℕ → Option ℕ
 lesser None b = b
 lesser (Some h) b = Some (least h b)
 
--- two consecutive summaries as one
+-- the summary of the items of `a`, followed by those of `z`
 abbrev pub join : {E V : Type 0} → Summary E V → Summary E V → Summary E V
 join a z = record {
   table = record {
@@ -83,21 +85,22 @@ join a z = record {
   deleted = λ k. z.deleted k || a.deleted k;
 }
 
--- consecutive segments, each summarized by itself, then joined in that order
+-- the summary of these segments: each is summarized on its own, and the summaries are joined in this order
 abbrev pub join_all : {E V : Type 0} → Bracketing (Item E V) → Summary E V
 join_all (One xs) = summary xs
 join_all (Both s t) = join (join_all s) (join_all t)
 
--- a table with entries begins at or above the least start of a run
+-- if the summary's table has entries, the first one's index is at or above the lowest start of a run
 abbrev pub IsSummarySound : {E V : Type 0} → Summary E V → Type 0
 IsSummarySound z = 0 < length z.table.entries → is_below z.table.first z.high ≡ false
 
--- a summary of a segment, however it was made: its word is the segment's
+-- `z` is a summary of the items `xs`, however it was made: it does to each slot what they do
 pub record IsSummary {E V : Type 0} (z : Summary E V) (xs : List (Item E V)) : Type 0 where
   pub sound : IsSummarySound z
   pub says : (s : Slot) → word z s ≡ says s xs
 
--- the entries of a directory: Append's over Rewrite's, of which none are kept below a gap
+-- A directory's entries, from Rewrite's table and the summary of Append's items. If Append's entries start past the
+-- end of what Rewrite keeps, only Append's count.
 abbrev pub directory_entries : {E V : Type 0} → Table E V → Summary E V → Table E V
 directory_entries t z =
     if z.cleaned then z.table
@@ -107,7 +110,7 @@ directory_entries t z =
     else run_onto (cut_from (compacted t z.low) z.high) z.table.first z.table.entries)
     else cut_from (compacted t z.low) z.high)
 
--- the table of a directory: the summary of Append's items over Rewrite's table
+-- the table of a directory, from Rewrite's table and the summary of Append's items
 abbrev pub directory_table : {E V : Type 0} → Table E V → Summary E V → Table E V
 directory_table t z = record {
   first = (directory_entries t z).first;

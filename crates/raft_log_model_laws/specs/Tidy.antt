@@ -1,17 +1,17 @@
--- Tidy records: atomic groups that nothing disturbs. The items that count between a group's begin and its end are of
--- other raft groups than its own.
+-- Tidy records: between the begin and the end of an atomic group, only items of other raft groups start to count.
 use Rattle.std.specs.Prelude.{ℕ, List, [], ◌∷◌, ◌++◌, ◌≡◌, ◌⊎◌, ◌==◌, MatchBool, ⊤}
 use Rattle.raft_log_model_laws.specs.Item.{Tagged, Record}
 use Rattle.raft_log_model_laws.specs.Item.Record.{Plain, Part}
 use Rattle.raft_log_model_laws.specs.Item.Mark.{Begin, Middle, End}
 use Rattle.raft_log_model_laws.specs.Groups.{of_group, Open, none_open, counts, opens}
 
--- no raft group has items in both
+-- no raft group has items in both lists
 abbrev pub Apart : {E V : Type 0} → List (Tagged E V) → List (Tagged E V) → Type 0
 Apart xs ys = (g : ℕ) → (of_group g xs ≡ []) ⊎ (of_group g ys ≡ [])
 
--- Atomic group n has the items xs so far. Since its begin, `said` counted, and the groups o have begun. If it ends, its
--- items and what counted are of different raft groups. Nothing is required of a group that never ends.
+-- Atomic group `n` has the items `xs` so far. Since its begin the items `said` started to count, and the atomic groups
+-- `o` began. If group `n` ends in these records, no raft group has items both in it and in what counted since its
+-- begin.
 abbrev pub Undisturbed : {E V : Type 0} → ℕ → List (Tagged E V) → List (Tagged E V) → Open E V
     → List (Record E V) → Type 0
 Undisturbed n xs said o [] = ⊤
@@ -25,7 +25,8 @@ Undisturbed n xs said o (Part (End k) ys ∷ rs) =
     MatchBool (k == n) (Apart (xs ++ ys) said)
     (Undisturbed n xs (said ++ counts o (Part (End k) ys)) (opens o (Part (End k) ys)) rs)
 
--- no atomic group that begins in the records is disturbed
+-- for each atomic group that begins and ends in these records, no raft group has items both in it and in what counts
+-- between
 abbrev pub Tidy : {E V : Type 0} → List (Record E V) → Type 0
 Tidy [] = ⊤
 Tidy (Plain xs ∷ rs) = Tidy rs
@@ -33,7 +34,7 @@ Tidy (Part (Begin n) xs ∷ rs) = Undisturbed n xs [] none_open rs × Tidy rs
 Tidy (Part (Middle n) xs ∷ rs) = Tidy rs
 Tidy (Part (End n) xs ∷ rs) = Tidy rs
 
--- records that end no group
+-- these records end no atomic group
 abbrev pub EndsNone : {E V : Type 0} → List (Record E V) → Type 0
 EndsNone [] = ⊤
 EndsNone (Plain xs ∷ rs) = EndsNone rs
@@ -41,22 +42,22 @@ EndsNone (Part (Begin n) xs ∷ rs) = EndsNone rs
 EndsNone (Part (Middle n) xs ∷ rs) = EndsNone rs
 EndsNone (Part (End n) xs ∷ rs) = ⊥
 
--- the records between the first and the last of an atomic group
+-- the records between the first and the last of atomic group `n`, with these items
 abbrev pub middles : {E V : Type 0} → ℕ → List (List (Tagged E V)) → List (Record E V)
 middles n [] = []
 middles n (xs ∷ xss) = Part (Middle n) xs ∷ middles n xss
 
--- an atomic group as it is written: its records without others between them
+-- all records of atomic group `n`, without others between them
 abbrev pub whole_group : {E V : Type 0} → ℕ → List (Tagged E V) → List (List (Tagged E V)) → List (Tagged E V)
     → List (Record E V)
 whole_group n first between last = Part (Begin n) first ∷ (middles n between ++ (Part (End n) last ∷ []))
 
--- the items of such a group
+-- the items of these lists, in one list
 abbrev pub joined : {E V : Type 0} → List (List (Tagged E V)) → List (Tagged E V)
 joined [] = []
 joined (xs ∷ xss) = xs ++ joined xss
 
--- all items of a group, from its first record to its last
+-- all items of an atomic group, from its first record to its last
 abbrev pub group_items : {E V : Type 0} → List (Tagged E V) → List (List (Tagged E V)) → List (Tagged E V)
     → List (Tagged E V)
 group_items first between last = first ++ (joined between ++ last)

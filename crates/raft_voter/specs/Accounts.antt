@@ -8,17 +8,18 @@ use Rattle.raft_voter_outline.specs.State.{State, fresh}
 use Rattle.raft_voter_outline.specs.Rules.{is_retire, next}
 use Rattle.raft_voter.specs.Rounds.{cuts_after, is_among, place_reached, taken_below}
 
--- The account of a transcript: each request that was taken, in order, with its reply in the transcript. It has no reply
--- if its round was cut off.
+-- The account of a transcript lists each request that a voter took, in order, with its reply. A request has no reply
+-- there if its round was cut off, which means that the round ended without replies.
 
--- a request that a group took, and its reply
+-- A request that the voter of `group` took, and the reply that the transcript has for it. `None`: its round was cut
+-- off.
 pub record Taken : Type 0 where
   pub group : ℕ
   pub request : Request
   pub told : Option Reply
 
--- the requests of a round with replies, each with its reply; the first one's place is `place`; refused places are left
--- out
+-- The requests of a round with replies, each with its reply. Their positions in the round count from `place`. Requests
+-- at the positions in `refused` are left out.
 abbrev pub told_from : ℕ → List ℕ → List (ℕ × Request) → List Reply → List Taken
 told_from place refused [] replies = []
 told_from place refused (q ∷ qs) [] = []
@@ -26,45 +27,46 @@ told_from place refused (q ∷ qs) (a ∷ replies) =
     if is_among refused place then told_from (place + 1) refused qs replies
     else record { group = q.0; request = q.1; told = Some a } ∷ told_from (place + 1) refused qs replies
 
--- requests without replies
+-- these requests, each without a reply
 abbrev pub untold : List (ℕ × Request) → List Taken
 untold [] = []
 untold (q ∷ qs) = record { group = q.0; request = q.1; told = None } ∷ untold qs
 
--- the account of one round
+-- The account of round `r`. If it has replies, these are its requests that weren't refused. If it was cut off, these
+-- are its requests before the first of `cuts`, without replies.
 abbrev pub account_of_round : Outcome → Round → List ℕ → List Taken
 account_of_round (Answered replies) r cuts = told_from 0 r.refused r.requests replies
 account_of_round Cut r cuts = untold (taken_below r (place_reached Cut (length r.requests) cuts))
 
--- the account of all rounds
+-- the account of these rounds; each round that was cut off uses up one of `cuts`
 abbrev pub account : List Round → List ℕ → List Taken
 account [] cuts = []
 account (r ∷ rounds) cuts = account_of_round r.outcome r cuts ++ account rounds (cuts_after r.outcome cuts)
 
--- one group's part of an account: its requests and their replies
+-- the requests of `group` in this account, each with its reply
 abbrev pub own : ℕ → List Taken → List (Request × Option Reply)
 own group [] = []
 own group (t ∷ ts) = if t.group == group then (t.request, t.told) ∷ own group ts else own group ts
 
--- one group's part of a transcript's account
+-- the requests that the voter of `group` took in these rounds, each with its reply
 abbrev pub group_account : ℕ → List Round → List ℕ → List (Request × Option Reply)
 group_account group rounds cuts = own group (account rounds cuts)
 
--- the voter after these requests, starting from this voter
+-- voter `v` after these requests, taken in order
 abbrev pub voter_from : State → List (Request × Option Reply) → State
 voter_from v [] = v
 voter_from v (t ∷ ts) = voter_from (next v t.0) ts
 
--- the voter after these requests, starting from a fresh voter
+-- a fresh voter after these requests, taken in order
 abbrev pub voter_after : List (Request × Option Reply) → State
 voter_after ts = voter_from fresh ts
 
--- the requests, without their replies
+-- the requests of this list, without their replies
 abbrev pub requests_of : List (Request × Option Reply) → List Request
 requests_of [] = []
 requests_of (t ∷ ts) = t.0 ∷ requests_of ts
 
--- the group took no request to retire it
+-- none of these requests is Retire
 abbrev pub NoRetire : List (Request × Option Reply) → Type 0
 NoRetire [] = Unit {0}
 NoRetire (t ∷ ts) = (is_retire t.0 ≡ false) × NoRetire ts

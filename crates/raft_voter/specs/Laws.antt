@@ -17,7 +17,7 @@ use Rattle.raft_voter.specs.InRange.{IsInRange, IsStorable}
 use Rattle.raft_voter.specs.Rounds.{World, Explains, Leads}
 use Rattle.raft_voter.specs.Accounts.{group_account, NoRetire, requests_of, voter_after}
 
--- a round that was cut off counts as one
+-- 1 for a round that was cut off, and 0 for one with replies
 abbrev pub cut_count_of : Outcome → ℕ
 cut_count_of (Answered replies) = 0
 cut_count_of Cut = 1
@@ -27,22 +27,24 @@ abbrev pub cut_count : List Round → ℕ
 cut_count [] = 0
 cut_count (r ∷ rounds) = cut_count_of r.outcome + cut_count rounds
 
--- If rounds lead from W to X, and later rounds lead from X to Y, then all of them together lead from W to Y.
+-- Suppose the rounds `first` lead from world W to X, and the rounds `later` from X to Y. Then all of them lead from W
+-- to Y, with the cuts of both.
 abbrev pub RoundsJoin : Type 0
 RoundsJoin =
     (W X Y : World) (first later : List Round) (cuts cuts' : List ℕ) → Leads W first cuts X
     → Leads X later cuts' Y
     → Leads W (first ++ later) (cuts ++ cuts') Y
 
--- Rounds that lead from W to Y can be split anywhere. The first part leads to some world X, and the second from there
--- to Y. Each part has the cuts of its own rounds.
+-- Suppose the rounds `first ++ later` lead from world W to Y. Then `first` leads from W to some world X, and `later`
+-- from X to Y. Each part has the cuts of its own rounds.
 abbrev pub RoundsPart : Type 0
 RoundsPart =
     (W Y : World) (first later : List Round) (cuts : List ℕ) → Leads W (first ++ later) cuts Y
     → (X : World) × Leads W first (take (cut_count first) cuts) X
     × Leads X later (drop (cut_count first) cuts) Y
 
--- No group grants its vote to two candidates in one term, unless it took a request to retire between them.
+-- In a group's account, any two votes granted in the same term are for the same candidate, unless there is a Retire
+-- between them.
 abbrev pub OneVotePerTerm : Type 0
 OneVotePerTerm =
     (rounds : List Round) (cuts : List ℕ) (group : ℕ) → Explains rounds cuts
@@ -52,35 +54,36 @@ OneVotePerTerm =
     ++ (Vote t' candidate' i' u', Some (Granted term)) ∷ later
     → NoRetire between → candidate ≡ candidate'
 
--- A group's term never falls, unless it took a request to retire.
+-- Rounds that lead from world W to X don't lower a group's term, if the group took no Retire in them.
 abbrev pub TermsNeverFall : Type 0
 TermsNeverFall =
     (W X : World) (rounds : List Round) (cuts : List ℕ) (group : ℕ) → Leads W rounds cuts X
     → NoRetire (group_account group rounds cuts) → (W group).term ≤ (X group).term
 
--- A group's commit never falls, unless it took a request to retire.
+-- Rounds that lead from world W to X don't lower a group's commit, if the group took no Retire in them.
 abbrev pub CommitNeverFalls : Type 0
 CommitNeverFalls =
     (W X : World) (rounds : List Round) (cuts : List ℕ) (group : ℕ) → Leads W rounds cuts X
     → NoRetire (group_account group rounds cuts) → (W group).commit ≤ (X group).commit
 
--- If a group's base is at most its commit, it stays so.
+-- If rounds lead from world W to X, and a group's base is at most its commit in W, then also in X.
 abbrev pub BaseIsCommitted : Type 0
 BaseIsCommitted =
     (W X : World) (rounds : List Round) (cuts : List ℕ) (group : ℕ) → Leads W rounds cuts X
     → (W group).base_index ≤ (W group).commit → (X group).base_index ≤ (X group).commit
 
--- the entry that an Append brings for an index, if any
+-- the entry that an Append of the entries `sent` after index `prev` has for index `i`, if any
 abbrev pub sent_at : ℕ → List (ℕ × List ℕ) → ℕ → Option (ℕ × List ℕ)
 sent_at prev sent i = if nat_lt prev i then slice_get sent (i - prev - 1) else None
 
--- for this index an Append brings an entry of a term that the voter doesn't have there
+-- an Append of the entries `sent` after index `prev` has an entry for index `i`, and voter `v` doesn't have its term
+-- there
 abbrev pub BringsOther : State → ℕ → List (ℕ × List ℕ) → ℕ → Type 0
 BringsOther v prev sent i = IsSomeAnd (sent_at prev sent i) (λ e. term_at v i ≢ Some e.0)
 
--- The log after a matched Append, index by index. If the Append brings another term, let f be the least such index.
--- Below f the entries are the old ones with their bytes. From f on they are exactly those that it brings. If it brings
--- no other term, the log is unchanged.
+-- The log of a voter after an Append with the reply `Matched`. Let `f` be the first index for which the Append has an
+-- entry whose term the voter doesn't have there. Below `f`, the entries stay the same. From `f` on, they are exactly
+-- the Append's. If there is no such index, the log is unchanged.
 abbrev pub MatchedAppend : Type 0
 MatchedAppend =
     (v : State) (term prev prev_term commit last : ℕ) (sent : List (ℕ × List ℕ))
@@ -94,11 +97,11 @@ MatchedAppend =
     ((j : ℕ) → ¬ BringsOther v prev sent j) → (next v (Append term prev prev_term commit sent)).log ≡ v.log
     )
 
--- Voter v keeps the entry at index i when it takes a request:
--- - a matched Append brings no other term at or below i;
--- - a Compact leaves the base below i;
--- - an Install leaves the base below i; if it moves the base, the log has the snapshot's last entry;
--- - it isn't a request to retire.
+-- Voter `v` keeps its entry at index `i` when it takes this request:
+-- - a matched Append has no entry up to `i` whose term the voter doesn't have at that index;
+-- - a Compact leaves the base below `i`;
+-- - an Install leaves the base below `i`; if it moves the base, the log has the snapshot's last entry;
+-- - the request isn't Retire.
 abbrev pub SparesEntry : State → ℕ → Request → Type 0
 SparesEntry v i (Append term prev prev_term commit sent) =
     (last : ℕ) → reply v (Append term prev prev_term commit sent) ≡ Matched last
@@ -112,18 +115,18 @@ SparesEntry v i (Vote term candidate index last) = Unit {0}
 SparesEntry v i (Read from to) = Unit {0}
 SparesEntry v i Status = Unit {0}
 
--- voter v keeps the entry at index i through all these requests, taken in order
+-- voter `v` takes these requests in order, and keeps its entry at index `i` through each of them
 abbrev pub AllSpare : State → ℕ → List (Request × Option Reply) → Type 0
 AllSpare v i [] = Unit {0}
 AllSpare v i (t ∷ ts) = SparesEntry v i t.0 × AllSpare (next v t.0) i ts
 
--- an Append that was taken, with the reply that it matched up to an index
+-- an Append with these values in an account, with the reply that it matched up to index `last`
 abbrev pub matched_up_to : ℕ → ℕ → ℕ → ℕ → List (ℕ × List ℕ) → ℕ → Request × Option Reply
 matched_up_to term prev prev_term commit sent last =
     (Append term prev prev_term commit sent, Some (Matched last))
 
--- After a matched Append, the voter has each entry that it brought, with its term. The entry keeps its term and bytes
--- until a later Append brings another term at or below it. A compaction, an Install or a Retire may remove it too.
+-- After an Append with the reply `Matched`, the voter has an entry at each index for which the Append brought one,
+-- with the same term. The voter has that entry, with the same bytes, as long as every request spares it.
 abbrev pub MatchedEntriesStand : Type 0
 MatchedEntriesStand =
     (rounds : List Round) (cuts : List ℕ) (group : ℕ) → Explains rounds cuts
@@ -141,7 +144,7 @@ MatchedEntriesStand =
     × (entry_at (voter_after (before ++ matched_up_to term prev prev_term commit sent last ∷ between)) i
     ≡ Some (e.0, bytes))
 
--- the requests that a leader or a node may repeat
+-- the request is a Vote, an Append, a Compact or an Install
 abbrev pub is_repeatable : Request → Bool
 is_repeatable (Vote term candidate index last) = true
 is_repeatable (Append term prev prev_term commit sent) = true
@@ -151,7 +154,8 @@ is_repeatable (Read from to) = false
 is_repeatable Status = false
 is_repeatable Retire = false
 
--- If a Vote, Append, Compact or Install is repeated at once, it gets the same reply and changes nothing.
+-- If a group takes a Vote, Append, Compact or Install twice, right after each other, both replies are the same. The
+-- second one doesn't change the voter. Both must have replies.
 abbrev pub RepeatIsIdempotent : Type 0
 RepeatIsIdempotent =
     (rounds : List Round) (cuts : List ℕ) (group : ℕ) → Explains rounds cuts
@@ -160,8 +164,8 @@ RepeatIsIdempotent =
     → (a ≡ b)
     × (voter_after (before ++ (q, Some a) ∷ (q, Some b) ∷ []) ≡ voter_after (before ++ (q, Some a) ∷ []))
 
--- A reply depends only on the requests that its own group took. If a group took the same requests in two transcripts,
--- it gives the same reply, whatever other groups do.
+-- A group's reply depends only on the requests that this group took. If it took the same requests in two transcripts,
+-- and then the same request in both, the two replies are the same.
 abbrev pub GroupIsolation : Type 0
 GroupIsolation =
     (rounds rounds' : List Round) (cuts cuts' : List ℕ) (group : ℕ) → Explains rounds cuts
@@ -171,9 +175,8 @@ GroupIsolation =
     → group_account group rounds' cuts' ≡ before' ++ (q, Some a') ∷ later'
     → requests_of before ≡ requests_of before' → a ≡ a'
 
--- After an Append whose reply is `Matched`, the voter has an entry at each index above the base and up to the matched
--- one. The Append or an earlier request brought it. That request's round may have been cut off. The voter keeps that
--- entry through all requests that spare it.
+-- After an Append with the reply `Matched`, the voter has an entry at each index above its base and up to the matched
+-- one. The voter has that entry, with the same term and bytes, as long as every request spares it.
 abbrev pub MatchedIsAcknowledged : Type 0
 MatchedIsAcknowledged =
     (rounds : List Round) (cuts : List ℕ) (group : ℕ) → Explains rounds cuts
@@ -191,8 +194,8 @@ MatchedIsAcknowledged =
     × (entry_at (voter_after (before ++ matched_up_to term prev prev_term commit sent last ∷ between)) i
     ≡ Some e)
 
--- If a Read returns entries, there is one for each index that it asked for, in order. The k-th is the voter's entry at
--- `from + k`.
+-- If a Read returns entries, it returns `to - from` of them. The k-th, counted from 0, has index `from + k`, and is
+-- the voter's entry there.
 abbrev pub EntriesAreTheLog : Type 0
 EntriesAreTheLog =
     (v : State) (from to : ℕ) (entries : List Entry) → reply v (Read from to) ≡ Entries entries
@@ -201,30 +204,32 @@ EntriesAreTheLog =
     → (e : Entry) × (slice_get entries k ≡ Some e) × (e.index ≡ from + k)
     × (entry_at v (from + k) ≡ Some (e.term, e.bytes)))
 
--- A fresh voter is in range, and requests keep a voter in range.
+-- A fresh voter is in range. A voter in range is in range after every request.
 abbrev pub RangeIsKept : Type 0
 RangeIsKept = IsInRange fresh × ((v : State) (q : Request) → IsInRange v → IsInRange (next v q))
 
--- A fresh voter can be stored, and requests keep a voter so that it can be stored.
+-- A fresh voter can be stored. A voter that can be stored can be stored after every request.
 abbrev pub StorableIsKept : Type 0
 StorableIsKept = IsStorable fresh × ((v : State) (q : Request) → IsStorable v → IsStorable (next v q))
 
--- the entries of a voter with their indexes; the first is right above its base
+-- the entries of voter `v`, each with its index; the first is right above the base
 abbrev pub log_entries : State → List Entry
 log_entries v = numbered (v.base_index + 1) v.log
 
--- each of these bytes encodes the entry at its index; the first is at `index`
+-- each of these byte strings encodes the entry at the same position in the list; the indexes rise by one from `index`
 abbrev pub AreReadAs : ℕ → List (List ℕ) → List Entry → Type 0
 AreReadAs index [] [] = Unit {0}
 AreReadAs index (bytes ∷ others) (e ∷ es) = IsEntry bytes index e × AreReadAs (index + 1) others es
 AreReadAs index others es = ⊥
 
--- The state and the entries that are read from a voter's stored bytes: from its state's bytes, and from each entry's.
+-- `s` and `es` can be read from the bytes that are written for voter `v`: `s` from its state's bytes, and each of `es`
+-- from the bytes of one entry
 pub record IsReadOfWritten (v : State) (s : VoterState) (es : List Entry) : Type 0 where
   pub state : IsState (state_text (state_of v)) s
   pub entries : AreReadAs (v.base_index + 1) (map entry_text (log_entries v)) es
 
--- The stored bytes of a voter that can be stored are readable, and whatever is read from them restores that voter.
+-- If voter `v` can be stored, its state and its entries can be read from the bytes that are written for them. Whatever
+-- is read from these bytes restores `v`.
 abbrev pub StoredVotersAreRestored : Type 0
 StoredVotersAreRestored =
     (v : State) → IsStorable v

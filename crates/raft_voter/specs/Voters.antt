@@ -8,14 +8,14 @@ use Rattle.raft_voter_outline.specs.Outlines.{Copies}
 use Rattle.raft_voter_outline.specs.State.{fresh}
 use Rattle.raft_voter.specs.Rounds.{World}
 
--- the voter of each group: the stored one, or a fresh one
+-- the world of these voters: for each group its voter in the table, or a fresh one
 abbrev pub world_of : Voters → World
 world_of v = λ g. unwrap_or (get nat_cmp v.voters g) fresh
 
--- a request of a group needs memory: the group has no voter here yet, or entries are copied
+-- request `q` of group `g` needs memory: the group has no voter in the table yet, or `q` copies entries
 abbrev pub NeedsMemory : Voters → ℕ → Request → Type 0
 NeedsMemory v g q = (get nat_cmp v.voters g ≡ None) ⊎ Copies (world_of v g) q
 
--- a group is in the list
+-- `groups` has the number `g`
 abbrev pub is_listed : List ℕ → ℕ → Bool
 is_listed groups g = list_any (is_at (nat_cmp g)) groups

@@ -1,28 +1,29 @@
--- Which numbers, entries and requests are in range.
+-- Which numbers, entries and requests are in range. A voter refuses all other requests.
 use Rattle.std.specs.Prelude.{ℕ, ◌+◌, ◌^◌, ◌&&◌, nat_lt, nat_le, Bool, true, List, [], ◌∷◌, length, sum_by}
 use Rattle.std.specs.List.{list_all}
 use Rattle.raft_voter_messages.specs.declared.request.Request.{Request}
 use Rattle.raft_voter_messages.specs.declared.request.Request.TheVariants.{Vote, Append, Compact, Install, Read, Status, Retire}
 
--- indexes, terms and candidates stay below this bound
+-- `n` is below 2^63, the bound of indexes, terms and candidates
 abbrev pub fits : ℕ → Bool
 fits n = nat_lt n (2 ^ 63)
 
--- an entry has a term in range and at most 65,535 bytes
+-- the entry's term is in range, and it has at most 65,535 bytes
 abbrev pub entry_fits : ℕ × List ℕ → Bool
 entry_fits e = fits e.0 && nat_le (length e.1) 65535
 
--- how many bytes entries have together
+-- the sum of the lengths of these entries, in bytes
 abbrev pub total_bytes : List (ℕ × List ℕ) → ℕ
 total_bytes sent = sum_by (λ e. length e.1) sent
 
--- An Append brings at most 1,024 entries with 1,048,576 bytes in all, and the last has an index in range.
+-- The entries `sent` of an Append, which follow index `prev`, are in range. They are at most 1,024, with at most
+-- 1,048,576 bytes together. Each of them is in range, and so is the index of the last one.
 abbrev pub entries_fit : ℕ → List (ℕ × List ℕ) → Bool
 entries_fit prev sent =
     fits (prev + length sent) && nat_le (length sent) 1024 && list_all entry_fits sent
     && nat_le (total_bytes sent) 1048576
 
--- a voter takes the requests that are in range
+-- the numbers of the request are in range, and so are the entries that an Append brings
 abbrev pub in_range : Request → Bool
 in_range (Vote term candidate index last) = list_all fits (term ∷ candidate ∷ index ∷ last ∷ [])
 in_range (Append term prev prev_term commit sent) =

@@ -1,4 +1,4 @@
--- The text of a reply: its name, then its values, separated by single spaces.
+-- The text of a reply: its name, then its values, with a space before each of them.
 use Rattle.std.specs.Prelude.{ℕ, List, ◌++◌, codes, Option, Some, None}
 use Rattle.std.specs.Fmt.{decimal}
 use Rattle.std.specs.List.{flat_map}
@@ -8,12 +8,13 @@ use Rattle.raft_voter_messages.specs.declared.reply.Reply.{Reply}
 use Rattle.raft_voter_messages.specs.declared.reply.Reply.TheVariants.{Granted, Denied, Matched, Mismatch, Stale, Base, Entries, Gone, Unknown, Status, Retired, Refused}
 use Rattle.raft_voter_messages.specs.declared.reply.VoterState.{VoterState}
 
--- a vote, or `-` if there is none
+-- the candidate in decimal, or `-` if there is no vote
 abbrev pub vote_word : Option ℕ → List ℕ
 vote_word None = codes "-"
 vote_word (Some candidate) = decimal candidate
 
--- a voter's state: its term and vote, the index and the term of the base and of the last entry, its commit
+-- A voter's state, in decimal and separated by spaces: its term, its vote, the index and term of its base, the index
+-- and term of its last entry, and its commit.
 unfoldable pub state_words : VoterState → List ℕ
 state_words s =
     decimal s.term ++ codes " " ++ vote_word s.vote
@@ -21,7 +22,7 @@ state_words s =
     ++ codes " " ++ decimal s.last_index ++ codes " " ++ decimal s.last_term
     ++ codes " " ++ decimal s.commit
 
--- an entry, `index:term:hex`
+-- the text of an entry: `index:term:hex`, where `hex` encodes its bytes in lower case
 unfoldable pub entry_word : Entry → List ℕ
 entry_word entry =
     decimal entry.index ++ codes ":" ++ decimal entry.term ++ codes ":" ++ encode_lower entry.bytes
@@ -30,7 +31,7 @@ entry_word entry =
 abbrev pub spaced_entry : Entry → List ℕ
 spaced_entry entry = codes " " ++ entry_word entry
 
--- a reply
+-- the text of a reply: its name, then its values
 abbrev pub reply_text : Reply → List ℕ
 reply_text (Granted term) = codes "Granted " ++ decimal term
 reply_text (Denied term) = codes "Denied " ++ decimal term

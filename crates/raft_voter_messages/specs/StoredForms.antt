@@ -1,5 +1,5 @@
--- How a voter's state and its entries are stored as bytes. The first byte names the form; each form has its
--- own length, its own text and its own faults.
+-- How a voter's state and its entries are stored as bytes. The first byte is the number of the form. A form defines
+-- which bytes may follow and which faults they can have.
 use Rattle.std.specs.Prelude.{◌≡◌, ◌≢◌, ℕ, ◌<◌, ◌≤◌, ◌⊎◌, ◌&&◌, nat_le, Bool, true, IsTrue, List, [], ◌∷◌, ◌++◌, length, Option, None, Some}
 use Rattle.std.specs.Int.{to_be_bytes, w64}
 use Rattle.std.specs.Option.{option_map_or}
@@ -11,48 +11,51 @@ use Rattle.raft_voter_messages.specs.Ranges.{fits}
 
 -- The parts of the forms.
 
--- a number is eight bytes, big-endian
+-- the eight bytes of a number, big-endian
 unfoldable pub number_text : ℕ → List ℕ
 number_text n = to_be_bytes w64 n
 
--- one byte that says whether there is a vote, then the candidate, or 0 without a vote
+-- The nine bytes of a vote. The first is 1, and the candidate follows. Without a vote, all nine are 0.
 abbrev pub vote_text : Option ℕ → List ℕ
 vote_text None = 0 ∷ number_text 0
 vote_text (Some candidate) = 1 ∷ number_text candidate
 
--- the term, the nine bytes of the vote, the base's index and term
+-- the bytes of the term, the nine bytes `vote` of the vote, then the bytes of the base's index and term
 abbrev pub head_text : ℕ → List ℕ → ℕ → ℕ → List ℕ
 head_text term vote base_index base_term =
     number_text term ++ (vote ++ (number_text base_index ++ number_text base_term))
 
--- the candidate of a vote is in range
+-- there is no vote, or its candidate is in range
 abbrev pub vote_fits : Option ℕ → Bool
 vote_fits vote = option_map_or fits vote true
 
--- the numbers of a state are in range, and its base is at most its commit
+-- The state's term, vote, base and commit are in range, and its base is at most its commit. Nothing is asked of its
+-- last entry.
 abbrev pub state_fits : VoterState → Bool
 state_fits s =
     fits s.term && vote_fits s.vote && fits s.base_index && fits s.base_term && fits s.commit
     && nat_le s.base_index s.commit
 
--- the numbers of an entry are in range, and it has at most 65,535 bytes
+-- the entry's index and term are in range, and it has at most 65,535 bytes
 abbrev pub stored_entry_fits : Entry → Bool
 stored_entry_fits e = fits e.index && fits e.term && nat_le (length e.bytes) 65535
 
--- the state is in range, and only the base of its log is known
+-- the state is in range, and its last entry is its base
 pub record IsBareState (s : VoterState) : Type 0 where
   pub in_range : IsTrue (state_fits s)
   pub last_index : s.last_index ≡ s.base_index
   pub last_term : s.last_term ≡ s.base_term
 
--- State form 1: 34 bytes. It is read, but no longer written.
+-- State form 1: 34 bytes. A reader accepts it, but it is no longer written.
 
--- the term, the vote and the base; the form has no commit, so the commit is the base's index
+-- `body`, the bytes after the form byte, has the state's term, vote and base. This form has no commit: the commit is
+-- the base's index.
 pub record IsStateForm1 (body : List ℕ) (s : VoterState) : Type 0 where
   pub text : body ≡ head_text s.term (vote_text s.vote) s.base_index s.base_term
   pub commit : s.commit ≡ s.base_index
 
--- the first fault of what follows the form byte 1
+-- The fault of the bytes `body` after form byte 1. It is `Length` if they are not 33. It is `Range` if they are 33,
+-- but encode no state in range.
 abbrev pub StateForm1Fault : StoredFault → List ℕ → Type 0
 StateForm1Fault Length body = length body ≢ 33
 StateForm1Fault Range body =
@@ -61,11 +64,12 @@ StateForm1Fault _ body = ⊥
 
 -- State form 2: 42 bytes.
 
--- the term, the vote, the base and the commit
+-- the bytes after form byte 2: the state's term, vote, base and commit
 abbrev pub state_form_2 : VoterState → List ℕ
 state_form_2 s = head_text s.term (vote_text s.vote) s.base_index s.base_term ++ number_text s.commit
 
--- the first fault of what follows the form byte 2
+-- The fault of the bytes `body` after form byte 2. It is `Length` if they are not 41. It is `Range` if they are 41,
+-- but encode no state in range.
 abbrev pub StateForm2Fault : StoredFault → List ℕ → Type 0
 StateForm2Fault Length body = length body ≢ 41
 StateForm2Fault Range body =
@@ -74,20 +78,21 @@ StateForm2Fault _ body = ⊥
 
 -- A state.
 
--- what is written: form 2
+-- the bytes that are written for a state: form byte 2 and its body
 abbrev pub state_text : VoterState → List ℕ
 state_text s = 2 ∷ state_form_2 s
 
--- the bytes are this state in one of the forms
+-- the bytes are form byte 1 or 2, then state `s` in that form
 abbrev pub SpellsState : List ℕ → VoterState → Type 0
 SpellsState [] s = ⊥
 SpellsState (form ∷ body) s = ((form ≡ 1) × IsStateForm1 body s) ⊎ ((form ≡ 2) × (body ≡ state_form_2 s))
 
--- the bytes encode this state, in one of the forms, and it is bare
+-- the bytes encode state `s` in one of the forms, `s` is in range, and its last entry is its base
 abbrev pub IsState : List ℕ → VoterState → Type 0
 IsState bytes s = SpellsState bytes s × IsBareState s
 
--- the first fault of what should be a state: no bytes, another form byte, or a fault of its form
+-- The fault of bytes that are read as a state. It is `Length` if there are none, `Form` if the form byte is neither 1
+-- nor 2, and otherwise the fault of that form.
 abbrev pub StateFault : StoredFault → List ℕ → Type 0
 StateFault fault [] = fault ≡ Length
 StateFault fault (form ∷ body) =
@@ -96,16 +101,20 @@ StateFault fault (form ∷ body) =
 
 -- Entry form 1: 17 to 65,552 bytes.
 
--- the index, the term, and the entry's own bytes
+-- the bytes after form byte 1: the entry's index, its term, and its own bytes
 abbrev pub entry_form_1 : Entry → List ℕ
 entry_form_1 e = number_text e.index ++ (number_text e.term ++ e.bytes)
 
--- what follows the form byte 1 is this entry, and it is in range
+-- `body`, the bytes after form byte 1, encodes entry `e`, which is in range
 pub record IsEntryForm1 (body : List ℕ) (e : Entry) : Type 0 where
   pub text : body ≡ entry_form_1 e
   pub in_range : IsTrue (stored_entry_fits e)
 
--- the first fault of what follows the form byte 1; memory can run out only for an entry without a fault
+-- The fault of the bytes `body` after form byte 1, read as the entry at `index`:
+-- - `Length`: they are fewer than 16 or more than 65,551;
+-- - `Range`: they encode no entry in range;
+-- - `Index`: they encode an entry with another index;
+-- - `Memory`: they have no other fault, but memory can run out when the entry is read.
 abbrev pub EntryForm1Fault : StoredFault → List ℕ → ℕ → Type 0
 EntryForm1Fault Length body index = (length body < 16) ⊎ (65551 < length body)
 EntryForm1Fault Range body index =
@@ -116,17 +125,18 @@ EntryForm1Fault _ body index = ⊥
 
 -- An entry.
 
--- what is written: form 1
+-- the bytes that are written for an entry: form byte 1 and its body
 abbrev pub entry_text : Entry → List ℕ
 entry_text e = 1 ∷ entry_form_1 e
 
--- the bytes encode an entry in range at this index
+-- the bytes encode entry `e`, which is in range and has this index
 pub record IsEntry (bytes : List ℕ) (index : ℕ) (e : Entry) : Type 0 where
   pub text : bytes ≡ entry_text e
   pub in_range : IsTrue (stored_entry_fits e)
   pub at_index : e.index ≡ index
 
--- the first fault of what should be the entry at an index: no bytes, another form, or a fault of its form
+-- The fault of bytes that are read as the entry at `index`. It is `Length` if there are none, `Form` if the form byte
+-- isn't 1, and otherwise the fault of form 1.
 abbrev pub EntryFault : StoredFault → List ℕ → ℕ → Type 0
 EntryFault fault [] index = fault ≡ Length
 EntryFault fault (form ∷ body) index =

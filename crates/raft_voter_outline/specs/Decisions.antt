@@ -1,4 +1,5 @@
--- Decisions, made from the plans of requests in range.
+-- How a plan, which is made for a request in range, becomes a decision, and how a decided change is made to an
+-- outline.
 use Rattle.std.specs.Prelude.{◌≡◌, ℕ, ◌+◌, ◌^◌, ◌<◌, ◌≤◌, nat_lt, nat_le, if◌then◌else◌, List, [], drop, None, MatchOption}
 use Rattle.raft_voter_messages.specs.declared.reply.Reply.TheVariants.{Entries as EntriesReply, Gone, Unknown}
 use Rattle.raft_voter_messages.specs.declared.request.Request.{Request}
@@ -14,7 +15,8 @@ use Rattle.raft_voter_outline.specs.Runs.{bare, runs_behind, Terms}
 use Rattle.raft_voter_outline.specs.Rules.{next}
 use Rattle.raft_voter_outline.specs.State.{State, last_index}
 
--- which entries a Read returns, or why it returns none
+-- For a Read of the indexes from `from` to below `to`: the indexes whose entries the reply needs. If there are none,
+-- it is the reply itself.
 abbrev pub read_answer : State → ℕ → ℕ → Answer
 read_answer o from to =
     if nat_le from o.base_index then Told (Gone o.base_index)
@@ -22,14 +24,15 @@ read_answer o from to =
     else if nat_lt (last_index o + 1) to then Told (Unknown (last_index o))
     else EntriesAnswer from to
 
--- a plan changes nothing
+-- this write of plan `p` changes nothing of outline `o`: it keeps the stored state and writes no entries, and a
+-- `Clean` finds an empty log
 abbrev pub Stays : State → Plan → Write → Type 0
 Stays o p StateAlone = p.state ≡ stored_state o
 Stays o p (Entries skipped index) = ⊥
 Stays o p (CompactTo index) = ⊥
 Stays o p Clean = (p.state ≡ stored_state o) × (o.log ≡ [])
 
--- a decision has the plan's reply, and no change if the plan changes nothing
+-- decision `d` has the plan's reply. It has the plan's state and write as its change, or none if they change nothing.
 pub record SettlesPlan (o : State) (p : Plan) (d : Decision) : Type 0 where
   pub answer : d.answer ≡ Told p.reply
   pub change :
@@ -38,29 +41,31 @@ pub record SettlesPlan (o : State) (p : Plan) (d : Decision) : Type 0 where
 
 -- Changes, as they are made.
 
--- the entries of a request that are appended to the log
+-- the entries of request `q` that this write appends to the log
 abbrev pub entries_in : Write → Request → List (ℕ × List ℕ)
 entries_in (Entries skipped index) q = drop skipped (sent_of q)
 entries_in _ q = []
 
--- how many runs the appended entries need at most: as many as after an entry of another term
+-- the most runs of equal terms that the appended entries can add to an outline: all of theirs, as after an entry of
+-- another term
 abbrev pub runs_needed : Write → Request → ℕ
 runs_needed w q = runs_behind None (entries_in w q)
 
--- there is room for the runs of the appended entries
+-- `room` is enough for the most runs that the appended entries can add
 abbrev pub HasRunRoom : Write → Request → ℕ → Type 0
 HasRunRoom w q room = runs_needed w q ≤ room
 
--- of the room, at most what the appended entries need is used
+-- the room falls from `old` to `new` at most by the number of runs that the appended entries can add
 abbrev pub UsesRoom : Write → Request → ℕ → ℕ → Type 0
 UsesRoom w q old new = old ≤ new + runs_needed w q
 
--- these are the terms of a voter's log
+-- `t` has the base of voter `v` and the terms of its entries
 pub record AreTermsOf (v : State) (t : Terms) : Type 0 where
   pub base_is : t.base ≡ v.base_index
   pub log_is : t.log ≡ bare v.log
 
--- these are the terms of a voter whose log this change can be made to
+-- change `c` can be made to terms `t`: they are those of some voter for which the change is possible, and its new base
+-- is in range
 pub record CanChange (t : Terms) (q : Request) (c : Change) : Type 0 where
   pub voter : State
   pub terms_of : AreTermsOf voter t
@@ -68,12 +73,13 @@ pub record CanChange (t : Terms) (q : Request) (c : Change) : Type 0 where
   pub rests : RestsOn c.write voter c.state.base_index
   pub small : c.state.base_index < 2 ^ 63
 
--- the terms of each voter's log after a change
+-- `new` is `old` after change `c`: its base is the change's, and its log has the terms that each voter with terms
+-- `old` has after the write
 abbrev pub ChangesTerms : Terms → Request → Change → Terms → Type 0
 ChangesTerms old q c new =
     (new.base ≡ c.state.base_index)
     × ((v : State) → AreTermsOf v old → new.log ≡ bare (log_written c.write (sent_of q) v))
 
--- the outline that each voter with this outline has after a request
+-- each voter with outline `o` has outline `new` after request `q`
 abbrev pub OutlineBecomes : State → Request → State → Type 0
 OutlineBecomes o q new = (v : State) → without_bytes v ≡ o → without_bytes (next v q) ≡ new

@@ -1,4 +1,5 @@
--- Voters without the bytes of their entries, and what can be decided from them.
+-- Outlines: voters without the bytes of their entries. What a request writes, and when a decision made from an outline
+-- is right.
 use Rattle.std.specs.Prelude.{◌≡◌, ◌≢◌, ℕ, ◌+◌, ◌-◌, ◌^◌, ◌≤◌, ◌<◌, ◌==◌, ◌⊎◌, nat_lt, nat_le, true, false, not, if◌then◌else◌, List, [], ◌++◌, length, take, drop, Option, MatchOption}
 use Rattle.raft_voter_messages.specs.declared.reply.Reply.{Reply}
 use Rattle.raft_voter_messages.specs.declared.reply.Reply.TheVariants.{Entries as EntriesReply}
@@ -17,22 +18,24 @@ use Rattle.raft_voter_outline.specs.Rules.{agrees_at, can_compact, entries_betwe
 use Rattle.raft_voter_outline.specs.Rules.{is_retire}
 use Rattle.raft_voter_outline.specs.Runs.{bare, Terms}
 
--- how contracts see an outline: the voter without its entries' bytes, and for how many more runs of terms there is room
+-- an outline as contracts see it: the voter without the bytes of its entries, and how many more runs of equal terms
+-- fit in its memory
 pub record Outlined : Type 0 where
   pub voter : State
   pub room : ℕ
 
--- an outline keeps only the terms of its entries, and its base is in range and committed
+-- `t` and `commit` can be those of an outline: the entries have no bytes, and the base is in range and at most
+-- `commit`
 pub record IsOutline (t : Terms) (commit : ℕ) : Type 0 where
   pub bared : bare t.log ≡ t.log
   pub small : t.base < 2 ^ 63
   pub committed : t.base ≤ commit
 
--- the voter without its entries' bytes
+-- voter `v` with the terms of its entries, but without their bytes
 abbrev pub without_bytes : State → State
 without_bytes v = record v { log = bare v.log }
 
--- the state as it is stored: only the base of its log is known
+-- the voter's state as it is stored: with the base in place of the last entry
 abbrev pub stored_state : State → VoterState
 stored_state v = record {
   term = v.term;
@@ -44,24 +47,24 @@ stored_state v = record {
   commit = v.commit;
 }
 
--- the entries that a request brings
+-- the entries that a request brings; only an Append has any
 abbrev pub sent_of : Request → List (ℕ × List ℕ)
 sent_of (Append term prev prev_term commit sent) = sent
 sent_of _ = []
 
--- the reply of an answer, with its entries
+-- the reply of voter `v` for this answer: the reply that it has, or the voter's entries from `from` to below `to`
 abbrev pub answered : Answer → State → Reply
 answered (Told told) v = told
 answered (EntriesAnswer from to) v = EntriesReply (entries_between v from to)
 
--- the log after this write, for a request that brought these entries
+-- the log of voter `v` after this write, for a request that brought the entries `sent`
 abbrev pub log_written : Write → List (ℕ × List ℕ) → State → List (ℕ × List ℕ)
 log_written StateAlone sent v = v.log
 log_written (Entries skipped index) sent v = take (index - v.base_index - 1) v.log ++ drop skipped sent
 log_written (CompactTo index) sent v = drop (index - v.base_index) v.log
 log_written Clean sent v = []
 
--- the voter after a change
+-- voter `v` after change `c`, for a request that brought the entries `sent`
 abbrev pub changed : Change → List (ℕ × List ℕ) → State → State
 changed c sent v = record {
   term = c.state.term;
@@ -72,7 +75,10 @@ changed c sent v = record {
   log = log_written c.write sent v;
 }
 
--- the write is possible on this voter's log, and is needed
+-- This write is possible for request `q` on the log of voter `v`:
+-- - `StateAlone` is for any request except Retire, and `Clean` only for Retire;
+-- - `Entries` appends at least one entry of `q`, and leaves no gap and no index out of range;
+-- - `CompactTo` has an index above the base and up to the last entry.
 abbrev pub CanWrite : Write → Request → State → Type 0
 CanWrite StateAlone q v = is_retire q ≡ false
 CanWrite (Entries skipped index) q v =
@@ -81,7 +87,8 @@ CanWrite (Entries skipped index) q v =
 CanWrite (CompactTo index) q v = (v.base_index < index) × (index ≤ last_index v)
 CanWrite Clean q v = is_retire q ≡ true
 
--- the base after a write: determined by the write, but free if the log is empty then
+-- `base` can be the base's index after this write. It is 0 after a `Clean`. Otherwise it is the old base, or the index
+-- of a `CompactTo`. It may also be any index if a `StateAlone` finds no entries or a `CompactTo` removes all.
 abbrev pub RestsOn : Write → State → ℕ → Type 0
 RestsOn StateAlone v base = (base ≡ v.base_index) ⊎ (v.log ≡ [])
 RestsOn (Entries skipped index) v base = base ≡ v.base_index
@@ -90,23 +97,23 @@ RestsOn Clean v base = base ≡ 0
 
 -- What each request writes to the log.
 
--- the write for entries that follow an index, of which the first ones are already in the log
+-- the write for an Append of the entries `sent` after index `prev`, of which the log has the first `same`
 abbrev pub brought : ℕ → ℕ → List (ℕ × List ℕ) → Write
 brought same prev sent = if same == length sent then StateAlone else Entries same (prev + 1 + same)
 
--- what an Append in range writes: nothing if it isn't taken or all its entries are in the log; otherwise its entries
--- from the first one that differs
+-- What an Append in range writes. It writes nothing if its term is old, if the log has no entry at `prev` with
+-- `prev_term`, or if it has all entries sent. Otherwise it writes those from the first that differs or is new.
 abbrev pub append_write : State → ℕ → ℕ → ℕ → List (ℕ × List ℕ) → Write
 append_write v term prev prev_term sent =
     if nat_lt term v.term then StateAlone
     else if not (agrees_at v prev prev_term) then StateAlone
     else brought (matching (drop (prev - v.base_index) v.log) sent) prev sent
 
--- removes all entries, if there are any
+-- the write that removes all entries of the log; if it has none, nothing is written
 abbrev pub all_gone : State → Write
 all_gone v = if length v.log == 0 then StateAlone else CompactTo (last_index v)
 
--- what a request in range writes
+-- what this request, in range, writes to the log of voter `v`
 abbrev pub write_of : State → Request → Write
 write_of v (Append term prev prev_term commit sent) = append_write v term prev prev_term sent
 write_of v (Compact index) = if can_compact v index then CompactTo index else StateAlone
@@ -120,7 +127,8 @@ write_of v _ = StateAlone
 
 -- Decisions.
 
--- a change is exactly what the request makes of the voter, and the voter changes
+-- Change `c` is what request `q` makes of voter `v`. It has the next state and the request's write, and the write is
+-- possible. If the old base is in range, so is the new one. The voter does change.
 pub record IsChangeOf (v : State) (q : Request) (c : Change) : Type 0 where
   pub state : c.state ≡ stored_state (next v q)
   pub next_is : next v q ≡ changed c (sent_of q) v
@@ -130,31 +138,34 @@ pub record IsChangeOf (v : State) (q : Request) (c : Change) : Type 0 where
   pub small : v.base_index < 2 ^ 63 → c.state.base_index < 2 ^ 63
   pub moves : next v q ≢ v
 
--- the entries that an answer still has to read are those that a Read asks for, and they are in the log
+-- if the reply still needs entries, `q` is the Read that asks for them, there is at least one, and voter `v` has them
+-- all
 abbrev pub EntriesAreThere : Answer → Request → State → Type 0
 EntriesAreThere (Told told) q v = Unit {0}
 EntriesAreThere (EntriesAnswer from to) q v =
     (q ≡ Read from to) × (v.base_index < from) × (from < to) × (to ≤ last_index v + 1)
 
--- an answer is the reply of every voter with this outline, and the entries that it still has to read are in the log
+-- for each voter with outline `o`, answer `a` gives its reply to request `q`, and the voter has the entries that the
+-- reply still needs
 abbrev pub IsReplyOfEach : State → Request → Answer → Type 0
 IsReplyOfEach o q a = (v : State) → without_bytes v ≡ o → (reply v q ≡ answered a v) × EntriesAreThere a q v
 
--- a request changes no voter with this outline
+-- request `q` changes no voter with outline `o`
 abbrev pub LeavesEach : State → Request → Type 0
 LeavesEach o q = (v : State) → without_bytes v ≡ o → next v q ≡ v
 
--- a change is correct for every voter with this outline
+-- `c` is the change that request `q` makes to each voter with outline `o`
 abbrev pub ChangesEach : State → Request → Change → Type 0
 ChangesEach o q c = (v : State) → without_bytes v ≡ o → IsChangeOf v q c
 
--- A decision is correct for every voter with this outline. The answer is its reply. There is no change exactly if the
--- voter doesn't change.
+-- Decision `d` is right for each voter with outline `o`. It has the voter's reply. If it has a change, request `q`
+-- makes that change to the voter, and otherwise `q` doesn't change the voter.
 pub record Decides (o : State) (q : Request) (d : Decision) : Type 0 where
   pub answer : IsReplyOfEach o q d.answer
   pub change : MatchOption d.change (LeavesEach o q) (ChangesEach o q)
 
--- a request in range copies entries: an Append with entries that aren't in the log, or a Read of entries that are
+-- This request, in range, needs copies of entries. It is an Append that is accepted and brings an entry that is new or
+-- differs, or a Read that returns at least one entry.
 abbrev pub WantsCopies : State → Request → Type 0
 WantsCopies v (Append term prev prev_term commit sent) =
     (v.term ≤ term) × (agrees_at v prev prev_term ≡ true)
@@ -162,11 +173,11 @@ WantsCopies v (Append term prev prev_term commit sent) =
 WantsCopies v (Read from to) = (v.base_index < from) × (from < to) × (to ≤ last_index v + 1)
 WantsCopies v _ = ⊥
 
--- a request copies entries
+-- request `q` is in range and needs copies of entries
 abbrev pub Copies : State → Request → Type 0
 Copies v q = (in_range q ≡ true) × WantsCopies v q
 
--- how contracts see an outline's fields
+-- the outline with these values in its fields; `terms` has its base index, its log and its room
 abbrev pub outlined : ℕ → Option ℕ → ℕ → ℕ → Terms → Outlined
 outlined term vote base_term commit terms = record {
   voter = record {

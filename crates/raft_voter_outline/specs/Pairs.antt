@@ -1,4 +1,4 @@
--- Outlines in pairs with their groups.
+-- Outlines listed in pairs, each after its group.
 use Rattle.std.specs.Prelude.{ℕ, List, Option, None}
 use Rattle.std.specs.Map.{update_all}
 use Rattle.std.specs.Ordering.{eq_by_cmp, nat_cmp}
@@ -6,10 +6,10 @@ use Rattle.raft_voter_outline.specs.Outlines.{Outlined}
 use Rattle.raft_voter_outline.specs.State.{State}
 use Rattle.raft_voter_outline.specs.Kept.{kept_or_fresh}
 
--- the last outline that is listed with a group
+-- the outline of group `g` in this list: that of the last pair with `g`, if there is one
 abbrev pub listed_of : List (ℕ × Outlined) → ℕ → Option Outlined
 listed_of pairs g = update_all (eq_by_cmp nat_cmp) (λ h. None) pairs g
 
--- the outline of each group, if these are listed: a fresh voter's, if none is listed with it
+-- for each group, the voter of its outline in this list, or a fresh voter if the list has none
 abbrev pub outlines_of : List (ℕ × Outlined) → ℕ → State
 outlines_of pairs = λ g. kept_or_fresh (listed_of pairs g)

@@ -1,4 +1,4 @@
--- Voters, restored from what was read of them.
+-- Rebuilding a voter from the state and the entries that were read from a store.
 use Rattle.std.specs.Prelude.{◌≡◌, ℕ, ◌+◌, ◌==◌, ◌&&◌, Bool, true, IsOk, if◌then◌else◌, List, [], ◌∷◌, map, Result, Ok, Err}
 use Rattle.std.specs.List.{list_all}
 use Rattle.raft_voter_messages.specs.declared.reply.Entry.{Entry}
@@ -8,12 +8,12 @@ use Rattle.raft_voter_messages.specs.declared.stored.StoredFault.TheVariants.{Ra
 use Rattle.raft_voter_messages.specs.StoredForms.{state_fits, stored_entry_fits}
 use Rattle.raft_voter_outline.specs.State.{State}
 
--- the entries are consecutive, and the first is at this index
+-- the entries have consecutive indexes, and the first one's is `index`
 abbrev pub are_in_order : ℕ → List Entry → Bool
 are_in_order index [] = true
 are_in_order index (e ∷ es) = e.index == index && are_in_order (index + 1) es
 
--- the voter with this state and this log
+-- the voter with this state and these log entries
 abbrev pub with_log : VoterState → List (ℕ × List ℕ) → State
 with_log s log = record {
   term = s.term;
@@ -24,7 +24,8 @@ with_log s log = record {
   log = log;
 }
 
--- the voter with this state and these entries, or their fault: a number out of range is reported before a wrong order
+-- The voter with state `s` and entries `es`. The fault is `Range` if a number is out of range, and otherwise `Order`
+-- if the entries don't follow the base one by one.
 abbrev pub restored : VoterState → List Entry → Result State StoredFault
 restored s es =
     if state_fits s && list_all stored_entry_fits es then
@@ -33,7 +34,8 @@ restored s es =
     else Err Order)
     else Err Range
 
--- the fault is the right one; memory can run out only if there is no other fault
+-- `fault` may be returned if `there` is what the state and entries restore to. It is the fault of `there`, or `Memory`
+-- if `there` is a voter.
 abbrev pub RestoreFault : StoredFault → Result State StoredFault → Type 0
 RestoreFault Memory there = IsOk there
 RestoreFault fault there = there ≡ Err fault

@@ -11,52 +11,53 @@ use Rattle.raft_voter_outline.specs.State.{State, fresh, last_index, last_term, 
 
 -- Votes.
 
--- the voter has not voted, or has voted for this candidate
+-- voter `v` has no vote in its term, or its vote is for this candidate
 abbrev pub may_vote : State → ℕ → Bool
 may_vote v candidate = option_map_or (λ c. c == candidate) v.vote true
 
--- a log that ends at this index with this term is at least as up to date as the voter's: the terms are compared first,
--- then the indexes
+-- A log that ends at `index` with term `last` is at least as up to date as the log of voter `v`. The log with the
+-- higher last term is more up to date; for equal terms, the longer one.
 abbrev pub is_up_to_date : State → ℕ → ℕ → Bool
 is_up_to_date v index last = nat_lt (last_term v) last || (last == last_term v && nat_le (last_index v) index)
 
--- a vote is granted if the candidate's term isn't over, no other candidate has the vote in it, and the candidate's log
--- is up to date
+-- Voter `v` grants its vote. The candidate's `term` is at least the voter's. The voter has no vote for another
+-- candidate in that term. The candidate's log is at least as up to date.
 abbrev pub grants : State → ℕ → ℕ → ℕ → ℕ → Bool
 grants v term candidate index last =
     nat_le v.term term && may_vote (adopt_term v term) candidate && is_up_to_date v index last
 
 -- Entries.
 
--- the entry at this index, or the base, has this term
+-- voter `v` has `term` at `index`, in an entry or as its base
 abbrev pub agrees_at : State → ℕ → ℕ → Bool
 agrees_at v index term = option_map_or (λ t. t == term) (term_at v index) false
 
--- how many of the entries sent are already in the log: those before the first one that is new or whose term differs
+-- how many of the entries `sent` have the same terms as the entries `old`, up to the first that differs or is new
 abbrev pub matching : List (ℕ × List ℕ) → List (ℕ × List ℕ) → ℕ
 matching old sent = common_prefix_len (λ e s. e.0 == s.0) old sent
 
--- matching entries are kept; from the first that differs, the old entries are replaced by those sent
+-- The entries `old` after an Append of `sent`. They are unchanged if `old` begins with the terms of `sent`. Otherwise
+-- the matching entries stay, and those of `sent` from the first that differs or is new replace the rest.
 abbrev pub merged : List (ℕ × List ℕ) → List (ℕ × List ℕ) → List (ℕ × List ℕ)
 merged old sent =
     if matching old sent == length sent then old
     else take (matching old sent) old ++ drop (matching old sent) sent
 
--- the log after merging the entries that follow index `prev`
+-- the log of voter `v` after an Append of the entries `sent` after index `prev`
 abbrev pub merged_log : State → ℕ → List (ℕ × List ℕ) → List (ℕ × List ℕ)
 merged_log v prev sent = take (prev - v.base_index) v.log ++ merged (drop (prev - v.base_index) v.log) sent
 
--- Merges the entries that follow index `prev`. The commit rises to the leader's, but not past the last entry that the
--- leader is now known to share.
+-- Voter `v` after an Append of the entries `sent` after index `prev`. Its commit rises to `commit`, the leader's, but
+-- at most to the last entry sent. It never falls.
 abbrev pub appended : State → ℕ → ℕ → List (ℕ × List ℕ) → State
 appended v prev commit sent =
     record v { log = merged_log v prev sent; commit = max v.commit (min commit (prev + length sent)) }
 
--- the log can be compacted up to a committed entry that it has
+-- voter `v` can compact its log up to `index`: that index is above the base, and its entry is in the log and committed
 abbrev pub can_compact : State → ℕ → Bool
 can_compact v index = nat_lt v.base_index index && nat_le index (last_index v) && nat_le index v.commit
 
--- the voter after its log was compacted up to an entry: that entry is the base, and the entries after it are kept
+-- voter `v` after a compaction up to `index`: the entry there becomes the base, and the entries after it stay
 abbrev pub compacted : State → ℕ → State
 compacted v index =
     record v {
@@ -65,8 +66,8 @@ compacted v index =
       log = drop (index - v.base_index) v.log;
     }
 
--- A snapshot's last entry becomes the base, and is committed. The entries after it are kept if the log has that entry
--- with that term, and otherwise removed.
+-- Voter `v` after it installed a snapshot whose last entry has this index and term. That entry becomes the base, and
+-- is committed. If the log has it with that term, the entries after it stay; otherwise all are removed.
 abbrev pub installed : State → ℕ → ℕ → State
 installed v index entry_term =
     record v {
@@ -76,18 +77,18 @@ installed v index entry_term =
       log = if agrees_at v index entry_term then drop (index - v.base_index) v.log else [];
     }
 
--- entries with their indexes, the first at this one
+-- these entries with consecutive indexes, from `index` on
 abbrev pub numbered : ℕ → List (ℕ × List ℕ) → List Entry
 numbered index [] = []
 numbered index (e ∷ es) = record { index = index; term = e.0; bytes = e.1 } ∷ numbered (index + 1) es
 
--- the entries of the log from one index to below another
+-- the entries of voter `v` from index `from` to below `to`
 abbrev pub entries_between : State → ℕ → ℕ → List Entry
 entries_between v from to = numbered from (take (to - from) (drop (from - v.base_index - 1) v.log))
 
--- The case table.
+-- The rules, request by request.
 
--- the reply to a request in range
+-- the reply of voter `v` to a request in range
 abbrev pub reply_in_range : State → Request → Reply
 reply_in_range v (Vote term candidate index last) =
     if grants v term candidate index last then Granted term else Denied (adopt_term v term).term
@@ -109,7 +110,7 @@ reply_in_range v (Read from to) =
 reply_in_range v Status = StatusReply (state_of v)
 reply_in_range v Retire = Retired
 
--- the voter after a request in range
+-- voter `v` after a request in range
 abbrev pub next_in_range : State → Request → State
 next_in_range v (Vote term candidate index last) =
     if grants v term candidate index last then record (adopt_term v term) { vote = Some candidate }
@@ -127,15 +128,15 @@ next_in_range v (Read from to) = v
 next_in_range v Status = v
 next_in_range v Retire = fresh
 
--- the reply to any request; it is `Refused` if the request is out of range
+-- the reply of voter `v` to any request: `Refused` if it is out of range
 abbrev pub reply : State → Request → Reply
 reply v q = if in_range q then reply_in_range v q else Refused
 
--- the voter after any request; a request out of range changes nothing
+-- voter `v` after any request: unchanged if it is out of range
 abbrev pub next : State → Request → State
 next v q = if in_range q then next_in_range v q else v
 
--- a request to retire the group
+-- the request is Retire, which resets its group to a fresh voter
 abbrev pub is_retire : Request → Bool
 is_retire Retire = true
 is_retire q = false

@@ -1,4 +1,4 @@
--- The plain store: its voters in memory, and the file that keeps them.
+-- The plain store: voters in memory, and a file to which each change is written as a record.
 use Rattle.std.specs.Prelude.{◌≡◌, ◌<◌, ◌≤◌, ◌⊎◌, ℕ, Bool, true, false, List, [], ◌∷◌, ◌++◌, length, take}
 use Rattle.raft_voter_messages.specs.declared.reply.Reply.{Reply}
 use Rattle.raft_voter_messages.specs.declared.request.Request.{Request}
@@ -13,38 +13,40 @@ use Rattle.raft_voter_plain.specs.Content.{PlainContent, after_crash, all_synced
 use Rattle.raft_voter_plain.specs.Damage.{StandsForNothing}
 use Rattle.raft_voter_plain.specs.Records.{StandsFor, LeadTo, world_in}
 
--- the voter of each group: the one in memory, or a fresh one
+-- the world of this store: for each group its voter in memory, or a fresh one
 abbrev pub world_of : PlainVoters → World
 world_of store = world_in store.voters
 
--- the synced bytes keep the voters, and nothing else was written
+-- the synced bytes of the file store the voters that are in memory, and the file has no unsynced bytes
 pub record StandsForVoters (store : PlainVoters) : Type 0 where
   pub synced : StandsFor store.file.synced (world_of store)
   pub settled : store.file.unsynced ≡ []
 
--- these are the voters in memory, and they are synced
+-- the voters in memory are those of world `W`, and the file stores them, all synced
 abbrev pub ServesVoters : PlainVoters → World → Type 0
 ServesVoters store W = (world_of store ≡ W) × StandsForVoters store
 
--- these bytes keep voters that are possible after this round, and no others
+-- the bytes store the voters of exactly one world, and these are possible after the cut-off round `cut`
 pub record StandsBehind (bytes : List ℕ) (cut : CutRound) : Type 0 where
   pub world : World
   pub stands : StandsFor bytes world
   pub alone : (X : World) → StandsFor bytes X → X ≡ world
   pub follows : MayFollow cut world
 
--- what a crash leaves of a file, and what a read returns, keep voters that are possible after this round
+-- the synced bytes of this file, and also all its bytes, store voters that are possible after the cut-off round `cut`
 pub record FileStandsBehind (file : PlainContent) (cut : CutRound) : Type 0 where
   pub synced : StandsBehind file.synced cut
   pub read : StandsBehind (whole file) cut
 
--- the places that a round refuses: those of the requests out of range, or none if the service failed in it
+-- the positions of a round that the store refuses: none if it failed in the round, otherwise those of the requests out
+-- of range
 abbrev pub refused_by : Bool → List (ℕ × Request) → List ℕ
 refused_by false requests = out_of_range 0 requests
 refused_by true requests = []
 
--- The plain voters as a service: a crash leaves what was synced, and exactly the requests out of range are refused. The
--- file is in memory, so it fails only if memory runs out. Then the voters have failed.
+-- The plain store as a service. A close or a crash leaves voters that its file stores. It refuses exactly the requests
+-- out of range, or none in a round in which it failed. A file system call counts as failed if the store has failed
+-- since.
 abbrev pub plain_voters : Service PlainVoters
 plain_voters = record {
   serves = ServesVoters;
@@ -54,16 +56,16 @@ plain_voters = record {
   fails = λ old new. (old.failed ≡ false) × (new.failed ≡ true);
 }
 
--- Why an open of a file fails. Memory may run out, if the file isn't empty. If its bytes aren't records, the cause is
--- the file system.
+-- An open of this file may fail for this cause: `Memory` if the file isn't empty, and `FileSystem` if its bytes aren't
+-- records.
 abbrev pub FileIsRefusedFor : PlainContent → Cause → Type 0
 FileIsRefusedFor file Memory = 0 < length (whole file)
 FileIsRefusedFor file FileSystem = StandsForNothing (whole file)
 FileIsRefusedFor file cause = ⊥
 
--- The file of the plain voters. An open syncs it, and leaves it unchanged if it fails. A close leaves it unchanged. A
--- crash leaves what was synced, and taking what it leaves can't fail. The records have no checksum, so there are no CRC
--- collisions.
+-- The plain store's file while it isn't open. An open syncs it, or fails and leaves it unchanged. A close leaves it
+-- unchanged. A crash leaves its synced bytes, and they can always be taken. There is no condition on CRC collisions,
+-- as records have no checksum.
 abbrev pub plain_files : Files PlainVoters PlainContent
 plain_files = record {
   leaves = FileStandsBehind;
@@ -75,29 +77,31 @@ plain_files = record {
   refuses_crash = λ file. ⊥;
 }
 
--- the unsynced bytes lead from these voters to those in memory
+-- the unsynced bytes of the file are records that lead from world `W` to the voters in memory
 abbrev pub LeadsFrom : World → PlainVoters → Type 0
 LeadsFrom W store = LeadTo W store.file.unsynced (world_of store)
 
--- one request is taken: what it changed is written
+-- One request was taken in memory, and `told` is the reply of its voter. If it changed the voter, a record was
+-- written. The synced bytes are the same.
 pub record Takes (old : PlainVoters) (asked : ℕ × Request) (told : Reply) (new : PlainVoters) : Type 0 where
   pub told_is : told ≡ reply (world_of old asked.0) asked.1
   pub taken : world_of new ≡ after_one (world_of old) asked
   pub synced : new.file.synced ≡ old.file.synced
   pub written : (W : World) → AllInRange (world_of old) → LeadsFrom W old → LeadsFrom W new
 
--- one request gets no reply: it was taken in memory or not, and nothing is written
+-- one request gets no reply: it was taken in memory or not, and the file is unchanged
 pub record OneIsRefused (old : PlainVoters) (asked : ℕ × Request) (new : PlainVoters) : Type 0 where
   pub taken : (world_of new ≡ world_of old) ⊎ (world_of new ≡ after_one (world_of old) asked)
   pub synced : new.file.synced ≡ old.file.synced
   pub unsynced : new.file.unsynced ≡ old.file.unsynced
 
--- the replies to requests that are taken one after another
+-- the replies to these requests, which are all taken in order, starting in world `W`
 abbrev pub replies_in_turn : World → List (ℕ × Request) → List Reply
 replies_in_turn W [] = []
 replies_in_turn W (q ∷ qs) = reply (W q.0) q.1 ∷ replies_in_turn (after_one W q) qs
 
--- requests are taken one after another: what they changed is written
+-- These requests were all taken in memory, in order, and `told` are the replies. The changes were written as records.
+-- The synced bytes are the same.
 pub record TakesAll (old : PlainVoters) (asked : List (ℕ × Request)) (told : List Reply) (new : PlainVoters)
     : Type 0 where
   pub told_is : told ≡ replies_in_turn (world_of old) asked
@@ -105,26 +109,28 @@ pub record TakesAll (old : PlainVoters) (asked : List (ℕ × Request)) (told : 
   pub synced : new.file.synced ≡ old.file.synced
   pub written : AllInRange (world_of old) → LeadsFrom (world_of old) old → LeadsFrom (world_of old) new
 
--- only some of the first requests were taken, perhaps none
+-- world `X` is world `W` after the first few of these requests, perhaps none or all
 pub record Stopped (W : World) (requests : List (ℕ × Request)) (X : World) : Type 0 where
   pub count : ℕ
   pub few : count ≤ length requests
   pub taken : X ≡ after W (take count requests)
 
--- the unsynced bytes lead from these voters to those that took some of the first requests
+-- the unsynced bytes are records that lead from world `W` to the world after the first few of these requests
 pub record WroteSome (W : World) (asked : List (ℕ × Request)) (unsynced : List ℕ) : Type 0 where
   pub world : World
   pub taken : Stopped W asked world
   pub written : LeadTo W unsynced world
 
--- requests get no replies: some of the first were taken in memory, and some were written; what was synced is unchanged
+-- These requests get no replies. The first few were taken in memory, and the changes of the first few were written as
+-- records; these numbers may differ. The synced bytes are the same.
 pub record AnswersNone (old : PlainVoters) (asked : List (ℕ × Request)) (new : PlainVoters) : Type 0 where
   pub taken : Stopped (world_of old) asked (world_of new)
   pub synced : new.file.synced ≡ old.file.synced
   pub written : AllInRange (world_of old) → LeadsFrom (world_of old) old
       → WroteSome (world_of old) asked new.file.unsynced
 
--- some requests are taken, and these remain
+-- Of the requests `asked`, the first were taken in memory with the replies `told`, and `left` remain. The changes so
+-- far were written as records. The synced bytes are the same.
 pub record IsAmidst (old : PlainVoters) (asked left : List (ℕ × Request)) (told : List Reply)
     (now : PlainVoters) : Type 0 where
   pub told_is : told ++ replies_in_turn (world_of now) left ≡ replies_in_turn (world_of old) asked

@@ -1,4 +1,5 @@
--- Events that a single line encodes.
+-- How a line of a session encodes an event. Each definition returns `None` for a line, or the rest of one, that it
+-- can't read.
 use Rattle.std.specs.Prelude.{ℕ, nat_lt, List, length, drop, codes, Option, Some, None, if◌then◌else◌}
 use Rattle.std.specs.List.{before_first}
 use Rattle.std.specs.Str.{bytes_eq}
@@ -8,13 +9,13 @@ use Rattle.raft_voter_world.specs.declared.event.Left.TheVariants.{All, First, L
 use Rattle.raft_voter_session.specs.Told.{Told, alone, copy}
 use Rattle.raft_voter_session.specs.Words.{◌>>=◌, count_at, ends, is_space, number_at, text_of, word_at}
 
--- `open W`, with at least one worker
+-- `open W`: an open by `W` workers, at least one; this reads the text after `open`
 unfoldable pub open_at : List ℕ → Option Told
 open_at text = do
   workers ← count_at text
   ends workers.1 (alone (Open workers.0))
 
--- `first P B`
+-- `first P B`: a crash leaves the first `P` unsynced pieces, and `B` bytes of the next one
 abbrev pub first_at : List ℕ → Option Left
 first_at text = do
   word ← word_at text
@@ -23,33 +24,33 @@ first_at text = do
     bytes ← number_at pieces.1
     ends bytes.1 (First pieces.0 bytes.0)) else None
 
--- what a crash leaves: `last`, `all` or `first P B`
+-- what a crash leaves of the unsynced changes: `last` for none, `all`, or `first P B`
 unfoldable pub left_at : List ℕ → Option Left
 left_at text =
     if bytes_eq text (codes " last") then Some Last
     else if bytes_eq text (codes " all") then Some All
     else first_at text
 
--- `crash R`
+-- `crash R`: a crash that leaves `R`
 unfoldable pub crash_at : List ℕ → Option Told
 crash_at text = do
   left ← left_at text
   Some (alone (Crash left))
 
--- `crash-at N R`
+-- `crash-at N R`: a crash at the `N`-th call that changes files, which leaves `R`
 unfoldable pub stop_at : List ℕ → Option Told
 stop_at text = do
   calls ← count_at text
   left ← left_at calls.1
   Some (alone (CrashAt calls.0 left))
 
--- `refuse N`
+-- `refuse N`: the `N`-th call that changes files fails
 unfoldable pub refuse_at : List ℕ → Option Told
 refuse_at text = do
   calls ← count_at text
   ends calls.1 (alone (Refuse calls.0))
 
--- `fork NAME`, where the name is one word of UTF-8, and not empty
+-- `fork NAME`: a copy of the files into the directory `NAME`, one word of UTF-8 that isn't empty
 unfoldable pub fork_at : List ℕ → Option Told
 fork_at text = do
   word ← word_at text
@@ -57,7 +58,7 @@ fork_at text = do
     name ← text_of word.0
     ends word.1 (copy name)) else None
 
--- an event, from the first word of its line and the rest of it
+-- the event of a line whose first word is `word`, followed by `text`
 unfoldable pub event_at : List ℕ → List ℕ → Option Told
 event_at word text =
     if bytes_eq word (codes "open") then open_at text
@@ -67,7 +68,7 @@ event_at word text =
     else if bytes_eq word (codes "fork") then fork_at text
     else None
 
--- the event that a line encodes
+-- the event that this line encodes
 unfoldable pub event_of : List ℕ → Option Told
 event_of line =
     if bytes_eq line (codes "close") then Some (alone Close)

@@ -1,5 +1,5 @@
--- The text of a session: the lines of its settings and of its events. Each number has as few digits as possible, and
--- each Append has its commit.
+-- The text that encodes a session: the lines of its settings, then those of its events. Numbers have no leading zeros,
+-- and each Append has its commit.
 use Rattle.std.specs.Prelude.{ℕ, ◌^◌, ◌≤◌, ◌&&◌, nat_lt, nat_le, Bool, true, false, not, IsTrue}
 use Rattle.std.specs.Prelude.{List, [], ◌∷◌, ◌++◌, length, map, codes, Option, Some, None}
 use Rattle.std.specs.List.{flat_map, list_all}
@@ -18,7 +18,7 @@ use Rattle.raft_voter_session.specs.Text.{spaced, spaced_all}
 
 -- Lines.
 
--- the first word of a request's line
+-- the first word of a request's line: its kind
 abbrev pub request_word : Request → List ℕ
 request_word (Vote term candidate index last) = codes "vote"
 request_word (Append term prev prev_term commit sent) = codes "append"
@@ -28,7 +28,7 @@ request_word (Read from to) = codes "read"
 request_word Status = codes "status"
 request_word Retire = codes "retire"
 
--- the numbers after it
+-- the numbers after the first word of a request's line; the group is the first of them
 abbrev pub request_numbers : ℕ → Request → List ℕ
 request_numbers group (Vote term candidate index last) = group ∷ term ∷ candidate ∷ index ∷ last ∷ []
 request_numbers group (Append term prev prev_term commit sent) = group ∷ term ∷ prev ∷ prev_term ∷ commit ∷ []
@@ -38,27 +38,27 @@ request_numbers group (Read from to) = group ∷ from ∷ to ∷ []
 request_numbers group Status = group ∷ []
 request_numbers group Retire = group ∷ []
 
--- the entries after these
+-- the entries at the end of a request's line; only an Append has any
 abbrev pub request_entries : Request → List (ℕ × List ℕ)
 request_entries (Append term prev prev_term commit sent) = sent
 request_entries other = []
 
--- a space, then an entry as `term:hex`
+-- the text of an entry: a space, then `term:hex`
 abbrev pub sent_text : ℕ × List ℕ → List ℕ
 sent_text e = spaced e.0 ++ codes ":" ++ encode_lower e.1
 
--- the line of a request to a group
+-- the line of a request, which comes with its group
 abbrev pub request_line : ℕ × Request → List ℕ
 request_line q =
     request_word q.1 ++ spaced_all (request_numbers q.0 q.1) ++ flat_map sent_text (request_entries q.1)
 
--- a space, then what a crash leaves
+-- the text of what a crash leaves, after a space
 abbrev pub left_text : Left → List ℕ
 left_text Last = codes " last"
 left_text All = codes " all"
 left_text (First pieces bytes) = codes " first" ++ spaced_all (pieces ∷ bytes ∷ [])
 
--- the lines of an event that isn't a copy
+-- the lines of an event; a copy has none here, as only the bytes of its directory's name are known
 abbrev pub alone_lines : Event → List (List ℕ)
 alone_lines (Open workers) = (codes "open" ++ spaced_all (workers ∷ [])) ∷ []
 alone_lines Close = codes "close" ∷ []
@@ -71,60 +71,60 @@ alone_lines (Refuse calls) = (codes "refuse" ++ spaced_all (calls ∷ [])) ∷ [
 alone_lines (Round requests) = codes "round" ∷ map request_line requests ++ codes "end" ∷ []
 alone_lines (Fork target) = []
 
--- the lines of an event
+-- the lines of an event, also of a copy
 abbrev pub event_lines : Told → List (List ℕ)
 event_lines (alone event) = alone_lines event
 event_lines (copy name) = (codes "fork " ++ name) ∷ []
 
--- the lines of the settings, if there are some
+-- the lines of the settings between `config` and `end`; none without settings
 abbrev pub settings_lines : Option (List (List ℕ)) → List (List ℕ)
 settings_lines None = []
 settings_lines (Some lines) = codes "config" ∷ lines ++ codes "end" ∷ []
 
--- the lines of a session, with these lines of settings
+-- the lines of a session with these settings, given as lines, and these events
 abbrev pub session_lines : Option (List (List ℕ)) → List Told → List (List ℕ)
 session_lines settings events = settings_lines settings ++ flat_map event_lines events
 
--- the text of lines: each ends in a line feed
+-- the text of these lines; a line feed ends each
 abbrev pub lines_text : List (List ℕ) → List ℕ
 lines_text lines = flat_map (λ line. line ++ codes "\n") lines
 
--- the text of a session
+-- the text of a session with these settings, given as lines, and these events
 abbrev pub session_text : Option (List (List ℕ)) → List Told → List ℕ
 session_text settings events = lines_text (session_lines settings events)
 
--- What can be written.
+-- Which sessions can be written.
 
--- a number of eight bytes
+-- the number is below 2^64
 abbrev pub is_number : ℕ → Bool
 is_number n = nat_lt n (2 ^ 64)
 
--- an entry's term is a number of eight bytes, and its data are bytes
+-- the entry's term is below 2^64, and each of its bytes is below 256
 abbrev pub is_sent : ℕ × List ℕ → Bool
 is_sent e = is_number e.0 && list_all (λ b. nat_lt b 256) e.1
 
--- each number of a request and each entry's term have eight bytes, and the entries' data are bytes
+-- each number of the request is below 2^64, and each entry that it brings can be written
 abbrev pub is_asked : ℕ × Request → Bool
 is_asked q = list_all is_number (request_numbers q.0 q.1) && list_all is_sent (request_entries q.1)
 
--- a number of eight bytes that is at least 1
+-- the number is at least 1 and below 2^64
 abbrev pub is_count : ℕ → Bool
 is_count n = nat_lt 0 n && is_number n
 
--- the numbers of what a crash leaves have eight bytes
+-- the numbers in what a crash leaves are below 2^64
 abbrev pub is_left : Left → Bool
 is_left (First pieces bytes) = is_number pieces && is_number bytes
 is_left left = true
 
--- a byte that doesn't end a word
+-- the byte is neither a space nor a line feed
 abbrev pub is_within_word : ℕ → Bool
 is_within_word b = not (is_space b) && not (is_line_feed b)
 
--- a directory's name that a line can encode: one word of UTF-8, and not empty
+-- the name of a directory is UTF-8 without spaces and line feeds, and isn't empty
 abbrev pub is_name : List ℕ → Bool
 is_name name = nat_lt 0 (length name) && is_utf8 name && list_all is_within_word name
 
--- lines can encode an event that isn't a copy: each of its requests and numbers
+-- lines can encode this event, which isn't a copy: its requests and its numbers can be written
 abbrev pub is_told_alone : Event → Bool
 is_told_alone (Open workers) = is_count workers
 is_told_alone (Crash left) = is_left left
@@ -134,21 +134,22 @@ is_told_alone (Round requests) = list_all is_asked requests
 is_told_alone (Fork target) = false
 is_told_alone other = true
 
--- lines can encode an event
+-- lines can encode this event
 abbrev pub is_told : Told → Bool
 is_told (alone event) = is_told_alone event
 is_told (copy name) = is_name name
 
--- a line of settings: UTF-8 without a line feed, and not `end`
+-- the line can be one of the settings: it is UTF-8 without a line feed, and isn't `end`
 abbrev pub is_setting : List ℕ → Bool
 is_setting line = not (bytes_eq line (codes "end")) && is_utf8 line && list_all (λ b. not (is_line_feed b)) line
 
--- lines of settings, if there are some
+-- each of these lines can be one of the settings; without settings there is nothing to check
 abbrev pub are_settings : Option (List (List ℕ)) → Bool
 are_settings None = true
 are_settings (Some lines) = list_all is_setting lines
 
--- a session can be written: lines of at most 4,194,304 bytes, 268,435,456 bytes in all
+-- These settings and events can be written. Each of their lines has at most 4,194,304 bytes, and all have at most
+-- 268,435,456 together.
 pub record CanBeTold (settings : Option (List (List ℕ))) (events : List Told) : Type 0 where
   pub settings_fit : IsTrue (are_settings settings)
   pub events_fit : IsTrue (list_all is_told events)

@@ -1,4 +1,4 @@
--- The words of a line of a session: numbers in decimal digits, and data in hex digits.
+-- The words of a session's line: numbers in decimal digits, and bytes in hex digits.
 use Rattle.std.specs.Prelude.{ℕ, ◌^◌, ◌==◌, ◌&&◌, ◌||◌, Bool, nat_le, nat_lt, List, [], ◌∷◌, length, drop}
 use Rattle.std.specs.Prelude.{Option, Some, None, if◌then◌else◌}
 use Rattle.std.specs.List.{before_first, list_all, slice_split}
@@ -7,49 +7,50 @@ use Rattle.std.specs.Str.{all_ascii_digits, is_utf8}
 use Rattle.std.specs.Str.Parse.{digits_value_after}
 use Rattle.hex.specs.Hex.{decode_of}
 
--- the `?` of the logic: the second step, if the first returned a value
+-- the logic's `?`: the next step gets the value, and `None` stays `None`
 infixl 10 ◌>>=◌
 abbrev pub ◌>>=◌ : {A B : Type 0} → Option A → (A → Option B) → Option B
 None >>= f = None
 Some x >>= f = f x
 
--- a value, if no text is left
+-- the value `x` if no text is left, otherwise `None`
 abbrev pub ends : {A : Type 0} → List ℕ → A → Option A
 ends [] x = Some x
 ends (b ∷ text) x = None
 
--- the value of these decimal digits after digits with value n, if it is below 2^64
+-- the value of these decimal digits after digits with the value `n`; `None` if one isn't a digit or the value isn't
+-- below 2^64
 unfoldable pub value_from : ℕ → List ℕ → Option ℕ
 value_from n digits =
     if all_ascii_digits digits && nat_lt (digits_value_after 10 n digits) (2 ^ 64)
     then Some (digits_value_after 10 n digits)
     else None
 
--- the value of one to twenty digits, if it is below 2^64
+-- the value of a word of one to twenty digits; `None` if it isn't one or its value isn't below 2^64
 abbrev pub number_of : List ℕ → Option ℕ
 number_of word = if nat_lt 0 (length word) && nat_le (length word) 20 then value_from 0 word else None
 
--- whether a byte is a hex digit in lower case, `0` to `9` or `a` to `f`
+-- the byte is a hex digit in lower case, `0` to `9` or `a` to `f`
 abbrev pub is_lower_hex_digit : ℕ → Bool
 is_lower_hex_digit b = (nat_le 48 b && nat_le b 57) || (nat_le 97 b && nat_le b 102)
 
--- the bytes of hex digits in lower case, two digits for each byte
+-- the bytes that a word of hex digits in lower case encodes, two digits each
 abbrev pub data_of : List ℕ → Option (List ℕ)
 data_of word = if list_all is_lower_hex_digit word then result_ok (decode_of word) else None
 
--- the byte of a space
+-- the byte is a space
 abbrev pub is_space : ℕ → Bool
 is_space b = b == 32
 
--- the byte of a line feed
+-- the byte is a line feed
 abbrev pub is_line_feed : ℕ → Bool
 is_line_feed b = b == 10
 
--- the byte of a colon
+-- the byte is a colon
 abbrev pub is_colon : ℕ → Bool
 is_colon b = b == 58
 
--- The next word of a line, which begins after one space and ends before the next, and the text after it.
+-- The next word of a line, and the text after it. One space comes before the word, and the next space ends it.
 abbrev pub word_at : List ℕ → Option (List ℕ × List ℕ)
 word_at [] = None
 word_at (b ∷ text) =
@@ -63,21 +64,21 @@ number_at text = do
   n ← number_of word.0
   Some (n, word.1)
 
--- the pieces after the first, which must be empty
+-- these pieces without the first, which must be empty
 abbrev pub behind_space : List (List ℕ) → Option (List (List ℕ))
 behind_space [] = None
 behind_space (piece ∷ pieces) = ends piece pieces
 
--- the words of a text in which one space precedes each word
+-- the words of this text, which has one space before each word
 abbrev pub words_of : List ℕ → Option (List (List ℕ))
 words_of text = behind_space (slice_split is_space text)
 
--- a number that is at least 1, and the text after it
+-- the number in the next word, which must be at least 1, and the text after it
 unfoldable pub count_at : List ℕ → Option (ℕ × List ℕ)
 count_at text = do
   count ← number_at text
   if nat_lt 0 count.0 then Some count else None
 
--- bytes, if they are UTF-8
+-- these bytes, if they are UTF-8
 abbrev pub text_of : List ℕ → Option (List ℕ)
 text_of bytes = if is_utf8 bytes then Some bytes else None

@@ -1,4 +1,5 @@
--- The picture of a run.
+-- The picture of a run: one line for each event. A round has a line for its outcome, one for each request, and one for
+-- the end of what was taken.
 use Rattle.std.specs.Prelude.{◌≡◌, ℕ, List, map}
 use Rattle.raft_voter_messages.specs.declared.round.Round.{Round}
 use Rattle.raft_voter.specs.Service.{Service}
@@ -11,13 +12,14 @@ use Rattle.raft_voter_timeline.specs.declared.line.Mark.{Mark}
 use Rattle.raft_voter_timeline.specs.Marks.{all_marks, event_mark, marks_of}
 use Rattle.raft_voter_timeline.specs.Picture.{ShowsLines}
 
--- a picture of events with these marks and of their rounds' results: it shows lines with exactly the marks of both
+-- The picture shows lines with exactly these marks: those of the events, and in place of each round's event those of
+-- the next of `rounds`, with its cut.
 pub record DrawsRounds (events : List Mark) (rounds : List Round) (cuts picture : List ℕ) : Type 0 where
   pub lines : List Line
   pub marked : marks_of lines ≡ all_marks events rounds cuts
   pub shown : ShowsLines lines picture
 
--- a picture of a run of these events from these files on, with the rounds and the cuts of the run's report
+-- The picture shows a run of these events that began with these files, with the rounds and cuts of its report.
 pub record DrawsRun {S F : Type 0} (v : Service S) (u : Upkeep S) (d : Disk S F) (files : F) (events : List Event)
     (picture : List ℕ) : Type 0 where
   pub report : WorldReport F

@@ -3,16 +3,16 @@ use Rattle.std.specs.Prelude.{◌≡◌, ℕ, ◌==◌, ◌||◌, nat_lt, Bool, 
 use Rattle.std.specs.List.{list_any}
 use Rattle.std.specs.declared.alloc.Global.{Global}
 
--- these bytes were appended to a text
+-- the bytes `more` were appended to the string
 abbrev pub Gains : String Global → String Global → List ℕ → Type 0
 Gains old new more = string_bytes new ≡ string_bytes old ++ more
 
--- whether XML can't contain a character: one below the space, or one of the last two of the first plane
+-- XML can't contain this character: it is below the space, or is U+FFFE or U+FFFF
 abbrev pub has_no_place : ℕ → Bool
 has_no_place c = nat_lt c 32 || (c == 0xFFFE || c == 0xFFFF)
 
--- the bytes of a character: the name of one that is a mark in XML, U+FFFD for one that XML can't contain, otherwise its
--- own
+-- The bytes of a character in XML: an entity for `&`, `<`, `>` and the quotes, U+FFFD for one that XML can't contain,
+-- and otherwise its UTF-8.
 unfoldable pub escaped : ℕ → List ℕ
 escaped c =
     if c == 38 then codes "&amp;"
@@ -23,10 +23,10 @@ escaped c =
     else if has_no_place c then encode_utf8 0xFFFD
     else encode_utf8 c
 
--- whether a byte begins or ends a tag of XML, or ends the value of an attribute
+-- the byte is `<`, `>` or a quote, which would begin or end a tag, or end an attribute's value
 abbrev pub is_mark : ℕ → Bool
 is_mark b = b == 60 || b == 62 || b == 34 || b == 39
 
--- no byte of an escaped text is such a mark
+-- Escaped text has no byte that would begin or end a tag, or end an attribute's value.
 abbrev pub EscapedHasNoMark : Type 0
 EscapedHasNoMark = (cs : List ℕ) → list_any is_mark (flat_map escaped cs) ≡ false

@@ -1,4 +1,4 @@
--- The lines that a picture shows, by their marks.
+-- The marks of a picture's lines. A mark is the kind of a line: an event, or the result of a round or a request.
 use Rattle.std.specs.Prelude.{ℕ, ◌+◌, ◌==◌, Bool, true, false, List, [], ◌∷◌, ◌++◌, codes, drop, if◌then◌else◌, length, map, min, take}
 use Rattle.std.specs.List.{list_any}
 use Rattle.raft_voter_messages.specs.declared.request.Request.{Request}
@@ -11,7 +11,7 @@ use Rattle.raft_voter_timeline.specs.declared.line.Line.{Line}
 use Rattle.raft_voter_timeline.specs.declared.line.Mark.{Mark}
 use Rattle.raft_voter_timeline.specs.declared.line.Mark.TheVariants as marks
 
--- the name of a mark in the picture
+-- the name of this mark in the picture
 abbrev pub mark_name : Mark → List ℕ
 mark_name marks.Event = codes "event"
 mark_name marks.Armed = codes "armed"
@@ -25,16 +25,16 @@ mark_name marks.Lost = codes "lost"
 mark_name marks.Durable = codes "durable"
 mark_name marks.Cut = codes "cut"
 
--- the marks of lines, from top to bottom
+-- the marks of these lines, from top to bottom
 abbrev pub marks_of : List Line → List Mark
 marks_of lines = map (λ line. line.mark) lines
 
--- whether a mark is that of a round without its result
+-- the mark is that of a round's event, before its result is known
 abbrev pub is_round : Mark → Bool
 is_round marks.Round = true
 is_round mark = false
 
--- the mark of an event
+-- the mark of this event
 abbrev pub event_mark : Event → Mark
 event_mark (events.Round requests) = marks.Round
 event_mark (events.Crash left) = marks.Crash
@@ -42,53 +42,55 @@ event_mark (events.CrashAt calls left) = marks.Armed
 event_mark (events.Refuse calls) = marks.Armed
 event_mark event = marks.Event
 
--- the result of the request at a place: refused, or the same as that of the others
+-- the mark of the request at position `place`: `Refused` if that position was refused, otherwise `mark`
 abbrev pub fate : List ℕ → Mark → ℕ → Mark
 fate refused mark place = if list_any (λ other. other == place) refused then marks.Refused else mark
 
--- the result of each of these requests; the first one's place is `place`
+-- the marks of these requests, whose positions in the round count from `place`
 abbrev pub fates : List ℕ → Mark → ℕ → List (ℕ × Request) → List Mark
 fates refused mark place [] = []
 fates refused mark place (q ∷ qs) = fate refused mark place ∷ fates refused mark (place + 1) qs
 
--- a round got replies, or was cut off
+-- the mark of a round's first line: it got replies, or was cut off
 abbrev pub head_mark : Outcome → Mark
 head_mark (outcomes.Answered replies) = marks.Answered
 head_mark outcomes.Cut = marks.CutOff
 
--- the end of what a round took: all of it is durable, or its cut is here
+-- the mark of the line after the requests that were taken: all are durable, or the round's cut is there
 abbrev pub end_mark : Outcome → Mark
 end_mark (outcomes.Answered replies) = marks.Durable
 end_mark outcomes.Cut = marks.Cut
 
--- a round that was taken up to a place: how it ended, the requests before that place, their end, and the lost requests
+-- The marks of a round whose requests before position `up_to` were taken: its first line, these requests, the line
+-- after them, and the lost requests.
 abbrev pub round_marks : Round → ℕ → List Mark
 round_marks round up_to =
     head_mark round.outcome ∷ fates round.refused marks.Taken 0 (take up_to round.requests)
     ++ end_mark round.outcome ∷ fates round.refused marks.Lost up_to (drop up_to round.requests)
 
--- the place up to which a round with this outcome and this many requests was taken: all of it, or up to the next cut
+-- The position up to which a round of `count` requests was taken. This is `count` if it got replies, and otherwise the
+-- first of `cuts`, at most `count`.
 abbrev pub place_of : Outcome → List ℕ → ℕ → ℕ
 place_of (outcomes.Answered replies) cuts count = count
 place_of outcomes.Cut [] count = 0
 place_of outcomes.Cut (cut ∷ cuts) count = min count cut
 
--- the place up to which a round was taken
+-- the position up to which this round was taken, with these cuts left
 abbrev pub taken_up_to : Round → List ℕ → ℕ
 taken_up_to round cuts = place_of round.outcome cuts (length round.requests)
 
--- the cuts of the rounds after one with this outcome
+-- the cuts for later rounds: without the first one, if this round was cut off
 abbrev pub behind_outcome : Outcome → List ℕ → List ℕ
 behind_outcome (outcomes.Answered replies) cuts = cuts
 behind_outcome outcomes.Cut [] = []
 behind_outcome outcomes.Cut (cut ∷ cuts) = cuts
 
--- the cuts of the rounds after this one
+-- the cuts for later rounds, after this one
 abbrev pub cuts_behind : Round → List ℕ → List ℕ
 cuts_behind round cuts = behind_outcome round.outcome cuts
 
--- The marks of a picture, from top to bottom: one for each event, in order. In place of a round's event come the marks
--- of the next round that was served, with the next of the cuts.
+-- The marks of a picture, from top to bottom, one for each event. Each round's event is replaced by the marks of the
+-- next of `rounds`, which uses the first of `cuts` if it was cut off.
 abbrev pub all_marks : List Mark → List Round → List ℕ → List Mark
 all_marks [] rounds cuts = []
 all_marks (marks.Round ∷ ms) (round ∷ rounds) cuts =

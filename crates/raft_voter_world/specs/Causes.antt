@@ -1,4 +1,5 @@
--- Why each round of a run has its outcome, and why each purge succeeded or failed.
+-- Why each round of a run has its outcome, and why each purge succeeded or failed: a store did what its contract
+-- allows.
 use Rattle.std.specs.Prelude.{◌≡◌, ◌⊎◌, ◌++◌, false, List, [], ◌∷◌, Option, All}
 use Rattle.raft_voter_messages.specs.declared.round.Round.{Round}
 use Rattle.raft_voter.specs.Rounds.{World}
@@ -16,22 +17,21 @@ use Rattle.raft_voter_world.specs.History.Moment.{answered, cut_off, idle, kept}
 use Rattle.raft_voter_world.specs.Run.{IsRun, moments_of}
 use Rattle.raft_voter_world.specs.Stores.{Disk, KeepsVoters, Upkeep}
 
--- Among these moments, which begin at a storage, this one happened to this storage.
+-- moment `m` is among these moments, which begin at `storage`, and it happened to the storage `at`
 abbrev pub HappenedTo : {S F : Type 0} → Moment S F → Storage S F → Storage S F → List (Moment S F) → Type 0
 HappenedTo m at storage [] = ⊥
 HappenedTo m at storage (n ∷ ms) = ((n ≡ m) × (storage ≡ at)) ⊎ HappenedTo m at (behind n) ms
 
--- in a run, closing included, this moment happened to this storage
+-- in this run, with its closing, moment `m` happened to the storage `at`
 abbrev pub IsOfRun :
     {S F : Type 0} (v : Service S) (u : Upkeep S) (d : Disk S F) (files : F) (events : List Event) (report : WorldReport F)
     → IsRun v u d files events report → Moment S F → Storage S F → Type 0
 IsOfRun v u d files events report run m at = HappenedTo m at (Closed files) (moments_of run.turns ++ run.closing)
 
--- One of the moments that happened is this round. There are three cases:
--- - a store replied to it, and may refuse the places that it refused;
--- - a store cut it off for a cause that it had, and may refuse the places that it refused; if the cause is
---   `FileSystem`, a file call failed;
--- - it was cut off while no store was open.
+-- One of the moments that happened is this round:
+-- - a store replied to it, and may refuse the positions that it refused;
+-- - or a store cut it off for a cause that it may have, and the round had the effect that this cause allows;
+-- - or it was cut off while no store was open.
 pub data HasItsCause {S F : Type 0} (v : Service S) (Happened : Moment S F → Storage S F → Type 0) (round : Round)
     : Type 0 where
   was_answered : (old new : S) → Happened (answered round new) (Open old) → IsAnswered v old round new
@@ -40,14 +40,14 @@ pub data HasItsCause {S F : Type 0} (v : Service S) (Happened : Moment S F → S
       → IsCutOff v old round cause new → HasItsCause v Happened round
   was_idle : (files : F) → Happened (idle round files) (Closed files) → IsIdle round → HasItsCause v Happened round
 
--- This holds for each round in a run's report.
+-- Each round in the report of a run has one of these causes.
 abbrev pub EachRoundHasItsCause : {S F : Type 0} → Service S → Upkeep S → Disk S F → Type 0
 EachRoundHasItsCause {S} {F} v u d = (files : F) (events : List Event) (report : WorldReport F)
     → (run : IsRun v u d files events report)
     → All (HasItsCause v (IsOfRun v u d files events report run)) report.transcript.rounds
 
--- An open store was purged. The purge succeeded and did its work, or it failed for a cause that the store had. The
--- voters were kept.
+-- Open store `old` was purged, and is `new` afterwards. The purge succeeded and did its work, or failed for a cause
+-- that it may have. `new` serves the voters of `old`, unless it has failed.
 pub record WasPurged {S F : Type 0} (v : Service S) (u : Upkeep S) (purge : Purge) (refusal : Option Cause)
     (at now : Storage S F) : Type 0 where
   pub old : S
@@ -57,15 +57,16 @@ pub record WasPurged {S F : Type 0} (v : Service S) (u : Upkeep S) (purge : Purg
   pub ends : EndsPurge v u purge refusal old new
   pub keeps : KeepsVoters v old new
 
--- This holds for each purge of a run.
+-- Each purge of a run happened to an open store, and did what its contract allows. It kept the voters, unless the
+-- store has failed.
 abbrev pub EachPurgeHasItsCause : {S F : Type 0} → Service S → Upkeep S → Disk S F → Type 0
 EachPurgeHasItsCause {S} {F} v u d = (files : F) (events : List Event) (report : WorldReport F)
     → (run : IsRun v u d files events report)
     → (purge : Purge) (refusal : Option Cause) (at now : Storage S F)
     → IsOfRun v u d files events report run (kept (purges purge refusal) now) at → WasPurged v u purge refusal at now
 
--- In a run in which each store that was opened served some voters, any store to which something happened had failed or
--- served some voters.
+-- Suppose each store that was opened in a run served the voters of some world. Then each store to which something
+-- happened had failed, or served the voters of some world.
 abbrev pub StoresOfRunsServe : {S F : Type 0} → Service S → Upkeep S → Disk S F → Type 0
 StoresOfRunsServe {S} {F} v u d = (files : F) (events : List Event) (report : WorldReport F)
     → (run : IsRun v u d files events report) → ServeSome v (moments_of run.turns)

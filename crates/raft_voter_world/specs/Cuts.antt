@@ -1,4 +1,5 @@
--- How far the rounds of a history that were cut off were taken.
+-- The cut of a round without replies: the position in the round up to which its requests were taken. The next open
+-- shows voters, and they fit the round at a position if taking the requests before it leads to them.
 use Rattle.std.specs.Prelude.{ℕ, ◌+◌, List, [], ◌∷◌, ◌++◌, length, None, unwrap_or}
 use Rattle.raft_voter_messages.specs.declared.round.Round.{Round}
 use Rattle.raft_voter.specs.Rounds.{World, after, taken_below}
@@ -10,37 +11,38 @@ use Rattle.raft_voter_world.specs.History.Moment.{opened, answered, cut_off, idl
 use Rattle.raft_voter_world.specs.Places.{IsPlaceFound}
 use Rattle.raft_voter_world.specs.Stores.{world_in}
 
--- the place at which the next open finds the voters that it shows; `last` if no open follows, 0 if no place was found
+-- the position that the next open of `ms` found for the cut-off round: 0 if it found none, and `last` if no open
+-- follows
 abbrev pub next_place : {S F : Type 0} → ℕ → List (Moment S F) → ℕ
 next_place last [] = last
 next_place last (opened workers store voters place now ∷ ms) = unwrap_or place 0
 next_place last (m ∷ ms) = next_place last ms
 
--- the place up to which a round that was cut off for this cause was taken: the next open's if some of it may have been
--- taken, otherwise 0
+-- the cut of a round that was cut off for this cause: `place` for `FileSystem`, otherwise 0, as no request was taken
 abbrev pub place_for : Cause → ℕ → ℕ
 place_for FileSystem place = place
 place_for cause place = 0
 
--- the places up to which the rounds that were cut off were taken; `last` is the place for the one that no open follows
+-- the cuts of the rounds without replies in these moments; `last` is the cut of the round that no open follows
 abbrev pub cuts_in : {S F : Type 0} → ℕ → List (Moment S F) → List ℕ
 cuts_in last [] = []
 cuts_in last (cut_off round cause now ∷ ms) = place_for cause (next_place last ms) ∷ cuts_in last ms
 cuts_in last (idle round files ∷ ms) = 0 ∷ cuts_in last ms
 cuts_in last (m ∷ ms) = cuts_in last ms
 
--- the round that was cut off and may have been taken up to some place, after this round was cut off for this cause
+-- The last round that may be taken in part, after `round` was cut off for this cause. This is `round` itself for
+-- `FileSystem`. Otherwise nothing of `round` was taken, and it is `cut` still.
 abbrev pub cut_by : Cause → CutRound → Round → CutRound
 cut_by FileSystem cut round =
     record { before = cut.before; requests = round.requests; refused = round.refused }
 cut_by cause cut round = cut
 
--- the voters after a round with replies
+-- no round is cut off, and the voters are those after `round`, which got replies
 abbrev pub cut_after : CutRound → Round → CutRound
 cut_after cut round = uncut (after cut.before (taken_below round (length round.requests)))
 
--- each open finds the least place of the round before it at which the voters that it shows fit, or finds none if no
--- place fits
+-- For each open, `place` is the first position in the last cut-off round at which the voters that the open shows fit.
+-- It is `None` if they fit at no position.
 abbrev pub AreLeast : {S F : Type 0} → CutRound → List (Moment S F) → Type 0
 AreLeast cut [] = Unit {0}
 AreLeast cut (opened workers store voters place now ∷ ms) =
@@ -49,25 +51,25 @@ AreLeast cut (answered round now ∷ ms) = AreLeast (cut_after cut round) ms
 AreLeast cut (cut_off round cause now ∷ ms) = AreLeast (cut_by cause cut round) ms
 AreLeast cut (m ∷ ms) = AreLeast cut ms
 
--- lists this event once for each of its opens that shows voters which no place fits
+-- the number `event`, once for each open of these moments that shows voters that fit at no position
 abbrev pub lost_at : {S F : Type 0} → ℕ → List (Moment S F) → List ℕ
 lost_at event [] = []
 lost_at event (opened workers store voters None now ∷ ms) = event ∷ lost_at event ms
 lost_at event (m ∷ ms) = lost_at event ms
 
--- lists these events, each once for each of its opens that shows voters which no place fits; the first one has this
--- number
+-- The events that lost voters, by number, where the first list of moments is that of `event`. An event is listed once
+-- for each of its opens that lost voters, which means that it shows voters that fit at no position.
 abbrev pub lost_from : {S F : Type 0} → ℕ → List (List (Moment S F)) → List ℕ
 lost_from event [] = []
 lost_from event (ms ∷ mss) = lost_at event ms ++ lost_from (event + 1) mss
 
--- each store that was opened serves some voters
+-- each store that was opened, and whose voters were read, serves the voters of some world
 abbrev pub ServeSome : {S F : Type 0} → Service S → List (Moment S F) → Type 0
 ServeSome v [] = Unit {0}
 ServeSome v (opened workers store voters place now ∷ ms) = ((W : World) × IsOpenAt v store W) × ServeSome v ms
 ServeSome v (m ∷ ms) = ServeSome v ms
 
--- nothing was lost
+-- no open of these moments shows voters that fit at no position
 abbrev pub NoneLost : {S F : Type 0} → List (Moment S F) → Type 0
 NoneLost [] = Unit {0}
 NoneLost (opened workers store voters None now ∷ ms) = ⊥

@@ -1,4 +1,5 @@
--- What happens to a store of voters and its disk, as a list of moments.
+-- A history: a list of moments. Each moment is one thing that happens to a store of voters or its files. An event of a
+-- run makes some moments, or none.
 use Rattle.std.specs.Prelude.{◌≡◌, ℕ, ◌≤◌, ◌==◌, Bool, true, false, if◌then◌else◌, List, [], ◌∷◌, length, Option, None, Some, map}
 use Rattle.std.specs.List.{flat_map}
 use Rattle.std.specs.String.{string_bytes}
@@ -24,25 +25,25 @@ use Rattle.raft_voter_world.specs.Stores.{KeepsVoters, RefusesPurge, StaysAsItWa
 
 -- Moments.
 
--- calls that keep the voters: a close, a purge that succeeded or failed for a cause, the arming of a fault, a copy into
--- a directory
+-- A call that changes no voter: a close, a purge, the arming of a fault, or a copy of the files into a directory. A
+-- purge has the cause if it failed.
 pub data Change : Type 0 where
   closes : Change
   purges : Purge → Option Cause → Change
   arms : Fault → Change
   copies : List ℕ → Change
 
--- What happens, and the store or the files after it, in the order of the constructors:
--- - this many workers opened a store, and its voters were read; they fit the round that was cut off at this place, or
---   at none;
--- - a store was opened, but its voters weren't read; it was closed again, which left these files;
--- - a store was opened, but the disk stopped in the open, and a crash left these files;
--- - an open failed, and returned these files;
--- - a crash left these files;
--- - a call kept the voters;
--- - a store replied to a round;
--- - a store cut a round off for a cause;
--- - a round was cut off because no store was open.
+-- One thing that happens, with the store or the files after it:
+-- - `opened`: a store was opened by this many workers, and its voters were read. Taking the requests of the last
+--   cut-off round before this position leads to them. Without one, no position does.
+-- - `unread`: a store was opened, but its voters couldn't be read. It was closed again, which left these files.
+-- - `fell`: a store was opened, but the disk stopped during the open. A crash left these files.
+-- - `unopened`: an open failed for a cause, and returned these files.
+-- - `crashed`: a crash left these files.
+-- - `kept`: a call changed no voter.
+-- - `answered`: a store replied to a round.
+-- - `cut_off`: a store cut a round off for a cause: it gave no replies.
+-- - `idle`: a round was cut off because no store was open.
 pub data Moment (S F : Type 0) : Type 0 where
   opened : ℕ → S → List (ℕ × State) → Option ℕ → S → Moment S F
   unread : ℕ → S → S → F → Moment S F
@@ -54,7 +55,7 @@ pub data Moment (S F : Type 0) : Type 0 where
   cut_off : Round → Cause → S → Moment S F
   idle : Round → F → Moment S F
 
--- the storage after a moment
+-- the storage after this moment: an open store, or the files if no store is open
 abbrev pub behind : {S F : Type 0} → Moment S F → Storage S F
 behind (opened workers store voters place now) = Open now
 behind (unread workers store now files) = Closed files
@@ -66,29 +67,30 @@ behind (answered round now) = Open now
 behind (cut_off round cause now) = Open now
 behind (idle round files) = Closed files
 
--- the storage after several moments
+-- the storage after these moments, starting with `storage`
 abbrev pub behind_all : {S F : Type 0} → Storage S F → List (Moment S F) → Storage S F
 behind_all storage [] = storage
 behind_all storage (m ∷ ms) = behind_all (behind m) ms
 
--- the round of a moment
+-- the round of this moment, if it is one
 abbrev pub rounds_of : {S F : Type 0} → Moment S F → List Round
 rounds_of (answered round now) = round ∷ []
 rounds_of (cut_off round cause now) = round ∷ []
 rounds_of (idle round files) = round ∷ []
 rounds_of moment = []
 
--- the rounds, in order
+-- the rounds of these moments, in order
 abbrev pub rounds_in : {S F : Type 0} → List (Moment S F) → List Round
 rounds_in ms = flat_map rounds_of ms
 
--- What each moment is.
+-- When each moment may happen.
 
--- a round of which nothing was taken, because no store was open
+-- the round was cut off and has no refused positions, as if no store is open
 abbrev pub IsIdle : Round → Type 0
 IsIdle round = (round.outcome ≡ Cut) × (round.refused ≡ [])
 
--- a store replied to a round; its refused places are those of its replies, and the store may refuse them
+-- Store `old` replied to this round, and is `new` afterwards. The refused positions are those whose reply is
+-- `Refused`, and the store may refuse them. The round has at most 4,096 requests, and the store hasn't failed.
 pub record IsAnswered {S : Type 0} (v : Service S) (old : S) (round : Round) (new : S) : Type 0 where
   pub replies : List Reply
   pub told : round.outcome ≡ Answered replies
@@ -98,39 +100,42 @@ pub record IsAnswered {S : Type 0} (v : Service S) (old : S) (round : Round) (ne
   pub short : length round.requests ≤ 4096
   pub alive : IsAlive (v.is_failed old) (v.is_failed new)
 
--- a store cut off a round for this cause
+-- store `old` cut this round off for this cause, and is `new` afterwards
 pub record IsCutOff {S : Type 0} (v : Service S) (old : S) (round : Round) (cause : Cause) (new : S) : Type 0 where
   pub told : round.outcome ≡ Cut
   pub cuts : CutsOff v cause round.refused round.requests old new
   pub fails : FailsAs cause (length round.requests) (v.is_failed old) (v.is_failed new)
 
--- a store was opened over files
+-- `store` was opened over `files` by `workers` workers. It hasn't failed. Without a CRC collision in `files`, its
+-- voters are possible for them.
 pub record IsOpened {S F : Type 0} (v : Service S) (d : Disk S F) (files : F) (workers : ℕ) (store : S) : Type 0 where
   pub opens : d.opens files workers store
   pub alive : v.is_failed store ≡ false
   pub finds : FindsVoters v d files store
 
--- an open of files failed
+-- An open of `files` by `workers` workers failed for this cause, and left `back`. The cause is the file system or
+-- memory. Without a CRC collision in `files`, `back` leave every cut-off round that `files` leave.
 pub record IsUnopened {S F : Type 0} (v : Service S) (d : Disk S F) (files : F) (workers : ℕ) (cause : Cause) (back : F)
     : Type 0 where
   pub refuses : d.refuses files workers cause back
   pub outside : IsFromOutside cause
   pub stands : LeavesStanding v d files files back
 
--- a crash left these files of a storage, and the disk runs again
+-- A crash of this storage left the files `left`, and of the unsynced changes what `gone` says. The disk runs again.
+-- Without a CRC collision, `left` leave every cut-off round that the storage left.
 abbrev pub Crashes : {S F : Type 0} → Service S → Disk S F → Storage S F → Left → F → Type 0
 Crashes v d (Closed files) gone left =
     d.crashes files gone left × LeavesStanding v d files left left × (d.has_stopped left ≡ false)
 Crashes v d (Open store) gone left =
     d.crashes_under store gone left × LeavesUnder v d store left × (d.has_stopped left ≡ false)
 
--- a purge succeeded and did its work, or it failed for this cause
+-- the purge succeeded and did its work, or it failed for this cause
 abbrev pub EndsPurge : {S : Type 0} → Service S → Upkeep S → Purge → Option Cause → S → S → Type 0
 EndsPurge v u purge None old new = u.purges purge old new × IsAlive (v.is_failed old) (v.is_failed new)
 EndsPurge v u purge (Some cause) old new =
     u.refuses purge cause old new × RefusesPurge cause (v.is_failed old) (v.is_failed new)
 
--- a call kept the voters
+-- this call may change storage `old` into `new`, and then changes no voter, unless a purge makes the store fail
 abbrev pub Keeps :
     {S F : Type 0}
     → Service S → Upkeep S → Disk S F → Change → Storage S F → Storage S F → Type 0
@@ -141,12 +146,12 @@ Keeps v u d (arms fault) (Closed old) (Closed new) = d.arms fault old new × Sta
 Keeps v u d (copies target) (Closed old) (Closed new) = d.forks target old new × StaysInFiles v d old new
 Keeps v u d change old new = ⊥
 
--- the files of a storage; a store that is open is closed first
+-- `given` are the files of this storage; if a store is open in it, a close of that store may leave them
 abbrev pub IsClosedAs : {S F : Type 0} → Service S → Disk S F → Storage S F → F → Type 0
 IsClosedAs v d (Closed files) given = given ≡ files
 IsClosedAs v d (Open store) given = d.closes store given × LeavesInFiles v d store given
 
--- this moment may happen to a storage
+-- this moment may happen to this storage
 abbrev pub Happens :
     {S F : Type 0}
     → Service S → Upkeep S → Disk S F → Storage S F → Moment S F → Type 0
@@ -164,54 +169,56 @@ Happens v u d (Open store) (cut_off round cause now) = IsCutOff v store round ca
 Happens v u d (Closed files) (idle round now) = IsIdle round × (now ≡ files)
 Happens v u d storage moment = ⊥
 
--- these moments may happen to a storage, one after another
+-- these moments may happen to this storage, one after another
 abbrev pub Happen :
     {S F : Type 0}
     → Service S → Upkeep S → Disk S F → Storage S F → List (Moment S F) → Type 0
 Happen v u d storage [] = Unit {0}
 Happen v u d storage (m ∷ ms) = Happens v u d storage m × Happen v u d (behind m) ms
 
--- Events.
+-- The moments that each event makes.
 
--- the disk has stopped
+-- the disk of this storage has stopped
 abbrev pub has_stopped : {S F : Type 0} → Upkeep S → Disk S F → Storage S F → Bool
 has_stopped u d (Closed files) = d.has_stopped files
 has_stopped u d (Open store) = u.has_stopped store
 
--- if the disk has stopped, a crash follows at once and leaves this; otherwise nothing follows
+-- if the disk of this storage has stopped, `ms` is a crash that leaves what `gone` says; otherwise `ms` is empty
 abbrev pub Falls :
     {S F : Type 0} → Upkeep S → Disk S F → Left → Storage S F → List (Moment S F) → Type 0
 Falls u d gone storage [] = has_stopped u d storage ≡ false
 Falls u d gone storage (crashed gone' files ∷ []) = (has_stopped u d storage ≡ true) × (gone' ≡ gone)
 Falls u d gone storage ms = ⊥
 
--- one such moment, and the crash that follows if the disk stopped in it
+-- `ms` is one moment of which `IsSuch` is true; if the disk stopped in it, a crash follows that leaves what `gone`
+-- says
 abbrev pub One :
     {S F : Type 0} → Upkeep S → Disk S F → Left → (Moment S F → Type 0)
     → List (Moment S F) → Type 0
 One u d gone IsSuch [] = ⊥
 One u d gone IsSuch (m ∷ ms) = IsSuch m × Falls u d gone (behind m) ms
 
--- a round of these requests
+-- the moment is a round of these requests
 abbrev pub IsRoundOf : {S F : Type 0} → List (ℕ × Request) → Moment S F → Type 0
 IsRoundOf requests moment = map (λ round. round.requests) (rounds_of moment) ≡ requests ∷ []
 
--- this change
+-- the moment is this change
 abbrev pub IsChange : {S F : Type 0} → Change → Moment S F → Type 0
 IsChange change (kept other now) = other ≡ change
 IsChange change moment = ⊥
 
--- this purge, whether it succeeded or failed
+-- the moment is this purge, whether it succeeded or failed
 abbrev pub IsPurge : {S F : Type 0} → Purge → Moment S F → Type 0
 IsPurge purge (kept (purges other refusal) now) = other ≡ purge
 IsPurge purge moment = ⊥
 
--- a crash that leaves this
+-- the moment is a crash that leaves of the unsynced changes what `gone` says
 abbrev pub IsCrash : {S F : Type 0} → Left → Moment S F → Type 0
 IsCrash gone (crashed other files) = other ≡ gone
 IsCrash gone moment = ⊥
 
--- an open by this many workers; if the disk stops in it, a crash leaves this
+-- The moment is an open by this many workers, with any outcome. If the disk stopped in it, the crash left what `gone`
+-- says.
 abbrev pub IsOpening : {S F : Type 0} → Upkeep S → ℕ → Left → Moment S F → Type 0
 IsOpening u workers gone (opened n store voters place now) = (n ≡ workers) × (u.has_stopped now ≡ false)
 IsOpening u workers gone (unread n store now files) = (n ≡ workers) × (u.has_stopped now ≡ false)
@@ -219,19 +226,19 @@ IsOpening u workers gone (fell n store gone' files) = (n ≡ workers) × (gone' 
 IsOpening u workers gone (unopened n cause files) = n ≡ workers
 IsOpening u workers gone moment = ⊥
 
--- the first type if the flag is `true`, otherwise the second
+-- `First` if the flag is `true`, otherwise `Second`
 abbrev pub Either : Bool → Type 0 → Type 0 → Type 0
 Either true First Second = First
 Either false First Second = Second
 
--- an open of files, unless the disk has stopped
+-- `ms` is one open of `files`, and a crash after it if the disk stopped in it; if it had already stopped, only a crash
 abbrev pub Opens :
     {S F : Type 0} → Upkeep S → Disk S F → ℕ → Left → F → List (Moment S F) → Type 0
 Opens u d workers gone files ms =
     Either (d.has_stopped files) (Falls u d gone (Closed files) ms) (One u d gone (IsOpening u workers gone) ms)
 
--- An event makes these moments. If the disk stops in a moment, a crash follows at once. It leaves what the last event
--- that armed a stop says.
+-- This event makes the moments `ms` in this storage. If the disk stops in a moment, a crash follows at once. `gone` is
+-- what that crash leaves of the unsynced changes, as the last event that armed a stop asks.
 abbrev pub Turns :
     {S F : Type 0} → Upkeep S → Disk S F → Left → Storage S F → Event → List (Moment S F) → Type 0
 Turns u d gone storage (RoundEvent requests) ms = One u d gone (IsRoundOf requests) ms
@@ -250,12 +257,13 @@ Turns u d gone storage (Refuse calls) ms =
 Turns u d gone (Closed files) (Fork target) ms = One u d gone (IsChange (copies (string_bytes target))) ms
 Turns u d gone storage event ms = Falls u d gone storage ms
 
--- what a stop leaves, from an event on
+-- what a crash after a stop of the disk leaves, once this event has happened; only an event that arms a stop changes
+-- it
 abbrev pub left_from : Event → Left → Left
 left_from (CrashAt calls gone') gone = if calls == 0 then gone else gone'
 left_from event gone = gone
 
--- these events make these moments, one after another
+-- These events make these moments, one list for each event, and the moments may happen one after another.
 abbrev pub Plays :
     {S F : Type 0}
     → Service S → Upkeep S → Disk S F → Left → Storage S F → List Event → List (List (Moment S F)) → Type 0
@@ -265,7 +273,7 @@ Plays v u d gone storage (e ∷ es) (ms ∷ mss) =
     × Plays v u d (left_from e gone) (behind_all storage ms) es mss
 Plays v u d gone storage es mss = ⊥
 
--- after the last event, a store that is open is closed
+-- `ms` ends a run: a store that is open is closed; if the disk has stopped or stops then, a crash follows
 abbrev pub Ends :
     {S F : Type 0} → Upkeep S → Disk S F → Left → Storage S F → List (Moment S F) → Type 0
 Ends u d gone (Closed files) ms = Falls u d gone (Closed files) ms

@@ -1,4 +1,5 @@
--- Rounds in which only requests out of range were refused, compared with voters of each group's own.
+-- Rounds in which exactly the requests out of range were refused. Each group then gets the replies of a voter that
+-- sees no other group's requests.
 use Rattle.std.specs.Prelude.{◌≡◌, ◌==◌, if◌then◌else◌, ℕ, List, [], ◌∷◌, ◌++◌, map}
 use Rattle.std.specs.List.{flat_map}
 use Rattle.raft_voter_messages.specs.declared.reply.Reply.{Reply}
@@ -19,41 +20,41 @@ use Rattle.raft_voter_world.specs.Stores.{Disk, Upkeep}
 
 -- One group.
 
--- the requests of a group, in order
+-- the requests of group `g` in this round, in order
 abbrev pub asked_of : ℕ → List (ℕ × Request) → List Request
 asked_of g [] = []
 asked_of g (q ∷ qs) = if q.0 == g then q.1 ∷ asked_of g qs else asked_of g qs
 
--- the replies to a group
+-- the replies to the requests of group `g` in this round, in order
 abbrev pub told_to : ℕ → List (ℕ × Request) → List Reply → List Reply
 told_to g [] told = []
 told_to g (q ∷ qs) [] = []
 told_to g (q ∷ qs) (a ∷ told) = if q.0 == g then a ∷ told_to g qs told else told_to g qs told
 
--- the requests of a group in these rounds
+-- the requests of group `g` in these rounds, in order
 abbrev pub asked_in : ℕ → List (List (ℕ × Request)) → List Request
 asked_in g rounds = flat_map (asked_of g) rounds
 
--- the replies to a group in these rounds
+-- the replies to the requests of group `g` in these rounds, in order
 abbrev pub told_in : ℕ → List (List (ℕ × Request)) → List (List Reply) → List Reply
 told_in g [] told = []
 told_in g (requests ∷ rounds) [] = []
 told_in g (requests ∷ rounds) (replies ∷ told) = told_to g requests replies ++ told_in g rounds told
 
--- A voter of its own.
+-- One voter alone.
 
--- a voter after these requests, and no others
+-- voter `v` after these requests, in order
 abbrev pub voter_alone : State → List Request → State
 voter_alone v [] = v
 voter_alone v (q ∷ qs) = voter_alone (next v q) qs
 
--- the replies of this voter to these requests
+-- the replies of voter `v` to these requests, in order
 abbrev pub replies_alone : State → List Request → List Reply
 replies_alone v [] = []
 replies_alone v (q ∷ qs) = reply v q ∷ replies_alone (next v q) qs
 
--- Each group got the replies of a voter of its own, which took only this group's requests in these rounds. The group's
--- voter is now that voter.
+-- Each group got the replies of its voter in world `W` to this group's requests alone, out of these rounds. In world
+-- `X` the group has that voter after these requests.
 pub record AreIndependent (W : World) (rounds : List (List (ℕ × Request))) (told : List (List Reply)) (X : World)
     : Type 0 where
   pub replies : (g : ℕ) → told_in g rounds told ≡ replies_alone (W g) (asked_in g rounds)
@@ -61,7 +62,8 @@ pub record AreIndependent (W : World) (rounds : List (List (ℕ × Request))) (t
 
 -- Stores.
 
--- If a store refused only requests out of range, its rounds are those of independent voters.
+-- If a store refused exactly the requests out of range in these rounds, each group got the replies of a voter of its
+-- own. The store serves these voters afterwards.
 abbrev pub RoundsAreIndependent : {S : Type 0} → Service S → Type 0
 RoundsAreIndependent {S} v = (W : World) (rounds : List (List (ℕ × Request))) (told : List (List Reply)) (old new : S)
     → IsOpenAt v old W → AnswersRounds v rounds told old new → refused_in told ≡ map (out_of_range 0) rounds
@@ -69,35 +71,37 @@ RoundsAreIndependent {S} v = (W : World) (rounds : List (List (ℕ × Request)))
 
 -- Transcripts.
 
--- a round got replies, and only requests out of range were refused in it
+-- the round got replies, and its refused positions are exactly those of the requests out of range
 pub record IsWhole (round : Round) : Type 0 where
   pub replies : List Reply
   pub answered : round.outcome ≡ Answered replies
   pub refused : round.refused ≡ out_of_range 0 round.requests
 
--- the same for each of these rounds
+-- each of these rounds got replies, and refused exactly its requests out of range
 abbrev pub AreWhole : List Round → Type 0
 AreWhole [] = Unit {0}
 AreWhole (round ∷ rounds) = IsWhole round × AreWhole rounds
 
--- the replies that a round returned
+-- the replies of this outcome; none if the round was cut off
 abbrev pub handed_out : Outcome → List Reply
 handed_out (Answered replies) = replies
 handed_out Cut = []
 
--- the requests of each round, and the replies of each
+-- for each round, its requests; `replies_in` has its replies, none if it was cut off
 abbrev pub requests_in : List Round → List (List (ℕ × Request))
 requests_in rounds = map (λ round. round.requests) rounds
 
 abbrev pub replies_in : List Round → List (List Reply)
 replies_in rounds = map (λ round. handed_out round.outcome) rounds
 
--- Such rounds, if voters explain them, are those of independent voters.
+-- Suppose voters that never fail lead from world `W` to `X` by rounds with replies that refused exactly the requests
+-- out of range. Then each group got the replies of a voter of its own.
 abbrev pub WholeRoundsAreIndependent : Type 0
 WholeRoundsAreIndependent = (W X : World) (rounds : List Round) (cuts : List ℕ) → Leads W rounds cuts X
     → AreWhole rounds → AreIndependent W (requests_in rounds) (replies_in rounds) X
 
--- So are the rounds of a run that lost nothing, whatever happened between them.
+-- Suppose a run lost no voters, and each of its rounds got replies and refused exactly the requests out of range. Then
+-- each group got the replies of a fresh voter of its own. Crashes, opens and purges between the rounds don't matter.
 abbrev pub RunsAreIndependent : {S F : Type 0} → Service S → Upkeep S → Disk S F → Type 0
 RunsAreIndependent {S} {F} v u d = (files : F) (events : List Event) (report : WorldReport F)
     → (run : IsRun v u d files events report) → ServeSome v (moments_of run.turns) → report.lost ≡ []

@@ -1,4 +1,4 @@
--- Two stores that serve the same rounds, and refuse only requests out of range.
+-- What two stores reply to the same rounds, if they refuse exactly the requests out of range, or others too.
 use Rattle.std.specs.Prelude.{◌≡◌, ◌≤◌, ℕ, false, if◌then◌else◌, List, [], ◌∷◌, length, map}
 use Rattle.raft_voter_messages.specs.declared.reply.Reply.{Reply}
 use Rattle.raft_voter_messages.specs.declared.request.Request.{Request}
@@ -9,8 +9,8 @@ use Rattle.raft_voter_world.specs.Independent.{AreIndependent}
 
 -- Any two stores.
 
--- All replies to these rounds were the same: each group got the replies of a voter of its own. Both stores serve these
--- voters afterwards.
+-- Both stores gave the same replies to these rounds. Each group got the replies of a voter that takes only this
+-- group's requests. Both stores serve these voters afterwards.
 pub record AnsweredAlike {S T : Type 0} (v : Service S) (w : Service T) (W : World)
     (rounds : List (List (ℕ × Request))) (told heard : List (List Reply)) (new : S) (last : T) : Type 0 where
   pub same : told ≡ heard
@@ -19,8 +19,8 @@ pub record AnsweredAlike {S T : Type 0} (v : Service S) (w : Service T) (W : Wor
   pub first : IsOpenAt v new voters
   pub second : IsOpenAt w last voters
 
--- If two stores that serve the same voters reply to the same rounds, and refuse only requests out of range, their
--- replies are the same.
+-- Two stores serve the same voters and reply to the same rounds. If both refuse exactly the requests out of range,
+-- they give the same replies and serve the same voters afterwards.
 abbrev pub StoresAnswerAlike : {S T : Type 0} → Service S → Service T → Type 0
 StoresAnswerAlike {S} {T} v w =
     (W : World) (rounds : List (List (ℕ × Request))) (told heard : List (List Reply)) (old new : S) (first last : T)
@@ -30,7 +30,8 @@ StoresAnswerAlike {S} {T} v w =
 
 -- A store and a model of it.
 
--- a call replied to a round with these replies, with all that its contract promises
+-- Store `old` gave these replies to this round, and is `new` afterwards. The round has at most 4,096 requests. The
+-- store may refuse what it refused, and hasn't failed.
 pub record IsServed {S : Type 0} (v : Service S) (requests : List (ℕ × Request)) (replies : List Reply) (old new : S)
     : Type 0 where
   pub answers : AnswersRound v requests replies old new
@@ -38,20 +39,21 @@ pub record IsServed {S : Type 0} (v : Service S) (requests : List (ℕ × Reques
   pub short : length requests ≤ 4096
   pub alive : IsAlive (v.is_failed old) (v.is_failed new)
 
--- calls gave these replies to these rounds, one after another
+-- store `old` gave the replies `told` to these rounds, in order, and is `new` afterwards
 abbrev pub AreServed : {S : Type 0} → Service S → List (List (ℕ × Request)) → List (List Reply) → S → S → Type 0
 AreServed v [] [] old new = new ≡ old
 AreServed {S} v (requests ∷ rounds) (replies ∷ told) old new =
     (now : S) × IsServed v requests replies old now × AreServed v rounds told now new
 AreServed v rounds told old new = ⊥
 
--- while this store hasn't failed, the places that it may refuse are exactly those of the requests out of range
+-- if the store hasn't failed after a round, the positions that it may refuse in the round are exactly those of the
+-- requests out of range
 abbrev pub RefusesOutOfRange : {S : Type 0} → Service S → Type 0
 RefusesOutOfRange {S} v = (old new : S) (requests : List (ℕ × Request)) (refused : List ℕ)
     → v.is_failed new ≡ false → v.may_refuse old new requests refused → refused ≡ out_of_range 0 requests
 
--- A store served the voters that a model serves, and both replied to the same rounds. If the store refused only
--- requests out of range, its replies were the model's.
+-- A store and a model serve the same voters and reply to the same rounds. If the store refuses exactly the requests
+-- out of range, it gives the model's replies, and both serve the same voters afterwards.
 abbrev pub AnswersAsModel : {S T : Type 0} → Service S → Service T → Type 0
 AnswersAsModel {S} {T} model v =
     (W : World) (rounds : List (List (ℕ × Request))) (told heard : List (List Reply)) (old new : S) (first last : T)
@@ -59,30 +61,31 @@ AnswersAsModel {S} {T} model v =
     → IsOpenAt v first W → AreServed v rounds heard first last → refused_in heard ≡ map (out_of_range 0) rounds
     → AnsweredAlike model v W rounds told heard new last
 
--- a store that refuses exactly the requests out of range is such a model of any other store
+-- if store `model` can only refuse the requests out of range, then store `v` gives the model's replies whenever `v`
+-- refuses exactly these too
 abbrev pub StoresAnswerAsModels : {S T : Type 0} → Service S → Service T → Type 0
 StoresAnswerAsModels model v = RefusesOutOfRange model → AnswersAsModel model v
 
 -- A store that refused requests in range.
 
--- the requests of a round whose reply wasn't `Refused`, in order
+-- the requests of a round whose reply isn't `Refused`, in order
 abbrev pub taken_by : List (ℕ × Request) → List Reply → List (ℕ × Request)
 taken_by [] told = []
 taken_by (q ∷ qs) [] = []
 taken_by (q ∷ qs) (a ∷ told) = if is_refused a then taken_by qs told else q ∷ taken_by qs told
 
--- the same for several rounds
+-- for each round, its requests whose reply isn't `Refused`
 abbrev pub taken_in : List (List (ℕ × Request)) → List (List Reply) → List (List (ℕ × Request))
 taken_in [] told = []
 taken_in (requests ∷ rounds) [] = []
 taken_in (requests ∷ rounds) (replies ∷ told) = taken_by requests replies ∷ taken_in rounds told
 
--- the replies to these requests
+-- the replies that aren't `Refused`
 abbrev pub answers_in : List Reply → List Reply
 answers_in [] = []
 answers_in (a ∷ told) = if is_refused a then answers_in told else a ∷ answers_in told
 
--- A model's replies are a store's replies to the requests that it took. Both serve the same voters afterwards.
+-- The model's replies are the store's replies without `Refused`. Both serve the same voters afterwards.
 pub record TellsTaken {S T : Type 0} (model : Service S) (v : Service T) (told heard : List (List Reply)) (new : S)
     (last : T) : Type 0 where
   pub same : told ≡ map answers_in heard
@@ -90,8 +93,9 @@ pub record TellsTaken {S T : Type 0} (model : Service S) (v : Service T) (told h
   pub first : IsOpenAt model new voters
   pub second : IsOpenAt v last voters
 
--- A store served the voters that a model serves, and replied to rounds, whatever it refused in them. The model replied
--- to the requests that the store took. Their replies to these are the same.
+-- A store and a model serve the same voters. The store replies to rounds, and the model to those of their requests
+-- that the store didn't refuse. Then the replies to these requests are the same, and both serve the same voters
+-- afterwards.
 abbrev pub AnswersTakenAsModel : {S T : Type 0} → Service S → Service T → Type 0
 AnswersTakenAsModel {S} {T} model v =
     (W : World) (rounds : List (List (ℕ × Request))) (told heard : List (List Reply)) (old new : S) (first last : T)
@@ -99,6 +103,7 @@ AnswersTakenAsModel {S} {T} model v =
     → IsOpenAt model old W → AreServed model (taken_in rounds heard) told old new
     → TellsTaken model v told heard new last
 
--- the same for each model that refuses exactly the requests out of range
+-- if store `model` can only refuse the requests out of range, then it replies as store `v` to the requests that `v`
+-- took
 abbrev pub StoresAnswerTakenAsModels : {S T : Type 0} → Service S → Service T → Type 0
 StoresAnswerTakenAsModels model v = RefusesOutOfRange model → AnswersTakenAsModel model v

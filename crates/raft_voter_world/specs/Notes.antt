@@ -1,4 +1,5 @@
--- What is noted of a run.
+-- The notes of a run: its rounds, the cut of each round that was cut off, and the voters. The last cut-off round may
+-- be unsettled: its cut isn't known until the next open shows the voters.
 use Rattle.std.specs.Prelude.{◌≡◌, ℕ, List, [], ◌∷◌, ◌++◌, length, Option, Some, None, unwrap_or}
 use Rattle.raft_voter_messages.specs.declared.round.Round.{Round}
 use Rattle.raft_voter.specs.Rounds.{World, after, taken_below}
@@ -8,7 +9,7 @@ use Rattle.raft_voter_world.specs.declared.notes.Notes.{Notes}
 use Rattle.raft_voter_world.specs.declared.notes.Unsettled.{Unsettled}
 use Rattle.raft_voter_world.specs.Places.{IsPlaceFound}
 
--- the round that was cut off, if one is unsettled, with these voters before it
+-- the unsettled round, with the voters of world `W` before it; without one, no round was cut off
 abbrev pub cut_from : World → Option Unsettled → CutRound
 cut_from W None = uncut W
 cut_from W (Some u) = record { before = W; requests = u.round.requests; refused = u.round.refused }
@@ -16,43 +17,44 @@ cut_from W (Some u) = record { before = W; requests = u.round.requests; refused 
 abbrev pub cut_of : Notes → CutRound
 cut_of n = cut_from (world_of n.voters) n.unsettled
 
--- the rounds that wait for the next open
+-- the unsettled round, and the rounds after it; they wait for the next open
 abbrev pub waiting : Option Unsettled → List Round
 waiting None = []
 waiting (Some u) = u.round ∷ u.rounds.items
 
--- all rounds
+-- all rounds of the run: the settled ones, then those that wait for the next open
 abbrev pub all_rounds : Notes → List Round
 all_rounds n = n.rounds.items ++ waiting n.unsettled
 
--- the cuts of the rounds that wait for the next open; the first round's cut is this place
+-- the cuts of the rounds that wait for the next open, if the cut of the unsettled one is `place`
 abbrev pub waiting_cuts : ℕ → Option Unsettled → List ℕ
 waiting_cuts place None = []
 waiting_cuts place (Some u) = place ∷ u.cuts.items
 
--- all cuts; the unsettled round's cut is this place
+-- all cuts of the run, if the cut of the unsettled round is `place`
 abbrev pub all_cuts : Notes → ℕ → List ℕ
 all_cuts n place = n.cuts.items ++ waiting_cuts place n.unsettled
 
--- nothing waits any more, because the unsettled round was taken up to this place
+-- in `new`, no round is unsettled; all rounds of `old` are settled, with `place` as the cut of the unsettled one
 pub record Settles (old : Notes) (place : ℕ) (new : Notes) : Type 0 where
   pub none : new.unsettled ≡ None
   pub rounds : new.rounds.items ≡ all_rounds old
   pub cuts : new.cuts.items ≡ all_cuts old place
 
--- the events to add to the lost ones: this event if its open shows voters which no place fits
+-- this event, as one that lost voters, if its open shows voters that fit the last cut-off round at no position
 abbrev pub lost_by : Option ℕ → ℕ → List ℕ
 lost_by None event = event ∷ []
 lost_by (Some place) event = []
 
--- an open showed voters, and the place at which they fit was looked for
+-- an open showed the voters of world `X`, and `place` is the first position at which they fit the unsettled round, if
+-- there is one
 pub record NotesShown (old : Notes) (event : ℕ) (X : World) (place : Option ℕ) (new : Notes) : Type 0 where
   pub found : IsPlaceFound (cut_of old) X place
   pub settled : Settles old (unwrap_or place 0) new
   pub world : world_of new.voters ≡ X
   pub lost : new.lost.items ≡ old.lost.items ++ lost_by place event
 
--- a round got replies
+-- a round got replies: it is added, and the voters are those after it
 pub record NotesAnswered (old : Notes) (round : Round) (new : Notes) : Type 0 where
   pub none : new.unsettled ≡ None
   pub rounds : new.rounds.items ≡ old.rounds.items ++ round ∷ []
@@ -60,14 +62,14 @@ pub record NotesAnswered (old : Notes) (round : Round) (new : Notes) : Type 0 wh
   pub world : world_of new.voters ≡ after (world_of old.voters) (taken_below round (length round.requests))
   pub lost : new.lost.items ≡ old.lost.items
 
--- a round was cut off, and may have been taken up to some place
+-- A round was cut off, and some of its requests may have been taken. It is now the unsettled round.
 pub record NotesCut (old : Notes) (round : Round) (new : Notes) : Type 0 where
   pub cut : cut_of new ≡ record { before = world_of old.voters; requests = round.requests; refused = round.refused }
   pub rounds : all_rounds new ≡ old.rounds.items ++ round ∷ []
   pub cuts : (place : ℕ) → all_cuts new place ≡ old.cuts.items ++ place ∷ []
   pub lost : new.lost.items ≡ old.lost.items
 
--- a round was cut off, and nothing of it was taken
+-- a round was cut off, and none of its requests was taken: it is added with 0 as its cut
 pub record NotesIdle (old : Notes) (round : Round) (new : Notes) : Type 0 where
   pub cut : cut_of new ≡ cut_of old
   pub rounds : all_rounds new ≡ all_rounds old ++ round ∷ []

@@ -1,4 +1,4 @@
--- The outcomes of an open of a store's files.
+-- What may come out of an open of a store's files.
 use Rattle.std.specs.Prelude.{◌≡◌, ◌⊎◌, ℕ, true, false, List}
 use Rattle.raft_voter_outline.specs.State.{State}
 use Rattle.raft_voter.specs.Service.{Service}
@@ -11,8 +11,10 @@ use Rattle.raft_voter_world.specs.declared.storage.Storage.TheVariants.{Open as 
 use Rattle.raft_voter_world.specs.History.{Crashes, IsOpened, IsUnopened}
 use Rattle.raft_voter_world.specs.Stores.{Disk, LeavesInFiles, StaysAsItWas, TellsVoters, Upkeep, world_in}
 
--- After a store was opened there are three cases. Its voters were read. Or the disk had stopped, and a crash left
--- files. Or the disk runs, the voters weren't read, and the store was closed again.
+-- What became of the open, after `store` was opened. There are three outcomes:
+-- - its voters were read, and are shown;
+-- - the disk had stopped, and a crash left the files;
+-- - the disk runs, the voters weren't read, and the store was closed again.
 abbrev pub ComesOf : {S F : Type 0} → Service S → Upkeep S → Disk S F → S → Left → Opened S F → Type 0
 ComesOf v u d store gone (Shown now voters) =
     (listed : List (ℕ × State)) × TellsVoters v store listed × StaysAsItWas v store now
@@ -22,7 +24,8 @@ ComesOf {S} {F} v u d store gone (IsClosed files) =
     ⊎ ((now : S) × StaysAsItWas v store now × (u.has_stopped now ≡ false)
     × d.closes now files × LeavesInFiles v d now files)
 
--- Outcomes of an open: a store was opened, or the open failed, or the disk had stopped and the files are unchanged.
+-- An open of `files` has the outcome `opened`: a store was opened, or the open failed. If the disk had already
+-- stopped, nothing was opened, and the files are unchanged.
 abbrev pub ComesOut : {S F : Type 0} → Service S → Upkeep S → Disk S F → F → ℕ → Left → Opened S F → Type 0
 ComesOut {S} {F} v u d files workers gone opened =
     (((store : S) × (d.has_stopped files ≡ false) × IsOpened v d files workers store × ComesOf v u d store gone opened))

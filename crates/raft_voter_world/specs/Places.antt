@@ -1,23 +1,23 @@
--- How far a round that was cut off was taken.
+-- The position in a cut-off round up to which its requests were taken, found by comparing voters.
 use Rattle.std.specs.Prelude.{◌≡◌, ◌≢◌, ℕ, ◌≤◌, ◌<◌, Option, Some, None, length}
 use Rattle.raft_voter.specs.Rounds.{World, after, taken_from}
 use Rattle.raft_voter.specs.Service.{CutRound}
 
--- the voters after a round was taken up to a place
+-- the voters after the requests of the cut-off round before position `place` were taken
 abbrev pub world_at : CutRound → ℕ → World
 world_at cut place = after cut.before (taken_from 0 place cut.refused cut.requests)
 
--- this is the least place up to which taking the round leads to these voters
+-- `place` is the first position in the cut-off round for which taking the requests before it leads to world `X`
 pub record IsLeastPlace (cut : CutRound) (X : World) (place : ℕ) : Type 0 where
   pub within : place ≤ length cut.requests
   pub fits : X ≡ world_at cut place
   pub least : (before : ℕ) → before < place → X ≢ world_at cut before
 
--- there is no such place
+-- at no position in the cut-off round does taking the requests before it lead to world `X`
 abbrev pub FitsNowhere : CutRound → World → Type 0
 FitsNowhere cut X = (place : ℕ) → place ≤ length cut.requests → X ≢ world_at cut place
 
--- the result of looking for the least place
+-- the result of looking for the first position that leads to world `X`: that position, or `None` if there is none
 abbrev pub IsPlaceFound : CutRound → World → Option ℕ → Type 0
 IsPlaceFound cut X (Some place) = IsLeastPlace cut X place
 IsPlaceFound cut X None = FitsNowhere cut X

@@ -1,4 +1,4 @@
--- Events that were played, and how a run ends.
+-- The events of a run that have been played, and how the run ends.
 use Rattle.std.specs.Prelude.{◌≡◌, ◌⊎◌, ℕ, true, false, List, ◌++◌}
 use Rattle.raft_voter.specs.Service.{Service}
 use Rattle.raft_voter_world.specs.declared.event.Event.{Event}
@@ -14,7 +14,7 @@ use Rattle.raft_voter_world.specs.Run.{ending_left, moments_of}
 use Rattle.raft_voter_world.specs.Steps.{IsReady}
 use Rattle.raft_voter_world.specs.Stores.{Disk, Upkeep}
 
--- what the moments of these events add to the notes
+-- notes `new` are `old` with the rounds, cuts and lost events of these turns, one list of moments for each event
 pub record AddTurns {S F : Type 0} (old : Notes) (turns : List (List (Moment S F))) (new : Notes) : Type 0 where
   pub rounds : all_rounds new ≡ all_rounds old ++ rounds_in (moments_of turns)
   pub cuts : (last : ℕ) (rest : List (Moment S F))
@@ -23,7 +23,7 @@ pub record AddTurns {S F : Type 0} (old : Notes) (turns : List (List (Moment S F
   pub least : (rest : List (Moment S F)) → AreLeast (cut_of new) rest → AreLeast (cut_of old) (moments_of turns ++ rest)
   pub lost : new.lost.items ≡ old.lost.items ++ lost_from 0 turns
 
--- these events happened in a world, and were noted
+-- these events happened in world `old` and were noted, and the world is `new` afterwards
 pub record HasPlayed {S F : Type 0} (v : Service S) (u : Upkeep S) (d : Disk S F) (old : World S F) (events : List Event)
     (new : World S F) : Type 0 where
   pub turns : List (List (Moment S F))
@@ -33,14 +33,14 @@ pub record HasPlayed {S F : Type 0} (v : Service S) (u : Upkeep S) (d : Disk S F
   pub noted : AddTurns old.notes turns new.notes
   pub ready : IsReady v old → IsReady v new
 
--- these files are unchanged, or the disk has stopped and a crash left others of them
+-- the disk runs, and `kept` are the files; or it has stopped, and a crash that leaves what `gone` says left `kept`
 abbrev pub Stands : {S F : Type 0} → Service S → Disk S F → F → Left → F → Type 0
 Stands v d files gone kept =
     ((d.has_stopped files ≡ false) × (kept ≡ files))
     ⊎ ((d.has_stopped files ≡ true) × Crashes v d (Closed files) gone kept)
 
--- A run ended in this world: a store that was open is closed. A round that was cut off and that no open followed counts
--- as not taken.
+-- A run ended in this world, and `report` is its report. A store that was open is closed. For a last round that was
+-- cut off with no open after it, the report has the cut 0.
 pub record Ended {S F : Type 0} (v : Service S) (u : Upkeep S) (d : Disk S F) (world : World S F) (report : WorldReport F)
     : Type 0 where
   pub closing : List (Moment S F)

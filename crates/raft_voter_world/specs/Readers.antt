@@ -1,5 +1,5 @@
--- A run for a reader who checks the premise that there is no CRC collision. The reader picks which knowledge of what is
--- left to check it by.
+-- What holds for a run, for a reader who checks that there was no CRC collision. That condition depends on the proof
+-- of what the files leave. The reader may choose this proof after each moment.
 use Rattle.std.specs.Prelude.{List, [], ◌∷◌, ◌++◌, IsSome}
 use Rattle.raft_voter.specs.Rounds.{World, fresh_world}
 use Rattle.raft_voter.specs.Service.{CutRound, IsOpenAt, MayFollow, Service, uncut}
@@ -13,9 +13,10 @@ use Rattle.raft_voter_world.specs.History.Moment.{opened, unread, fell, unopened
 use Rattle.raft_voter_world.specs.Run.{EndsWell, IsRun, Knows, moments_of}
 use Rattle.raft_voter_world.specs.Stores.{Disk, Upkeep}
 
--- After each moment, what a storage is known to leave is still known. The reader continues with any knowledge of it,
--- and `End` holds at the end. Nothing is claimed after a CRC collision, by what the reader knows, in files that an open
--- reads or a crash leaves. An open shows voters that are possible there, and finds their place.
+-- What holds from moment to moment, if storage `storage` leaves `cut` by the proof `known`. After each moment, the
+-- storage leaves the next cut-off round, and the reader continues with any proof of that. `End` is true at the end.
+-- Each open shows voters that are possible, and finds their position. After a CRC collision, in files that an open
+-- reads or a crash leaves, nothing is claimed.
 abbrev pub GoesBy :
     {S F : Type 0}
     → (v : Service S) (d : Disk S F) → (Storage S F → CutRound → Type 0)
@@ -56,14 +57,15 @@ GoesBy v d End (Closed files) cut known (idle round now ∷ ms) =
     d.leaves now cut × ((still : d.leaves now cut) → GoesBy v d End (Closed now) cut still ms)
 GoesBy v d End storage cut known ms = ⊥
 
--- Whatever happens, starting from files that store no voter: this holds, and the run ends well.
+-- In every history that starts with files that store no voter, and whose opens find the first fitting position, what
+-- `GoesBy` says holds. At its end the history ends well.
 abbrev pub AllGoBy : {S F : Type 0} → Service S → Upkeep S → Disk S F → Type 0
 AllGoBy {S} {F} v u d =
     (files : F) (ms : List (Moment S F)) → Happen v u d (Closed files) ms → AreLeast (uncut fresh_world) ms
     → (known : d.leaves files (uncut fresh_world))
     → GoesBy v d (λ storage cut. EndsWell ms cut) (Closed files) (uncut fresh_world) known ms
 
--- The same holds for a run.
+-- In every run that starts with files that store no voter, what `GoesBy` says holds. At its end the run ends well.
 abbrev pub RunsGoBy : {S F : Type 0} → Service S → Upkeep S → Disk S F → Type 0
 RunsGoBy {S} {F} v u d = (files : F) (events : List Event) (report : WorldReport F)
     → (run : IsRun v u d files events report) → (known : d.leaves files (uncut fresh_world))

@@ -1,4 +1,4 @@
--- A run of events, and what holds for it.
+-- A run: the moments that events make, from the first files to the last close, and what holds for them.
 use Rattle.std.specs.Prelude.{◌≡◌, ℕ, List, [], ◌∷◌, ◌++◌, IsSome}
 use Rattle.raft_voter.specs.Rounds.{World, Explains, Leads, fresh_world}
 use Rattle.raft_voter.specs.Service.{CutRound, IsOpenAt, MayFollow, Service, uncut}
@@ -13,14 +13,15 @@ use Rattle.raft_voter_world.specs.History.{Ends, Happen, Moment, Plays, behind_a
 use Rattle.raft_voter_world.specs.History.Moment.{opened, unread, fell, unopened, crashed, kept, answered, cut_off, idle}
 use Rattle.raft_voter_world.specs.Stores.{Disk, Upkeep}
 
--- a storage leaves voters that are possible after this round, cut off or not
+-- this storage leaves this cut-off round: a later open finds only voters that are possible after it
 abbrev pub Knows : {S F : Type 0} → Service S → Disk S F → Storage S F → CutRound → Type 0
 Knows v d (Closed files) cut = d.leaves files cut
 Knows v d (Open store) cut = v.leaves store cut
 
--- What is known to be left in a storage stays known from moment to moment, and `End` holds at the end. Nothing is
--- claimed after a CRC collision in files that an open reads or a crash leaves. An open shows voters that are possible
--- there, and finds the place. If an open doesn't read the voters, its files leave what it served.
+-- What holds from moment to moment, if storage `storage` is known to leave `cut`. After each moment, the storage
+-- leaves the next cut-off round, and `End` is true at the end. Each open shows voters that are possible, and finds
+-- their position. If an open doesn't read the voters, the files leave some that are possible. After a CRC collision,
+-- in files that an open reads or a crash leaves, nothing is claimed.
 abbrev pub Goes :
     {S F : Type 0}
     → (v : Service S) (d : Disk S F) → (Storage S F → CutRound → Type 0)
@@ -56,43 +57,43 @@ Goes v d End (Closed files) cut known (idle round now ∷ ms) =
     (still : d.leaves now cut) × Goes v d End (Closed now) cut still ms
 Goes v d End storage cut known ms = ⊥
 
--- what a stop leaves after these events
+-- what a crash after a stop of the disk leaves, once these events have happened
 abbrev pub ending_left : Left → List Event → Left
 ending_left gone [] = gone
 ending_left gone (e ∷ es) = ending_left (left_from e gone) es
 
--- all moments of these turns
+-- all moments of these turns, in order; each turn has the moments of one event
 abbrev pub moments_of : {S F : Type 0} → List (List (Moment S F)) → List (Moment S F)
 moments_of [] = []
 moments_of (ms ∷ mss) = ms ++ moments_of mss
 
--- Voters that never fail explain the rounds. Voters found in what is left at the end are possible after all of them.
--- For that, the last round that was cut off without a later open may need another cut.
+-- Fresh voters that never fail give exactly the replies in the rounds of `ms`, with their cuts. After all rounds, they
+-- can be any voters that are possible after `cut`. Only the last round's cut may have to be another one for that.
 pub record EndsWell {S F : Type 0} (ms : List (Moment S F)) (cut : CutRound) : Type 0 where
   pub explained : Explains (rounds_in ms) (cuts_in 0 ms)
   pub found : (X : World) → MayFollow cut X → (place : ℕ) × Leads fresh_world (rounds_in ms) (cuts_in place ms) X
 
--- Whatever happens, starting from files, if the least place is found for each round that was cut off. If nothing was
--- lost, and each store that was opened serves some voters, then voters that never fail explain the rounds.
+-- In every history in which each open finds the first fitting position, no open lost voters, and each store that was
+-- opened serves some: fresh voters that never fail give exactly the replies in its rounds.
 abbrev pub AllExplained : {S F : Type 0} → Service S → Upkeep S → Disk S F → Type 0
 AllExplained {S} {F} v u d =
     (files : F) (ms : List (Moment S F)) → Happen v u d (Closed files) ms → AreLeast (uncut fresh_world) ms
     → ServeSome v ms → NoneLost ms → Explains (rounds_in ms) (cuts_in 0 ms)
 
--- Whatever happens, starting from files that store no voter, unless there is a CRC collision. Each open shows voters
--- that fit at some place. Voters that never fail explain the rounds, and what is left at the end means the voters that
--- they led to.
+-- In every history that starts with files that store no voter, and whose opens find the first fitting position, unless
+-- there is a CRC collision: each open shows voters that fit at some position. At the end, fresh voters that never fail
+-- give exactly the replies in its rounds, and lead to the voters that are left.
 abbrev pub AllTransparent : {S F : Type 0} → Service S → Upkeep S → Disk S F → Type 0
 AllTransparent {S} {F} v u d =
     (files : F) (ms : List (Moment S F)) → Happen v u d (Closed files) ms → AreLeast (uncut fresh_world) ms
     → (known : d.leaves files (uncut fresh_world))
     → Goes v d (λ storage cut. EndsWell ms cut) (Closed files) (uncut fresh_world) known ms
 
--- A run of these events that began with these files: what happened, what its report says, and what holds for it.
--- - If nothing was lost, and each store that was opened served some voters, then voters that never fail explain the
---   transcript.
--- - Suppose the files stored no voter, and there was no CRC collision. Then nothing is lost, such voters explain the
---   transcript, and what is left means them.
+-- A run of these events that began with these files: what happened, what the report has, and what holds for it.
+-- - Suppose no open lost voters, and each store that was opened serves some. Then fresh voters that never fail give
+--   exactly the replies of the transcript.
+-- - Suppose the files stored no voter, and there was no CRC collision. Then no voters are lost, and such voters give
+--   exactly these replies and lead to the voters that are left.
 pub record IsRun {S F : Type 0} (v : Service S) (u : Upkeep S) (d : Disk S F) (files : F) (events : List Event)
     (report : WorldReport F) : Type 0 where
   pub turns : List (List (Moment S F))

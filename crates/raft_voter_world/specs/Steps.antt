@@ -1,4 +1,4 @@
--- One event of a run.
+-- One event of a run: the moments that it makes, and what the notes have after it.
 use Rattle.std.specs.Prelude.{◌≡◌, ℕ, false, List, ◌++◌, None}
 use Rattle.raft_voter.specs.Service.{Service}
 use Rattle.raft_voter_world.specs.declared.event.Event.{Event}
@@ -14,7 +14,8 @@ use Rattle.raft_voter_world.specs.History.{Falls, Happen, Moment, Turns, behind_
 use Rattle.raft_voter_world.specs.Notes.{all_cuts, all_rounds, cut_of}
 use Rattle.raft_voter_world.specs.Stores.{Disk, Upkeep}
 
--- what these moments of an event add to the notes
+-- notes `new` are `old` with the rounds and cuts of these moments, and with `event` once for each open that lost
+-- voters
 pub record Grows {S F : Type 0} (event : ℕ) (old : Notes) (ms : List (Moment S F)) (new : Notes) : Type 0 where
   pub rounds : all_rounds new ≡ all_rounds old ++ rounds_in ms
   pub cuts : (last : ℕ) (rest : List (Moment S F))
@@ -23,16 +24,16 @@ pub record Grows {S F : Type 0} (event : ℕ) (old : Notes) (ms : List (Moment S
   pub least : (rest : List (Moment S F)) → AreLeast (cut_of new) rest → AreLeast (cut_of old) (ms ++ rest)
   pub lost : new.lost.items ≡ old.lost.items ++ lost_at event ms
 
--- if a store is open and hasn't failed, this holds
+-- if a store is open and hasn't failed, `IsSo` is true
 abbrev pub WhereAlive : {S F : Type 0} → Service S → Storage S F → Type 0 → Type 0
 WhereAlive v (Closed files) IsSo = Unit {0}
 WhereAlive v (Open store) IsSo = v.is_failed store ≡ false → IsSo
 
--- if a store is open and hasn't failed, no round waits
+-- if a store is open and hasn't failed, no round is unsettled
 abbrev pub IsReady : {S F : Type 0} → Service S → World S F → Type 0
 IsReady v world = WhereAlive v world.storage (world.notes.unsettled ≡ None)
 
--- these moments happened in a world, and were noted
+-- these moments happened in world `old` and were noted, and the world is `new` afterwards
 pub record Moves {S F : Type 0} (v : Service S) (u : Upkeep S) (d : Disk S F) (event : ℕ) (old : World S F)
     (ms : List (Moment S F)) (new : World S F) : Type 0 where
   pub happened : Happen v u d old.storage ms
@@ -40,7 +41,7 @@ pub record Moves {S F : Type 0} (v : Service S) (u : Upkeep S) (d : Disk S F) (e
   pub noted : Grows event old.notes ms new.notes
   pub ready : IsReady v old → IsReady v new
 
--- if the disk has stopped, a crash followed, and left what the world's `left` says
+-- if the disk of world `old` has stopped, a crash followed, which left what `left` of the world says
 pub record Falling {S F : Type 0} (v : Service S) (u : Upkeep S) (d : Disk S F) (event : ℕ) (old : World S F)
     (new : World S F) : Type 0 where
   pub moments : List (Moment S F)
@@ -48,7 +49,7 @@ pub record Falling {S F : Type 0} (v : Service S) (u : Upkeep S) (d : Disk S F) 
   pub moves : Moves v u d event old moments new
   pub left : new.left ≡ old.left
 
--- an event happened
+-- this event happened in world `old` and was noted, and the world is `new` afterwards
 pub record IsStep {S F : Type 0} (v : Service S) (u : Upkeep S) (d : Disk S F) (place : ℕ) (event : Event) (old : World S F)
     (new : World S F) : Type 0 where
   pub moments : List (Moment S F)
@@ -56,7 +57,7 @@ pub record IsStep {S F : Type 0} (v : Service S) (u : Upkeep S) (d : Disk S F) (
   pub moves : Moves v u d place old moments new
   pub left : new.left ≡ left_from event old.left
 
--- the event of a purge
+-- the event that asks for this purge
 abbrev pub event_of : Purge → Event
 event_of Expired = Maintain
 event_of Append = RewriteAppend

@@ -1,4 +1,4 @@
--- What calls do to a storage.
+-- What calls do to a storage, which is an open store, or the files if no store is open.
 use Rattle.std.specs.Prelude.{◌≡◌, ℕ, List, Option}
 use Rattle.raft_voter_messages.specs.declared.request.Request.{Request}
 use Rattle.raft_voter.specs.Service.{Service, TakesNothing}
@@ -13,23 +13,22 @@ use Rattle.raft_voter_world.specs.History.{Change, IsAnswered, IsCutOff, IsIdle,
 use Rattle.raft_voter_world.specs.History.Change.{purges}
 use Rattle.raft_voter_world.specs.Stores.{Disk, Upkeep}
 
--- if a store is open it is purged, which succeeds or fails; otherwise nothing changes
+-- if a store is open it is purged, with success or not, and the storage is `new` then; otherwise nothing changes
 abbrev pub PurgesIfOpen :
     {S F : Type 0} → Service S → Upkeep S → Disk S F → Purge → Storage S F → Storage S F → Type 0
 PurgesIfOpen v u d purge (Open store) new = (refusal : Option Cause) × Keeps v u d (purges purge refusal) (Open store) new
 PurgesIfOpen v u d purge (Closed files) new = new ≡ Closed files
 
--- if no store is open the call keeps the voters of the files; otherwise nothing changes
+-- if no store is open, this call changes the files into `new` and keeps the voters; otherwise nothing changes
 abbrev pub KeepsIfClosed :
     {S F : Type 0} → Service S → Upkeep S → Disk S F → Change → Storage S F → Storage S F → Type 0
 KeepsIfClosed v u d change (Closed files) new = Keeps v u d change (Closed files) new
 KeepsIfClosed v u d change (Open store) new = new ≡ Open store
 
--- How a round of these requests was served:
--- - it got replies;
--- - the store cut it off because the file system failed, and may have taken some of it;
--- - the store cut it off for another cause, and took nothing;
--- - no store was open, and nothing was taken.
+-- How a round of these requests went:
+-- - `Answered`: the store replied to it;
+-- - `TookSome`: the store cut it off because the file system failed, and may have taken some requests;
+-- - `TookNone`: the store cut it off for another cause, or no store was open, and no request was taken.
 abbrev pub IsServed :
     {S F : Type 0} → Service S → List (ℕ × Request) → Storage S F → Served → Storage S F → Type 0
 IsServed v requests (Open old) (Answered round) (Open new) =

@@ -1,4 +1,4 @@
--- What a store of voters and its disk promise.
+-- What a store of voters and its disk promise for each call that isn't a round.
 use Rattle.std.specs.Prelude.{◌≡◌, ◌==◌, ℕ, Bool, true, false, List, unwrap_or}
 use Rattle.std.specs.Map.{lookup}
 use Rattle.raft_voter_outline.specs.State.{State, fresh}
@@ -12,41 +12,44 @@ use Rattle.raft_voter_world.specs.declared.faults.Purge.{Purge}
 
 -- Open stores.
 
--- An open store between rounds. `has_stopped`: the disk below it has stopped. `purges`: what a purge that succeeds
--- does. `refuses`: what a purge that fails for a cause does. `arms`: what arming a fault does.
+-- What an open store promises between rounds:
+-- - `has_stopped`: its disk has stopped;
+-- - `purges`: a purge that succeeds may change the first store into the second;
+-- - `refuses`: a purge that fails for this cause may change the first store into the second;
+-- - `arms`: arming this fault may change the first store into the second.
 pub record Upkeep (S : Type 0) : Type 1 where
   pub has_stopped : S → Bool
   pub purges : Purge → S → S → Type 0
   pub refuses : Purge → Cause → S → S → Type 0
   pub arms : Fault → S → S → Type 0
 
--- the voters of a list: the one listed for a group, otherwise a fresh one
+-- the world of these voters: for each group the first one listed for it, or a fresh one
 abbrev pub world_in : List (ℕ × State) → World
 world_in voters = λ g. unwrap_or (lookup (λ k. k == g) voters) fresh
 
--- any voters that the store serves are those of the list
+-- if the store serves the voters of a world, they are exactly those of this list
 abbrev pub TellsVoters : {S : Type 0} → Service S → S → List (ℕ × State) → Type 0
 TellsVoters v store voters = (W : World) → IsOpenAt v store W → W ≡ world_in voters
 
--- every round that the store left is still left
+-- `new` leaves every cut-off round that `old` leaves: what a later open may find is still possible
 abbrev pub StaysLeft : {S : Type 0} → Service S → S → S → Type 0
 StaysLeft v old new = (cut : CutRound) → v.leaves old cut → v.leaves new cut
 
--- a call changed nothing of what a store serves or leaves
+-- `new` serves what `old` serves, leaves what `old` leaves, and has failed exactly if `old` had
 pub record StaysAsItWas {S : Type 0} (v : Service S) (old new : S) : Type 0 where
   pub failed : v.is_failed new ≡ v.is_failed old
   pub served : (W : World) → IsOpenAt v old W → IsOpenAt v new W
   pub left : StaysLeft v old new
 
--- A purge keeps the voters that are served, unless the store failed in it. It keeps what is left. A store that had
--- failed before has still failed.
+-- A purge changed store `old` into `new`. `new` serves the voters of `old`, unless it has failed. It leaves every
+-- cut-off round that `old` left. If `old` had failed, so has `new`.
 pub record KeepsVoters {S : Type 0} (v : Service S) (old new : S) : Type 0 where
   pub failed : v.is_failed old ≡ true → v.is_failed new ≡ true
   pub served : (W : World) → IsOpenAt v old W → v.is_failed new ≡ false → IsOpenAt v new W
   pub left : StaysLeft v old new
 
--- When a purge fails for this cause. `before` and `now` say whether the store had failed before the purge, and has
--- failed after it. Only the file system can make the store fail.
+-- A purge may fail for this cause. `before` is whether the store had failed before the purge, and `now` whether it has
+-- failed after it. Only the cause `FileSystem` can make it fail.
 abbrev pub RefusesPurge : Cause → Bool → Bool → Type 0
 RefusesPurge FileSystem before now = before ≡ false
 RefusesPurge Memory before now = (before ≡ false) × (now ≡ false)
@@ -55,18 +58,18 @@ RefusesPurge TooLong before now = ⊥
 
 -- Disks.
 
--- A disk while no store is open on it:
--- - `leaves`: after which round, cut off or not, the next open finds the voters, even after a crash;
--- - `without_chance`: no CRC collision, given what is known to be left, in the second files: those that a crash left,
---   or the same ones, unchanged;
--- - `leaves_under`: after which round the voters are found that a crash under an open store leaves;
--- - `spares`: no CRC collision, given what is known to be left, in the files that such a crash left;
--- - `opens`: what an open by this many workers may return;
--- - `refuses`: for which causes such an open may fail, and which files it leaves then;
--- - `closes`: what a close of a store may leave;
--- - `crashes`, `crashes_under`: what a crash may leave of the files, and of those under an open store;
--- - `forks`: what a copy into a directory may do to the files, whether it succeeds or fails;
--- - `arms`: what arming a fault does;
+-- A disk on which no store is open; a store that is named here is open on it:
+-- - `leaves`: the next open, even after a crash, finds only voters that are possible after this cut-off round;
+-- - `without_chance`: given that `files` leave this round, the second files have no CRC collision; they are what a
+--   crash left of `files`, or `files` themselves;
+-- - `leaves_under`: a crash under this store leaves only voters that are possible after this round;
+-- - `spares`: given that, the files that such a crash left have no CRC collision;
+-- - `opens`: an open by this many workers may return this store;
+-- - `refuses`: such an open may fail for this cause, and then leaves the second files;
+-- - `closes`: a close of this store may leave these files;
+-- - `crashes`, `crashes_under`: a crash may leave the second files, of the first files or under this store;
+-- - `forks`: a copy into this directory may change the first files into the second, whether it succeeds or fails;
+-- - `arms`: arming this fault may change the first files into the second;
 -- - `has_stopped`: the disk has stopped.
 pub record Disk (S F : Type 0) : Type 1 where
   pub leaves : F → CutRound → Type 0
@@ -82,29 +85,30 @@ pub record Disk (S F : Type 0) : Type 1 where
   pub arms : Fault → F → F → Type 0
   pub has_stopped : F → Bool
 
--- a store that was opened serves voters that are possible for these files, unless they have a CRC collision
+-- `store`, opened from `files`, serves voters that are possible after each cut-off round that `files` leave. This asks
+-- that `files` have no CRC collision.
 abbrev pub FindsVoters : {S F : Type 0} → Service S → Disk S F → F → S → Type 0
 FindsVoters v d files store =
     (cut : CutRound) (known : d.leaves files cut) → d.without_chance files cut known files
     → (W : World) × MayFollow cut W × IsOpenAt v store W
 
--- A crash, or an open that failed, made the last files from the first. They leave every round that the first left,
--- unless there was a CRC collision in the files that were read.
+-- A crash, or an open that failed, made the files `left` from `files`. If the files `read` have no CRC collision,
+-- `left` leave every cut-off round that `files` leave.
 abbrev pub LeavesStanding : {S F : Type 0} → Service S → Disk S F → F → F → F → Type 0
 LeavesStanding v d files read left =
     (cut : CutRound) (known : d.leaves files cut) → d.without_chance files cut known read → d.leaves left cut
 
--- a crash left these files under an open store: they leave every round that the store left, unless there was a CRC
--- collision
+-- A crash under the open store `store` left the files `left`. Without a CRC collision, they leave every cut-off round
+-- that the store left.
 abbrev pub LeavesUnder : {S F : Type 0} → Service S → Disk S F → S → F → Type 0
 LeavesUnder v d store left =
     (cut : CutRound) → v.leaves store cut
     → (known : d.leaves_under store cut) × (d.spares store cut known left → d.leaves left cut)
 
--- the files leave every round that the open store left
+-- `files` leave every cut-off round that the store leaves
 abbrev pub LeavesInFiles : {S F : Type 0} → Service S → Disk S F → S → F → Type 0
 LeavesInFiles v d store files = (cut : CutRound) → v.leaves store cut → d.leaves files cut
 
--- the files still leave every round that they left
+-- the files `new` leave every cut-off round that `old` leave
 abbrev pub StaysInFiles : {S F : Type 0} → Service S → Disk S F → F → F → Type 0
 StaysInFiles v d old new = (cut : CutRound) → d.leaves old cut → d.leaves new cut

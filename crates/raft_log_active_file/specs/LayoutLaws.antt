@@ -30,8 +30,8 @@ ZerosHoldNoRecord = (n size : ℕ) (header : List ℕ) → HoldsNoFrame (IsRecor
 abbrev pub ReservedNamesAreTheLogs : Type 0
 ReservedNamesAreTheLogs = reserved_suffix_of Append ≡ reserved_suffix
 
--- Each queue may begin (`IsFresh`) if its directories exist, and no file and no directory is at a path of one of its
--- numbers. Since `base`, only the queue's own paths may have changed.
+-- A queue may begin if its directories exist, and no file and no directory is at a path of one of its numbers. Since
+-- `base`, only the queue's own paths may have changed.
 abbrev pub PlacesAreFresh : Type 0
 PlacesAreFresh = (queue : LogQueue) (directories : List (List ℕ)) (base d : Disk)
     → ((directory : List ℕ) → Contains directories directory → d.directories directory ≡ true)

@@ -51,8 +51,8 @@ abbrev pub with_open : Which → OpenPipes → Option PipeFiles → OpenPipes
 with_open InAppend o now = record { append = now; rewrite = o.rewrite }
 with_open InRewrite o now = record { append = o.append; rewrite = now }
 
--- of each queue, the pipe in `o` runs, or no pipe runs and its files are on the disk; both queues are on the disk of
--- `s`
+-- each queue's pipe runs with its files in `o`, or no pipe runs and the queue's files are on the disk; both queues are
+-- on the disk of `s`
 pub record IsOpenOrClosed {R E V : Type 0} (log : TwoQueues R E V) (o : OpenPipes) (s : LogOnDisk R) : Type 0 where
   pub append : RunsOrLies log.append o.append s.append s.disk
   pub rewrite : RunsOrLies log.rewrite o.rewrite s.rewrite s.disk

@@ -29,8 +29,8 @@ pub record StaysAside {R : Type 0} (layout : QueueLayout R) (theirs : List ℕ �
   pub runs : (files : PipeFiles) (q : Spanned R) → RunsQueue layout files q old → RunsQueue layout files q new
   pub holds : (q : Spanned R) → HoldsQueue layout q.files old → HoldsQueue layout q.files new
 
--- `StaysAside` holds for a queue if a call changes only the paths in `theirs` and their files, and none of these paths
--- is the queue's own
+-- `StaysAside` holds for a queue if a call changes only the paths in `theirs` and their files, and none of these is the
+-- queue's own
 abbrev pub OtherQueueStays : {R : Type 0} → QueueLayout R → (List ℕ → Type 0) → Type 0
 OtherQueueStays layout theirs = IsQueueLayout layout → ((path : List ℕ) → layout.own path → theirs path → ⊥)
     → (old new : Disk) → TouchesOnlyNames theirs old new → StaysAside layout theirs old new

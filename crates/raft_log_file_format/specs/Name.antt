@@ -28,7 +28,7 @@ abbrev pub suffix_of : LogQueue → List ℕ
 suffix_of Append = codes ".raftlog"
 suffix_of Rewrite = codes ".rewrite"
 
--- the suffix of the names of files that are kept for recycling
+-- the suffix of the reserved names that Append gives to files that it keeps for recycling
 abbrev pub reserved_suffix : List ℕ
 reserved_suffix = codes ".raftlog.reserved"
 

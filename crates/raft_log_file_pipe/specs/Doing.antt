@@ -48,7 +48,7 @@ OldestIsFar (f ∷ fs) = 10 ^ 16 ≤ f.seq
 -- Why the pipe didn't rotate.
 -- - `Memory`: memory ran out, and nothing was done.
 -- - `NumberRange`: no name has the next number, or that of the file to recycle. Nothing was done.
--- - `Failed`: one of the calls failed, and none was made after it.
+-- - `Failed`: one of the calls failed, and none was made after it. This may be the call that opens the file to recycle.
 abbrev pub FailsToTurnBy : FilePaths → LogFileFormat → PipeFiles → PipeFiles → Error → Disk → Disk → Type 0
 FailsToTurnBy paths format before after errors.Memory old new = SameFiles before after × (new ≡ old)
 FailsToTurnBy paths format before after errors.NumberRange old new =

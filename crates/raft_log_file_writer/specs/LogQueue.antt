@@ -168,7 +168,7 @@ EndsInOnePlace {R} F q d = (image : Disk) → IsImage d image → NoChanceInLast
 abbrev pub HasNoGap : {R : Type 0} → Format R → Disk → ℕ → Type 0
 HasNoGap F d s = (n m : ℕ) → s ≤ n → n ≤ m → m < F.limit → IsThere F m d → IsThere F n d
 
--- after any stop, the queue can be read from each number `s` such that no file is missing after it
+-- after any stop, the queue can be read from each number `s` such that no file is missing from there on
 abbrev pub IsReadable : {R : Type 0} → Format R → LogFiles R → Disk → Type 0
 IsReadable {R} F q d = (image : Disk) → IsImage d image → (s : ℕ) → s ≤ q.last → HasNoGap F image s
     → (found : List (Found R)) × ReadsFrom F image s found
@@ -192,8 +192,8 @@ pub record QueueIsKept {R : Type 0} (F : Format R) : Type 0 where
 abbrev pub Anything : File → Type 0
 Anything file = Unit {0}
 
--- After any stop, a queue can be read from each number such that no file is missing after it, whatever its last file
--- contains. This needs that it is decidable whether bytes begin with a header or a record.
+-- After any stop, a queue can be read from each number such that no file is missing from there on, whatever its last
+-- file contains. This needs that it is decidable whether bytes begin with a header or a record.
 abbrev pub QueueIsReadable : {R : Type 0} → Format R → Type 0
 QueueIsReadable {R} F = CanTellFormat F → (q : LogFiles R) (d : Disk) → IsSound d
     → HasLogFiles F q Anything d → IsReadable F q d

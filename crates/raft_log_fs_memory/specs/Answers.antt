@@ -36,7 +36,8 @@ RefusesChange handle change result old new =
 abbrev pub FindsSpace : Handle → Change → MemoryFileSystem → Type 0
 FindsSpace handle change old = HasSpaceFor handle.file change old
 
--- an armed failure, full or partial, was due at this call; nothing was done, and the failure was counted
+-- an armed failure, full or partial, was due at this call; nothing was done, and the failure was counted or became a
+-- stop
 abbrev pub HasRefused : ErrorKind → MemoryFileSystem → MemoryFileSystem → Type 0
 HasRefused error old new = ArmedRefusalFell error old new ⊎ ArmedPartFell error old new
 

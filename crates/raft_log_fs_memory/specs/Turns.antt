@@ -114,15 +114,16 @@ pub record StopsAfter (a : Armed) : Type 0 where
   pub falls : a.stop ≡ 1
   pub done : a.after ≡ true
 
--- An armed failure and no stop was due at this call. The call returned `Other`; on the disk, only the failure was
--- counted.
+-- An armed failure and no stop was due at this call. The call returned `Other`. On the disk, the failure was counted,
+-- or the file system stopped if the count was full; nothing else changed.
 pub record ArmedRefusalFell (error : ErrorKind) (old new : MemoryFileSystem) : Type 0 where
   pub falls : Contains (armed old).refusals 1
   pub no_stop : (armed old).stop ≡ 1 → ⊥
   pub kind : error ≡ Other
   pub left : disk_of new ≡ failed_once error (disk_of old)
 
--- A partial failure was due at this call. The call returned `Other`; on the disk, only the failure was counted.
+-- A partial failure was due at this call. The call returned `Other`. On the disk, the failure was counted, or the file
+-- system stopped if the count was full; nothing else changed.
 pub record ArmedPartFell (error : ErrorKind) (old new : MemoryFileSystem) : Type 0 where
   pub count : ℕ
   pub falls : PartFalls count (armed old)

@@ -116,7 +116,7 @@ file_of file = record { content = file.content; synced = file.synced; changes = 
 abbrev pub ReadsNumber : List (Option Stored) → ℕ → ℕ → ℕ → ℕ → Type 0
 ReadsNumber files id at room count = IfHeld files id (λ file. count ≡ min room (length file.content - at))
 
--- If file `id` exists, `after` begins with its next `count` bytes from offset `at`. From byte `count` on, `after` is
+-- If file `id` exists, `after` begins with the file's `count` bytes from offset `at` on. From byte `count` on, it is
 -- the same as `before`.
 abbrev pub ReadsFront : List (Option Stored) → ℕ → ℕ → ℕ → List ℕ → List ℕ → Type 0
 ReadsFront files id at count before after =

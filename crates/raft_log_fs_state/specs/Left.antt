@@ -15,8 +15,8 @@ left_front count (Wrote at bytes) old = overwritten at (take count bytes) old
 left_front count (ShortenedTo size) old = old
 left_front count (GrewTo size) old = old
 
--- `old` after a write that left the bytes `other` in place of its own, cut to its length; a truncation or growth is
--- done whole
+-- `old` after a write that left, in place of its own bytes, the bytes `other`, at most as many; a truncation or growth
+-- is done whole
 abbrev pub left_as : List ℕ → disk.Change → List ℕ → List ℕ
 left_as other (Wrote at bytes) old = overwritten at (take (length bytes) other) old
 left_as other (ShortenedTo size) old = changed (ShortenedTo size) old

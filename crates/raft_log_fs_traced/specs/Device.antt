@@ -74,8 +74,8 @@ changed_by (Changed file change) d = with_next (d.files file) (after_change chan
 changed_by (WroteBack file at bytes) d = d
 changed_by (Synced file) d = with_next (d.files file) flushed file d
 
--- The device after a call that changes names: calls see the change at once. A crash keeps it only after the directories
--- `homes` are synced.
+-- The device after a call that changes names: calls see the change at once. The directories `homes` have to be synced
+-- now; a crash keeps the change once no directory has to be.
 abbrev pub with_names : DeviceCall → List (List ℕ) → Held → Held
 with_names call homes held =
     record { seen = changed_by call held.seen; kept = held.kept; owed = homes ++ held.owed }

@@ -76,7 +76,7 @@ sanitized s = record s {
   prefill_limit = if s.prefill_for_recycle then or_else s.prefill_limit s.purge_threshold else None;
 }
 
--- one and a half times as many files of `target` bytes as fit into `limit` bytes, at most 2^32 - 1
+-- one and a half times the number of files of `target` bytes that fit into `limit` bytes, at most 2^32 - 1
 abbrev pub files_within : ℕ → ℕ → ℕ
 files_within limit target = min (limit / target * 3 / 2) (2 ^ 32 - 1)
 

@@ -1,4 +1,4 @@
--- How a queue of files begins on a disk on which it has no file.
+-- How a queue of files begins on a disk that has no file of it.
 use Rattle.std.specs.Prelude.{ℕ, ◌<◌, List, []}
 use Rattle.raft_log_model_laws.specs.Item.{Record}
 use Rattle.raft_log_machine_laws.specs.Files.{fresh_files}
@@ -10,14 +10,15 @@ use Rattle.raft_log_active_file.specs.Queue.{with_room}
 use Rattle.raft_log_active_file.specs.Standing.{IsPlace}
 use Rattle.raft_log_active_file.specs.Bridge.{IsFileQueue}
 
--- A place for a queue: no number has a file, and a file may be created at each number's paths. Since `base` nothing has
--- changed but the queue's own paths and files.
+-- The queue may begin on the disk `d`: no number has a file, and a file can be created at each path of a number. Since
+-- `base`, only the queue's own paths and files have changed.
 pub record IsFresh {R : Type 0} (F : Format R) (own : List ℕ → Type 0) (base d : Disk) : Type 0 where
   pub none : (m : ℕ) → m < F.limit → IsAbsent F m d
   pub places : (m : ℕ) (path : List ℕ) → m < F.limit → F.IsPath m path → IsPlace path d
   pub others : TouchesOnlyNames own base d
 
--- A queue whose file 1 has this header and no record. `older` doesn't matter, as there are no older files.
+-- A queue that has only file 1, with this header and no record. `older` gives the contents of earlier files, and
+-- doesn't matter, as there are none.
 abbrev pub fresh_queue : {R : Type 0} → (ℕ → Past R) → List ℕ → LogFiles R
 fresh_queue older header = record {
   older = older;
@@ -28,7 +29,7 @@ fresh_queue older header = record {
   pending = [];
 }
 
--- if no file has the number 0, this is the machine's queue without records, in its file 1
+-- if there is no file 0, the numbered files of a queue that has begun are those of a new log (`fresh_files`)
 abbrev pub BeginsNumbered : {R E V : Type 0} → (R → Record E V) → Format R → Type 0
 BeginsNumbered {R} says F = (older : ℕ → Past R) (header : List ℕ) (room : ℕ) (d : Disk) → IsAbsent F 0 d
     → IsFileQueue says F (with_room room (fresh_queue older header)) 1 1 d fresh_files

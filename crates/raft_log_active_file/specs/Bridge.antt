@@ -1,4 +1,5 @@
--- How the files on a disk correspond to the numbered files of the log's machine, and what is read of their images.
+-- The numbered files (`FileQueue`) are how the log's model sees the files of a queue. Which ones correspond to the
+-- files on a disk, and what is read of them after a stop.
 use Rattle.std.specs.Prelude.{◌≡◌, ℕ, ◌+◌, ◌<◌, ◌≤◌, List, [], ◌∷◌, ◌++◌, map, suc, zero}
 use Rattle.raft_log_model_laws.specs.Item.{Record}
 use Rattle.raft_log_machine_laws.specs.Files.{LogFile, FileQueue, FileEvent, FileStep, IsRead, AllBehind}
@@ -8,11 +9,11 @@ use Rattle.raft_log_file_writer.specs.LawsChains.{Written}
 use Rattle.raft_log_file_writer.specs.LogFormat.{Format}
 use Rattle.raft_log_file_writer.specs.LogQueue.{Past, LogFiles, Found, IsAbsent, NoChanceInLast, ReadsFrom}
 
--- the values of written records
+-- the model's records for these written records
 abbrev pub said : {R E V : Type 0} → (R → Record E V) → List (Written R) → List (Record E V)
 said says ws = map (λ w. says w.value) ws
 
--- `k` numbered files from a number on
+-- the `k` files with the numbers from `s` on, as numbered files
 abbrev pub filed : {R E V : Type 0} → (R → Record E V) → (ℕ → Past R) → ℕ → ℕ → List (LogFile E V)
 filed says older s zero = []
 filed says older s (suc k) = record {
@@ -21,12 +22,14 @@ filed says older s (suc k) = record {
       (older s).records;
 } ∷ filed says older (suc s) k
 
--- a file as it was read, as a numbered file
+-- a file that was read, as a numbered file
 abbrev pub logged : {R E V : Type 0} → (R → Record E V) → Found R → LogFile E V
 logged says found = record { number = found.number; records = said says found.records }
 
--- These are the numbered files of the queue, if its files from `low` on have no gap and its live range begins at
--- `first`. The number just below `low` has no file, so any older files come before a gap.
+-- `files` are the numbered files of the queue `q`, whose live range begins at `first`.
+-- - `gone`, `full`: the files from `low` up to the live range, and those of the live range before the last.
+-- - `last`, `synced`, `pending`: the last file's number, synced records and unsynced records.
+-- - `gap`: all other files come before a gap, as the number just below `low` has no file.
 pub record IsFileQueue {R E V : Type 0} (says : R → Record E V) (F : Format R) (q : LogFiles R)
     (low first : ℕ)
     (d : Disk) (files : FileQueue E V) : Type 0 where
@@ -42,8 +45,8 @@ pub record IsFileQueue {R E V : Type 0} (says : R → Record E V) (F : Format R)
   pub behind : AllBehind low files.behind
   pub gap : (m : ℕ) → suc m ≡ low → IsAbsent F m d
 
--- Reading an image gives what the numbered files allow: some first pending records are kept. From any start up to the
--- first file of the live range, reading gives the numbered files with these records.
+-- After any stop without a CRC collision, the first pending records `kept` of the last file are left. Reading from any
+-- number up to `first` gives the numbered files from there on, the last one with these records.
 abbrev pub ReadsAsFiles : {R E V : Type 0} → (R → Record E V) → Format R → LogFiles R → ℕ → ℕ → Disk
     → FileQueue E V
     → Type 0
@@ -53,13 +56,13 @@ ReadsAsFiles {R} {E} {V} says F q low first d files = (image : Disk) → IsImage
     × ((s : ℕ) → s ≤ first → (found : List (Found R)) → ReadsFrom F image s found
     → IsRead low files kept s (map (logged says) found))
 
--- the numbered files take this step, and then correspond to that queue on that disk
+-- the numbered files can take the step `event`, and then are those of the queue `q` on the disk `d`
 abbrev pub StepsTo : {R E V : Type 0} → (R → Record E V) → Format R → FileEvent E V → FileQueue E V
     → LogFiles R
     → ℕ → ℕ → Disk → Type 0
 StepsTo {R} {E} {V} says F event files q low first d =
     (next : FileQueue E V) × FileStep event files next × IsFileQueue says F q low first d next
 
--- a number below the last that has no file gets none
+-- each number below the last one that has no file in `old` has none in `new`
 abbrev pub GapsStay : {R : Type 0} → Format R → LogFiles R → Disk → Disk → Type 0
 GapsStay F q old new = (m : ℕ) → m < q.last → IsAbsent F m old → IsAbsent F m new

@@ -1,4 +1,4 @@
--- What follows for the files of a queue, at any point inside any call.
+-- Laws of the files of a queue, in each state that they go through, also inside a call.
 use Rattle.std.specs.Prelude.{◌≡◌, ℕ, ◌≤◌, List, length}
 use Rattle.raft_log_fs.specs.Disk.{Disk}
 use Rattle.raft_log_fs.specs.Image.{IsImage, IsSound}
@@ -7,23 +7,24 @@ use Rattle.raft_log_file_writer.specs.LogQueue.{LogFiles, HoldsLast, IsLeftover,
 use Rattle.raft_log_fs.specs.Touching.{TouchesOnlyNames}
 use Rattle.raft_log_active_file.specs.Standing.{Names, OwnsPaths, Stands}
 
--- The queue is kept while its last file holds its records, and as a stop left it. After any stop without a CRC
--- collision, reading gives all records of its earlier files and the durable ones of the last. Of the pending ones it
--- gives some first ones.
+-- What is read of a queue after a stop without a CRC collision: all records of its earlier files, and the durable ones
+-- of the last. Of the pending ones it is some first ones. This is so if its last file holds its records, and if it is
+-- as a stop left it.
 pub record FilesAreKept {R : Type 0} (F : Format R) (own : List ℕ → Type 0) : Type 0 where
   pub holding : (base : Disk) (q : LogFiles R) (path : List ℕ) (id : ℕ) (N : Names) (d : Disk)
       → Stands F own base q path id (HoldsLast F q) N d → KeepsQueue F q d
   pub left_over : (base : Disk) (q : LogFiles R) (path : List ℕ) (id : ℕ) (N : Names) (d : Disk)
       → Stands F own base q path id (IsLeftover F q) N d → KeepsQueue F q d
 
--- a queue can be read from each number on from which no file is missing, whatever its last file holds
+-- after any stop, a queue can be read from each number such that no file is missing from there on, whatever its last
+-- file contains
 abbrev pub FilesAreReadable : {R : Type 0} → Format R → (List ℕ → Type 0) → Type 0
 FilesAreReadable {R} F own = CanTellFormat F → (base : Disk) (q : LogFiles R) (path : List ℕ) (id : ℕ)
     (N : Names) (d : Disk)
     → IsSound d → Stands F own base q path id Anything N d → IsReadable F q d
 
--- What a stop without a CRC collision leaves of a queue is the queue again, based on that image, with some first
--- pending records, all durable.
+-- A stop without a CRC collision leaves the queue again, now based on the image. The last file has its durable records
+-- and its first `count` pending ones, all durable.
 abbrev pub FilesRestart : {R : Type 0} → Format R → (List ℕ → Type 0) → Type 0
 FilesRestart {R} F own = CanTellFormat F → (base : Disk) (q : LogFiles R) (path : List ℕ) (id : ℕ)
     (N : Names) (d image : Disk)

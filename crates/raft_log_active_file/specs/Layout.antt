@@ -1,4 +1,4 @@
--- At which paths the files of a queue are.
+-- Where the files of a queue are.
 use Rattle.std.specs.Prelude.{◌≡◌, ℕ, ◌<◌, ◌+◌, ◌-◌, ◌^◌, Bool, cond, nat_le, List, [], length, slice_index_or}
 use Rattle.raft_log_fs.specs.Disk.{IsPathIn}
 use Rattle.raft_log_file_writer.specs.LogFormat.{Format, IsFormat}
@@ -7,37 +7,42 @@ use Rattle.raft_log_file_format.specs.declared.header.LogFileFormat.{LogFileForm
 use Rattle.raft_log_active_file.specs.Standing.{OwnsPaths}
 use Rattle.raft_log_active_file.specs.declared.format.File.{File}
 
--- Whether names at this place have a plus sign before the number. Each of the `count` directories has a second place,
--- after the first `count` ones, for such names.
+-- Whether names at `place` have a plus sign before the number. A place below `count`, the number of directories, is the
+-- position of a directory, for names without a sign. A place from `count` on is such a position plus `count`, for names
+-- with a sign.
 abbrev pub has_sign : ℕ → ℕ → Bool
 has_sign count place = nat_le count place
 
--- the place for names in a directory, of `count` directories, with a sign or without one
+-- the place for names with a sign, or without one, in the directory at the position `place`
 abbrev pub place_of : ℕ → ℕ → Bool → ℕ
 place_of count place signed = cond signed (count + place) place
 
--- the first place of the directory that has this place, of `count` directories
+-- the position of the directory that a place is in
 abbrev pub plain_place : ℕ → ℕ → ℕ
 plain_place count place = cond (has_sign count place) (place - count) place
 
--- The directories of a queue's files, the main one first. The path of a file follows from its directory's place and its
--- number: for a file in its queue, and for one with a reserved name.
+-- Where the files of a queue are: the directories, the main one first, and the path of each file. The path depends on
+-- the file's place and number. `numbered` is for a file of the queue, `reserved` for one that is kept for recycling
+-- under a reserved name.
 pub record FilePaths : Type 0 where
   pub directories : List (List ℕ)
   pub numbered : ℕ → ℕ → List ℕ
   pub reserved : ℕ → ℕ → List ℕ
 
--- the path of a file
+-- the path of a file that a pipe lists
 abbrev pub path_of : FilePaths → File → List ℕ
 path_of paths file = cond file.reserved (paths.reserved file.path_id file.seq)
     (paths.numbered file.path_id file.seq)
 
--- records of this format follow one another, without an alignment
+-- the format has no alignment: records follow one another without padding
 abbrev pub IsUnaligned : LogFileFormat → Type 0
 IsUnaligned format = format.alignment ≡ 0
 
--- Each number in range has its path in each directory, and the path is in that directory. A reserved name is the
--- queue's own, and no number's. The header of each format without an alignment is a header here.
+-- The paths fit the format of a queue's files.
+-- - `owns`, `numbered`: the paths of all numbers are the queue's own. In each directory each number below the limit has
+-- one.
+-- - `kept`, `apart`: the paths of reserved names are the queue's own, and no number's.
+-- - `headed`: the header of each format without an alignment is a header of the queue's files.
 pub record IsLayout {R : Type 0} (F : Format R) (own : List ℕ → Type 0) (paths : FilePaths) : Type 0 where
   pub format : IsFormat F
   pub owns : OwnsPaths F own

@@ -1,4 +1,4 @@
--- What holds for the log's own files.
+-- Laws of the files of the log's own two queues.
 use Rattle.std.specs.Prelude.{◌≡◌, ℕ, true, false, None, List, Contains}
 use Rattle.raft_log_record_base.specs.declared.pipe_log.LogQueue.{LogQueue}
 use Rattle.raft_log_record_base.specs.declared.pipe_log.LogQueue.TheVariants.{Append, Rewrite}
@@ -11,12 +11,12 @@ use Rattle.raft_log_file_format.specs.Name.{reserved_suffix, suffix_of}
 use Rattle.raft_log_active_file.specs.Paths.{IsPathWith, IsOwnPath, reserved_suffix_of}
 use Rattle.raft_log_active_file.specs.LayoutLayout.{IsRecordIn, log_format}
 
--- it is decidable whether bytes begin with a header of a log file, or with a record of one
+-- it is decidable whether bytes begin with a header of a log file, and whether they begin with a record of one
 abbrev pub LogFilesAreTold : Type 0
 LogFilesAreTold = (queue : LogQueue) (directories : List (List ℕ))
     → CanTellFormat (log_format queue directories)
 
--- no path belongs to both queues, whatever their directories
+-- no path is one of both queues' own, whatever their directories
 abbrev pub QueuesAreApart : Type 0
 QueuesAreApart = (append rewrite : List (List ℕ)) (path : List ℕ) → IsOwnPath Append append path
     → IsOwnPath Rewrite rewrite path → ⊥
@@ -25,11 +25,13 @@ QueuesAreApart = (append rewrite : List (List ℕ)) (path : List ℕ) → IsOwnP
 abbrev pub ZerosHoldNoRecord : Type 0
 ZerosHoldNoRecord = (n size : ℕ) (header : List ℕ) → HoldsNoFrame (IsRecordIn n header) (zeros size)
 
--- the names of files that Append keeps for recycling have the suffix that the log's reader of names expects
+-- the suffix of the names of files that Append keeps for recycling is `reserved_suffix`, which the code expects in such
+-- names
 abbrev pub ReservedNamesAreTheLogs : Type 0
 ReservedNamesAreTheLogs = reserved_suffix_of Append ≡ reserved_suffix
 
--- a queue may begin if its directories exist, and no file and no directory is at the path of a number
+-- A queue may begin if its directories exist, and no file and no directory is at a path of one of its numbers. Since
+-- `base`, only the queue's own paths may have changed.
 abbrev pub PlacesAreFresh : Type 0
 PlacesAreFresh = (queue : LogQueue) (directories : List (List ℕ)) (base d : Disk)
     → ((directory : List ℕ) → Contains directories directory → d.directories directory ≡ true)

@@ -1,4 +1,4 @@
--- How the files of a log's queue are written, and where they are.
+-- How the files of one of the log's queues are written, and where they are.
 use Rattle.std.specs.Prelude.{◌≡◌, ℕ, ◌^◌, List, ◌++◌, drop}
 use Rattle.raft_log_record_base.specs.Files.{signature}
 use Rattle.raft_log_record_base.specs.declared.pipe_log.LogQueue.{LogQueue}
@@ -11,20 +11,20 @@ use Rattle.raft_log_active_file.specs.Layout.{FilePaths, IsUnaligned}
 use Rattle.raft_log_active_file.specs.Paths.{IsPathWith, numbered_path, reserved_path}
 use Rattle.raft_log_active_file.specs.declared.record.LogRecord.{LogRecord}
 
--- The bytes are this record in the file with a number and a header. Its entry block is whole, and it is signed for the
--- file if the header's version has signatures.
+-- `bytes` are the record `said`, in the file with number `n` and this header. Its entry block is whole, and it is
+-- signed with `n` if the version in the header has signatures.
 pub record IsRecordIn (n : ℕ) (header bytes : List ℕ) (said : LogRecord) : Type 0 where
   pub format : LogFileFormat
   pub says : IsFileHeader header format
   pub is : IsRecord (signature format.version n) bytes said.items said.entries
 
--- The header of some format without an alignment. Pipes write no other one, so a torn header isn't read as a header
--- because of its last eight bytes.
+-- `bytes` are the header of a format without an alignment. Pipes write no other header. So a torn one of version 2
+-- whose last eight bytes aren't zeros is no header.
 abbrev pub IsAHeader : List ℕ → Type 0
 IsAHeader bytes = (format : LogFileFormat) × IsFileHeader bytes format × IsUnaligned format
 
--- Bytes that begin with the header of a format with an alignment, and contain a record of the file with this number. An
--- open takes them for a file of another program, with padding between its records.
+-- `bytes` begin with the header of a format with an alignment, and contain a record of the file with number `n`. An
+-- open assumes that another program wrote such a file, with padding between records.
 pub record IsAlignedFile (n : ℕ) (bytes : List ℕ) : Type 0 where
   pub header : List ℕ
   pub rest : List ℕ
@@ -39,7 +39,7 @@ pub record IsAlignedFile (n : ℕ) (bytes : List ℕ) : Type 0 where
   pub said : LogRecord
   pub is : IsRecord (signature format.version n) written said.items said.entries
 
--- how the files of a queue are written, in these directories
+-- the format of a queue's files in these directories
 abbrev pub log_format : LogQueue → List (List ℕ) → Format LogRecord
 log_format queue directories = record {
   IsFrame = IsRecordIn;
@@ -49,7 +49,7 @@ log_format queue directories = record {
   limit = 10 ^ 16;
 }
 
--- the directories of a queue's files, and the path of each file
+-- where a queue's files are in these directories
 abbrev pub log_paths : LogQueue → List (List ℕ) → FilePaths
 log_paths queue directories = record {
   directories = directories;

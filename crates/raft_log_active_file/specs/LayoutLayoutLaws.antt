@@ -42,7 +42,7 @@ take_zeros (suc k) (suc n) fits = ap (λ (b : List ℕ). 0 ∷ b) (take_zeros k 
 
 -- Headers.
 
--- bytes begin with one header at most, of one format
+-- bytes begin with at most one header, which has one format
 one_header : (a b x y : List ℕ) (f g : LogFileFormat) → IsFileHeader a f → IsFileHeader b g → a ++ x ≡ b ++ y
     → (a ≡ b) × (f ≡ g)
 one_header = prefix_free is_header
@@ -142,7 +142,7 @@ record_filled : (signature : Option ℕ) (bytes : List ℕ) (said : LogRecord)
 record_filled signature bytes said is = (let long = frames_take_bytes signature bytes is.block said.items
     is.frame in omega (arith, long))
 
--- the end of a record follows from its bytes
+-- no encoding of a record is a prefix of another one
 self_delimiting : (n : ℕ) (header : List ℕ) → IsSelfDelimiting (IsRecordIn n header)
 self_delimiting n header = record {
   apart = λ a b x y r s first next same.
@@ -153,7 +153,7 @@ self_delimiting n header = record {
       omega (arith, long));
 }
 
--- the bytes are a record of the file in its known format
+-- a record of a file whose header has this format is one by this format
 in_format : (n : ℕ) (header bytes : List ℕ) (format : LogFileFormat) (said : LogRecord)
     → IsFileHeader header format → IsRecordIn n header bytes said
     → IsRecord (signature format.version n) bytes said.items said.entries
@@ -256,7 +256,7 @@ log_is_format queue directories = record {
   paths = λ m n path less bound at there. one_number (suffix_of queue) directories m n path at there;
 }
 
--- a reserved path is no number's: its last byte differs
+-- A reserved path is no path of a number: their last bytes differ.
 reserved_apart : (queue : LogQueue) (directories : List (List ℕ)) (m n : ℕ) (path : List ℕ)
     → IsPathWith (suffix_of queue) directories m path → IsPathWith (reserved_suffix_of queue) directories n
     path → ⊥
@@ -317,7 +317,7 @@ queues_are_apart append rewrite path (m, inr a) (n, inr b) =
 pub reserved_names : ReservedNamesAreTheLogs
 reserved_names = refl
 
--- a place where a queue may begin
+-- proves when a queue may begin
 pub places_are_fresh : PlacesAreFresh
 places_are_fresh queue directories base d there none others = record {
   none = λ m less path at. (none m path at).0;

@@ -1,4 +1,4 @@
--- What follows from a queue's files for the machine's numbered files.
+-- Laws of the numbered files (of the log's model) that correspond to a queue's files.
 use Rattle.std.specs.Prelude.{◌≡◌, ℕ, ◌-◌, ◌≤◌, ◌⊎◌, List, [], ◌++◌}
 use Rattle.raft_log_model_laws.specs.Item.{Record}
 use Rattle.raft_log_machine_laws.specs.Files.{LogFile, FileQueue}
@@ -13,7 +13,8 @@ use Rattle.raft_log_active_file.specs.Queue.{with_more, synced}
 use Rattle.raft_log_active_file.specs.Standing.{Names, Stands}
 use Rattle.raft_log_active_file.specs.Bridge.{said, filed, IsFileQueue, ReadsAsFiles, StepsTo, GapsStay}
 
--- whatever a stop leaves of a queue whose files are in place reads as its numbered files allow
+-- On a sound disk, what is read of a queue after a stop without a CRC collision is what its numbered files allow. Its
+-- last file must hold its records, or be as a stop left it.
 abbrev pub ReadsAsNumbered : {R E V : Type 0} → (R → Record E V) → Format R → (List ℕ → Type 0) → Type 0
 ReadsAsNumbered {R} {E} {V} says F own = CanTellFormat F → (base : Disk) (q : LogFiles R) (path : List ℕ)
     (id : ℕ) (N : Names) (d : Disk)
@@ -22,9 +23,12 @@ ReadsAsNumbered {R} {E} {V} says F own = CanTellFormat F → (base : Disk) (q : 
     → (low first : ℕ) (files : FileQueue E V) → IsFileQueue says F q low first d files
     → ReadsAsFiles says F q low first d files
 
--- Each change of the queue is a step of its numbered files: writing records, a sync, a rotation, a live range that
--- begins later, and an open. The open reads some earlier files again, and keeps some first pending records. A disk with
--- the same gaps changes nothing.
+-- Each change of the queue is a step of its numbered files.
+-- - `elsewhere`: on another disk, where no gap was filled, they are the same.
+-- - `grows`, `syncs`, `rotates`: records are written, or synced, or the queue rotates.
+-- - `raises`: the live range begins at `to`, and the files before it leave it.
+-- - `reads_again`: an open reads the files from `to` on. Some of these may be in the live range again, and of the
+-- pending records the first `count` are kept.
 pub record NumberedSteps {R E V : Type 0} (says : R → Record E V) (F : Format R) (q : LogFiles R)
     (low first : ℕ)
     (d : Disk) (files : FileQueue E V) : Type 0 where
@@ -43,7 +47,7 @@ pub record NumberedSteps {R E V : Type 0} (says : R → Record E V) (F : Format 
       (kept ++ lost ≡ files.pending)
       × StepsTo says F (Read below again kept) files next low to d
 
--- the numbered files of each queue take these steps
+-- the numbered files of each queue on each disk take these steps
 abbrev pub TakesNumberedSteps : {R E V : Type 0} → (R → Record E V) → Format R → Type 0
 TakesNumberedSteps {R} {E} {V} says F = (q : LogFiles R) (low first : ℕ) (d : Disk) (files : FileQueue E V)
     → IsFileQueue says F q low first d files → NumberedSteps says F q low first d files

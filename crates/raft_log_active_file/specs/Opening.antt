@@ -1,4 +1,4 @@
--- What holds after a queue began, or failed to.
+-- What an attempt to begin a queue leaves.
 use Rattle.std.specs.Prelude.{◌≡◌, ℕ, ◌⊎◌, Some, List}
 use Rattle.std.specs.Map.{update}
 use Rattle.std.specs.Str.{bytes_eq}
@@ -17,19 +17,19 @@ use Rattle.raft_log_active_file.specs.Beginning.{IsFresh, fresh_queue}
 use Rattle.raft_log_active_file.specs.Exits.{BeginMakes, BeginsBy, IsOpen}
 use Rattle.raft_log_active_file.specs.Rotation.{StandsWithRecords}
 
--- each file that existed is unchanged
+-- each file that was in `old` is in `new` with the same state
 abbrev pub AllFilesStay : Disk → Disk → Type 0
 AllFilesStay old new = (id : ℕ) (file : File) → old.files id ≡ Some file → new.files id ≡ Some file
 
--- a place for a queue, with a header and a path for its file 1
+-- the queue may begin on the disk `d`, with this header, in its file 1 at this path
 pub record CanBegin {R : Type 0} (F : Format R) (own : List ℕ → Type 0) (base : Disk)
     (header path : List ℕ) (d : Disk) : Type 0 where
   pub fresh : IsFresh F own base d
   pub header_is : F.IsHeader header
   pub path_is : F.IsPath 1 path
 
--- The queue has begun in its file 1, at this path, which this handle may write; zeros may be preallocated in it. There
--- is no file 0.
+-- If the queue could begin, it has begun in its file 1 at this path: that has the header and no record, and the queue
+-- is open to the writer. The handle may write the file, zeros may be allocated in it, and there is no file 0.
 abbrev pub BeginsQueue : {R : Type 0} → Format R → (List ℕ → Type 0) → List ℕ → List ℕ → Handle
     → LogFileWriter → Disk → Disk → Type 0
 BeginsQueue {R} F own header path handle writer old new = (base : Disk) (older : ℕ → Past R)
@@ -38,25 +38,26 @@ BeginsQueue {R} F own header path handle writer old new = (base : Disk) (older :
     × IsOpen F own base writer (with_room room (fresh_queue older header)) path
     (update bytes_eq old.names path (Some handle.file)) new × IsAbsent F 0 new
 
--- there is still a place for the queue, or its file 1 exists, without a record
+-- the queue may still begin, or it has its file 1 without a record; zeros may be allocated in that
 abbrev pub IsHalfBegun : {R : Type 0} → Format R → (List ℕ → Type 0) → Disk → LogFiles R → Disk → Type 0
 IsHalfBegun F own base q d = IsFresh F own base d ⊎ ((room : ℕ) × StandsWithRecords F own base (with_room room q) d)
 
--- a queue hasn't begun: a file call failed; there is still a place for it, or its file 1 exists, without a record
+-- If the queue could begin, it has not, as a file call failed. It may still begin, or its file 1 exists without a
+-- record. There is no file 0.
 abbrev pub FailsToBeginQueue : {R : Type 0} → Format R → (List ℕ → Type 0) → List ℕ → List ℕ → Disk → Disk
     → Type 0
 FailsToBeginQueue {R} F own header path old new = (base : Disk) (older : ℕ → Past R)
     → CanBegin F own base header path old
     → Fails old new × IsHalfBegun F own base (fresh_queue older header) new × IsAbsent F 0 new
 
--- the calls that begin a queue: its file was created, and begun
+-- the calls that begin a queue: its file 1 is created, then gets its header, and is synced
 pub record BeginsQueueBy (path header : List ℕ) (handle : Handle) (writer : LogFileWriter) (old new : Disk)
     : Type 0 where
   pub made : Disk
   pub creates : Creates path handle.file old made
   pub begins : BeginsBy handle header writer made new
 
--- whose error is returned: that of creating the file, or of beginning it
+-- `error` is why a queue didn't begin: creating its file failed, or that file didn't get its header
 abbrev pub BeginQueueMakes : List ℕ → List ℕ → ErrorKind → Disk → Disk → Type 0
 BeginQueueMakes path header error old new = FailsToCreate path error old new
     ⊎ ((handle : Handle) × (made : Disk) × Creates path handle.file old made

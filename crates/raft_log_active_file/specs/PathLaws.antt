@@ -22,7 +22,7 @@ use Rattle.raft_log_active_file.specs.Paths.{IsPathWith, reserved_suffix_of, dir
 
 -- The name after the last slash.
 
--- if one directory is longer, its slash is in the name after the shorter one
+-- If two paths are equal, no directory is longer than the other: its slash would be in the name after the shorter one.
 no_longer : (d e x y : List ℕ) → IsPlain x → d ++ 47 ∷ x ≡ e ++ 47 ∷ y → length d < length e → ⊥
 no_longer d e x y plain same longer =
     let k = length e - suc (length d) in
@@ -96,7 +96,7 @@ digits_plain : (n : ℕ) → n < 10 ^ 16 → IsPlain (sixteen_digits n)
 digits_plain n fit k less is = (let digit = digit_at (sixteen_digits n) k
     (padded_digits (16 - length (decimal n)) n (omega (arith, fit))) less in omega (arith, digit, is))
 
--- nor has one with a leading plus sign
+-- a file's number in digits with a leading plus sign has no slash
 signed_plain : (n : ℕ) → n < 10 ^ 16 → IsPlain (signed_digits n)
 signed_plain n fit zero less is = omega (arith, is)
 signed_plain n fit (suc k) less is =
@@ -112,7 +112,7 @@ pub text_plain : (signed : Bool) (n : ℕ) → n < 10 ^ 16 → IsPlain (number_t
 text_plain true n fit = either_plain (nat_lt n (10 ^ 15)) n fit
 text_plain false n fit = digits_plain n fit
 
--- nor have the suffixes of names
+-- the suffixes of names have no slash
 pub suffix_plain : (queue : LogQueue) → IsPlain (suffix_of queue)
 unfolding has_no_slash
 suffix_plain Append = no_slash (codes ".raftlog") refl
@@ -133,7 +133,7 @@ no_plus suffix n fit plus =
 
 -- The paths that are built.
 
--- each place has a directory, if there are directories at all
+-- the directory of each place is one of the list, if the list has any
 has_directory : (directories : List (List ℕ)) (place : ℕ) → 0 < length directories
     → Contains directories (get_or directories place (get_or directories 0 []))
 has_directory directories place some = elim (cases_lt place (length directories)) [
@@ -142,7 +142,7 @@ has_directory directories place some = elim (cases_lt place (length directories)
       (get_or directories 0 []) beyond)) (Contains-get_or directories 0 [] some)
 ]
 
--- a directory, a slash, a number's digits and a suffix are that number's path
+-- a directory of the list, a slash, a number's digits and a suffix make a path with this number
 written_path : (suffix : List ℕ) (directories : List (List ℕ)) (place n : ℕ) → 0 < length directories
     → n < 10 ^ 16 → 0 < length suffix → has_no_slash suffix ≡ true
     → IsPathWith suffix directories n (directory_at directories place
@@ -158,7 +158,7 @@ written_path suffix directories place n some fit ended slashless =
       joined = refl;
     }
 
--- the path that is built for a queue's file is that file's
+-- the path that is built for a queue's file is one that this file may have
 pub numbered_is : (queue : LogQueue) (directories : List (List ℕ)) (place n : ℕ) → 0 < length directories
     → n < 10 ^ 16 → IsPathWith (suffix_of queue) directories n (numbered_path queue directories place n)
 unfolding has_no_slash
@@ -167,7 +167,7 @@ numbered_is Append directories place n some fit = written_path (codes ".raftlog"
 numbered_is Rewrite directories place n some fit = written_path (codes ".rewrite") directories place n some
     fit (omega arith) refl
 
--- the directory in its first place
+-- the directory of a place below the number of directories is the one at this position
 pub directory_first : (directories : List (List ℕ)) (place : ℕ) → place < length directories
     → directory_at directories place ≡ get_or directories place []
 directory_first directories place inside =
@@ -195,7 +195,7 @@ numbered_lies Rewrite directories place n some inside fit =
       plain = (numbered_is Rewrite directories place n some fit).plain;
     }
 
--- a reserved file's path is that of a file with the reserved suffix
+-- the reserved path of a file is one with the reserved suffix and the file's number
 reserved_written : (queue : LogQueue) (directories : List (List ℕ)) (place n : ℕ) → 0 < length directories
     → n < 10 ^ 16 → 0 < length (reserved_suffix_of queue) → has_no_slash (reserved_suffix_of queue) ≡ true
     → IsPathWith (reserved_suffix_of queue) directories n (numbered_path queue directories place n
@@ -211,8 +211,8 @@ reserved_written queue directories place n some fit ended slashless =
     subst (IsPathWith (reserved_suffix_of queue) directories n) (sym joined)
     (written_path (reserved_suffix_of queue) directories place n some fit ended slashless)
 
--- the reserved path of a file of either queue is that of one with the reserved suffix; if the file's number has over
--- sixteen digits, it has the greatest number instead
+-- The reserved path of a file of either queue is one with the reserved suffix and the file's number. A number of more
+-- than sixteen digits is replaced by the greatest one.
 pub reserved_is : (queue : LogQueue) (directories : List (List ℕ)) (place n : ℕ) → 0 < length directories
     → IsPathWith (reserved_suffix_of queue) directories (min n (10 ^ 16 - 1))
     (reserved_path queue directories place n)

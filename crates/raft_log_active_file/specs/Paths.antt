@@ -1,11 +1,11 @@
--- At which paths the files of a queue are: in the log's directories, under their names.
+-- The paths of a queue's files: which a file may have, and which ones the code builds.
 use Rattle.std.specs.Prelude.{◌≡◌, ℕ, ◌-◌, ◌^◌, ◌⊎◌, List, [], ◌∷◌, ◌++◌, codes, min, length, slice_index_or, Contains}
 use Rattle.raft_log_record_base.specs.declared.pipe_log.LogQueue.{LogQueue}
 use Rattle.raft_log_fs.specs.Disk.{IsPlain}
 use Rattle.raft_log_file_format.specs.Name.{IsNamed, number_text, suffix_of}
 use Rattle.raft_log_active_file.specs.Layout.{has_sign, plain_place}
 
--- a path in one of these directories, with a name with this suffix and this number
+-- `path` is one of these directories, a slash, and a name with this number and this suffix
 pub record IsPathWith (suffix : List ℕ) (directories : List (List ℕ)) (n : ℕ) (path : List ℕ) : Type 0 where
   pub directory : List ℕ
   pub listed : Contains directories directory
@@ -23,12 +23,12 @@ abbrev pub IsOwnPath : LogQueue → List (List ℕ) → List ℕ → Type 0
 IsOwnPath queue directories path = (n : ℕ) × (IsPathWith (suffix_of queue) directories n path
     ⊎ IsPathWith (reserved_suffix_of queue) directories n path)
 
--- the directory with this place, or the main one if there is none
+-- the directory that a place is in, or the main one if there is no such place
 abbrev pub directory_at : List (List ℕ) → ℕ → List ℕ
 directory_at directories place =
     slice_index_or directories (plain_place (length directories) place) (slice_index_or directories 0 [])
 
--- the path of a queue's file
+-- the path of the queue's file with number `n` at a place
 abbrev pub numbered_path : LogQueue → List (List ℕ) → ℕ → ℕ → List ℕ
 numbered_path queue directories place n = directory_at directories place
     ++ 47 ∷ (number_text (has_sign (length directories) place) n ++ suffix_of queue)

@@ -1,18 +1,19 @@
--- The last file of a queue as a stop left it: how far it was read, and how the queue continues.
+-- The last file of a queue after a stop: how far it is read, and the queue with what was read.
 use Rattle.std.specs.Prelude.{◌≡◌, ℕ, ◌+◌, Option, Some, None, List, [], length}
 use Rattle.raft_log_fs.specs.Disk.{File}
 use Rattle.raft_log_file_writer.specs.LawsChains.{Written, Reads, spelled}
 use Rattle.raft_log_file_writer.specs.LogFormat.{Format, HasHeader}
 use Rattle.raft_log_file_writer.specs.LogQueue.{LogFiles, recent}
 
--- how far a file was read: its header and its whole records end at this offset, or it has no header
+-- With `Some end`: the file has a header, and its header and whole records end at this offset. With `None`: it begins
+-- with no header.
 abbrev pub IsReadTo : {R : Type 0} → Format R → ℕ → Option ℕ → File → Type 0
 IsReadTo {R} F n (Some end) file = (header : List ℕ) × (ws : List (Written R))
     × HasHeader F header file.content × Reads (F.IsFrame n header) (length header) ws file.content
     × (end ≡ length header + length (spelled ws))
 IsReadTo F n None file = (header : List ℕ) → HasHeader F header file.content → ⊥
 
--- the queue after its last file was read: all its records are durable, with this header and these stale bytes
+-- the queue after its last file was read: it has `header`, all its records are durable, and `stale` may follow them
 abbrev pub reread : {R : Type 0} → List ℕ → List ℕ → LogFiles R → LogFiles R
 reread header stale q =
     record q { header = header; stale = stale; durable = recent q; pending = [] }

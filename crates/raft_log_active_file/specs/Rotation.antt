@@ -1,4 +1,4 @@
--- What holds after a rotation, and after a file was deleted, whether the call succeeds or fails.
+-- What a rotation and the deletion of a file leave, whether the call succeeds or fails.
 use Rattle.std.specs.Prelude.{◌≡◌, ℕ, ◌<◌, ◌≤◌, ◌⊎◌, Some, None, List, [], suc}
 use Rattle.std.specs.Map.{update}
 use Rattle.std.specs.Str.{bytes_eq}
@@ -18,14 +18,14 @@ use Rattle.raft_log_active_file.specs.Standing.{Names, Stands}
 use Rattle.raft_log_active_file.specs.Bridge.{GapsStay}
 use Rattle.raft_log_active_file.specs.Exits.{IsOpen, BeginMakes, BeginsBy}
 
--- the next number is in range, with a header and a path for it
+-- the number after the last one is in range, `to` is a path of it, and `header` is a header
 pub record CanRotate {R : Type 0} (F : Format R) (q : LogFiles R) (header to : List ℕ) : Type 0 where
   pub bound : suc q.last < F.limit
   pub header_is : F.IsHeader header
   pub path : F.IsPath (suc q.last) to
 
--- A file that the queue keeps for recycling, at a path that is no number's from the last on. This handle may write it,
--- and it holds no record of the next number.
+-- `from` is the path of a file that the queue keeps for recycling; it is none of the last number or a higher one. The
+-- handle may write the file, which holds `stale`, and no record of the next number.
 pub record IsSpare {R : Type 0} (F : Format R) (own : List ℕ → Type 0) (q : LogFiles R)
     (header stale : List ℕ) (handle : Handle)
     (from : List ℕ) (N : Names) (d : Disk) : Type 0 where
@@ -35,7 +35,7 @@ pub record IsSpare {R : Type 0} (F : Format R) (own : List ℕ → Type 0) (q : 
   pub permitted : handle.permission ≡ ReadWrite
   pub file : HasFile handle.file (IsNew F (rotated header stale q)) d
 
--- the queue's files are in place, and its last file holds its records
+-- the queue's files are on the disk, and its last file holds its records (`HoldsLast`)
 pub record StandsWithRecords {R : Type 0} (F : Format R) (own : List ℕ → Type 0) (base : Disk) (q : LogFiles R)
     (d : Disk) : Type 0 where
   pub path : List ℕ
@@ -43,26 +43,28 @@ pub record StandsWithRecords {R : Type 0} (F : Format R) (own : List ℕ → Typ
   pub N : Names
   pub stands : Stands F own base q path id (HoldsLast F q) N d
 
--- the queue is unchanged, or has a next file without records, and its last file holds its records
+-- the queue is unchanged, or it has rotated into a next file without records; either way its last file holds its
+-- records
 abbrev pub IsLeftTurned : {R : Type 0} → Format R → (List ℕ → Type 0) → Disk → LogFiles R → List ℕ
     → List ℕ → Disk → Type 0
 IsLeftTurned F own base q header stale d = StandsWithRecords F own base q d ⊎
     ((room : ℕ) × StandsWithRecords F own base (with_room room (rotated header stale q)) d)
 
--- The queue continues in the next file, at its path, over these stale bytes, and zeros may be preallocated. No gap was
--- filled.
+-- The queue has rotated into the next file, at the path `to`, over the bytes `stale`. It is open to the writer, and
+-- zeros may be allocated. No number below the old last one that had no file got one.
 abbrev pub QueueGoesOnInNext : {R : Type 0} → Format R → (List ℕ → Type 0) → Disk → LogFileWriter → LogFiles R
     → List ℕ → List ℕ → List ℕ → Names → Disk → Disk → Type 0
 QueueGoesOnInNext F own base writer q header stale to N old new = (room : ℕ)
     × IsOpen F own base writer (with_room room (rotated header stale q)) to N new × GapsStay F q old new
 
--- the queue doesn't continue in the next file: a file call failed, and it still holds its records
+-- The rotation failed, as a file call failed. The queue is unchanged or has a next file without records, and its last
+-- file holds its records. No gap was filled.
 abbrev pub StaysBehind : {R : Type 0} → Format R → (List ℕ → Type 0) → Disk → LogFiles R → List ℕ
     → List ℕ → Disk → Disk → Type 0
 StaysBehind F own base q header stale old new = Fails old new
     × IsLeftTurned F own base q header stale new × GapsStay F q old new
 
--- a rotation into a new file, which has this handle
+-- if the queue is open to the writer `before`, it has rotated into a new file, which has this handle
 abbrev pub RotatesToNew : {R : Type 0} → Format R → (List ℕ → Type 0) → List ℕ → List ℕ → LogFileWriter
     → LogFileWriter → Handle → Disk → Disk → Type 0
 RotatesToNew {R} F own header to before after handle old new = (base : Disk) (q : LogFiles R)
@@ -70,7 +72,7 @@ RotatesToNew {R} F own header to before after handle old new = (base : Disk) (q 
     → CanRotate F q header to → IsOpen F own base before q path N old
     → QueueGoesOnInNext F own base after q header [] to (update bytes_eq N to (Some handle.file)) old new
 
--- a rotation into a new file failed
+-- if the queue is open to the writer, rotating into a new file failed
 abbrev pub FailsToRotateToNew : {R : Type 0} → Format R → (List ℕ → Type 0) → List ℕ → List ℕ
     → LogFileWriter → Disk → Disk → Type 0
 FailsToRotateToNew {R} F own header to before old new = (base : Disk) (q : LogFiles R) (path : List ℕ)
@@ -78,7 +80,8 @@ FailsToRotateToNew {R} F own header to before old new = (base : Disk) (q : LogFi
     → CanRotate F q header to → IsOpen F own base before q path N old
     → StaysBehind F own base q header [] old new
 
--- a rotation into a recycled file
+-- if the queue is open to the writer `before`, it has rotated into a file kept for recycling, which was renamed from
+-- `from` to `to`
 abbrev pub RotatesOver : {R : Type 0} → Format R → (List ℕ → Type 0) → List ℕ → Handle → List ℕ → List ℕ
     → LogFileWriter → LogFileWriter → Disk → Disk → Type 0
 RotatesOver {R} F own header handle from to before after old new = (base : Disk) (q : LogFiles R)
@@ -88,7 +91,7 @@ RotatesOver {R} F own header handle from to before after old new = (base : Disk)
     → QueueGoesOnInNext F own base after q header stale to
     (update bytes_eq (update bytes_eq N from None) to (Some handle.file)) old new
 
--- a rotation into a recycled file failed
+-- if the queue is open to the writer, rotating into a file kept for recycling failed
 abbrev pub FailsToRotateOver : {R : Type 0} → Format R → (List ℕ → Type 0) → List ℕ → Handle → List ℕ
     → List ℕ → LogFileWriter → Disk → Disk → Type 0
 FailsToRotateOver {R} F own header handle from to before old new = (base : Disk) (q : LogFiles R)
@@ -97,13 +100,13 @@ FailsToRotateOver {R} F own header handle from to before old new = (base : Disk)
     → IsOpen F own base before q path N old
     → StaysBehind F own base q header stale old new
 
--- each file but these two is unchanged, if it existed
+-- each file except `a` and `b` that was in `old` is in `new` with the same state
 abbrev pub FilesStay : ℕ → ℕ → Disk → Disk → Type 0
 FilesStay a b old new = (id : ℕ) (file : File) → (id ≡ a → ⊥) → (id ≡ b → ⊥) → old.files id ≡ Some file
     → new.files id ≡ Some file
 
--- The calls of a rotation, in their order: the file before was truncated and synced, the call on names was made, and
--- the next file was begun.
+-- The calls of a rotation, in their order: the active file is truncated after its records and synced, the next file is
+-- created or renamed (`Names`), and it gets its header.
 pub record RotatesBy (before : LogFileWriter) (header : List ℕ) (Names : Handle → Disk → Disk → Type 0)
     (handle : Handle) (after : LogFileWriter) (old new : Disk) : Type 0 where
   pub finished : LogFileWriter
@@ -113,8 +116,8 @@ pub record RotatesBy (before : LogFileWriter) (header : List ℕ) (Names : Handl
   pub names : Names handle closed named
   pub begins : BeginsBy handle header after named new
 
--- whose error a rotation returns: that of truncating or syncing the file before, that of the call on names, or that of
--- beginning the next file
+-- `error` is why a rotation failed: the active file couldn't be truncated or synced, or the next file couldn't be
+-- created or renamed, or it didn't get its header
 pub data RotationMakes (before : LogFileWriter) (header : List ℕ) (Fails : ErrorKind → Disk → Disk → Type 0)
     (Names : Handle → Disk → Disk → Type 0) (error : ErrorKind) (old new : Disk) : Type 0 where
   unfinished : (after : LogFileWriter) → FailsToClose before after error old new
@@ -125,7 +128,7 @@ pub data RotationMakes (before : LogFileWriter) (header : List ℕ) (Fails : Err
       → Names handle closed named → BeginMakes handle header error named new
       → RotationMakes before header Fails Names error old new
 
--- a file of the queue that may be deleted: its path is no number's from the last on
+-- `gone` is the path of a file of the queue that may be deleted: it is no path of the last number or a higher one
 pub record CanDrop {R : Type 0} (F : Format R) (own : List ℕ → Type 0) (q : LogFiles R) (gone : List ℕ)
     (N : Names) : Type 0 where
   pub mine : own gone
@@ -133,14 +136,15 @@ pub record CanDrop {R : Type 0} (F : Format R) (own : List ℕ → Type 0) (q : 
   pub id : ℕ
   pub named : N gone ≡ Some id
 
--- a file of the queue was deleted, and nothing else changed
+-- if the queue is open to the writer, its file at `gone` was deleted, and the rest of the queue is unchanged
 abbrev pub Drops : {R : Type 0} → Format R → (List ℕ → Type 0) → List ℕ → Disk → Disk → Type 0
 Drops {R} F own gone old new = (base : Disk) (writer : LogFileWriter) (q : LogFiles R) (path : List ℕ)
     (N : Names)
     → CanDrop F own q gone N → IsOpen F own base writer q path N old
     → IsOpen F own base writer q path (update bytes_eq N gone None) new × GapsStay F q old new
 
--- a file of the queue wasn't deleted, or a stop came: a file call failed, and the queue still holds its records
+-- If the queue is open to the writer, deleting its file at `gone` failed, as a file call failed or the file system
+-- stopped. The queue still holds its records.
 abbrev pub FailsToDrop : {R : Type 0} → Format R → (List ℕ → Type 0) → List ℕ → Disk → Disk → Type 0
 FailsToDrop {R} F own gone old new = (base : Disk) (writer : LogFileWriter) (q : LogFiles R)
     (path : List ℕ) (N : Names)

@@ -1,12 +1,12 @@
--- The files of a queue on a disk, at any point inside any call: one relation, `Stands`, whose parameter `P` is what is
--- known of the last file.
+-- The files of a queue on a disk, in each state that they go through, also inside a call. There is one relation for all
+-- these states; its parameter `P` says in which state the last file is.
 use Rattle.std.specs.Prelude.{◌≡◌, ℕ, ◌<◌, ◌≤◌, ◌⊎◌, false, Option, Some, None, List}
 use Rattle.raft_log_fs.specs.Disk.{File, Disk, HasDirectory}
 use Rattle.raft_log_file_writer.specs.LogFormat.{Format}
 use Rattle.raft_log_file_writer.specs.LogQueue.{LogFiles, IsPast}
 use Rattle.raft_log_fs.specs.Touching.{HasFile, TouchesOnlyNames}
 
--- which file is at which path
+-- the number of the file that each path names, if it names one
 abbrev pub Names : Type 0
 Names = List ℕ → Option ℕ
 
@@ -14,25 +14,25 @@ Names = List ℕ → Option ℕ
 abbrev pub HaveOneName : Names → Type 0
 HaveOneName N = (a b : List ℕ) (id : ℕ) → N a ≡ Some id → N b ≡ Some id → a ≡ b
 
--- no number below this one has two files
+-- the files at all paths of a number below `end` are one and the same
 abbrev pub HaveOneFile : {R : Type 0} → Format R → ℕ → Names → Type 0
 HaveOneFile F end N = (m i j : ℕ) (a b : List ℕ) → m < end → F.IsPath m a → F.IsPath m b
     → N a ≡ Some i → N b ≡ Some j → i ≡ j
 
--- a file may be created or renamed here: no directory has the path, and its parent directory exists
+-- a file can be created at `path`, or renamed to it: no directory has the path, and its parent directory exists
 pub record IsPlace (path : List ℕ) (d : Disk) : Type 0 where
   pub apart : d.directories path ≡ false
   pub home : HasDirectory path d
 
--- a queue's own paths are those of its files, and possibly others that it keeps for later
+-- all paths of the queue's files are its own; it may own others, of files that it keeps for recycling
 abbrev pub OwnsPaths : {R : Type 0} → Format R → (List ℕ → Type 0) → Type 0
 OwnsPaths F own = (m : ℕ) (path : List ℕ) → m < F.limit → F.IsPath m path → own path
 
--- The files of a queue, on a disk with these names.
--- - The last file has this path and this node number, and `P` holds for it.
--- - No other file has its number, and no number above it has a file.
--- - A file with a lower number is that file as it was finished, and no other file has that number.
--- - Since `base`, nothing has changed but the queue's own paths and files.
+-- The files of a queue are on the disk `d`, whose names are `N`.
+-- - `at`, `named`, `file`: the last file is at `path`, it is the file `id`, and `P` holds for it.
+-- - `alone`, `none`: no other file has its number, and no file has a higher number.
+-- - `older`, `single`: a file with a lower number is as the queue has finished it, and no two files have one number.
+-- - `others`: since `base`, only the queue's own paths and files have changed.
 pub record Stands {R : Type 0} (F : Format R) (own : List ℕ → Type 0) (base : Disk) (q : LogFiles R)
     (path : List ℕ) (id : ℕ) (P : File → Type 0) (N : Names) (d : Disk) : Type 0 where
   pub names : d.names ≡ N

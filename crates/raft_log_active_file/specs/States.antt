@@ -1,5 +1,5 @@
--- What is known of the last file of a queue between the file calls of a pipe. In each of these states it is known what
--- a stop leaves of it, as each implies `HoldsLast`.
+-- The states of a queue's last file between the file calls of a pipe. From each of them follows what a stop leaves of
+-- the file.
 use Rattle.std.specs.Prelude.{◌≡◌, ℕ, ◌++◌, List, [], length, take, drop}
 use Rattle.raft_log_fs.specs.Disk.{File}
 use Rattle.raft_log_file_writer.specs.LawsChains.{Written}
@@ -8,38 +8,41 @@ use Rattle.raft_log_file_writer.specs.LogFormat.{Format}
 use Rattle.raft_log_file_writer.specs.LogQueue.{LogFiles, HeaderStands}
 use Rattle.raft_log_active_file.specs.Queue.{whole}
 
--- the last file holds the queue's records, and is about to get these too
+-- the last file holds its records, where `more` count as pending too: they may be partly or wholly on disk
 abbrev pub HoldsMore : {R : Type 0} → Format R → LogFiles R → List (Written R) → File → Type 0
 HoldsMore F q more file = HoldsChain (F.IsFrame q.last q.header) (length q.header) q.stale q.durable
     (q.pending ++ more) file
 
--- Between calls: it reads as its header and its records, followed by the stale bytes after them.
+-- The file is active: it has its header and its records, then the stale bytes from there on. It holds its records, and
+-- the header is durable.
 pub record IsActive {R : Type 0} (F : Format R) (q : LogFiles R) (file : File) : Type 0 where
   pub chain : HoldsChain (F.IsFrame q.last q.header) (length q.header) q.stale q.durable q.pending file
   pub headed : HeaderStands q.header file
   pub all : file.content ≡ whole q ++ drop (length (whole q)) q.stale
 
--- After a failed write: its header and its records are there, and anything may follow them. The record of that write
--- counts as one to come, as it may have been written whole.
+-- The file is as a failed write left it: it has its header and its records, and anything may follow. The record of that
+-- write is in `more`, as it may be wholly on disk.
 pub record IsFront {R : Type 0} (F : Format R) (q : LogFiles R) (more : List (Written R))
     (file : File) : Type 0 where
   pub chain : HoldsMore F q more file
   pub headed : HeaderStands q.header file
   pub front : take (length (whole q)) file.content ≡ whole q
 
--- after a failed write, with the file truncated after its records: it has exactly its header and these
+-- The file was truncated after a failed write: it has exactly its header and its records. The truncation isn't synced
+-- yet, so the failed record (in `more`) still counts.
 pub record IsCut {R : Type 0} (F : Format R) (q : LogFiles R) (more : List (Written R))
     (file : File) : Type 0 where
   pub chain : HoldsMore F q more file
   pub headed : HeaderStands q.header file
   pub is : file.content ≡ whole q
 
--- a file that has its number but not its header yet: its content is unchanged
+-- the file has its number but not its header yet: its content is the stale bytes, and it holds no record
 pub record IsNew {R : Type 0} (F : Format R) (q : LogFiles R) (file : File) : Type 0 where
   pub chain : HoldsChain (F.IsFrame q.last q.header) (length q.header) q.stale [] [] file
   pub is : file.content ≡ q.stale
 
--- a file that has its number and its header, before that is synced: stale bytes follow the header
+-- the file has its number and its header, followed by the stale bytes from there on; it holds no record, and the header
+-- may not be synced yet
 pub record IsHeaded {R : Type 0} (F : Format R) (q : LogFiles R) (file : File) : Type 0 where
   pub chain : HoldsChain (F.IsFrame q.last q.header) (length q.header) q.stale [] [] file
   pub is : file.content ≡ q.header ++ drop (length q.header) q.stale

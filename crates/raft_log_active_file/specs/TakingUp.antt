@@ -1,4 +1,5 @@
--- What holds after the last file of a queue was reopened, or failed to be.
+-- What an attempt to reopen the last file of a queue leaves. The file is truncated after its last whole record, synced,
+-- and continued there.
 use Rattle.std.specs.Prelude.{◌≡◌, ℕ, ◌⊎◌, false, Option, Some, None, List, [], unwrap_or}
 use Rattle.std.specs.declared.io.ErrorKind.{ErrorKind}
 use Rattle.raft_log_fs.specs.Disk.{Disk, at_rest, grown}
@@ -17,7 +18,8 @@ use Rattle.raft_log_active_file.specs.Reopening.{IsReadTo, reread}
 use Rattle.raft_log_active_file.specs.Exits.{BeginMakes, BeginsBy, IsOpen}
 use Rattle.raft_log_active_file.specs.Rotation.{StandsWithRecords}
 
--- the queue's files are as a stop left them, its last file was read up to `end`, and this handle may write it
+-- The queue's files are on the disk as a stop left them. Its last file was read up to `end`, and the handle may write
+-- it.
 pub record IsLeftBehind {R : Type 0} (F : Format R) (own : List ℕ → Type 0) (base : Disk) (handle : Handle)
     (end : Option ℕ) (q : LogFiles R) (path : List ℕ) (N : Names) (d : Disk) : Type 0 where
   pub permitted : handle.permission ≡ ReadWrite
@@ -28,7 +30,8 @@ pub record IsLeftBehind {R : Type 0} (F : Format R) (own : List ℕ → Type 0) 
 abbrev pub HandleBeginsWith : {R : Type 0} → Format R → Handle → List ℕ → Disk → Type 0
 HandleBeginsWith F handle header d = HasFile handle.file (λ file. HasHeader F header file.content) d
 
--- the header with which a queue continues: the one of its last file, or, if that has none, the one that it gets
+-- `front` is the header with which the queue continues: the one that its last file has, or, if that has none (`None`),
+-- the new one, `header`
 abbrev pub GoesOnBehind : {R : Type 0} → Format R → Handle → Option ℕ → List ℕ → Disk → List ℕ → Type 0
 GoesOnBehind F handle (Some end) header d front = HandleBeginsWith F handle front d
 GoesOnBehind F handle None header d front = front ≡ header
@@ -41,14 +44,14 @@ pub record Trims (handle : Handle) (size : ℕ) (old new : Disk) : Type 0 where
   pub shortens : Shortens handle size old cut
   pub syncs : Syncs handle cut new
 
--- whose error is returned: that of the truncation, or of its sync
+-- `error` is why the file wasn't truncated: the truncation failed, or the sync after it
 pub data TrimMakes (handle : Handle) (size : ℕ) (error : ErrorKind) (old new : Disk) : Type 0 where
   uncut : FailsToShorten handle size error old new → TrimMakes handle size error old new
   unsynced : (cut : Disk) → Shortens handle size old cut → FailsToSync handle error cut new
       → TrimMakes handle size error old new
 
--- The last file is finished: it has exactly its header and its records, all synced. Or it had no header and so no
--- record, and is empty.
+-- The queue's last file was truncated and synced. With `Some end`, it has exactly its header and its records, all
+-- durable. With `None`, it had no header and so no record, and is empty.
 abbrev pub IsTrimmed : {R : Type 0} → Format R → (List ℕ → Type 0) → Disk → Handle → Option ℕ → LogFiles R
     → List ℕ → Names → Disk → Disk → Type 0
 IsTrimmed F own base handle (Some end) q path N old new = (front : List ℕ) × HandleBeginsWith F handle front old
@@ -57,27 +60,28 @@ IsTrimmed F own base handle (Some end) q path N old new = (front : List ℕ) × 
 IsTrimmed F own base handle None q path N old new = (recent q ≡ [])
     × Stands F own base q path handle.file (λ file. file ≡ at_rest []) N new
 
--- the bytes that may follow the records of a file: what it held, or preallocated zeros
+-- `stale` are the bytes that may follow a file's records: all that it held before, or allocated zeros
 abbrev pub IsWhatItHeld : Handle → List ℕ → Disk → Type 0
 IsWhatItHeld handle stale d = HasFile handle.file (λ file. stale ≡ file.content) d
     ⊎ ((room : ℕ) × (stale ≡ grown room []))
 
--- the last file holds all records that were read of it, with its header or one that it will get
+-- The queue's files are on the disk. Its last file has all records that were read of it, all durable, after its own
+-- header or the one that it gets.
 abbrev pub IsHalfOpen : {R : Type 0} → Format R → (List ℕ → Type 0) → Disk → Handle → Option ℕ → List ℕ
     → LogFiles R → Disk → Disk → Type 0
 IsHalfOpen F own base handle end header q old new = (front stale : List ℕ)
     × GoesOnBehind F handle end header old front × IsWhatItHeld handle stale old
     × StandsWithRecords F own base (reread front stale q) new
 
--- what a stop left was truncated after its records, or to nothing if it has no header
+-- if the queue was as a stop left it, its last file was truncated after its records, or to nothing if it had no header
 abbrev pub TrimsLeftover : {R : Type 0} → Format R → (List ℕ → Type 0) → Handle → Option ℕ → Disk → Disk
     → Type 0
 TrimsLeftover {R} F own handle end old new = (base : Disk) (q : LogFiles R) (path : List ℕ) (N : Names)
     → IsLeftBehind F own base handle end q path N old
     → IsTrimmed F own base handle end q path N old new
 
--- what a stop left wasn't truncated: a file call failed, and all its records are held, whatever header the file will
--- get
+-- If the queue was as a stop left it, truncating its last file failed, as a file call failed. The queue still has all
+-- records that were read, whatever header its last file is to get.
 abbrev pub FailsToTrim : {R : Type 0} → Format R → (List ℕ → Type 0) → Handle → Option ℕ → Disk → Disk
     → Type 0
 FailsToTrim {R} F own handle end old new = (base : Disk) (q : LogFiles R) (path : List ℕ) (N : Names)
@@ -87,32 +91,35 @@ FailsToTrim {R} F own handle end old new = (base : Disk) (q : LogFiles R) (path 
 
 -- Reopening the file.
 
--- whose error is returned after the truncation: that of reading the file's size, or of beginning the file
+-- `error` is why no writer was opened after the truncation: the file's size couldn't be read, or the file has no header
+-- and didn't get one
 abbrev pub TakeUpMakes : Handle → Option ℕ → List ℕ → ErrorKind → Disk → Disk → Type 0
 TakeUpMakes handle (Some end) header error old new = FailsToTakeUp handle [] false error old new
 TakeUpMakes handle None header error old new = BeginMakes handle header error old new
 
--- what is done after the truncation: the writer continues at the end of the file, without a call that changes it; or
--- the file is begun
+-- How a writer is opened after the truncation. If the file has a header, the writer continues at its end, without a
+-- call that changes it. Otherwise the file gets its header.
 abbrev pub TakesUpBy : Handle → Option ℕ → List ℕ → LogFileWriter → Disk → Disk → Type 0
 TakesUpBy handle (Some end) header writer old new = TakesUp handle [] false writer old new
 TakesUpBy handle None header writer old new = BeginsBy handle header writer old new
 
--- the calls that reopen a file: it was truncated and synced, and then a writer was opened
+-- the calls that reopen a file: it is truncated at `end`, or at 0 if it has no header, and synced; then a writer is
+-- opened
 pub record ReopensBy (handle : Handle) (end : Option ℕ) (header : List ℕ) (writer : LogFileWriter)
     (old new : Disk) : Type 0 where
   pub trimmed : Disk
   pub trims : Trims handle (unwrap_or end 0) old trimmed
   pub takes : TakesUpBy handle end header writer trimmed new
 
--- whose error is returned: that of the truncation or of its sync, or of what is done after them
+-- `error` is why a file wasn't reopened: truncating or syncing it failed, or opening its writer after that
 pub data ReopenMakes (handle : Handle) (end : Option ℕ) (header : List ℕ) (error : ErrorKind)
     (old new : Disk) : Type 0 where
   not_trimmed : TrimMakes handle (unwrap_or end 0) error old new → ReopenMakes handle end header error old new
   not_taken_up : (trimmed : Disk) → Trims handle (unwrap_or end 0) old trimmed
       → TakeUpMakes handle end header error trimmed new → ReopenMakes handle end header error old new
 
--- the queue continues: all records that were read are durable, and this writer is after them; zeros may be preallocated
+-- If the queue was as a stop left it, it continues: all records that were read are durable, and it is open to the
+-- writer. Zeros may be allocated after the records.
 abbrev pub Reopens : {R : Type 0} → Format R → (List ℕ → Type 0) → Handle → Option ℕ → List ℕ
     → LogFileWriter → Disk → Disk → Type 0
 Reopens {R} F own handle end header writer old new = (base : Disk) (q : LogFiles R) (path : List ℕ)
@@ -121,7 +128,8 @@ Reopens {R} F own handle end header writer old new = (base : Disk) (q : LogFiles
     → (front : List ℕ) × (room : ℕ) × GoesOnBehind F handle end header old front
     × IsOpen F own base writer (with_room room (reread front [] q)) path N new
 
--- the queue doesn't continue: a file call failed, and all its records are held
+-- If the queue was as a stop left it, it doesn't continue, as a file call failed. It still has all records that were
+-- read.
 abbrev pub FailsToReopen : {R : Type 0} → Format R → (List ℕ → Type 0) → Handle → Option ℕ → List ℕ → Disk
     → Disk → Type 0
 FailsToReopen {R} F own handle end header old new = (base : Disk) (q : LogFiles R) (path : List ℕ)

@@ -1,4 +1,4 @@
--- When a directory of a file system has exactly the files of a list.
+-- When a directory has exactly the files of a list.
 use Rattle.std.specs.Prelude.{◌≡◌, ℕ, true, List, ◌∷◌, ◌++◌, map, None}
 use Rattle.std.specs.List.{All, Contains}
 use Rattle.std.specs.String.{string_bytes}
@@ -19,36 +19,36 @@ name_of file = string_bytes file.name
 abbrev pub names_of : List StoredFile → List (List ℕ)
 names_of files = map name_of files
 
--- a directory has no file
+-- the directory has no file
 abbrev pub IsUnnamed : List ℕ → Disk → Type 0
 IsUnnamed directory d = (name : List ℕ) → IsPlain name → d.names (path_in directory name) ≡ None
 
--- the file at a path has these bytes, all of them synced
+-- there is a file at `path` with these bytes, all of them synced
 abbrev pub IsAtRest : List ℕ → List ℕ → Disk → Type 0
 IsAtRest path bytes d = HasNamed path (λ file. file ≡ at_rest bytes) d
 
--- a read of the file at a path returns these bytes
+-- there is a file at `path`, and a read of it returns these bytes
 abbrev pub HasContent : List ℕ → List ℕ → Disk → Type 0
 HasContent path bytes d = HasNamed path (λ file. file.content ≡ bytes) d
 
--- a file with these bytes was created, all of them synced, and no other file changed
+-- a file was created at `path` with these bytes, all of them synced, and no other path changed
 pub record MakesFile (path bytes : List ℕ) (old new : Disk) : Type 0 where
   pub free : old.names path ≡ None
   pub made : IsAtRest path bytes new
   pub others : TouchesOnlyNames (λ other. other ≡ path) old new
 
--- a directory exists, and has exactly these files, all at rest
+-- the directory exists, and has exactly the files of the list, each with its bytes synced
 pub record HoldsExactly (files : List StoredFile) (directory : List ℕ) (d : Disk) : Type 0 where
   pub there : d.directories directory ≡ true
   pub kept : All (λ file. IsAtRest (path_in directory (name_of file)) file.bytes.items d) files
   pub only : (name : List ℕ) → IsPlain name → (d.names (path_in directory name) ≡ None → ⊥)
       → Contains (names_of files) name
 
--- a directory exists, and has exactly the files of some list, all at rest
+-- the directory exists, and has exactly the files of some list, all synced
 abbrev pub HoldsFiles : List ℕ → Disk → Type 0
 HoldsFiles directory d = (files : List StoredFile) × HoldsExactly files directory d
 
--- these are the files of a directory, each once, with the bytes that a read returns
+-- `files` are all files of the directory, each once, with the bytes that a read of it returns
 pub record AreGathered (files : List StoredFile) (directory : List ℕ) (d : Disk) : Type 0 where
   pub listed : IsListing directory d (names_of files)
   pub read : All (λ file. HasContent (path_in directory (name_of file)) file.bytes.items d) files

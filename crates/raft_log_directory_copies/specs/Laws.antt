@@ -1,4 +1,4 @@
--- A directory that is copied through a list of files is the same.
+-- A directory is copied without loss if its files are gathered in a list and laid out in another directory.
 use Rattle.std.specs.Prelude.{◌≡◌, ℕ, List, Option, None, Some}
 use Rattle.raft_log_fs.specs.Disk.{Disk, File, IsPlain}
 use Rattle.raft_log_directory_copies.specs.Copies.{AreGathered, HoldsExactly, path_in}
@@ -18,7 +18,8 @@ content_of d (Some id) = read_of (d.files id)
 abbrev pub content_at : Disk → List ℕ → Option (List ℕ)
 content_at d path = content_of d (d.names path)
 
--- If the files gathered from a directory are laid out in another one, reading a name gives the same in both.
+-- If the files gathered from a directory are laid out in another one, each name has the same content in both, or in
+-- neither.
 abbrev pub CopiesHoldTheSame : Type 0
 CopiesHoldTheSame = (files : List StoredFile) (from to : List ℕ) (source copy : Disk) (name : List ℕ)
     → AreGathered files from source → HoldsExactly files to copy → IsPlain name

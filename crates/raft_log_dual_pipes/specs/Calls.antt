@@ -1,4 +1,5 @@
--- What each call on a log's pipes does to the log over which they run.
+-- What each call on a log's pipes does to a log over which they run: to its files and to its numbered files, which are
+-- how the model of the log sees them.
 use Rattle.std.specs.Prelude.{◌≡◌, ◌⊎◌, ◌↔◌, IsTrue, ℕ, ◌+◌, ◌-◌, ◌*◌, ◌/◌, ◌^◌, min, suc, true, None, Err, Result, List, length}
 use Rattle.raft_log_fs.specs.Causes.{Fails}
 use Rattle.raft_log_fs.specs.Exits.{IsUnarmed}
@@ -21,8 +22,8 @@ use Rattle.raft_log_dual_pipes.specs.PerQueue.{LeavesRaised}
 use Rattle.raft_log_dual_pipes.specs.Failing.{failed_pipe}
 use Rattle.raft_log_dual_pipes.specs.Pipes.{LogPipes, LogSense, RunsOn, LogRecordValue, State, files_of, header_at, is_failed, one_at, queue_of, queues, spares_at}
 
--- A record is written: both pipes still run, and the queue's numbered files get the record, in the file of its
--- location.
+-- If the pipes ran over a log, a record was written, and they run over the log with it. It is the last record of its
+-- queue, at the location `block`, maybe after a rotation. The numbered files get it in the file of this location.
 abbrev pub AppendsTo : Which → (LogFileContext → List ℕ) → FileBlockHandle → LogPipes → LogPipes → Type 0
 AppendsTo which signed block v w = (log : LogSense) (s : State) (y : LogRecordValue) → RunsOn log v s
     → (said : SaysRecord log.says (layout_at which (queues log)) (queue_of which) signed y)
@@ -31,15 +32,16 @@ AppendsTo which signed block v w = (log : LogSense) (s : State) (y : LogRecordVa
     × HasLast signed said.value block files × RunsOn log w (next_log which s files w.disk)
     × Appends (Ties (queues log)) which y block.id.seq s (next_log which s files w.disk))
 
--- a record's write failed and was truncated away: both pipes still run, and all that was written to the queue before is
--- synced
+-- A record's write failed, and what was written of it was truncated away. The pipes still run over the log. All that
+-- was written to the queue before is synced, and the queue may have rotated.
 abbrev pub CutsBackOn : LogSense → Which → State → LogPipes → LogPipes → Type 0
 CutsBackOn log which s v w = (files : LogFiles LogRecord)
     × IsCutBack (header_at which v) (spares_at which v) s.disk (spanned_at which s).files files
     × RunsOn log w (next_log which s files w.disk)
     × CutsBack (Ties (queues log)) which s (next_log which s files w.disk)
 
--- no record was added: both pipes still run
+-- No record was added, and the pipes still run over the log. The queue is unchanged; or it may have rotated, and all
+-- its records are synced.
 abbrev pub LeavesOutOn : LogSense → Which → State → LogPipes → LogPipes → Type 0
 LeavesOutOn log which s v w = (files : LogFiles LogRecord)
     × ((files ≡ (spanned_at which s).files)
@@ -47,7 +49,8 @@ LeavesOutOn log which s v w = (files : LogFiles LogRecord)
     × RunsOn log w (next_log which s files w.disk)
     × LeavesOut (Ties (queues log)) which s (next_log which s files w.disk)
 
--- the pipe has failed: the log is on the disk, from which it may be opened, and the record may be there or not
+-- The pipe of one queue has failed. The log is on the disk, from which it may be opened again, with the record or
+-- without it.
 abbrev pub MayContain : LogSense → Which → State → LogRecordValue → LogPipes → LogPipes → Type 0
 MayContain log which s y v w = LeavesQueue (queues log) which (both_open (files_of v)) None s w.disk
     (λ files. IsOrGoesOn (header_at which v) (spares_at which v) s.disk (spanned_at which s).files files
@@ -55,7 +58,10 @@ MayContain log which s y v w = LeavesQueue (queues log) which (both_open (files_
     ⊎ HasTaken (header_at which v) (spares_at which v) s.disk (spanned_at which s).files files))
     (MayAppend (Ties (queues log)) (Ties (queues log)) which y)
 
--- What a failed append leaves, by its error. After `Io`, `TryAgain` and `Failed` a file call has failed.
+-- What a failed append leaves.
+-- - `Io`, `TryAgain`: a file call failed, and what was written of the record was truncated away.
+-- - `NumberRange`, `Memory`: no record was added.
+-- - `Failed`: a file call failed, and then the pipe, so the record may be there or not.
 abbrev pub RefusalLeaves : LogSense → Which → State → LogRecordValue → LogPipes → LogPipes → Error → Type 0
 RefusalLeaves log which s y v w (errors.Io kind) = Fails v.disk w.disk × CutsBackOn log which s v w
 RefusalLeaves log which s y v w (errors.TryAgain text) = Fails v.disk w.disk × CutsBackOn log which s v w
@@ -64,19 +70,20 @@ RefusalLeaves log which s y v w errors.Memory = LeavesOutOn log which s v w
 RefusalLeaves log which s y v w errors.Failed = Fails v.disk w.disk × MayContain log which s y v w
 RefusalLeaves log which s y v w _ = ⊥
 
--- an append fails: any log over which the pipes ran is left as the error says
+-- if the pipes ran over a log, an append to it failed, and left what `RefusalLeaves` says for its error
 abbrev pub FailsToAppendTo : Which → (LogFileContext → List ℕ) → Error → LogPipes → LogPipes → Type 0
 FailsToAppendTo which signed error v w = (log : LogSense) (s : State) (y : LogRecordValue) → RunsOn log v s
     → SaysRecord log.says (layout_at which (queues log)) (queue_of which) signed y
     → RefusalLeaves log which s y v w error
 
--- a sync: both pipes still run, and all of the queue is synced
+-- if the pipes ran over a log, a queue of it was synced: all its records are durable, and the pipes run over the log
 abbrev pub SyncsQueue : Which → LogPipes → LogPipes → Type 0
 SyncsQueue which v w = (log : LogSense) (s : State) → RunsOn log v s
     → RunsOn log w (next_log which s (synced (spanned_at which s).files) w.disk)
     × Syncs (Ties (queues log)) which s (next_log which s (synced (spanned_at which s).files) w.disk)
 
--- a sync fails, as a file call failed: the log is on the disk, unchanged, and may be opened
+-- If the pipes ran over a log, the sync of one of its queues failed, as a file call failed. The queue's pipe has
+-- failed. The log is on the disk, unchanged, and may be opened again.
 abbrev pub FailsToSyncQueue : Which → LogPipes → LogPipes → Type 0
 FailsToSyncQueue which v w = (log : LogSense) (s : State) → RunsOn log v s
     → Fails v.disk w.disk
@@ -85,19 +92,22 @@ FailsToSyncQueue which v w = (log : LogSense) (s : State) → RunsOn log v s
     × FailsWhole (Ties (queues log)) (Ties (queues log)) s
     (next_log which s (spanned_at which s).files w.disk)
 
--- a rotation: both pipes still run, and all that was written to the queue is synced
+-- if the pipes ran over a log, a queue of it rotated: all that was written to it before is synced, and the pipes run
+-- over the log
 abbrev pub RotatesQueue : Which → LogPipes → LogPipes → Type 0
 RotatesQueue which v w = (log : LogSense) (s : State) → RunsOn log v s → (files : LogFiles LogRecord)
     × GoesOnInNext (header_at which v) (spares_at which v) s.disk (spanned_at which s).files files
     × RunsOn log w (next_log which s files w.disk)
     × Settles (Ties (queues log)) which s (next_log which s files w.disk)
 
--- nothing was done: both pipes still run over the same log, on the same disk
+-- nothing was done: the pipes run over the same log, on the same disk
 abbrev pub LeavesSame : LogSense → State → LogPipes → LogPipes → Type 0
 LeavesSame log s v w = RunsOn log w s × (w.disk ≡ v.disk)
 
--- What a failed rotation leaves, by its error. `Memory`, `NumberRange`: the same log. `Failed`: a file call and the
--- pipe have failed, and the queue may have rotated or not. The log is on the disk and may be opened.
+-- What a failed rotation leaves.
+-- - `Memory`, `NumberRange`: the same log, over which the pipes run.
+-- - `Failed`: a file call failed, and then the pipe. The queue may have rotated or not. The log is on the disk and may
+-- be opened again.
 abbrev pub TurnLeaves : LogSense → Which → State → LogPipes → LogPipes → Error → Type 0
 TurnLeaves log which s v w errors.Memory = LeavesSame log s v w
 TurnLeaves log which s v w errors.NumberRange = LeavesSame log s v w
@@ -107,19 +117,22 @@ TurnLeaves log which s v w errors.Failed = Fails v.disk w.disk
     (FailsMoved (Ties (queues log)) (Ties (queues log)) which)
 TurnLeaves log which s v w _ = ⊥
 
--- a rotation fails: any log over which the pipes ran is left as the error says
+-- if the pipes ran over a log, a rotation of one of its queues failed, and left what `TurnLeaves` says for its error
 abbrev pub FailsToRotateQueue : Which → Error → LogPipes → LogPipes → Type 0
 FailsToRotateQueue which error v w = (log : LogSense) (s : State) → RunsOn log v s
     → TurnLeaves log which s v w error
 
--- a purge: both pipes still run, and the files below the number have left the queue's live range
+-- If the pipes ran over a log, the files below `seq` have left the live range of one of its queues. The pipes still run
+-- over the log.
 abbrev pub PurgesQueue : Which → ℕ → LogPipes → LogPipes → Type 0
 PurgesQueue which seq v w = (log : LogSense) (s : State) → RunsOn log v s
     → RunsOn log w (raised_log which s seq w.disk)
     × Raises (Ties (queues log)) (Ties (queues log)) which seq s (raised_log which s seq w.disk)
 
--- What a failed purge leaves, by its error: the same log; or the pipe has failed, the files have left the live range
--- anyway, and the log is on the disk and may be opened.
+-- What a failed purge leaves.
+-- - `Memory`, `Other`, `NumberRange`: the same log, over which the pipes run.
+-- - `Failed`: a file call failed, and then the pipe. The files have left the live range all the same. The log is on the
+-- disk and may be opened again.
 abbrev pub PurgeLeavesOn : LogSense → Which → ℕ → State → LogPipes → LogPipes → Error → Type 0
 PurgeLeavesOn log which seq s v w errors.Memory = LeavesSame log s v w
 PurgeLeavesOn log which seq s v w (errors.Other fault) =
@@ -129,12 +142,13 @@ PurgeLeavesOn log which seq s v w errors.Failed = Fails v.disk w.disk
     × LeavesRaised (queues log) which (both_open (files_of v)) None s seq w.disk
 PurgeLeavesOn log which seq s v w _ = ⊥
 
--- a purge fails: any log over which the pipes ran is left as the error says
+-- if the pipes ran over a log, a purge of one of its queues failed, and left what `PurgeLeavesOn` says for its error
 abbrev pub FailsToPurgeQueue : Which → ℕ → Error → LogPipes → LogPipes → Type 0
 FailsToPurgeQueue which seq error v w = (log : LogSense) (s : State) → RunsOn log v s
     → PurgeLeavesOn log which seq s v w error
 
--- the numbers are those of the first and the last file of the queue
+-- if the pipes run over a log, `first` and `last` are the numbers of the first and the last file of a queue's live
+-- range
 abbrev pub IsSpanOf : Which → LogPipes → ℕ → ℕ → Type 0
 IsSpanOf which v first last = (log : LogSense) (s : State) → RunsOn log v s
     → (first ≡ (spanned_at which s).first) × (last ≡ (spanned_at which s).files.last)
@@ -143,24 +157,25 @@ IsSpanOf which v first last = (log : LogSense) (s : State) → RunsOn log v s
 abbrev pub count_at : Which → LogPipes → ℕ
 count_at which v = suc (length (pipe_at which (files_of v)).earlier.items)
 
--- the number of the file at a fraction of the live range; for the whole range, the number after the last one
+-- The number of the file that follows the fraction `num / den` of the live range's files, but at most 2^64 - 1. For the
+-- whole range it is the number after the last file.
 abbrev pub seq_at : Which → LogPipes → ℕ → ℕ → ℕ
 seq_at which v num den =
     min ((pipe_at which (files_of v)).first_seq + count_at which v * num / den) (2 ^ 64 - 1)
 
--- the total size of the live range's files, where each counts as the target size
+-- the total size of the live range's files, if each has the target size, but at most 2^64 - 1
 abbrev pub size_at : Which → LogPipes → ℕ
 size_at which v = min (count_at which v * (one_at which v).settings.new_files.target_size) (2 ^ 64 - 1)
 
--- after the pipes have failed, every later call returns `Failed`, and changes nothing
+-- if a pipe had failed before the call, it returns `Failed` and changes nothing
 abbrev pub StaysFailed : {A : Type 0} → Result A Error → LogPipes → LogPipes → Type 0
 StaysFailed result v w = is_failed v ≡ true → (result ≡ Err errors.Failed) × (w ≡ v)
 
--- the pipes have failed after the call if and only if it returns `Failed`
+-- a pipe has failed after the call if and only if the call returns `Failed`
 abbrev pub TellsFailure : {A : Type 0} → Result A Error → LogPipes → Type 0
 TellsFailure result w = IsTrue (is_failed w) ↔ (result ≡ Err errors.Failed)
 
--- no fault was armed: the file system had stopped, or memory ran out
+-- why a fault wasn't armed: the file system had stopped, or memory ran out
 abbrev pub ArmsNoPipes : LogPipes → Error → Type 0
 ArmsNoPipes v (errors.Io kind) = IsUnarmed v.disk kind
 ArmsNoPipes v _ = ⊥

@@ -1,4 +1,5 @@
--- Closing the pipes of a log: each active file is finished, then the files kept for recycling get reserved names.
+-- Closing the pipes of a log: each active file is truncated after its records and synced (finished), then the files
+-- kept for recycling get reserved names.
 use Rattle.std.specs.Prelude.{◌≡◌, ◌⊎◌, Some, None, List}
 use Rattle.raft_log_model_laws.specs.Item.{Record}
 use Rattle.raft_log_model_laws.specs.Groups.{Map}
@@ -19,16 +20,19 @@ use Rattle.raft_log_dual_pipes.specs.Turning.{in_span}
 use Rattle.raft_log_dual_pipes.specs.Steps.{next_log}
 use Rattle.raft_log_dual_pipes.specs.OpenOrClosed.{OpenPipes, none_open, with_open, IsOpenOrClosed, LeavesQueue}
 
--- the queue's last file holds its records
+-- the files of a queue are on the disk `d`, and its last file holds its records
 abbrev pub LeftAt : {R E V : Type 0} → TwoQueues R E V → Which → Disk → LogFiles R → Type 0
 LeftAt log which d files = StandsWithRecords (layout_at which log).format (layout_at which log).own d files d
 
--- the queue unchanged, or with all of it synced
+-- `files` are the files of `q`, unchanged, or with all records synced and no stale bytes
 abbrev pub IsOrIsSettled : {R : Type 0} → LogFiles R → LogFiles R → Type 0
 IsOrIsSettled q files = (files ≡ q) ⊎ (files ≡ settled q)
 
--- Closing one pipe, in any state of the other queue: its records are held, and all of them may be synced. If its active
--- file was finished, they are synced. Giving reserved names to the files kept for recycling changes nothing.
+-- What closing the pipe of one queue leaves, whatever the state of the other queue.
+-- - `closes`: the queue's last file holds its records, and all of them may be synced.
+-- - `settles`: if the active file was finished, they are all synced.
+-- - `below`, `below_first`: a file kept for recycling has a reserved name, or a number below the last one and below the
+-- live range.
 pub record ClosesBeside {R E V : Type 0} (log : TwoQueues R E V) (which : Which) (o : OpenPipes)
     (files : PipeFiles) (s : LogOnDisk R) : Type 0 where
   pub closes : (new : Disk)
@@ -46,12 +50,13 @@ pub record ClosesBeside {R E V : Type 0} (log : TwoQueues R E V) (which : Which)
   pub below : AreBelow (spanned_at which s).files.last files.recycled.items
   pub below_first : AreBelow (spanned_at which s).first files.recycled.items
 
--- closing a pipe keeps its records, all of which may be synced, in any state of the other queue
+-- if the pipe of one queue runs, closing it leaves what `ClosesBeside` says, whatever the state of the other queue
 abbrev pub CloseIsAStep : {R E V : Type 0} → TwoQueues R E V → Type 0
 CloseIsAStep {R} log = AreTwoQueues log → (which : Which) (o : OpenPipes) (files : PipeFiles)
     (s : LogOnDisk R) → IsOpenOrClosed log (with_open which o (Some files)) s → ClosesBeside log which o files s
 
--- giving reserved names to files kept for recycling removes nothing from a queue whose pipe is closed
+-- If the pipe of a queue is closed, giving reserved names to the files that it kept for recycling removes nothing from
+-- the queue. The log's numbered files are the same.
 abbrev pub NamesAreReserved : {R E V : Type 0} → TwoQueues R E V → Type 0
 NamesAreReserved {R} log = AreTwoQueues log → (which : Which) (o : OpenPipes) (kept : List Listed)
     (s : LogOnDisk R) (new : Disk) → IsOpenOrClosed log (with_open which o None) s
@@ -62,7 +67,8 @@ NamesAreReserved {R} log = AreTwoQueues log → (which : Which) (o : OpenPipes) 
     × IsOpenOrClosed log (with_open which o None) (next_log which s (spanned_at which s).files new)
     × FailsWhole (Ties log) (Ties log) s (next_log which s (spanned_at which s).files new)
 
--- the disks that closing both pipes goes through: both active files are finished first
+-- the disks that a close of both pipes goes through: both active files are finished or that fails, then the files kept
+-- for recycling are renamed
 pub record ClosesBoth {R E V : Type 0} (log : TwoQueues R E V) (p : Pipes) (old new : Disk) : Type 0 where
   pub one : Disk
   pub two : Disk
@@ -72,13 +78,13 @@ pub record ClosesBoth {R E V : Type 0} (log : TwoQueues R E V) (p : Pipes) (old 
   pub append_names : StaysLeft log.append.format log.append.own p.append.recycled.items two three
   pub rewrite_names : StaysLeft log.rewrite.format log.rewrite.own p.rewrite.recycled.items three new
 
--- the log with these files of the two queues, on this disk
+-- the log with `append` and `rewrite` as the files of its queues, and the same live ranges, on the disk `d`
 abbrev pub closed_log : {R : Type 0} → LogOnDisk R → LogFiles R → LogFiles R → Disk → LogOnDisk R
 closed_log s append rewrite d =
     record { append = in_span s.append append; rewrite = in_span s.rewrite rewrite; disk = d }
 
--- A closed log on the disk: the files of both queues are unchanged, or all synced, and the numbered files follow. What
--- an engine's contracts stated of the log is still true, with some first pending batches synced now.
+-- The closed log is on the disk `new`. The files of each queue are unchanged, or all its records are synced now. What
+-- an engine's contracts stated of the log is still true, except that some first pending batches may be synced now.
 pub record LiesClosed {R E V : Type 0} (log : TwoQueues R E V) (s : LogOnDisk R) (new : Disk) : Type 0 where
   pub append : LogFiles R
   pub rewrite : LogFiles R
@@ -91,18 +97,18 @@ pub record LiesClosed {R E V : Type 0} (log : TwoQueues R E V) (s : LogOnDisk R)
   pub ends : (v : View E V) (m : Map E V) (pending : List (Record E V)) → IsAt (Ties log s) v m pending
       → ViewEndsAt (Ties log (closed_log s append rewrite new)) v m pending
 
--- a closed log on the disk, with all of both queues synced
+-- the closed log is on the disk `new`, and all records of both queues are synced
 pub record LiesSettled {R E V : Type 0} (log : TwoQueues R E V) (s : LogOnDisk R) (new : Disk) : Type 0 where
   pub closed : LiesClosed log s new
   pub append_is : closed.append ≡ settled s.append.files
   pub rewrite_is : closed.rewrite ≡ settled s.rewrite.files
 
--- a log whose two pipes were closed is a closed log on the disk, even if calls failed meanwhile
+-- if both pipes of a log were closed, the closed log is on the disk, even if calls failed meanwhile
 abbrev pub ClosedLogIsALog : {R E V : Type 0} → TwoQueues R E V → Type 0
 ClosedLogIsALog {R} log = AreTwoQueues log → (p : Pipes) (s : LogOnDisk R) (new : Disk) → Run log p s
     → ClosesBoth log p s.disk new → LiesClosed log s new
 
--- the disks that closing both pipes goes through, if both active files are finished
+-- the disks that a close of both pipes goes through if both active files are finished
 pub record SettlesBoth {R E V : Type 0} (log : TwoQueues R E V) (p : Pipes) (old new : Disk) : Type 0 where
   pub one : Disk
   pub two : Disk
@@ -112,7 +118,7 @@ pub record SettlesBoth {R E V : Type 0} (log : TwoQueues R E V) (p : Pipes) (old
   pub append_names : StaysLeft log.append.format log.append.own p.append.recycled.items two three
   pub rewrite_names : StaysLeft log.rewrite.format log.rewrite.own p.rewrite.recycled.items three new
 
--- a log whose two active files were finished is a closed log on the disk, and all of it is synced
+-- if both active files of a log were finished in a close, the closed log is on the disk, and all its records are synced
 abbrev pub SettledLogIsALog : {R E V : Type 0} → TwoQueues R E V → Type 0
 SettledLogIsALog {R} log = AreTwoQueues log → (p : Pipes) (s : LogOnDisk R) (new : Disk) → Run log p s
     → SettlesBoth log p s.disk new → LiesSettled log s new

@@ -8,21 +8,22 @@ use Rattle.raft_log_file_pipe.specs.Closing.{FinishesAs, FinishesOrNot, Reserves
 use Rattle.raft_log_dual_pipes.specs.Closing.{LiesClosed, LiesSettled}
 use Rattle.raft_log_dual_pipes.specs.Pipes.{LogPipes, LogSense, OnePipe, RunsOn, State, queues}
 
--- A close, even if calls fail meanwhile: the closed log is on the disk, from which it may be opened.
+-- If the pipes ran over a log, the closed log is on the disk `d`, from which it may be opened. Some calls of the close
+-- may have failed.
 abbrev pub ClosesLog : LogPipes → Disk → Type 0
 ClosesLog v d = (log : LogSense) (s : State) → RunsOn log v s → LiesClosed (queues log) s d
 
--- A close that succeeds: the closed log is on the disk, and all of both queues is synced.
+-- if the pipes ran over a log, the closed log is on the disk `d`, and all records of both queues are synced
 abbrev pub ClosesSettled : LogPipes → Disk → Type 0
 ClosesSettled v d = (log : LogSense) (s : State) → RunsOn log v s → LiesSettled (queues log) s d
 
--- the files that a pipe keeps for recycling get reserved names, from the newest down, or fail to get them
+-- the files that a pipe keeps for recycling got reserved names, from the newest to the oldest, or failed to get them
 abbrev pub NamesSpares : OnePipe → Disk → Disk → Type 0
 NamesSpares pipe old new = ReservesAll (log_paths pipe.queue pipe.directories)
     (reverse pipe.files.recycled.items) (greatest_reserved pipe.files.recycled.items) old new
 
--- The calls of a close, in their order. Both active files are finished, Append's first, or that fails; then the files
--- that are kept for recycling get their names.
+-- The calls of a close, in order. Both active files are finished (truncated after their records and synced), Append's
+-- first, or that fails. Then the files that are kept for recycling get reserved names, Append's first.
 pub record ClosesInOrder (v : LogPipes) (new : Disk) : Type 0 where
   pub one : Disk
   pub two : Disk
@@ -32,7 +33,8 @@ pub record ClosesInOrder (v : LogPipes) (new : Disk) : Type 0 where
   pub append_names : NamesSpares v.append two three
   pub rewrite_names : NamesSpares v.rewrite three new
 
--- The calls of a close, and its result: why Append's last file wasn't finished, else why Rewrite's wasn't.
+-- The calls of a close, and its result: why Append's active file wasn't finished; otherwise why Rewrite's wasn't;
+-- otherwise success.
 pub record ClosesAs (v : LogPipes) (result : Result (Unit {0}) Error) (new : Disk) : Type 0 where
   pub one : Disk
   pub two : Disk

@@ -1,4 +1,4 @@
--- What a crash leaves of a log on a disk, and what a recovery may read of it.
+-- What a crash leaves of a log on a disk, and what a recovery may read then.
 use Rattle.std.specs.Prelude.{◌≡◌, ℕ, ◌≤◌, List, [], ◌∷◌, map}
 use Rattle.raft_log_model_laws.specs.Item.{Record}
 use Rattle.raft_log_machine_laws.specs.Files.{LogFile}
@@ -12,8 +12,8 @@ use Rattle.raft_log_machine_laws.specs.DirectoryImages.{Readings, Allows, empty_
 use Rattle.raft_log_dual_pipes.specs.Queues.{TwoQueues, AreTwoQueues}
 use Rattle.raft_log_dual_pipes.specs.State.{LogOnDisk, HoldsBoth, Ties}
 
--- A crash may leave the other log: its disk is an image without a CRC collision in the last file of either queue, and
--- both live ranges begin at the same numbers.
+-- A crash of the log `s` may leave `image`. The disk is a crash image, without a CRC collision in the last file of
+-- either queue. Both live ranges begin at the same numbers.
 pub record IsLeftByCrash {R E V : Type 0} (log : TwoQueues R E V) (s image : LogOnDisk R) : Type 0 where
   pub disk : IsImage s.disk image.disk
   pub append : NoChanceInLast log.append.format s.append.files s.disk image.disk
@@ -21,18 +21,20 @@ pub record IsLeftByCrash {R E V : Type 0} (log : TwoQueues R E V) (s image : Log
   pub append_first : image.append.first ≡ s.append.first
   pub rewrite_first : image.rewrite.first ≡ s.rewrite.first
 
--- what is found of the files from a number on, as numbered files; if none is there, an empty file 1
+-- `files` are what was found of a queue from the number `s` on, as numbered files; if nothing was found, `s` is 1, and
+-- they are one empty file with this number
 abbrev pub IsReadAs : {R E V : Type 0} → (R → Record E V) → ℕ → List (Found R) → List (LogFile E V) → Type 0
 IsReadAs says s [] files = (s ≡ 1) × (files ≡ empty_file ∷ [])
 IsReadAs says s (f ∷ fs) files = files ≡ map (logged says) (f ∷ fs)
 
--- a recovery may read these files of a queue: from a number on, up to the live range's first file, all to the last
+-- a recovery may begin at the number `s`, at or before the live range's first file, and then reads `files`, up to the
+-- last one
 abbrev pub MayRead : {R E V : Type 0} → (R → Record E V) → Format R → ℕ → Disk → ℕ → List (LogFile E V)
     → Type 0
 MayRead {R} says F first d s files =
     (s ≤ first) × (found : List (Found R)) × ReadsFrom F d s found × IsReadAs says s found files
 
--- how a log is read of a disk
+-- what a crash may leave of a log on a disk, and what a recovery may then read of each queue
 abbrev pub readings_of : {R E V : Type 0} → TwoQueues R E V → Readings (LogOnDisk R) E V
 readings_of log = record {
   leaves = λ s image. IsLeftByCrash log s image;
@@ -40,11 +42,13 @@ readings_of log = record {
   append = λ image s files. MayRead log.says log.append.format image.append.first image.disk s files;
 }
 
--- the numbered files allow each image of the log
+-- after any crash of the log `s`, a recovery reads what the numbered files `f` allow: they may lose only some last
+-- unsynced records of each queue
 abbrev pub AllowsIn : {R E V : Type 0} → TwoQueues R E V → LogOnDisk R → Files E V → Type 0
 AllowsIn log s f = Allows (readings_of log) s f
 
--- if the records of both queues are held, their numbered files allow each image
+-- if the last file of each queue holds its records, then after any crash a recovery reads what the log's numbered files
+-- allow
 abbrev pub HeldIsAllowed : {R E V : Type 0} → TwoQueues R E V → Type 0
 HeldIsAllowed {R} {E} {V} log = AreTwoQueues log → (s : LogOnDisk R) (f : Files E V)
     → IsSound s.disk → HoldsBoth log s → Ties log s f → AllowsIn log s f

@@ -1,4 +1,4 @@
--- A pipe fails while an engine runs over both: the log is on the disk, and may be opened again.
+-- A pipe fails while an engine uses both: then the log is on the disk, and may be opened again.
 use Rattle.std.specs.Prelude.{◌≡◌, ℕ, ◌⊎◌, None, List, [], ◌∷◌, ◌++◌}
 use Rattle.raft_log_model_laws.specs.Item.{Record}
 use Rattle.raft_log_model_laws.specs.Groups.{Map, taken}
@@ -20,7 +20,8 @@ use Rattle.raft_log_dual_pipes.specs.OpenOrClosed.{OpenPipes, both_open, with_op
 use Rattle.raft_log_dual_pipes.specs.OnDisk.{LogLiesOn}
 use Rattle.raft_log_dual_pipes.specs.Writing.{IsAtOn}
 
--- in a log that is on the disk, some first batches are synced, and the others are pending
+-- Some log is on the disk `d`. Its contents are the map `m` after some first batches of `pending`, and the other
+-- batches are still pending.
 pub record LogEndsLying {R E V : Type 0} (log : TwoQueues R E V) (o : OpenPipes) (d : Disk) (m : Map E V)
     (pending : List (Record E V)) : Type 0 where
   pub done : List (Record E V)
@@ -28,12 +29,14 @@ pub record LogEndsLying {R E V : Type 0} (log : TwoQueues R E V) (o : OpenPipes)
   pub splits : done ++ rest ≡ pending
   pub lies : LogLiesOn log o d (taken m done) rest
 
--- the pipes after that of one queue has failed
+-- the pipes after the one of this queue has failed: only the other one runs
 abbrev pub failed_pipe : Which → Pipes → OpenPipes
 failed_pipe which p = with_open which (both_open p) None
 
--- What is on the disk after a pipe fails. At a sync, the log is unchanged. At a rotation, it is the same, but some
--- first batches may be synced now. At a batch, it is the log with the batch, or without it.
+-- The log that is on the disk after a pipe fails.
+-- - `sync`: a sync failed. The log has the same contents and the same pending batches.
+-- - `rotation`: a rotation failed. The log is the same, but some first pending batches may be synced now.
+-- - `batch`: a write failed. The log is as after `rotation`, with the new batch as its last one or without it.
 pub record FailedPipeLeavesALog {R E V : Type 0} (log : TwoQueues R E V) (p : Pipes) (old : Disk)
     (v : View E V) (m : Map E V) (pending : List (Record E V)) : Type 0 where
   pub sync : (which : Which) (new : Disk)
@@ -52,7 +55,7 @@ pub record FailedPipeLeavesALog {R E V : Type 0} (log : TwoQueues R E V) (p : Pi
       → LogEndsLying log (failed_pipe InAppend p) new m pending
       ⊎ LogEndsLying log (failed_pipe InAppend p) new m (pending ++ y ∷ [])
 
--- after a pipe of an engine's log fails, that log is on the disk
+-- `FailedPipeLeavesALog` holds for the log of each engine whose view is true of it
 abbrev pub FailedPipesLeaveLogs : {R E V : Type 0} → TwoQueues R E V → Type 0
 FailedPipesLeaveLogs {R} {E} {V} log = AreTwoQueues log → (p : Pipes) (old : Disk) (v : View E V)
     (m : Map E V) (pending : List (Record E V)) → IsAtOn log p old v m pending

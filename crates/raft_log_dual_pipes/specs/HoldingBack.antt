@@ -1,14 +1,14 @@
--- What is pinned against a purge.
+-- Which files are pinned against a purge.
 use Rattle.std.specs.Prelude.{◌≡◌, ℕ, Option, None}
 use Rattle.raft_log_record_base.specs.declared.pipe_log.LogQueue.{LogQueue}
 use Rattle.raft_log_dual_pipes.specs.Pipes.{LogPipes}
 
--- pipes that show `v` pin this much of a queue: nothing, or its files from a number on
+-- pipes whose state is `v` pin files of this queue: none if `held` is `None`, otherwise those from that number on
 abbrev pub PipesHoldBack : {P : Type 0} → (P → LogPipes) → (P → LogQueue → Option ℕ → Type 0)
     → LogQueue → LogPipes → Option ℕ → Type 0
 PipesHoldBack {P} shown holds_back queue v held =
     (pipes : P) × (shown pipes ≡ v) × holds_back pipes queue held
 
--- nothing is pinned, whatever the pipes show
+-- no file is pinned, whatever the state of the pipes
 abbrev pub NothingIsHeldBack : (LogPipes → Option ℕ → Type 0) → Type 0
 NothingIsHeldBack hold_back = (v : LogPipes) (held : Option ℕ) → hold_back v held → held ≡ None

@@ -1,4 +1,4 @@
--- Which file of a queue is its active one after an append succeeded or failed, and which files are listed after a
+-- Which file of a queue is the active one after an append succeeded or failed, and which files a pipe lists after a
 -- purge.
 use Rattle.std.specs.Prelude.{◌≡◌, ◌⊎◌, ℕ, suc}
 use Rattle.raft_log_record_base.specs.declared.errors.Error.{Error}
@@ -13,19 +13,22 @@ use Rattle.raft_log_dual_pipes.specs.Pipes.{LogPipes, files_of, one_at}
 abbrev pub last_of : Which → LogPipes → ℕ
 last_of which v = (pipe_at which (files_of v)).active.seq
 
--- the number of the file that a record goes into: the next one if the active file is full, otherwise the active file
+-- `n` is the number of the file that a record is written to: the next one if the active file is full, otherwise the
+-- active one
 abbrev pub IsNextIfFull : Which → LogPipes → ℕ → Type 0
 IsNextIfFull which v n = (IsFull which v × (n ≡ suc (last_of which v)))
     ⊎ ((IsFull which v → ⊥) × (n ≡ last_of which v))
 
--- After `Io` the active file is the one that the record was to go into, and after `TryAgain` the next one.
+-- The active file after a failed append. With `Io` it is the one that the record was to be written to. With `TryAgain`
+-- it is the next one after that.
 abbrev pub TurnsBehind : Which → Error → LogPipes → LogPipes → Type 0
 TurnsBehind which (errors.Io kind) v w = IsNextIfFull which v (last_of which w)
 TurnsBehind which (errors.TryAgain text) v w =
     (n : ℕ) × IsNextIfFull which v n × (last_of which w ≡ suc n)
 TurnsBehind which _ v w = Unit {0}
 
--- the files below a number have left the live range, and as many as the capacity allows are kept for recycling
+-- the files below `seq` have left the live range of the queue, and as many of them are kept for recycling as the
+-- capacity allows
 abbrev pub RaisesPipe : Which → ℕ → LogPipes → LogPipes → Type 0
 RaisesPipe which seq v w = IsRaised (one_at which v).settings.capacity seq (pipe_at which (files_of v))
     (pipe_at which (files_of w))

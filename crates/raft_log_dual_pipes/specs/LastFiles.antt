@@ -1,4 +1,4 @@
--- What follows the pipe's records in its active file right after each call, and when that excludes CRC collisions.
+-- What follows the records in a pipe's active file right after each call, and when this excludes CRC collisions.
 use Rattle.std.specs.Prelude.{◌≡◌, ℕ, ◌<◌, false, Option, Some, List, [], ◌∷◌, drop, length, suc}
 use Rattle.raft_log_fs.specs.Disk.{Disk, File, zeros}
 use Rattle.raft_log_fs.specs.Exits.{Syncs}
@@ -20,32 +20,33 @@ use Rattle.raft_log_file_pipe.specs.Opening.{BeginsPipe, CanBeginWith, IsFound, 
 use Rattle.raft_log_file_pipe.specs.declared.pipe_files.PipeFiles.{PipeFiles}
 use Rattle.raft_log_dual_pipes.specs.OldRecords.{AreApart}
 
--- a pipe over the files of a queue in these directories
+-- a pipe over the files of a queue of the log, in these directories
 abbrev pub IsPipeIn : LogQueue → List (List ℕ) → Disk → PipeFiles → LogFiles LogRecord → Disk → Type 0
 IsPipeIn queue directories = IsPipe (log_format queue directories) (IsOwnPath queue directories)
     (log_paths queue directories)
 
--- The bytes as they are now.
+-- The bytes of the active file as they are now.
 
--- after all that the pipe wrote to its active file, no record of that file begins
+-- after all that the pipe wrote to its active file, no record of this file begins
 abbrev pub EndsThere : Format LogRecord → PipeFiles → Disk → Type 0
 EndsThere F files d = (file : File) → d.files files.writer.handle.file ≡ Some file
     → Refuses (F.IsFrame files.active.seq (header_bytes files.active.format)) (drop files.writer.written file.content)
 
--- only preallocated zeros follow what the pipe wrote
+-- only zeros follow what the pipe wrote to its active file, as after an allocation
 abbrev pub IsBlankBehind : PipeFiles → Disk → Type 0
 IsBlankBehind files d = (file : File) → d.files files.writer.handle.file ≡ Some file
     → (room : ℕ) × (drop files.writer.written file.content ≡ zeros room)
 
--- an image has the pipe's active file unchanged
+-- in `image`, the pipe's active file has the same content as in `d`
 abbrev pub KeepsOwn : PipeFiles → Disk → Disk → Type 0
 KeepsOwn files d image = (file after : File) → d.files files.writer.handle.file ≡ Some file
     → image.files files.writer.handle.file ≡ Some after → after.content ≡ file.content
 
--- If no record begins after those of the active file, the unchanged file meets the premise on CRC collisions.
--- - `blank`: no record begins in preallocated zeros.
--- - `syncs`: after a sync no record begins there, if none did before.
--- - `synced`: right after a sync every image has the file unchanged.
+-- When a crash image has no CRC collision in a pipe's active file.
+-- - `kept`: if no record begins after the file's records, and the image has its content unchanged.
+-- - `blank`: if only zeros follow the records, no record begins after them.
+-- - `syncs`: if no record begins there, none does after a sync.
+-- - `synced`: right after a sync each image has the file's content unchanged.
 pub record StandingFilesMeetIt : Type 0 where
   pub kept : (queue : LogQueue) (directories : List (List ℕ)) → 0 < length directories → (base : Disk)
       (files : PipeFiles) (q : LogFiles LogRecord) (d : Disk) → IsPipeIn queue directories base files q d
@@ -59,10 +60,10 @@ pub record StandingFilesMeetIt : Type 0 where
   pub synced : (files : PipeFiles) (old new : Disk) → Syncs files.writer.handle old new → (image : Disk)
       → IsImage new image → KeepsOwn files new image
 
--- Right after these calls, only preallocated zeros follow the pipe's records:
--- - an open, over no file or over the files that were found;
--- - a rotation, if no file is kept for recycling, so that it makes one;
--- - a write or a sync, if only such zeros followed them before.
+-- Right after these calls, only zeros follow the records in a pipe's active file:
+-- - an open, whether files were found or not;
+-- - a rotation, if no file is kept for recycling, so that the next file is a new one;
+-- - a write or a sync, if only zeros followed the records before.
 pub record CallsLeaveRoom : Type 0 where
   pub begins : (queue : LogQueue) (directories : List (List ℕ)) (base : Disk) (format : LogFileFormat)
       (kept : List Listed) (files : PipeFiles) (old new : Disk)
@@ -93,9 +94,9 @@ pub record CallsLeaveRoom : Type 0 where
 
 -- Recycled files.
 
--- The oldest of the files that a pipe keeps for recycling. It was finished under a number of the queue, not set aside
--- under a reserved name; it begins with the header of the next files, whose records are signed; the low 32 bits of the
--- next number and of its own differ.
+-- An oldest file kept for recycling whose reuse leaves no CRC collision. It has a number of the queue, not a reserved
+-- name. It begins with the header of the next files, whose records are signed. Its number and the next one differ in
+-- their low 32 bits.
 pub record NextIsUsed (F : Format LogRecord) (format : LogFileFormat) (files : PipeFiles) (d : Disk) : Type 0 where
   pub oldest : Listed
   pub others : List Listed
@@ -105,8 +106,8 @@ pub record NextIsUsed (F : Format LogRecord) (format : LogFileFormat) (files : P
   pub headed : HasFile oldest.handle.file (λ file. HasHeader F (header_bytes format) file.content) d
   pub apart : AreApart oldest.seq (suc files.active.seq)
 
--- Right after a rotation into such a file, no record begins after the new header, whatever bytes the file held. Right
--- after any rotation, every image has the active file unchanged.
+-- Right after a rotation into such a file, no record begins after the new header, whatever bytes the file held before.
+-- Right after any rotation, each crash image has the active file unchanged.
 pub record UsedFilesMeetIt : Type 0 where
   pub ends : (queue : LogQueue) (directories : List (List ℕ)) → 0 < length directories → (base : Disk)
       (q : LogFiles LogRecord) (format : LogFileFormat) (before after : PipeFiles) (old new : Disk)

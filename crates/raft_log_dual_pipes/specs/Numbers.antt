@@ -1,4 +1,5 @@
--- When a call fails with `NumberRange`: the numbers that a file's name can have have run out.
+-- When a call fails with `NumberRange`: the numbers that a file's name can have, of at most sixteen digits, have run
+-- out.
 use Rattle.std.specs.Prelude.{◌≡◌, ◌⊎◌, ℕ, ◌≤◌, ◌^◌, List, suc}
 use Rattle.raft_log_fs.specs.Causes.{Fails}
 use Rattle.raft_log_record_base.specs.declared.errors.Error.{Error}
@@ -10,28 +11,29 @@ use Rattle.raft_log_dual_pipes.specs.Queues.{layout_at, SaysRecord}
 use Rattle.raft_log_dual_pipes.specs.State.{pipe_at}
 use Rattle.raft_log_dual_pipes.specs.Pipes.{LogPipes, LogSense, RunsOn, LogRecordValue, State, files_of, one_at, queue_of, queues}
 
--- no file's name has the number after that of a queue's active file
+-- the number after that of a queue's active file has more than sixteen digits, so no file's name has it
 abbrev pub HasLastNumber : Which → LogPipes → Type 0
 HasLastNumber which v = 10 ^ 16 ≤ suc (pipe_at which (files_of v)).active.seq
 
--- a rotation of a log's queue fails with it only after the last number
+-- if the pipes ran over a log and a rotation failed with `NumberRange`, the active file has the last number
 abbrev pub EndsNumbers : Which → Error → LogPipes → Type 0
 EndsNumbers which error v = error ≡ errors.NumberRange
     → (log : LogSense) (s : State) → RunsOn log v s → HasLastNumber which v
 
--- a queue's active file has reached the target size
+-- the active file of a queue has reached the target size
 abbrev pub IsFull : Which → LogPipes → Type 0
 IsFull which v = (one_at which v).settings.new_files.target_size ≤ (pipe_at which (files_of v)).writer.written
 
--- An append fails with it only if the queue had to rotate and has the last number. It had to rotate as the active file
--- was full, or for lack of space after a failed file call.
+-- If the pipes ran over a log and an append failed with `NumberRange`, the active file has the last number now. The
+-- queue had to rotate: the active file was full, or a file call failed, as for lack of space.
 abbrev pub EndsNumbersAt : Which → (LogFileContext → List ℕ) → Error → LogPipes → LogPipes → Type 0
 EndsNumbersAt which signed error v w = error ≡ errors.NumberRange
     → (log : LogSense) (s : State) (y : LogRecordValue) → RunsOn log v s
     → SaysRecord log.says (layout_at which (queues log)) (queue_of which) signed y
     → HasLastNumber which w × (IsFull which v ⊎ Fails v.disk w.disk)
 
--- a purge fails with it only if a file of the live range has a number that no name has; no log's queue has such a file
+-- if a purge failed with `NumberRange`, a file of the live range has a number of more than sixteen digits; then the
+-- pipes don't run over a log
 abbrev pub EndsNumbersBelow : Which → Error → LogPipes → Type 0
 EndsNumbersBelow which error v = error ≡ errors.NumberRange
     → HasFarFile (pipe_at which (files_of v)).earlier.items

@@ -1,4 +1,5 @@
--- What holds for a log on a disk, through calls, crashes, opens and closes.
+-- What holds for a log on a disk, through calls, crashes, opens and closes. Its contents are a map: for each group, its
+-- entries by index and its values by key.
 use Rattle.std.specs.Prelude.{◌≡◌, ℕ, ◌≤◌, Some, None, List, [], length, take}
 use Rattle.raft_log_model_laws.specs.Item.{Record}
 use Rattle.raft_log_model_laws.specs.Groups.{Map, taken}
@@ -20,7 +21,8 @@ use Rattle.raft_log_dual_pipes.specs.OpenOrClosed.{OpenPipes, none_open, both_op
 use Rattle.raft_log_dual_pipes.specs.Reopening.{GoesOnFound, ReadsBothAgain, RestBoth, IsFoundOf}
 use Rattle.raft_log_dual_pipes.specs.Writing.{IsAtOn}
 
--- Some log is on the disk, with these pipes open: its contents are this map, with these pending batches after it.
+-- Some log is on the disk `d`, where the pipes in `o` run. Its contents are the map `m`, and then the batches in
+-- `pending`, which aren't synced yet.
 pub record LogLiesOn {R E V : Type 0} (log : TwoQueues R E V) (o : OpenPipes) (d : Disk) (m : Map E V)
     (pending : List (Record E V)) : Type 0 where
   pub state : LogOnDisk R
@@ -28,7 +30,7 @@ pub record LogLiesOn {R E V : Type 0} (log : TwoQueues R E V) (o : OpenPipes) (d
   pub stands : IsOpenOrClosed log o state
   pub holds : IsLog (Ties log state) m pending
 
--- Some log is on the disk at rest, as a stop leaves it: its contents are this map, and nothing of it is unsynced.
+-- Some log is on the disk `d` at rest, as a stop leaves it. Its contents are the map `m`, and all of it is synced.
 pub record IsDurableAs {R E V : Type 0} (log : TwoQueues R E V) (d : Disk) (m : Map E V) : Type 0 where
   pub state : LogOnDisk R
   pub disk : state.disk ≡ d
@@ -37,12 +39,12 @@ pub record IsDurableAs {R E V : Type 0} (log : TwoQueues R E V) (d : Disk) (m : 
   pub rewrite_synced : state.rewrite.files.pending ≡ []
   pub holds : IsLog (Ties log state) m []
 
--- How logs continue:
--- - `nothing`: a directory without log files is at rest, and is empty.
--- - `none_found`: no files found is what was left of it, so both queues may begin.
--- - `engine`, `rest`: what an engine has open is a log on the disk, and so is a log at rest.
--- - `means`, `crashes`: each image that a crash may leave has the map after some first pending batches, and is at rest
---   with it.
+-- How a log continues on disks.
+-- - `nothing`: a disk without log files has an empty log at rest.
+-- - `none_found`: if no files are found there, this is all that was left, so both queues may begin.
+-- - `engine`, `rest`: the log that an engine has open is on the disk, and so is a log at rest.
+-- - `means`, `crashes`: a crash without a CRC collision leaves a log at rest, whose contents are the map after some
+-- first pending batches.
 pub record LogsGoOn {R E V : Type 0} (log : TwoQueues R E V) : Type 0 where
   pub nothing : (d : Disk) → IsFresh log.append.format log.append.own d d
       → IsFresh log.rewrite.format log.rewrite.own d d → IsDurableAs log d nothing_stands
@@ -62,11 +64,11 @@ pub record LogsGoOn {R E V : Type 0} (log : TwoQueues R E V) : Type 0 where
       → NoChanceInLast log.rewrite.format h.state.rewrite.files d image
       → (k : ℕ) × (k ≤ length pending) × IsDurableAs log image (taken m (take k pending))
 
--- a log of any two queues continues: on the disk while an engine has it open, and at rest after a crash
+-- `LogsGoOn` holds for a log of any two queues
 abbrev pub LogsGoOnDisks : {R E V : Type 0} → TwoQueues R E V → Type 0
 LogsGoOnDisks log = AreTwoQueues log → LogsGoOn log
 
--- both pipes run over a log that was read again from this one: the same map, and nothing is unsynced
+-- both pipes run over a log that was read again from `was`: its contents are the map `m`, and all of it is synced
 pub record LogOpenedOn {R E V : Type 0} (log : TwoQueues R E V) (p : Pipes) (was : LogOnDisk R) (d : Disk)
     (m : Map E V) : Type 0 where
   pub state : LogOnDisk R
@@ -79,8 +81,9 @@ pub record LogOpenedOn {R E V : Type 0} (log : TwoQueues R E V) (p : Pipes) (was
   pub reads : ReadsBothAgain (Ties log) was state
   pub holds : IsLog (Ties log state) m []
 
--- Both pipes of a log at rest are opened, Append's first, over what was found of the queues. Wherever an open fails,
--- the log is still on the disk.
+-- Both pipes of a log at rest are opened, Append's first, over what was found of its queues.
+-- - `first_refused`, `second_refused`: if either open fails, the log is still on the disk, with the same contents.
+-- - If both succeed, the pipes run over the log that was read again.
 pub record OpensBoth {R E V : Type 0} (log : TwoQueues R E V) (d : Disk) (m : Map E V)
     (h : IsDurableAs log d m) (append rewrite : FoundFiles) (begin next : NewFiles) : Type 0 where
   pub first_refused : (error : Error) (mid : Disk)
@@ -95,8 +98,7 @@ pub record OpensBoth {R E V : Type 0} (log : TwoQueues R E V) (d : Disk) (m : Ma
       → OpensPipe log.rewrite.format log.rewrite.own log.rewrite.paths next rewrite other mid new
       → LogOpenedOn log (record { append = one; rewrite = other }) h.state new m
 
--- both pipes of a log at rest may be opened, over what was found of its queues; if that fails, the log is still on the
--- disk
+-- `OpensBoth` holds for each log at rest on a sound disk, over what was found of its queues
 abbrev pub RestingLogsOpen : {R E V : Type 0} → TwoQueues R E V → Type 0
 RestingLogsOpen {R} {E} {V} log = AreTwoQueues log → (d : Disk) (m : Map E V) (h : IsDurableAs log d m)
     → IsSound d → (append rewrite : FoundFiles) (begin next : NewFiles)

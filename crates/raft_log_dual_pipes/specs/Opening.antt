@@ -23,23 +23,24 @@ use Rattle.raft_log_dual_pipes.specs.declared.opening.FoundPipe.{FoundPipe}
 abbrev pub layout_found : FoundPipe → QueueLayout LogRecord
 layout_found p = log_layout p.layout.queue (map string_bytes p.layout.paths.items)
 
--- the pipe of a queue that was found was opened
+-- the pipe of a queue was opened over what was found of the queue
 abbrev pub OpensFound : FoundPipe → PipeFiles → Disk → Disk → Type 0
 OpensFound p files old new = OpensPipe (layout_found p).format (layout_found p).own (layout_found p).paths
     p.settings.new_files p.found files old new
 
--- the pipe of a queue that was found wasn't opened, for this error
+-- the pipe of a queue wasn't opened over what was found of the queue, for this error
 abbrev pub FailsToOpenFound : FoundPipe → Error → Disk → Disk → Type 0
 FailsToOpenFound p error old new = OpenLeaves (layout_found p).format (layout_found p).own (layout_found p).paths
     p.settings.new_files p.found error old new
 
--- what was found is of that queue, in these directories
+-- what was found is of this queue, in these directories
 pub record IsFoundAs (queue : LogQueue) (directories : List (List ℕ)) (p : FoundPipe) : Type 0 where
   pub named : p.layout.queue ≡ queue
   pub told : p.settings.queue ≡ queue
   pub lies : map string_bytes p.layout.paths.items ≡ directories
 
--- A log is at rest on the disk, as a stop or a close left it, with this map as its contents; and it is what was found.
+-- A log is at rest on the disk `d`, as a stop or a close left it. Its contents are the map `m`, and `append` and
+-- `rewrite` are what was found of its queues.
 pub record RestsAsFound (log : LogSense) (m : Map (List ℕ) (List ℕ)) (append rewrite : FoundPipe)
     (d : Disk) : Type 0 where
   pub append_as : IsFoundAs Append log.append append
@@ -48,7 +49,7 @@ pub record RestsAsFound (log : LogSense) (m : Map (List ℕ) (List ℕ)) (append
   pub append_found : IsFoundOf (queues log).append append.found rests.state.append d
   pub rewrite_found : IsFoundOf (queues log).rewrite rewrite.found rests.state.rewrite d
 
--- Both pipes run over the log as it was read again: it has the same map, and nothing of it is unsynced.
+-- Both pipes run over the log that was read again from `was`. Its contents are the map `m`, and all of it is synced.
 pub record RunsAsFound (log : LogSense) (m : Map (List ℕ) (List ℕ)) (was : State) (v : LogPipes) : Type 0 where
   pub state : State
   pub runs : RunsOn log v state
@@ -59,14 +60,14 @@ pub record RunsAsFound (log : LogSense) (m : Map (List ℕ) (List ℕ)) (was : S
   pub reads : ReadsBothAgain (Ties (queues log)) was state
   pub holds : IsLog (Ties (queues log) state) m []
 
--- the pipe is of the queue that was found, with its directories and settings, and hasn't failed
+-- the pipe has the queue, directories and settings of what was found, and hasn't failed
 pub record IsOpenedOf (p : FoundPipe) (o : OnePipe) : Type 0 where
   pub queue : o.queue ≡ p.layout.queue
   pub directories : o.directories ≡ map string_bytes p.layout.paths.items
   pub settings : o.settings ≡ p.settings
   pub alive : o.failed ≡ false
 
--- Both pipes of a log were opened, Append's first. If the log was found at rest, they run over what was read of it.
+-- Both pipes of a log were opened, Append's first. If a log at rest was found, they run over it as it was read again.
 pub record OpensLog (append rewrite : FoundPipe) (old : Disk) (v : LogPipes) : Type 0 where
   pub mid : Disk
   pub append_is : IsOpenedOf append v.append
@@ -76,8 +77,8 @@ pub record OpensLog (append rewrite : FoundPipe) (old : Disk) (v : LogPipes) : T
   pub log : (log : LogSense) (m : Map (List ℕ) (List ℕ)) → (h : RestsAsFound log m append rewrite old)
       → RunsAsFound log m h.rests.state v
 
--- Opening a log failed: one of its pipes wasn't opened, for this error. If the log was found at rest, it is still on
--- the disk, with its map.
+-- Opening a log failed: one of its pipes wasn't opened, for this error. If a log at rest was found, it is still on the
+-- disk, with the same contents.
 pub record FailsToOpenLog (append rewrite : FoundPipe) (error : Error) (old new : Disk) : Type 0 where
   pub call : FailsToOpenFound append error old new ⊎ ((files : PipeFiles) × (mid : Disk)
       × OpensFound append files old mid × FailsToOpenFound rewrite error mid new)

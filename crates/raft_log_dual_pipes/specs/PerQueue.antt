@@ -1,5 +1,5 @@
--- Each call of a running pipe, whether it succeeds or fails, in any state of the other queue: its pipe may run too, may
--- have failed, or may not be open.
+-- What each call of a running pipe leaves, whether it succeeds or fails, for any state of the other queue: its pipe may
+-- run, may have failed, or may not be open.
 use Rattle.std.specs.Prelude.{◌≡◌, ℕ, ◌⊎◌, Option, Some, None, List}
 use Rattle.raft_log_model_laws.specs.Item.{Record}
 use Rattle.raft_log_fs.specs.Disk.{Disk}
@@ -23,7 +23,8 @@ use Rattle.raft_log_dual_pipes.specs.Turning.{GoesOnInNext, IsOrGoesOn, HasTaken
 use Rattle.raft_log_dual_pipes.specs.Syncing.{FailsMoved, raised_log}
 use Rattle.raft_log_dual_pipes.specs.OpenOrClosed.{OpenPipes, with_open, IsOpenOrClosed, LeavesQueue}
 
--- If a record is written, its pipe still runs, and the numbered files get the record, in the file of its location.
+-- If a record is written, its pipe still runs, maybe after a rotation. The numbered files get the record in the file of
+-- its location.
 abbrev pub AppendsBeside : {R E V : Type 0} → TwoQueues R E V → Type 0
 AppendsBeside {R} {E} {V} log = AreTwoQueues log → (which : Which) (o : OpenPipes) (before : PipeFiles)
     (s : LogOnDisk R) → IsOpenOrClosed log (with_open which o (Some before)) s
@@ -37,8 +38,10 @@ AppendsBeside {R} {E} {V} log = AreTwoQueues log → (which : Which) (o : OpenPi
     (HasTaken (header_bytes begin.format) before.recycled.items s.disk (spanned_at which s).files)
     (Appends (Ties log) which y block.id.seq)
 
--- What a failed append leaves, by its error. `Io`, `TryAgain`: all that was written before is synced. `NumberRange`,
--- `Memory`: no record was added. `Failed`: the pipe has failed, and the new record may be there or not.
+-- What a failed append leaves.
+-- - `Io`, `TryAgain`: what was written of the record was truncated away, and all that was written before it is synced.
+-- - `NumberRange`, `Memory`: no record was added.
+-- - `Failed`: the pipe has failed, and the new record may be there or not.
 abbrev pub LeavesRefused : {R E V : Type 0} → TwoQueues R E V → Which → OpenPipes → PipeFiles → LogOnDisk R
     → List ℕ → Record E V → PipeFiles → Error → Disk → Type 0
 LeavesRefused log which o before s header y after (errors.Io kind) new =
@@ -65,7 +68,7 @@ LeavesRefused log which o before s header y after errors.Failed new =
     (MayAppend (Ties log) (Ties log) which y)
 LeavesRefused log which o before s header y after _ new = ⊥
 
--- a failed append leaves what its error says, in any state of the other queue
+-- a failed append leaves what `LeavesRefused` says for its error, whatever the state of the other queue
 abbrev pub FailsToAppendBeside : {R E V : Type 0} → TwoQueues R E V → Type 0
 FailsToAppendBeside {R} {E} {V} log = AreTwoQueues log → (which : Which) (o : OpenPipes) (before : PipeFiles)
     (s : LogOnDisk R) → IsOpenOrClosed log (with_open which o (Some before)) s
@@ -77,8 +80,8 @@ FailsToAppendBeside {R} {E} {V} log = AreTwoQueues log → (which : Which) (o : 
     → after.first_seq ≡ before.first_seq
     → LeavesRefused log which o before s (header_bytes begin.format) y after error new
 
--- A sync that succeeds, and one that fails: then the pipe has failed, and a crash leaves what it might have left
--- before.
+-- What a sync leaves. If it succeeds, all records of the queue are synced. If it fails, the pipe has failed, and the
+-- queue's files and the numbered files are unchanged.
 pub record SyncsBeside {R E V : Type 0} (log : TwoQueues R E V) (which : Which) (o : OpenPipes)
     (files : PipeFiles) (s : LogOnDisk R) : Type 0 where
   pub answered : (new : Disk)
@@ -92,8 +95,9 @@ pub record SyncsBeside {R E V : Type 0} (log : TwoQueues R E V) (which : Which) 
       → LeavesQueue log which o None s new (λ next. next ≡ (spanned_at which s).files)
       (FailsWhole (Ties log) (Ties log))
 
--- what a failed rotation leaves, by its error: the same log on the same disk; or the pipe has failed, and the queue may
--- have rotated or not
+-- What a failed rotation leaves.
+-- - `Memory`, `NumberRange`: the same log on the same disk.
+-- - `Failed`: the pipe has failed, and the queue may have rotated or not.
 abbrev pub LeavesUnrotated : {R E V : Type 0} → TwoQueues R E V → Which → OpenPipes → PipeFiles → LogOnDisk R
     → List ℕ → PipeFiles → Error → Disk → Type 0
 LeavesUnrotated log which o before s header after errors.Memory new =
@@ -106,7 +110,8 @@ LeavesUnrotated log which o before s header after errors.Failed new =
     (FailsMoved (Ties log) (Ties log) which)
 LeavesUnrotated log which o before s header after _ new = ⊥
 
--- A rotation that succeeds: all that was written to the queue is synced. And one that fails.
+-- What a rotation leaves. If it succeeds, all that was written to the queue before is synced. If it fails, it leaves
+-- what `LeavesUnrotated` says for its error.
 pub record RotatesBeside {R E V : Type 0} (log : TwoQueues R E V) (which : Which) (o : OpenPipes)
     (before : PipeFiles) (s : LogOnDisk R) : Type 0 where
   pub answered : (header : List ℕ) (format : LogFileFormat) (after : PipeFiles) (new : Disk)
@@ -121,15 +126,16 @@ pub record RotatesBeside {R E V : Type 0} (log : TwoQueues R E V) (which : Which
       header before after error s.disk new
       → LeavesUnrotated log which o before s header after error new
 
--- the live range of one queue begins at this number, and the numbered files are raised; its pipe runs with these files,
--- or doesn't run
+-- The live range of one queue begins at `seq`, and the numbered files below may be lost. The queue's pipe runs with the
+-- files in `now`, or, if `None`, doesn't run.
 abbrev pub LeavesRaised : {R E V : Type 0} → TwoQueues R E V → Which → OpenPipes → Option PipeFiles
     → LogOnDisk R → ℕ → Disk → Type 0
 LeavesRaised log which o now s seq new = IsOpenOrClosed log (with_open which o now) (raised_log which s seq new)
     × Raises (Ties log) (Ties log) which seq s (raised_log which s seq new)
 
--- what a failed purge leaves, by its error: the same log on the same disk; or the pipe has failed, and the files have
--- left the live range anyway
+-- What a failed purge leaves.
+-- - `Memory`, `Other`, `NumberRange`: the same log on the same disk.
+-- - `Failed`: the pipe has failed, and the files have left the live range all the same.
 abbrev pub LeavesUnpurged : {R E V : Type 0} → TwoQueues R E V → Which → OpenPipes → LogOnDisk R → ℕ
     → PipeFiles → Error → Disk → Type 0
 LeavesUnpurged log which o s seq after errors.Memory new =
@@ -141,7 +147,8 @@ LeavesUnpurged log which o s seq after errors.NumberRange new =
 LeavesUnpurged log which o s seq after errors.Failed new = LeavesRaised log which o None s seq new
 LeavesUnpurged log which o s seq after _ new = ⊥
 
--- A purge that succeeds, and one that fails.
+-- What a purge leaves: if it succeeds, the files below `seq` have left the live range; if it fails, it leaves what
+-- `LeavesUnpurged` says for its error.
 pub record PurgesBeside {R E V : Type 0} (log : TwoQueues R E V) (which : Which) (o : OpenPipes)
     (before : PipeFiles) (s : LogOnDisk R) : Type 0 where
   pub answered : (capacity seq : ℕ) (after : PipeFiles) (new : Disk)
@@ -153,7 +160,7 @@ pub record PurgesBeside {R E V : Type 0} (log : TwoQueues R E V) (which : Which)
       capacity seq before after error s.disk new
       → LeavesUnpurged log which o s seq after error new
 
--- a sync, a rotation and a purge of one queue have these effects, in any state of the other queue
+-- a sync, a rotation and a purge of one queue leave these logs, whatever the state of the other queue
 abbrev pub QuietCallsBeside : {R E V : Type 0} → TwoQueues R E V → Type 0
 QuietCallsBeside {R} log = AreTwoQueues log → (which : Which) (o : OpenPipes) (files : PipeFiles)
     (s : LogOnDisk R) → IsOpenOrClosed log (with_open which o (Some files)) s

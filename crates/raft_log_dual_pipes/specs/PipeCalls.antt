@@ -1,5 +1,5 @@
--- What a call does to the pipe of its queue: its file calls, in their order, and which of them failed. Also: both pipes
--- keep their settings.
+-- For each operation on a queue: the file system calls that its pipe makes, in order, and which of them failed. Also:
+-- both pipes keep their settings.
 use Rattle.std.specs.Prelude.{◌≡◌, ℕ, false, List}
 use Rattle.raft_log_fs.specs.Disk.{Disk}
 use Rattle.raft_log_fs.specs.Exits.{Syncs}
@@ -19,16 +19,17 @@ use Rattle.raft_log_machine_laws.specs.Calls.{Which}
 use Rattle.raft_log_dual_pipes.specs.Queues.{QueueLayout}
 use Rattle.raft_log_dual_pipes.specs.Pipes.{LogPipes, OnePipe, is_failed, layout_of, one_at}
 
--- what a call does to the files of a pipe and to the disk, depending on the layout of the files and the pipe's settings
+-- What an operation does to the files of a pipe and to the disk. It depends on how the pipe's files are written and
+-- where they are, and on the pipe's settings.
 abbrev pub PipeCall : Type 1
 PipeCall = QueueLayout LogRecord → PipeSettings → PipeFiles → PipeFiles → Disk → Disk → Type 0
 
--- the call did this to the pipe of this queue
+-- the operation `call` did this to the pipe of this queue
 abbrev pub DoesToPipe : Which → PipeCall → LogPipes → LogPipes → Type 0
 DoesToPipe which call v w = call (layout_of (one_at which v)) (one_at which v).settings
     (one_at which v).files (one_at which w).files v.disk w.disk
 
--- a failed call did this, if the pipes hadn't failed before
+-- if no pipe had failed before, the failed operation `call` did this to the pipe of this queue
 abbrev pub LeavesPipe : Which → PipeCall → LogPipes → LogPipes → Type 0
 LeavesPipe which call v w = is_failed v ≡ false → DoesToPipe which call v w
 
@@ -42,84 +43,86 @@ pub record SameRules (before after : OnePipe) : Type 0 where
 abbrev pub KeepRules : LogPipes → LogPipes → Type 0
 KeepRules v w = SameRules v.append w.append × SameRules v.rewrite w.rewrite
 
--- the pipe wrote a record, at this location
+-- the call appended a record to this queue's pipe, at this location
 abbrev pub PipeAppends : Which → (LogFileContext → List ℕ) → FileBlockHandle → LogPipes → LogPipes → Type 0
 PipeAppends which signed block = DoesToPipe which (λ layout rules before after.
     AppendsAt layout.format layout.own layout.paths rules.new_files rules.queue signed before after block)
 
--- the pipe didn't write a record, for this error; the kind of an `Io` is the one that the file system returned for the
--- write
+-- The call failed to append a record to this queue's pipe, with this error. An `Io` error has the kind that the file
+-- system returned for the write.
 abbrev pub PipeFailsToAppend : Which → (LogFileContext → List ℕ) → Error → LogPipes → LogPipes → Type 0
 PipeFailsToAppend which signed error = LeavesPipe which (λ layout rules before after.
     AppendFails layout.format layout.own layout.paths rules.new_files rules.queue signed before after error)
 
--- the pipe synced its records
+-- the call synced this queue's pipe, and the sync succeeded
 abbrev pub PipeSyncs : Which → LogPipes → LogPipes → Type 0
 PipeSyncs which = DoesToPipe which (λ layout rules before after.
     SyncsPipe layout.format layout.own layout.paths before)
 
--- the pipe didn't sync its records
+-- the call failed to sync this queue's pipe
 abbrev pub PipeFailsToSync : Which → LogPipes → LogPipes → Type 0
 PipeFailsToSync which = LeavesPipe which (λ layout rules before after.
     FailsToSyncPipe layout.format layout.own layout.paths before)
 
--- the pipe rotated
+-- this queue's pipe rotated
 abbrev pub PipeRotates : Which → LogPipes → LogPipes → Type 0
 PipeRotates which = DoesToPipe which (λ layout rules before after.
     Rotates layout.format layout.own layout.paths (header_bytes rules.new_files.format) before after)
 
--- the pipe didn't rotate, for this error
+-- this queue's pipe failed to rotate, with this error
 abbrev pub PipeFailsToRotate : Which → Error → LogPipes → LogPipes → Type 0
 PipeFailsToRotate which error = LeavesPipe which (λ layout rules before after.
     RotationLeaves layout.format layout.own layout.paths (header_bytes rules.new_files.format) before after
     error)
 
--- the pipe's files below a number were deleted, except for those kept for recycling
+-- the files of this queue's pipe below `seq` were deleted, except for those that are kept for recycling
 abbrev pub PipePurges : Which → ℕ → LogPipes → LogPipes → Type 0
 PipePurges which seq = DoesToPipe which (λ layout rules before after.
     Purges layout.format layout.own layout.paths rules.capacity seq before after)
 
--- the pipe's files below a number weren't deleted, or only some of them, for this error
+-- a purge of this queue's pipe below `seq` failed, with this error; some of the files to delete may be deleted
 abbrev pub PipeFailsToPurge : Which → ℕ → Error → LogPipes → LogPipes → Type 0
 PipeFailsToPurge which seq error = LeavesPipe which (λ layout rules before after.
     PurgeLeaves layout.format layout.own layout.paths rules.capacity seq before after error)
 
--- The same on any disk: no log is required, so it also holds if there is none.
+-- The same on any disk. These don't require that the pipes run over a log.
 
--- the pipe wrote a record, at this location, by these file calls
+-- the call appended a record to this queue's pipe, at this location, by these file system calls
 abbrev pub PipeAppendsBy : Which → (LogFileContext → List ℕ) → FileBlockHandle → LogPipes → LogPipes → Type 0
 PipeAppendsBy which signed block = DoesToPipe which (λ layout rules before after.
     AppendsBy layout.paths rules.new_files rules.queue signed before after block)
 
--- the pipe didn't write a record, and made these calls
+-- the call failed to append a record to this queue's pipe, with this error, after these file system calls
 abbrev pub PipeFailsToAppendBy : Which → (LogFileContext → List ℕ) → Error → LogPipes → LogPipes → Type 0
 PipeFailsToAppendBy which signed error = LeavesPipe which (λ layout rules before after.
     FailsToAppendBy layout.paths rules.new_files rules.queue signed before after error)
 
--- the pipe synced the file that it writes
+-- the call synced the active file of this queue's pipe
 abbrev pub PipeSyncsBy : Which → LogPipes → LogPipes → Type 0
 PipeSyncsBy which = DoesToPipe which (λ layout rules before after. Syncs before.writer.handle)
 
--- the sync of that file failed
+-- the sync of the active file of this queue's pipe failed
 abbrev pub PipeFailsToSyncBy : Which → LogPipes → LogPipes → Type 0
 PipeFailsToSyncBy which = LeavesPipe which (λ layout rules before after. FailsToSyncBy before.writer.handle)
 
--- the pipe rotated, by these calls
+-- this queue's pipe rotated, by these file system calls
 abbrev pub PipeRotatesBy : Which → LogPipes → LogPipes → Type 0
 PipeRotatesBy which = DoesToPipe which (λ layout rules before after.
     TurnsPipeBy layout.paths rules.new_files.format before after)
 
--- the pipe didn't rotate, and made these calls
+-- this queue's pipe failed to rotate, with this error, after these file system calls
 abbrev pub PipeFailsToRotateBy : Which → Error → LogPipes → LogPipes → Type 0
 PipeFailsToRotateBy which error = LeavesPipe which (λ layout rules before after.
     FailsToTurnBy layout.paths rules.new_files.format before after error)
 
--- the pipe's files below a number were deleted, except for those kept for recycling, and no others
+-- the files of this queue's pipe below `seq` were deleted, except for those that are kept for recycling, and no others
+-- were
 abbrev pub PipePurgesBy : Which → ℕ → LogPipes → LogPipes → Type 0
 PipePurgesBy which seq = DoesToPipe which (λ layout rules before after.
     DropsBy (paths_going layout.paths rules.capacity seq before))
 
--- they weren't, or only some first ones of them were
+-- a purge of this queue's pipe below `seq` failed, with this error; of the files to delete, only some first ones were
+-- deleted
 abbrev pub PipeFailsToPurgeBy : Which → ℕ → Error → LogPipes → LogPipes → Type 0
 PipeFailsToPurgeBy which seq error = LeavesPipe which (λ layout rules before after.
     FailsToPurgeBy layout.paths rules.capacity seq before error)

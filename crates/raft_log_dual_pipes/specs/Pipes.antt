@@ -1,4 +1,4 @@
--- The two pipes of a log as an engine sees them, and the log over which they run.
+-- The two pipes of a log, which write the files of its queues, and the log over which they run.
 use Rattle.std.specs.Prelude.{◌≡◌, ℕ, ◌<◌, Bool, false, ◌||◌, List, length}
 use Rattle.raft_log_model_laws.specs.Item.{Record}
 use Rattle.raft_log_fs.specs.Disk.{Disk}
@@ -30,7 +30,7 @@ pub record OnePipe : Type 0 where
 abbrev pub layout_of : OnePipe → QueueLayout LogRecord
 layout_of pipe = log_layout pipe.queue pipe.directories
 
--- both pipes, and the disk that they are on
+-- both pipes of a log, and the disk on which they write
 pub record LogPipes : Type 0 where
   pub append : OnePipe
   pub rewrite : OnePipe
@@ -41,11 +41,11 @@ abbrev pub one_at : Which → LogPipes → OnePipe
 one_at InAppend v = v.append
 one_at InRewrite v = v.rewrite
 
--- the directory of the log: the main one of Append's files
+-- the main directory of the log: the first one of Append's files
 abbrev pub main_directory : LogPipes → List ℕ
 main_directory v = directory_at v.append.directories 0
 
--- the queue that a name says
+-- the queue with this name
 abbrev pub which_of : LogQueue → Which
 which_of Append = InAppend
 which_of Rewrite = InRewrite
@@ -59,42 +59,43 @@ queue_of InRewrite = Rewrite
 abbrev pub files_of : LogPipes → Pipes
 files_of v = record { append = v.append.files; rewrite = v.rewrite.files }
 
--- the header of the next files of a queue
+-- the header that the next file of a queue will get
 abbrev pub header_at : Which → LogPipes → List ℕ
 header_at which v = header_bytes (one_at which v).settings.new_files.format
 
--- the files of a queue that are kept for recycling
+-- the files of a queue that its pipe keeps for recycling
 abbrev pub spares_at : Which → LogPipes → List Listed
 spares_at which v = (pipe_at which (files_of v)).recycled.items
 
--- whether a pipe has failed: a call failed, and its effects couldn't be undone
+-- whether one of the pipes has failed: a file call failed, and what it had done couldn't be undone
 abbrev pub is_failed : LogPipes → Bool
 is_failed v = v.append.failed || v.rewrite.failed
 
--- a fault is armed: the disk may have a place marked that the fault makes unreadable, and all else is unchanged
+-- A fault is armed in the file system. The fault may mark a byte of a file as unreadable; otherwise the disk and the
+-- pipes are unchanged.
 pub record ArmsPipes (fault : Fault) (v w : LogPipes) : Type 0 where
   pub disk : Arms fault v.disk w.disk
   pub others : w ≡ record v { disk = w.disk }
 
--- what a record says; an entry is represented by its bytes, and a key's value by its own
+-- A record in the model. An entry is its bytes, and so is the value of a key.
 abbrev pub LogRecordValue : Type 0
 LogRecordValue = Record (List ℕ) (List ℕ)
 
--- how a log is read: what its records say, and the directories of each queue's files
+-- How a log is read: the model's record for each record of a file (`says`), and the directories of each queue's files.
 pub record LogSense : Type 0 where
   pub says : LogRecord → LogRecordValue
   pub append : List (List ℕ)
   pub rewrite : List (List ℕ)
 
--- the queues of a log that is read like this
+-- the two queues of a log that is read like this
 abbrev pub queues : LogSense → TwoQueues LogRecord (List ℕ) (List ℕ)
 queues log = log_queues log.says log.append log.rewrite
 
--- a log on a disk, with the records of its files
+-- a log on a disk: its queues with the records of their files
 abbrev pub State : Type 0
 State = LogOnDisk LogRecord
 
--- the pipe is that of the queue, in these directories (at least one), and hasn't failed
+-- the pipe is of this queue, in these directories (at least one), and hasn't failed
 pub record IsPipeOf (queue : LogQueue) (directories : List (List ℕ)) (pipe : OnePipe) : Type 0 where
   pub named : pipe.queue ≡ queue
   pub told : pipe.settings.queue ≡ queue
@@ -102,7 +103,7 @@ pub record IsPipeOf (queue : LogQueue) (directories : List (List ℕ)) (pipe : O
   pub some : 0 < length directories
   pub alive : pipe.failed ≡ false
 
--- both pipes run over this log
+-- both pipes run over the log `s`, on the disk of `v`, and neither has failed
 pub record RunsOn (log : LogSense) (v : LogPipes) (s : State) : Type 0 where
   pub append : IsPipeOf Append log.append v.append
   pub rewrite : IsPipeOf Rewrite log.rewrite v.rewrite

@@ -1,4 +1,4 @@
--- The two queues of a log: how the files of each are written, where they are, and what their records say.
+-- The two queues of a log: how the files of each are written, where they are, and which model record each record is.
 use Rattle.std.specs.Prelude.{◌≡◌, ℕ, ◌<◌, List}
 use Rattle.raft_log_model_laws.specs.Item.{Record}
 use Rattle.raft_log_file_writer.specs.LogFormat.{Format, CanTellFormat}
@@ -10,35 +10,37 @@ use Rattle.raft_log_active_file.specs.Layout.{FilePaths, IsLayout}
 use Rattle.raft_log_machine_laws.specs.Calls.{Which}
 use Rattle.raft_log_machine_laws.specs.Calls.Which.{InAppend, InRewrite}
 
--- how the files of a queue are written, which paths are its own, and the path of each file
+-- a queue: how its files are written, which paths are its own, and the path of each file
 pub record QueueLayout (R : Type 0) : Type 1 where
   pub format : Format R
   pub own : List ℕ → Type 0
   pub paths : FilePaths
 
--- the layout is lawful, and it is decidable whether bytes begin with a header, or with a record
+-- the queue's paths and headers fit the format of its files, and it is decidable whether bytes begin with a header or a
+-- record
 pub record IsQueueLayout {R : Type 0} (layout : QueueLayout R) : Type 0 where
   pub lawful : IsLayout layout.format layout.own layout.paths
   pub told : CanTellFormat layout.format
 
--- both queues of a log, and what a record in them says
+-- both queues of a log, and the model's record for each record of a file
 pub record TwoQueues (R E V : Type 0) : Type 1 where
   pub append : QueueLayout R
   pub rewrite : QueueLayout R
   pub says : R → Record E V
 
--- each has its layout, and no path belongs to both
+-- each is a queue, and no path belongs to both
 pub record AreTwoQueues {R E V : Type 0} (log : TwoQueues R E V) : Type 0 where
   pub append : IsQueueLayout log.append
   pub rewrite : IsQueueLayout log.rewrite
   pub apart : (path : List ℕ) → log.append.own path → log.rewrite.own path → ⊥
 
--- the layout of one of them
+-- the layout of one of the two queues
 abbrev pub layout_at : {R E V : Type 0} → Which → TwoQueues R E V → QueueLayout R
 layout_at InAppend log = log.append
 layout_at InRewrite log = log.rewrite
 
--- whichever file of the queue the bytes are signed for, they are a record of it, and say this
+-- `signed` gives a record's bytes, signed for a file. For each file of the queue, these are a record of that file, and
+-- `y` is the model's record for it.
 pub record SaysRecord {R E V : Type 0} (says : R → Record E V) (layout : QueueLayout R) (queue : LogQueue)
     (signed : LogFileContext → List ℕ) (y : Record E V) : Type 0 where
   pub value : R

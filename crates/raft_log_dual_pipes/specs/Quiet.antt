@@ -1,4 +1,4 @@
--- What quiet events (syncs and rotations) do to the numbered files of one queue.
+-- What quiet events (syncs and rotations) make of the numbered files of one queue.
 use Rattle.std.specs.Prelude.{ℕ}
 use Rattle.raft_log_model_laws.specs.Item.{Record}
 use Rattle.raft_log_machine_laws.specs.Files.{FileQueue}
@@ -8,7 +8,7 @@ use Rattle.raft_log_file_writer.specs.LogQueue.{LogFiles}
 use Rattle.raft_log_active_file.specs.Bridge.{IsFileQueue}
 use Rattle.raft_log_machine_laws.specs.Moves.{Moved}
 
--- whichever numbered files the queue had, quiet events turn them into those of the other queue
+-- from the numbered files of the queue `q` on the disk `old`, some quiet events make those of `p` on the disk `new`
 abbrev pub QuietTo : {R E V : Type 0} → (R → Record E V) → Format R → ℕ → LogFiles R → Disk → LogFiles R
     → Disk → Type 0
 QuietTo {R} {E} {V} says F first q old p new =

@@ -1,4 +1,4 @@
--- A log is found again after a stop, and its pipes are opened: what this does to its numbered files.
+-- A log is found again after a stop, and its pipes are opened: what this makes of its numbered files.
 use Rattle.std.specs.Prelude.{◌≡◌, ℕ, ◌≤◌, ◌⊎◌, false, Some, None, List, [], ◌∷◌, ◌++◌, length, suc, take}
 use Rattle.raft_log_model_laws.specs.Item.{Record}
 use Rattle.raft_log_model_laws.specs.Groups.{Map, directory_meaning, taken}
@@ -29,31 +29,33 @@ use Rattle.raft_log_dual_pipes.specs.Beginning.{stopped_log}
 use Rattle.raft_log_dual_pipes.specs.Steps.{next_log}
 use Rattle.raft_log_dual_pipes.specs.OpenOrClosed.{IsUnbegun, OpenPipes, none_open, with_open, IsOpenOrClosed}
 
--- In one queue, some numbered files that had left the live range may be in it again. Some first unsynced records are
--- kept, and all that was read is synced.
+-- One queue was read again. Some numbered files that had left its live range may be in it again. Some first unsynced
+-- records are left, and all that was read is synced.
 abbrev pub ReadsAgain : {S E V : Type 0} → (S → Files E V → Type 0) → Which → S → S → Type 0
 ReadsAgain {S} {E} {V} ties which s t = (f : Files E V) → ties s f
     → (r : ReadAgain (queue_at which f))
     × ties t (put which f (from_at which f) (read_files (queue_at which f) r))
 
--- In both queues, some numbered files that had left the live range may be in it again. Some first unsynced records are
--- kept, and all that was read is synced.
+-- Both queues were read again. Some numbered files that had left their live ranges may be in them again. Some first
+-- unsynced records of each are left, and all that was read is synced.
 abbrev pub ReadsBothAgain : {S E V : Type 0} → (S → Files E V → Type 0) → S → S → Type 0
 ReadsBothAgain {S} {E} {V} ties s t = (f : Files E V) → ties s f
     → (r : ReadAgain f.rewrite) × (a : ReadAgain f.append)
     × ties t (record f { rewrite = read_files f.rewrite r; append = read_files f.append a })
 
--- the queue's files are on the disk as a stop left them, each of its live range; or none was created yet
+-- The queue's files are on the disk as a stop left them, and each number of its live range has a file. Or no file of it
+-- was created yet.
 abbrev pub RestsQueue : {R : Type 0} → QueueLayout R → Spanned R → Disk → Type 0
 RestsQueue layout q d = (IsStopped layout q.files d × HasSpan layout.format q d) ⊎ IsUnbegun layout q d
 
--- the files of both queues are on the disk as a stop left them, each of its live range; or none was created yet
+-- the files of both queues are on the disk as a stop left them, or not created yet
 pub record RestBoth {R E V : Type 0} (log : TwoQueues R E V) (s : LogOnDisk R) : Type 0 where
   pub append : RestsQueue log.append s.append s.disk
   pub rewrite : RestsQueue log.rewrite s.rewrite s.disk
 
--- In any state of a log's queues, a stop without a CRC collision leaves them at rest, with some first unsynced records
--- of each. It is as if they had been read again. What the next crash leaves of that has no CRC collision.
+-- A stop without a CRC collision, in any state of a log's queues. It leaves both at rest, with the durable records and
+-- some first unsynced records of each. The numbered files are as if both queues had been read again. What the next
+-- crash leaves of this log has no CRC collision.
 abbrev pub CrashIsAStep : {R E V : Type 0} → TwoQueues R E V → Type 0
 CrashIsAStep {R} log = AreTwoQueues log → (o : OpenPipes) (s : LogOnDisk R) (image : Disk)
     → IsOpenOrClosed log o s → IsImage s.disk image
@@ -69,9 +71,9 @@ CrashIsAStep {R} log = AreTwoQueues log → (o : OpenPipes) (s : LogOnDisk R) (i
     → later.rewrite.first ≡ s.rewrite.first
     → IsLeftByCrash log (stopped_log s append rewrite image) later)
 
--- The files of a queue, as they were found. The last one, which its handle may write, was read up to `found.end`. The
--- earlier ones exist, down to the first number below which no file follows. The files that are kept for recycling exist
--- too.
+-- The files of a queue, as they were found. The last one was read up to `found.end`, and its handle may write it. The
+-- earlier ones are at their paths; the number below the first of them has no file. Those that are kept for recycling
+-- can be recycled.
 pub record AreFound {R : Type 0} (layout : QueueLayout R) (found : FoundFiles) (earlier : List Listed)
     (last : Listed) (number : ℕ) (d : Disk) : Type 0 where
   pub number_is : last.seq ≡ number
@@ -84,7 +86,8 @@ pub record AreFound {R : Type 0} (layout : QueueLayout R) (found : FoundFiles) (
   pub begins : (m : ℕ) → suc m ≡ first_number earlier last → IsAbsent layout.format m d
   pub spares : AllKept layout.format layout.paths (first_number earlier last) d found.recycled.items
 
--- What was found of a queue is what a stop left: all its files that no gap separates from the last one; or it has none.
+-- What was found of a queue that a stop left: all its files, from the last one back to a gap. Or nothing was found, as
+-- no file of the queue was created yet.
 pub data IsFoundOf {R : Type 0} (layout : QueueLayout R) (found : FoundFiles) (q : Spanned R)
     (d : Disk) : Type 0 where
   stopped : (earlier : List Listed) (last : Listed) → found.files.items ≡ earlier ++ last ∷ []
@@ -93,11 +96,12 @@ pub data IsFoundOf {R : Type 0} (layout : QueueLayout R) (found : FoundFiles) (q
   unbegun : found.files.items ≡ [] → IsUnbegun layout q d
       → AllKept layout.format layout.paths 1 d found.recycled.items → IsFoundOf layout found q d
 
--- the log after the files of one queue were found again; its live range begins with this number
+-- the log after the files of one queue were found again as `files`; the queue's live range begins at `first`
 abbrev pub found_log : {R : Type 0} → Which → LogOnDisk R → ℕ → LogFiles R → Disk → LogOnDisk R
 found_log which s first files d = with_spanned which s (record { first = first; files = files }) d
 
--- What a failed open leaves, by its error: the disk unchanged; or all records that were read are still there, synced.
+-- What a failed open leaves. `Memory`, `InvalidArgument`: the disk is unchanged. `Io`: all records that were read of
+-- the queue are still there, synced.
 abbrev pub LeavesUnopened : {R E V : Type 0} → TwoQueues R E V → Which → OpenPipes → LogOnDisk R → Error → Disk
     → Type 0
 LeavesUnopened log which o s errors.Memory new = new ≡ s.disk
@@ -107,8 +111,8 @@ LeavesUnopened {R} log which o s (errors.Io kind) new = (files : LogFiles R) × 
     × ReadsAgain (Ties log) which s (next_log which s files new)
 LeavesUnopened log which o s _ new = ⊥
 
--- The files with which a pipe continues, if those were found: the finished ones, and after a header of the pipe's
--- format the records of the last one, all synced.
+-- The queue `now`, with which a pipe continues after `was` was found. It has the same earlier files. Its last file has
+-- the header of the pipe's format, and then all records of `was`, all synced.
 pub record GoesOnFound {R : Type 0} (files : PipeFiles) (was now : LogFiles R) : Type 0 where
   pub older : now.older ≡ was.older
   pub last : now.last ≡ was.last
@@ -116,8 +120,9 @@ pub record GoesOnFound {R : Type 0} (files : PipeFiles) (was now : LogFiles R) :
   pub durable : now.durable ≡ recent was
   pub pending : now.pending ≡ []
 
--- A pipe that is opened over what was found of its queue runs; nothing of it is unsynced, and the other queue's state
--- is unchanged. And what a failed open leaves.
+-- What opening the pipe of one queue leaves, over what was found of the queue. The other queue is unchanged. If it
+-- succeeds, the pipe runs, and all records of its queue are synced. If it fails, it leaves what `LeavesUnopened` says
+-- for its error.
 pub record OpensBeside {R E V : Type 0} (log : TwoQueues R E V) (which : Which) (o : OpenPipes)
     (begin : NewFiles) (found : FoundFiles) (s : LogOnDisk R) : Type 0 where
   pub answered : (files : PipeFiles) (new : Disk)
@@ -131,18 +136,18 @@ pub record OpensBeside {R E V : Type 0} (log : TwoQueues R E V) (which : Which) 
       found error s.disk new
       → LeavesUnopened log which o s error new
 
--- a pipe is opened over what was found of its queue, or fails to open, in any state of the other queue
+-- `OpensBeside` holds for each queue that has no running pipe, on a sound disk, over what was found of it
 abbrev pub OpenIsAStep : {R E V : Type 0} → TwoQueues R E V → Type 0
 OpenIsAStep {R} log = AreTwoQueues log → (which : Which) (o : OpenPipes) (begin : NewFiles)
     (found : FoundFiles) (s : LogOnDisk R) → IsSound s.disk → IsOpenOrClosed log (with_open which o None) s
     → IsFoundOf (layout_at which log) found (spanned_at which s) s.disk
     → OpensBeside log which o begin found s
 
--- What holds for a log still holds after it is found again.
--- - `append_first`, `rewrite_first`: both queues are read again, one after the other.
+-- What is still true of a log after it was read again.
+-- - `append_first`, `rewrite_first`: if one queue was read again, and then the other, both were.
 -- - `still`: a queue without unsynced records counts as read again.
--- - `log_of`: the map is the one after some first pending batches, and none is pending.
--- - `replays`: a view that is made from what was read is true of the log.
+-- - `log_of`: its contents are the map after some first pending batches, and no batch is pending.
+-- - `replays`: a view that is built from what was read is true of it.
 pub record FoundLogIsALog {R E V : Type 0} (log : TwoQueues R E V) : Type 0 where
   pub append_first : (s mid t : LogOnDisk R) → ReadsAgain (Ties log) InAppend s mid
       → ReadsAgain (Ties log) InRewrite mid t → ReadsBothAgain (Ties log) s t

@@ -1,4 +1,4 @@
--- Each call of a pipe, described by the numbered files of the log that it leaves.
+-- What each append of a pipe leaves, if both pipes run: the log and its numbered files.
 use Rattle.std.specs.Prelude.{◌≡◌, ℕ, ◌⊎◌, List}
 use Rattle.raft_log_model_laws.specs.Item.{Record}
 use Rattle.raft_log_fs.specs.Disk.{Disk}
@@ -22,23 +22,25 @@ use Rattle.raft_log_dual_pipes.specs.State.{Spanned, LogOnDisk, spanned_at, with
 use Rattle.raft_log_dual_pipes.specs.Turning.{IsOrGoesOn, HasLast, HasTaken, IsCutBack, in_span}
 use Rattle.raft_log_dual_pipes.specs.Crash.{AllowsIn}
 
--- A call on another queue's paths leaves this queue unchanged: its pipe still runs, or the records that it held are
--- held.
+-- What one queue keeps through a call on the other: if its pipe ran, it still runs; if its last file held its records,
+-- it still does.
 pub record StaysAside {R : Type 0} (layout : QueueLayout R) (theirs : List ℕ → Type 0)
     (old new : Disk) : Type 0 where
   pub runs : (files : PipeFiles) (q : Spanned R) → RunsQueue layout files q old → RunsQueue layout files q new
   pub holds : (q : Spanned R) → HoldsQueue layout q.files old → HoldsQueue layout q.files new
 
--- a queue is unchanged by a call that touches only names of which none is a path of its own
+-- `StaysAside` holds for a queue if a call changes only the paths in `theirs` and their files, and none of these is the
+-- queue's own
 abbrev pub OtherQueueStays : {R : Type 0} → QueueLayout R → (List ℕ → Type 0) → Type 0
 OtherQueueStays layout theirs = IsQueueLayout layout → ((path : List ℕ) → layout.own path → theirs path → ⊥)
     → (old new : Disk) → TouchesOnlyNames theirs old new → StaysAside layout theirs old new
 
--- the log after a call on one queue left it these files; its live range begins where it began
+-- the log on the disk `d` after one queue's files became `files`; its live range begins at the same number
 abbrev pub next_log : {R : Type 0} → Which → LogOnDisk R → LogFiles R → Disk → LogOnDisk R
 next_log which s files d = with_spanned which s (in_span (spanned_at which s) files) d
 
--- A record is written: both pipes still run, and the numbered files get the record, in the file of its location.
+-- If a record is written, both pipes still run, maybe after a rotation. It is the last record of its queue, at its
+-- location. The numbered files get it in the file of this location.
 abbrev pub AppendIsAStep : {R E V : Type 0} → TwoQueues R E V → Type 0
 AppendIsAStep {R} {E} {V} log = AreTwoQueues log → (which : Which) (p : Pipes) (s : LogOnDisk R)
     → Run log p s → (begin : NewFiles) (queue : LogQueue) (signed : LogFileContext → List ℕ) (y : Record E V)
@@ -54,7 +56,8 @@ AppendIsAStep {R} {E} {V} log = AreTwoQueues log → (which : Which) (p : Pipes)
     × Run log (with_pipe which p after) (next_log which s files new)
     × Appends (Ties log) which y block.id.seq s (next_log which s files new)
 
--- the record's write failed and was truncated away: both pipes still run, and all that was written before is synced
+-- A record's write failed, and what was written of it was truncated away. Both pipes still run, and all that was
+-- written to the queue before is synced.
 abbrev pub LeavesCutBack : {R E V : Type 0} → TwoQueues R E V → Which → Pipes → LogOnDisk R → List ℕ
     → PipeFiles → Disk → Type 0
 LeavesCutBack {R} log which p s header after new = (files : LogFiles R)
@@ -62,7 +65,8 @@ LeavesCutBack {R} log which p s header after new = (files : LogFiles R)
     × Run log (with_pipe which p after) (next_log which s files new)
     × CutsBack (Ties log) which s (next_log which s files new)
 
--- no record was added: both pipes still run
+-- No record was added, and both pipes still run. The queue is unchanged; or it may have rotated, and all its records
+-- are synced.
 abbrev pub LeavesWithout : {R E V : Type 0} → TwoQueues R E V → Which → Pipes → LogOnDisk R → List ℕ
     → PipeFiles → Disk → Type 0
 LeavesWithout {R} log which p s header after new = (files : LogFiles R)
@@ -71,7 +75,7 @@ LeavesWithout {R} log which p s header after new = (files : LogFiles R)
     × Run log (with_pipe which p after) (next_log which s files new)
     × LeavesOut (Ties log) which s (next_log which s files new)
 
--- the pipe has failed: the records of both queues are held, and the new one may be there or not
+-- The pipe has failed. The last file of each queue holds its records; the new record may be among them or not.
 abbrev pub LeavesFailed : {R E V : Type 0} → TwoQueues R E V → Which → Pipes → LogOnDisk R → List ℕ
     → Record E V → Disk → Type 0
 LeavesFailed {R} log which p s header y new = (files : LogFiles R)
@@ -81,7 +85,8 @@ LeavesFailed {R} log which p s header y new = (files : LogFiles R)
     × HoldsBoth log (next_log which s files new)
     × MayAppend (Ties log) (AllowsIn log) which y s (next_log which s files new)
 
--- what a failed append leaves, by its error
+-- What a failed append leaves. `Io`, `TryAgain`: what was written of the record was truncated away. `NumberRange`,
+-- `Memory`: no record was added. `Failed`: the pipe has failed.
 abbrev pub NotAppended : {R E V : Type 0} → TwoQueues R E V → Which → Pipes → LogOnDisk R → List ℕ
     → Record E V → PipeFiles → Error → Disk → Type 0
 NotAppended log which p s header y after (errors.Io kind) new = LeavesCutBack log which p s header after new
@@ -93,7 +98,7 @@ NotAppended log which p s header y after errors.Memory new = LeavesWithout log w
 NotAppended log which p s header y after errors.Failed new = LeavesFailed log which p s header y new
 NotAppended log which p s header y after _ new = ⊥
 
--- a failed append leaves what its error says
+-- a failed append leaves what `NotAppended` says for its error
 abbrev pub RefusedAppendIsAStep : {R E V : Type 0} → TwoQueues R E V → Type 0
 RefusedAppendIsAStep {R} {E} {V} log = AreTwoQueues log → (which : Which) (p : Pipes) (s : LogOnDisk R)
     → Run log p s → (begin : NewFiles) (queue : LogQueue) (signed : LogFileContext → List ℕ) (y : Record E V)
@@ -104,14 +109,14 @@ RefusedAppendIsAStep {R} {E} {V} log = AreTwoQueues log → (which : Which) (p :
     → after.first_seq ≡ (pipe_at which p).first_seq
     → NotAppended log which p s (header_bytes begin.format) y after error new
 
--- the errors of a failed append or rotation that report a failed file call
+-- the errors of an append or a rotation that are returned only after a file call failed
 abbrev pub TellsOfCall : Error → Type 0
 TellsOfCall (errors.Io kind) = Unit {0}
 TellsOfCall (errors.TryAgain text) = Unit {0}
 TellsOfCall errors.Failed = Unit {0}
 TellsOfCall _ = ⊥
 
--- if an append fails with such an error, a file call has failed
+-- if an append fails with `Io`, `TryAgain` or `Failed`, a file call has failed
 abbrev pub RefusedAppendHasFailed : {R E V : Type 0} → TwoQueues R E V → Type 0
 RefusedAppendHasFailed {R} {E} {V} log = AreTwoQueues log → (which : Which) (p : Pipes) (s : LogOnDisk R)
     → Run log p s → (begin : NewFiles) (queue : LogQueue) (signed : LogFileContext → List ℕ) (y : Record E V)
@@ -121,7 +126,7 @@ RefusedAppendHasFailed {R} {E} {V} log = AreTwoQueues log → (which : Which) (p
     queue signed (pipe_at which p) after error s.disk new
     → TellsOfCall error → Fails s.disk new
 
--- if a rotation fails with such an error, a file call has failed
+-- if a rotation fails with `Io`, `TryAgain` or `Failed`, a file call has failed
 abbrev pub RefusedRotationHasFailed : {R E V : Type 0} → TwoQueues R E V → Type 0
 RefusedRotationHasFailed {R} log = AreTwoQueues log → (which : Which) (p : Pipes) (s : LogOnDisk R)
     → Run log p s → (header : List ℕ) (after : PipeFiles) (error : Error) (new : Disk)

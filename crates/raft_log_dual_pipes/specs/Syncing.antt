@@ -1,4 +1,4 @@
--- A sync, a rotation and a purge of one queue, described by the numbered files of the log.
+-- What a sync, a rotation and a purge of one queue leave, if both pipes run: the log and its numbered files.
 use Rattle.std.specs.Prelude.{◌≡◌, ℕ, List}
 use Rattle.raft_log_fs.specs.Disk.{Disk}
 use Rattle.raft_log_fs.specs.Image.{IsSound}
@@ -18,7 +18,7 @@ use Rattle.raft_log_dual_pipes.specs.Crash.{AllowsIn}
 use Rattle.raft_log_dual_pipes.specs.Turning.{GoesOnInNext, IsOrGoesOn}
 use Rattle.raft_log_dual_pipes.specs.Steps.{next_log}
 
--- a sync that succeeds: both pipes still run, and all of the queue is synced
+-- if a sync succeeds, both pipes still run, and all records of the queue are synced
 abbrev pub SyncIsAStep : {R E V : Type 0} → TwoQueues R E V → Type 0
 SyncIsAStep {R} log = AreTwoQueues log → (which : Which) (p : Pipes) (s : LogOnDisk R) → Run log p s
     → (new : Disk)
@@ -27,7 +27,7 @@ SyncIsAStep {R} log = AreTwoQueues log → (which : Which) (p : Pipes) (s : LogO
     → Run log p (next_log which s (synced (spanned_at which s).files) new)
     × Syncs (Ties log) which s (next_log which s (synced (spanned_at which s).files) new)
 
--- a rotation that succeeds: both pipes still run, and all that was written to the queue is synced
+-- if a rotation succeeds, both pipes still run, and all that was written to the queue before is synced
 abbrev pub RotationIsAStep : {R E V : Type 0} → TwoQueues R E V → Type 0
 RotationIsAStep {R} log = AreTwoQueues log → (which : Which) (p : Pipes) (s : LogOnDisk R) → Run log p s
     → (header : List ℕ) (format : LogFileFormat) (after : PipeFiles) (new : Disk)
@@ -39,14 +39,17 @@ RotationIsAStep {R} log = AreTwoQueues log → (which : Which) (p : Pipes) (s : 
     × Run log (with_pipe which p after) (next_log which s files new)
     × Settles (Ties log) which s (next_log which s files new)
 
--- the pipe failed, after some quiet events (syncs and rotations)
+-- The pipe has failed. Some quiet events (syncs and rotations) may have changed the queue's numbered files, and
+-- `allows` holds for the changed ones.
 abbrev pub FailsMoved : {S E V : Type 0} → (S → Files E V → Type 0) → (S → Files E V → Type 0) → Which → S → S
     → Type 0
 FailsMoved {S} {E} {V} ties allows which s t =
     (f : Files E V) → ties s f → (a : MovedIn which f) × allows t (put which f a.from a.queue)
 
--- what a failed rotation leaves, by its error: the same log on the same disk; or the pipe has failed, and the queue may
--- have rotated or not
+-- What a failed rotation leaves.
+-- - `Memory`, `NumberRange`: the same log on the same disk, and both pipes still run.
+-- - `Failed`: the pipe has failed, and the queue may have rotated or not. The last file of each queue holds its
+-- records.
 abbrev pub NotRotated : {R E V : Type 0} → TwoQueues R E V → Which → Pipes → LogOnDisk R → List ℕ → PipeFiles
     → Error → Disk → Type 0
 NotRotated log which p s header after errors.Memory new =
@@ -59,7 +62,7 @@ NotRotated {R} log which p s header after errors.Failed new = (files : LogFiles 
     × FailsMoved (Ties log) (AllowsIn log) which s (next_log which s files new)
 NotRotated log which p s header after _ new = ⊥
 
--- a failed rotation leaves what its error says
+-- a failed rotation leaves what `NotRotated` says for its error
 abbrev pub RefusedRotationIsAStep : {R E V : Type 0} → TwoQueues R E V → Type 0
 RefusedRotationIsAStep {R} log = AreTwoQueues log → (which : Which) (p : Pipes) (s : LogOnDisk R)
     → Run log p s → (header : List ℕ) (after : PipeFiles) (error : Error) (new : Disk) → IsSound new
@@ -67,12 +70,12 @@ RefusedRotationIsAStep {R} log = AreTwoQueues log → (which : Which) (p : Pipes
     (pipe_at which p) after error s.disk new
     → NotRotated log which p s header after error new
 
--- the log after the live range of one queue begins at a number
+-- the log on the disk `d` after the live range of one queue begins at `first`
 abbrev pub raised_log : {R : Type 0} → Which → LogOnDisk R → ℕ → Disk → LogOnDisk R
 raised_log which s first d =
     with_spanned which s (record { first = first; files = (spanned_at which s).files }) d
 
--- a purge that succeeds: both pipes still run, and the files below the number have left the live range
+-- if a purge succeeds, both pipes still run, and the files below `seq` have left the live range
 abbrev pub PurgeIsAStep : {R E V : Type 0} → TwoQueues R E V → Type 0
 PurgeIsAStep {R} log = AreTwoQueues log → (which : Which) (p : Pipes) (s : LogOnDisk R) → Run log p s
     → (capacity seq : ℕ) (after : PipeFiles) (new : Disk)
@@ -82,8 +85,10 @@ PurgeIsAStep {R} log = AreTwoQueues log → (which : Which) (p : Pipes) (s : Log
     → Run log (with_pipe which p after) (raised_log which s seq new)
     × Raises (Ties log) (Ties log) which seq s (raised_log which s seq new)
 
--- what a failed purge leaves, by its error: the same log on the same disk; or the pipe has failed, and the files have
--- left the live range anyway
+-- What a failed purge leaves.
+-- - `Memory`, `Other`, `NumberRange`: the same log on the same disk, and both pipes still run.
+-- - `Failed`: the pipe has failed, and the files have left the live range all the same. The last file of each queue
+-- holds its records.
 abbrev pub NotPurged : {R E V : Type 0} → TwoQueues R E V → Which → Pipes → LogOnDisk R → ℕ → PipeFiles
     → Error → Disk → Type 0
 NotPurged log which p s seq after errors.Memory new = (new ≡ s.disk) × Run log (with_pipe which p after) s
@@ -95,7 +100,7 @@ NotPurged log which p s seq after errors.Failed new = HoldsBoth log (raised_log 
     × Raises (Ties log) (AllowsIn log) which seq s (raised_log which s seq new)
 NotPurged log which p s seq after _ new = ⊥
 
--- a failed purge leaves what its error says
+-- a failed purge leaves what `NotPurged` says for its error
 abbrev pub RefusedPurgeIsAStep : {R E V : Type 0} → TwoQueues R E V → Type 0
 RefusedPurgeIsAStep {R} log = AreTwoQueues log → (which : Which) (p : Pipes) (s : LogOnDisk R)
     → Run log p s → (capacity seq : ℕ) (after : PipeFiles) (error : Error) (new : Disk) → IsSound new

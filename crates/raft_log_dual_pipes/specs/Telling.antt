@@ -1,4 +1,4 @@
--- What the listeners of a log's pipes hear.
+-- Which events the listeners of a log's pipes hear.
 use Rattle.std.specs.Prelude.{◌≡◌, ℕ, zero, suc, ◌-◌, Result, Ok, List, [], ◌∷◌}
 use Rattle.raft_log_record_base.specs.declared.errors.Error.{Error}
 use Rattle.raft_log_record_base.specs.declared.pipe_log.FileBlockHandle.{FileBlockHandle}
@@ -8,41 +8,45 @@ use Rattle.raft_log_dual_pipes.specs.LastFile.{last_of}
 use Rattle.raft_log_dual_pipes.specs.Pipes.{LogPipes, files_of, which_of}
 use Rattle.raft_log_dual_pipes.specs.State.{pipe_at}
 
--- An event that listeners hear: a file was begun, or found at an open; a record was written at a location; the last
--- record of a file was applied to the tables; the files of a queue up to this one were purged.
+-- An event that listeners hear:
+-- - `FileBegun`: a file was begun, or found at an open.
+-- - `RecordWritten`: a record was written at this location.
+-- - `RecordApplied`: the last record of this file was applied to the tables.
+-- - `FilesPurged`: the files of a queue up to this one were purged.
 pub data Told : Type 0 where
   FileBegun : FileId → Told
   RecordWritten : FileBlockHandle → Told
   RecordApplied : FileId → Told
   FilesPurged : FileId → Told
 
--- the listener hears exactly these events, one after another; `hears` is the effect of one event
+-- the listener hears exactly these events, one after another; `hears` says how one event changes the listener
 abbrev pub Hears : {L : Type 0} → (Told → L → L → Type 0) → List Told → L → L → Type 0
 Hears hears [] old new = new ≡ old
 Hears {L} hears (one ∷ told) old new = (between : L) × hears one old between × Hears hears told between new
 
--- two listeners hear the same event
+-- each of two listeners hears the event `one`
 abbrev pub BothHear : {L M : Type 0} → (Told → L → L → Type 0) → (Told → M → M → Type 0)
     → Told → L × M → L × M → Type 0
 BothHear hears hears_too one old new = hears one old.0 new.0 × hears_too one old.1 new.1
 
--- `count` files of a queue were begun after a number, in their order
+-- the events for the `count` files of a queue that were begun after the number `n`, in order
 abbrev pub begun : LogQueue → ℕ → ℕ → List Told
 begun queue n zero = []
 begun queue n (suc count) = Told.FileBegun (record { queue = queue; seq = suc n }) ∷ begun queue (suc n) count
 
--- the files into which a queue rotated
+-- the events for the files into which a queue rotated between `v` and `w`
 abbrev pub files_begun : LogQueue → LogPipes → LogPipes → List Told
 files_begun queue v w =
     begun queue (last_of (which_of queue) v) (last_of (which_of queue) w - last_of (which_of queue) v)
 
--- the files that a queue has
+-- the events for the files that a queue has, from the first of its live range to the active one
 abbrev pub files_found : LogQueue → LogPipes → List Told
 files_found queue v = let first = (pipe_at (which_of queue) (files_of v)).first_seq in
     Told.FileBegun (record { queue = queue; seq = first })
     ∷ begun queue first (last_of (which_of queue) v - first)
 
--- the last file that left the live range, if one did, by the result of a purge to a file
+-- The event for a purge up to `file`, which is excluded, with this result: the file before it was the last one to leave
+-- the live range. There is no event if no file left or the purge failed.
 abbrev pub files_purged : FileId → Result ℕ Error → List Told
 files_purged file (Ok (suc count)) =
     Told.FilesPurged (record { queue = file.queue; seq = file.seq - 1 }) ∷ []

@@ -1,4 +1,4 @@
--- How the files of a queue continue through the calls of its pipe.
+-- How the files of a queue change through the calls of its pipe.
 use Rattle.std.specs.Prelude.{◌≡◌, ℕ, ◌⊎◌, List, [], ◌∷◌, ◌++◌, length}
 use Rattle.raft_log_fs.specs.Disk.{Disk}
 use Rattle.raft_log_file_writer.specs.LawsChains.{Written, spelled}
@@ -10,22 +10,23 @@ use Rattle.raft_log_file_pipe.specs.Files.{Listed}
 use Rattle.raft_log_file_pipe.specs.Exits.{IsStaleOfNext}
 use Rattle.raft_log_dual_pipes.specs.State.{Spanned}
 
--- a next file with this header, over the content of the oldest file kept for recycling on that disk; zeros may be
--- preallocated
+-- `p` is the queue `q` after a rotation. Its new last file has this header and is the oldest file in `kept`, with its
+-- content on the disk `d`, or a new one. Zeros may be allocated in it.
 abbrev pub GoesOnInNext : {R : Type 0} → List ℕ → List Listed → Disk → LogFiles R → LogFiles R → Type 0
 GoesOnInNext header kept d q p = (room : ℕ) × (stale : List ℕ) × IsStaleOfNext kept d stale
     × (p ≡ with_room room (rotated header stale q))
 
--- the queue unchanged, or in its next file
+-- `p` is the queue `q`, unchanged or after a rotation
 abbrev pub IsOrGoesOn : {R : Type 0} → List ℕ → List Listed → Disk → LogFiles R → LogFiles R → Type 0
 IsOrGoesOn header kept d q p = (p ≡ q) ⊎ GoesOnInNext header kept d q p
 
--- a record was written, possibly in the next file
+-- `r` is the queue `q`, maybe after a rotation, with one more record; zeros may be allocated before that
 abbrev pub HasTaken : {R : Type 0} → List ℕ → List Listed → Disk → LogFiles R → LogFiles R → Type 0
 HasTaken {R} header kept d q r = (p : LogFiles R) × IsOrGoesOn header kept d q p × (room : ℕ)
     × (w : Written R) × (r ≡ with_more (w ∷ []) (with_room room p))
 
--- the record is the last one of the queue's last file, signed for some file, and is at this location
+-- a record with the value `said` is the last one of the queue's last file, at the location `block`; its bytes are those
+-- that `signed` gives for some file
 pub record HasLast {R : Type 0} (signed : LogFileContext → List ℕ) (said : R) (block : FileBlockHandle)
     (q : LogFiles R) : Type 0 where
   pub context : LogFileContext
@@ -38,12 +39,12 @@ pub record HasLast {R : Type 0} (signed : LogFileContext → List ℕ) (said : R
   pub offset : block.offset ≡ length (q.header ++ spelled front)
   pub len : block.len ≡ length last.bytes
 
--- a record's write failed, possibly in the next file, and was truncated away: all is synced, and the queue may have
--- rotated once more
+-- A record's write failed and was truncated away. `r` is the queue `q`, maybe after a rotation before the write, with
+-- all its records synced. It may have rotated once more after that.
 abbrev pub IsCutBack : {R : Type 0} → List ℕ → List Listed → Disk → LogFiles R → LogFiles R → Type 0
 IsCutBack {R} header kept d q r = (p : LogFiles R) × IsOrGoesOn header kept d q p
     × (later : List Listed) × (between : Disk) × IsOrGoesOn header later between (settled p) r
 
--- the queue with other files, in a live range that begins where it began
+-- the queue with `files` as its files; its live range begins at the same number
 abbrev pub in_span : {R : Type 0} → Spanned R → LogFiles R → Spanned R
 in_span q files = record { first = q.first; files = files }

@@ -1,5 +1,4 @@
--- What an engine's contracts say of its log on the disk, after a batch was written: the steps above, combined with the
--- contents of its tables.
+-- What an engine's contracts state of its log on a disk, and what they state after a batch was written.
 use Rattle.std.specs.Prelude.{◌≡◌, ℕ, List, [], ◌∷◌, ◌++◌}
 use Rattle.raft_log_model_laws.specs.Item.{Record}
 use Rattle.raft_log_model_laws.specs.Groups.{Map, taken}
@@ -16,7 +15,8 @@ use Rattle.raft_log_machine_laws.specs.Tables.{GrowsTo}
 use Rattle.raft_log_dual_pipes.specs.Queues.{TwoQueues, AreTwoQueues, SaysRecord}
 use Rattle.raft_log_dual_pipes.specs.State.{LogOnDisk, Pipes, with_pipe, Run, Ties}
 
--- The pipes run over some log on this disk, and the view is true of its numbered files.
+-- The pipes run over some log on the disk `d`, and the engine's view `v` is true of it. The log's contents are the map
+-- `m`, and then the pending batches.
 pub record IsAtOn {R E V : Type 0} (log : TwoQueues R E V) (p : Pipes) (d : Disk) (v : View E V) (m : Map E V)
     (pending : List (Record E V)) : Type 0 where
   pub state : LogOnDisk R
@@ -24,7 +24,8 @@ pub record IsAtOn {R E V : Type 0} (log : TwoQueues R E V) (p : Pipes) (d : Disk
   pub run : Run log p state
   pub at : IsAt (Ties log state) v m pending
 
--- some first batches are synced, and the others are pending
+-- As `IsAtOn`, except that some first batches of `pending` may be synced: the log's contents are `m` after these, and
+-- the others are pending.
 pub record EndsOn {R E V : Type 0} (log : TwoQueues R E V) (p : Pipes) (d : Disk) (v : View E V) (m : Map E V)
     (pending : List (Record E V)) : Type 0 where
   pub done : List (Record E V)
@@ -32,7 +33,7 @@ pub record EndsOn {R E V : Type 0} (log : TwoQueues R E V) (p : Pipes) (d : Disk
   pub splits : done ++ rest ≡ pending
   pub at : IsAtOn log p d v (taken m done) rest
 
--- a batch that was written to Append is pending, after the others
+-- after a batch was written to Append, it is the last pending one; some first batches may be synced now
 abbrev pub WrittenIsPending : {R E V : Type 0} → TwoQueues R E V → Type 0
 WrittenIsPending {R} {E} {V} log = AreTwoQueues log → (p : Pipes) (old new : Disk) (v u : View E V)
     (m : Map E V) (pending : List (Record E V)) → IsAtOn log p old v m pending

@@ -19,34 +19,34 @@ use Rattle.raft_log_file_format.specs.declared.header.LogFileFormat.{LogFileForm
 unfoldable pub magic : List ℕ
 magic = codes "RAFT-LOG-FILE-HEADER-9986AB3E47F320B394C8E84916EB0ED5"
 
--- these bytes and no others
+-- `bytes` are the magic bytes
 abbrev pub IsMagic : List ℕ → Unit {0} → Type 0
 IsMagic bytes _ = bytes ≡ magic
 
--- the number of a version
+-- `bytes` encode the number of a version, in eight bytes
 pub record IsVersion (bytes : List ℕ) (version : Version) : Type 0 where
   pub spelled : IsU64 bytes (version_number version)
 
--- a format of version 1 has no alignment; one of version 2 has it in eight bytes
+-- the encoding of what follows the version in a header: nothing in version 1, the alignment in eight bytes in version 2
 abbrev pub IsPayload : Version → List ℕ → LogFileFormat → Type 0
 IsPayload V1 = IsKnown (record { version = V1; alignment = 0 })
 IsPayload V2 = Mapped (λ n. record { version = V2; alignment = n }) IsU64
 
--- the magic bytes, a version, and what a format of that version has after it
+-- `bytes` are the header of this format: the magic bytes, the version, and in version 2 the alignment
 abbrev pub IsFileHeader : List ℕ → LogFileFormat → Type 0
 IsFileHeader = Then IsMagic (λ _. Then IsVersion IsPayload)
 
--- Reading, error by error.
+-- Reading a header, with the error for each way in which it may be invalid.
 
--- the text for a file that begins with other bytes
+-- the error text for a file that doesn't begin with the magic bytes
 abbrev pub magic_mismatch : List ℕ
 magic_mismatch = codes "log file magic header mismatch"
 
--- the text for a number that no version has
+-- the error text for a version number that is neither 1 nor 2
 abbrev pub unknown_version : ℕ → List ℕ
 unknown_version n = codes "unrecognized log file version: " ++ decimal n
 
--- the text for a truncated alignment
+-- the error text for a version 2 header that ends before its alignment does
 abbrev pub missing_payload : List ℕ
 missing_payload = codes "missing header payload"
 
@@ -55,61 +55,62 @@ unfoldable pub magic_at : Reader (Unit {0}) Fault
 magic_at bytes = if starts_with nat_eq bytes magic then Ok (tt, drop (length magic) bytes)
     else Err (corrupt magic_mismatch)
 
--- the version that has this number
+-- the version with this number
 abbrev pub version_of : ℕ → Result Version Fault
 version_of n = if n == 1 then Ok V1 else (if n == 2 then Ok V2 else Err (corrupt (unknown_version n)))
 
--- reads a version; a truncated number fails as numbers do, and an unknown one is a corruption
+-- reads a version: a number that is cut off fails like any cut-off number, and one that is no version's is a corruption
 unfoldable pub version_at : Reader Version Fault
 version_at bytes = do
   number ← lifted (high_first_at w64 bytes)
   version ← version_of number.0
   Ok (version, number.1)
 
--- reads what follows the version: eight bytes in version 2
+-- reads what follows the version: nothing in version 1, eight bytes in version 2
 unfoldable pub payload_at : Version → Reader LogFileFormat Fault
 payload_at V1 bytes = Ok (record { version = V1; alignment = 0 }, bytes)
 payload_at V2 bytes =
     if nat_lt (length bytes) 8 then Err (corrupt missing_payload)
     else Ok (record { version = V2; alignment = from_be_bytes w64 (take 8 bytes) }, drop 8 bytes)
 
--- reads the magic bytes, the version and the rest, in this order; the first error is returned
+-- reads a header: the magic bytes, the version and the rest; returns the first error
 unfoldable pub header_at : Reader LogFileFormat Fault
 header_at bytes = magic_at bytes >>= λ x. version_at x.1 >>= λ y. payload_at y.0 y.1
 
--- Writing.
+-- Writing a header.
 
--- what follows the version: in version 2 the alignment
+-- the bytes after the version: none in version 1, the alignment in version 2
 abbrev pub payload_bytes : Version → ℕ → List ℕ
 payload_bytes V1 alignment = []
 payload_bytes V2 alignment = u64_bytes alignment
 
--- the bytes of a header, if the format has one
+-- the bytes of a format's header; a version 1 format with an alignment has none, but this gives bytes for it too
 unfoldable pub header_bytes : LogFileFormat → List ℕ
 header_bytes format =
     magic ++ (u64_bytes (version_number format.version) ++ payload_bytes format.version format.alignment)
 
--- the text for an alignment in a file of the first version
+-- the error text for a version 1 format that has an alignment
 abbrev pub no_alignment : List ℕ
 no_alignment = codes "a log file of the first version has no alignment"
 
--- the error for an alignment in a file of version 1
+-- the error for a version 1 format that has an alignment, or out of memory
 abbrev pub SaysNoAlignment : Error → Type 0
 SaysNoAlignment (errors.InvalidArgument text) = string_bytes text ≡ no_alignment
 SaysNoAlignment errors.Memory = Unit {0}
 SaysNoAlignment _ = ⊥
 
--- the format has a header: it isn't version 1 with an alignment
+-- the format has a header: if it has version 1, its alignment is 0
 abbrev pub HasWrittenHeader : LogFileFormat → Type 0
 HasWrittenHeader format = format.version ≡ V1 → format.alignment ≡ 0
 
--- why no header is written: version 1 with an alignment, with this text; or out of memory
+-- Why a header can't be written: the format has version 1 and an alignment, as the error's text says. Or memory ran
+-- out.
 abbrev pub IsHeaderRefusal : LogFileFormat → Error → Type 0
 IsHeaderRefusal format (errors.InvalidArgument text) =
     (format.version ≡ V1) × (format.alignment ≢ 0) × (string_bytes text ≡ no_alignment)
 IsHeaderRefusal format errors.Memory = Unit {0}
 IsHeaderRefusal format _ = ⊥
 
--- the format of a file that has no header
+-- the format with version 1 and no alignment
 abbrev pub first_format : LogFileFormat
 first_format = record { version = V1; alignment = 0 }

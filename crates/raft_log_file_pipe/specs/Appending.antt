@@ -1,4 +1,4 @@
--- Appending a record to a pipe: what the call did, and what holds after it.
+-- Appending a record to a pipe: which calls are made, and what they leave.
 use Rattle.std.specs.Prelude.{◌≡◌, ◌≢◌, ◌⊎◌, ℕ, ◌+◌, ◌<◌, ◌≤◌, List, length}
 use Rattle.std.specs.declared.io.ErrorKind.TheVariants.{StorageFull}
 use Rattle.raft_log_fs.specs.Disk.{Disk}
@@ -20,12 +20,12 @@ use Rattle.raft_log_file_pipe.specs.Exits.{IsTurned, Rotates, RotationLeaves, Ad
 use Rattle.raft_log_file_pipe.specs.declared.pipe_files.PipeFiles.{PipeFiles}
 use Rattle.raft_log_file_pipe.specs.declared.new_files.NewFiles.{NewFiles}
 
--- the context for which records of the active file are signed
+-- the context in which a record of the active file is signed: the file's id and its format version
 abbrev pub context_of : LogQueue → PipeFiles → LogFileContext
 context_of queue files =
     record { id = record { queue = queue; seq = files.active.seq }; version = files.active.format.version }
 
--- Before a record is written, the pipe rotates if the active file has reached the target size; otherwise nothing is
+-- If the active file has reached the target size, the pipe rotates before a record is written. Otherwise nothing is
 -- done.
 pub data TurnsFirst {R : Type 0} (F : Format R) (own : List ℕ → Type 0) (paths : FilePaths)
     (begin : NewFiles) (before after : PipeFiles) (old new : Disk) : Type 0 where
@@ -35,8 +35,8 @@ pub data TurnsFirst {R : Type 0} (F : Format R) (own : List ℕ → Type 0) (pat
       → Rotates F own paths (header_bytes begin.format) before after old new
       → IsTurned begin.format before after → TurnsFirst F own paths begin before after old new
 
--- The record was appended to the active file, which may be a new one. It is signed for that file, and one write wrote
--- it, after space was made up to the target size. The block is its location.
+-- A record was appended to the active file, after the pipe had rotated if it had to. The record is signed for this
+-- file, one write wrote it, and `block` is its location.
 pub record AppendsAt {R : Type 0} (F : Format R) (own : List ℕ → Type 0) (paths : FilePaths)
     (begin : NewFiles) (queue : LogQueue) (signed : LogFileContext → List ℕ)
     (before after : PipeFiles) (block : FileBlockHandle) (old new : Disk) : Type 0 where
@@ -50,13 +50,13 @@ pub record AppendsAt {R : Type 0} (F : Format R) (own : List ℕ → Type 0) (pa
   pub id : block.id ≡ record { queue = queue; seq = middle.active.seq }
   pub len : block.len ≡ length (signed (context_of queue middle))
 
--- try again: the same record may be written to the file into which the pipe rotated
+-- the error is `TryAgain`: the caller may write the same record again, to the file into which the pipe rotated
 abbrev pub SaysTryAgain : Error → Type 0
 SaysTryAgain (errors.TryAgain text) = Unit {0}
 SaysTryAgain _ = ⊥
 
--- The pipe rotated because the active file was out of space, and the record should be tried again; or the rotation
--- failed.
+-- What follows a write that ran out of space. Either the pipe rotated, and the error is `TryAgain`. Or the rotation
+-- failed with this error.
 pub data TurnsElsewhere {R : Type 0} (F : Format R) (own : List ℕ → Type 0) (paths : FilePaths)
     (begin : NewFiles) (before after : PipeFiles) (error : Error) (old new : Disk) : Type 0 where
   elsewhere : Rotates F own paths (header_bytes begin.format) before after old new
@@ -65,8 +65,8 @@ pub data TurnsElsewhere {R : Type 0} (F : Format R) (own : List ℕ → Type 0) 
   nowhere : RotationLeaves F own paths (header_bytes begin.format) before after error old new
       → TurnsElsewhere F own paths begin before after error old new
 
--- The pipe rotated, and this state of the file system determined the next file's directory. It is a separate relation,
--- as no disk determines the free space that is reported for a directory.
+-- The pipe rotated, and the next file's directory was chosen by the free space that `old` reports. It takes the state
+-- of the file system, as its disk doesn't determine the free space.
 pub record GoesInto {R F : Type 0} (disk : F → Disk) (tells : F → List ℕ → ℕ → Type 0)
     (format : Format R) (own : List ℕ → Type 0) (paths : FilePaths) (begin : NewFiles)
     (before after : PipeFiles) (old new : F) : Type 0 where
@@ -75,8 +75,9 @@ pub record GoesInto {R F : Type 0} (disk : F → Disk) (tells : F → List ℕ �
   pub placed : IsPlaced (tells old) (disk old) begin.target_size paths.directories
       before.recycled.items after.active.path_id
 
--- The record was truncated away for lack of space in the active file, which may already be a new one. From that state
--- of the file system, the pipe rotated, using the files that were kept for recycling.
+-- A record's write failed for lack of space, and what was written of it was truncated away. The pipe may have rotated
+-- before the write. It rotated after it, and the free space that the file system then reported determined the next
+-- file's directory.
 pub record GoesElsewhere {R F : Type 0} (disk : F → Disk) (tells : F → List ℕ → ℕ → Type 0)
     (format : Format R) (own : List ℕ → Type 0) (paths : FilePaths) (begin : NewFiles) (queue : LogQueue)
     (signed : LogFileContext → List ℕ) (before after : PipeFiles) (old new : F) : Type 0 where
@@ -90,13 +91,15 @@ pub record GoesElsewhere {R F : Type 0} (disk : F → Disk) (tells : F → List 
   pub lists : SameLists middle cut
   pub goes : GoesInto disk tells format own paths begin cut after short new
 
--- the pipe's active file is the one that it was, or at most `count` files after it
+-- the number of the active file is the one from before, or at most `count` higher
 abbrev pub GoesOnBy : ℕ → PipeFiles → PipeFiles → Type 0
 GoesOnBy count before after =
     (before.active.seq ≤ after.active.seq) × (after.active.seq ≤ before.active.seq + count)
 
--- Which error a failed write returns, and what was done then. If there was no space, the pipe rotated, or failed to. If
--- what was written couldn't be truncated away, the error is `Failed`.
+-- How a failed write ends, by its fault.
+-- - `CutBack`, for lack of space: the pipe rotated and the error is `TryAgain`, or the rotation failed.
+-- - `CutBack`, otherwise: the error is the write's, and nothing more was done.
+-- - `Failed`: the error is `Failed`, and nothing more was done.
 abbrev pub Tells : {R : Type 0} → Format R → (List ℕ → Type 0) → FilePaths → NewFiles → WriteFault → PipeFiles
     → PipeFiles → Error → Disk → Disk → Type 0
 Tells F own paths begin (CutBack kind) before after error old new =
@@ -105,8 +108,9 @@ Tells F own paths begin (CutBack kind) before after error old new =
 Tells F own paths begin (Failed kind) before after error old new =
     (error ≡ errors.Failed) × (after ≡ before) × (new ≡ old)
 
--- Why a record wasn't written, and what holds then: the pipe had to rotate first, and that failed; or the write failed.
--- The error is the write's, or `Failed` if what it left couldn't be truncated away.
+-- Why a record wasn't appended, and what is left.
+-- - `not_turned`: the active file has reached the target size, and the rotation failed.
+-- - `not_written`: the write failed. What it wrote was truncated away, or that failed too.
 pub data AppendFails {R : Type 0} (F : Format R) (own : List ℕ → Type 0) (paths : FilePaths)
     (begin : NewFiles) (queue : LogQueue) (signed : LogFileContext → List ℕ)
     (before after : PipeFiles) (error : Error) (old new : Disk) : Type 0 where

@@ -1,4 +1,4 @@
--- Which file calls a call of a pipe made, in their order: no others, and only what they change.
+-- Which file system calls a call of a pipe makes, in order. It makes no others.
 use Rattle.std.specs.Prelude.{◌≡◌, ◌⊎◌, ℕ, true, None, List, [], ◌∷◌, length}
 use Rattle.std.specs.declared.io.ErrorKind.{ErrorKind}
 use Rattle.raft_log_fs.specs.Disk.{Disk}
@@ -11,8 +11,9 @@ use Rattle.raft_log_active_file.specs.Layout.{FilePaths, path_of, plain_place}
 use Rattle.raft_log_active_file.specs.Rotation.{RotatesBy, RotationMakes}
 use Rattle.raft_log_file_pipe.specs.Files.{Listed}
 
--- A rotation finishes the active file. If no file is kept for recycling, it creates the next one; otherwise it renames
--- the oldest kept file, which was opened for writing before. Then it begins that file.
+-- The calls of a rotation. The active file is truncated after its records and synced. If no file is kept for recycling,
+-- the next file is created; otherwise the oldest kept one is renamed, which was opened for writing first. Then the next
+-- file gets its header.
 abbrev pub TurnsBy : FilePaths → List ℕ → List Listed → LogFileWriter → Listed → LogFileWriter → Disk → Disk
     → Type 0
 TurnsBy paths header [] writer next after old new = RotatesBy writer header
@@ -21,16 +22,16 @@ TurnsBy paths header (f ∷ fs) writer next after old new = IsOpened (path_of pa
     × RotatesBy writer header (λ handle. Renames (path_of paths f) (path_of paths next)) next.handle after
     old new
 
--- no file at a path was opened: the file system has stopped, or no file has the path
+-- the file at `path` can't be opened: the file system has stopped, or no file has the path
 abbrev pub IsUnopened : List ℕ → Disk → Type 0
 IsUnopened path d = (d.stopped ≡ true) ⊎ (d.names path ≡ None)
 
--- the path of a number in a file's directory, without a sign
+-- the path of the queue's file with the number `n` in the directory of `file`; its name has no sign
 abbrev pub next_path : FilePaths → Listed → ℕ → List ℕ
 next_path paths file = paths.numbered (plain_place (length paths.directories) file.path_id)
 
--- A failed rotation: one of its calls failed, and none was made after it; or no call was made, as the oldest of the
--- files kept for recycling couldn't be opened.
+-- The calls of a failed rotation: those up to one that failed. Or none, as the oldest of the files kept for recycling
+-- couldn't be opened.
 abbrev pub TurnsNot : FilePaths → List ℕ → List Listed → LogFileWriter → ℕ → Disk → Disk → Type 0
 TurnsNot paths header [] writer number old new = (directory : ℕ) × (error : ErrorKind)
     × RotationMakes writer header (FailsToCreate (paths.numbered directory number))
@@ -40,12 +41,12 @@ TurnsNot paths header (f ∷ fs) writer number old new = (IsUnopened (path_of pa
     × RotationMakes writer header (FailsToRename (path_of paths f) (next_path paths f number))
     (λ handle. Renames (path_of paths f) (next_path paths f number)) error old new)
 
--- the files at these paths were deleted, in their order
+-- the files at these paths were deleted, in this order
 abbrev pub DropsBy : List (List ℕ) → Disk → Disk → Type 0
 DropsBy [] old new = new ≡ old
 DropsBy (path ∷ paths) old new = (between : Disk) × Deletes path old between × DropsBy paths between new
 
--- the files at these paths were deleted, in their order, up to one whose deletion failed
+-- the files at these paths were deleted, in this order, up to one whose deletion failed
 abbrev pub DropsUntil : List (List ℕ) → Disk → Disk → Type 0
 DropsUntil [] old new = ⊥
 DropsUntil (path ∷ paths) old new = ((error : ErrorKind) × FailsToDelete path error old new)

@@ -1,5 +1,5 @@
--- What each call of a pipe does, on any disk: its file calls, in their order and no others, and the pipe's files after
--- it. None of it requires that the files hold a queue.
+-- What each call of a pipe does, on any disk: which file system calls it makes, in order, and the pipe's files after
+-- it. This doesn't require that the files are those of a queue.
 use Rattle.std.specs.Prelude.{◌≡◌, ◌≢◌, ◌⊎◌, ℕ, ◌<◌, ◌≤◌, ◌^◌, false, List, [], ◌∷◌, ◌++◌, length, suc}
 use Rattle.std.specs.declared.io.ErrorKind.{ErrorKind}
 use Rattle.std.specs.declared.io.ErrorKind.TheVariants.{StorageFull}
@@ -32,7 +32,7 @@ use Rattle.raft_log_file_pipe.specs.declared.pipe_files.PipeFiles.{PipeFiles}
 
 -- A rotation.
 
--- the pipe rotated into the next file, at the path of its number, by these calls
+-- the pipe rotated by these calls into the next file, which is at a path of its number
 pub record TurnsPipeBy (paths : FilePaths) (format : LogFileFormat) (before after : PipeFiles)
     (old new : Disk) : Type 0 where
   pub turned : IsTurned format before after
@@ -40,13 +40,15 @@ pub record TurnsPipeBy (paths : FilePaths) (format : LogFileFormat) (before afte
   pub calls : TurnsBy paths (header_bytes format) before.recycled.items before.writer after.active after.writer
       old new
 
--- the oldest of these files has a number that no name has
+-- the oldest of these files has a number of more than sixteen digits, which no name has
 abbrev pub OldestIsFar : List Listed → Type 0
 OldestIsFar [] = ⊥
 OldestIsFar (f ∷ fs) = 10 ^ 16 ≤ f.seq
 
--- Why the pipe didn't rotate. `Memory`: out of memory. `NumberRange`: the next number, or that of the file to recycle,
--- has no name. In both cases nothing was done. `Failed`: one of the calls failed, and none was made after it.
+-- Why the pipe didn't rotate.
+-- - `Memory`: memory ran out, and nothing was done.
+-- - `NumberRange`: no name has the next number, or that of the file to recycle. Nothing was done.
+-- - `Failed`: one of the calls failed, and none was made after it. This may be the call that opens the file to recycle.
 abbrev pub FailsToTurnBy : FilePaths → LogFileFormat → PipeFiles → PipeFiles → Error → Disk → Disk → Type 0
 FailsToTurnBy paths format before after errors.Memory old new = SameFiles before after × (new ≡ old)
 FailsToTurnBy paths format before after errors.NumberRange old new =
@@ -58,7 +60,7 @@ FailsToTurnBy paths format before after _ old new = ⊥
 
 -- An append.
 
--- before a record is written, the pipe rotates if the active file has reached the target size; otherwise nothing is
+-- if the active file has reached the target size, the pipe rotates before a record is written; otherwise nothing is
 -- done
 pub data TurnsFirstBy (paths : FilePaths) (begin : NewFiles) (before after : PipeFiles) (old new : Disk)
     : Type 0 where
@@ -67,8 +69,8 @@ pub data TurnsFirstBy (paths : FilePaths) (begin : NewFiles) (before after : Pip
   turns : begin.target_size ≤ before.writer.written → TurnsPipeBy paths begin.format before after old new
       → TurnsFirstBy paths begin before after old new
 
--- The bytes were written to the active file at the writer's offset, after space was made for them. They are signed for
--- this file, which may be a new one. The block has that file's number, that offset, and their length.
+-- A record was written to the active file at the writer's offset, after the pipe had rotated if it had to. It is signed
+-- for this file. `block` has the file's number, the offset, and the length of the record.
 pub record AppendsBy (paths : FilePaths) (begin : NewFiles) (queue : LogQueue)
     (signed : LogFileContext → List ℕ) (before after : PipeFiles) (block : FileBlockHandle) (old new : Disk)
     : Type 0 where
@@ -82,15 +84,17 @@ pub record AppendsBy (paths : FilePaths) (begin : NewFiles) (queue : LogQueue)
   pub offset : block.offset ≡ middle.writer.written
   pub len : block.len ≡ length (signed (context_of queue middle))
 
--- the pipe rotated, and the record should be tried again; or it didn't rotate
+-- the pipe rotated, and the error is `TryAgain`; or the rotation failed with this error
 abbrev pub TurnsElsewhereBy : FilePaths → LogFileFormat → PipeFiles → PipeFiles → Error → Disk → Disk
     → Type 0
 TurnsElsewhereBy paths format before after error old new =
     (SaysTryAgain error × TurnsPipeBy paths format before after old new)
     ⊎ FailsToTurnBy paths format before after error old new
 
--- Which error a failed write returns, and what was done after it: if there was no space, the pipe rotated, or failed
--- to; otherwise nothing.
+-- How a failed write ends, by its fault.
+-- - `CutBack`, for lack of space: the pipe rotated and the error is `TryAgain`, or the rotation failed.
+-- - `CutBack`, otherwise: the error is the write's, and nothing more was done.
+-- - `Failed`: the error is `Failed`, and nothing more was done.
 abbrev pub TellsBy : FilePaths → LogFileFormat → WriteFault → PipeFiles → PipeFiles → Error → Disk → Disk
     → Type 0
 TellsBy paths format (CutBack kind) before after error old new =
@@ -99,8 +103,10 @@ TellsBy paths format (CutBack kind) before after error old new =
 TellsBy paths format (Failed kind) before after error old new =
     (error ≡ errors.Failed) × (after ≡ before) × (new ≡ old)
 
--- Why a record wasn't written. The pipe had to rotate first, and didn't. Or the write failed, and what it left was
--- truncated at the writer's offset and synced, or one of these calls failed too.
+-- Why a record wasn't written.
+-- - `not_turned`: the active file has reached the target size, and the rotation failed.
+-- - `not_written`: the write failed. Then the file was truncated at the writer's offset and synced, or one of these
+-- calls failed too.
 pub data FailsToAppendBy (paths : FilePaths) (begin : NewFiles) (queue : LogQueue)
     (signed : LogFileContext → List ℕ) (before after : PipeFiles) (error : Error) (old new : Disk)
     : Type 0 where
@@ -116,12 +122,12 @@ pub data FailsToAppendBy (paths : FilePaths) (begin : NewFiles) (queue : LogQueu
 
 -- A sync, a purge and an open.
 
--- the sync of this file failed, and no other call was made
+-- the sync of the handle's file failed, and no other call was made
 abbrev pub FailsToSyncBy : Handle → Disk → Disk → Type 0
 FailsToSyncBy handle old new = (error : ErrorKind) × FailsToSync handle error old new
 
--- Why a purge failed: nothing was done; or some first ones of the files to delete were deleted, and deleting the next
--- one failed.
+-- Why a purge failed. `Memory`, `Other`, `NumberRange`: nothing was done. `Failed`: of the files to delete, the first
+-- were deleted, up to one whose deletion failed.
 abbrev pub FailsToPurgeBy : FilePaths → ℕ → ℕ → PipeFiles → Error → Disk → Disk → Type 0
 FailsToPurgeBy paths capacity seq before errors.Memory old new = new ≡ old
 FailsToPurgeBy paths capacity seq before (errors.Other fault) old new = new ≡ old
@@ -130,8 +136,8 @@ FailsToPurgeBy paths capacity seq before errors.Failed old new =
     DropsUntil (paths_going paths capacity seq before) old new
 FailsToPurgeBy paths capacity seq before _ old new = ⊥
 
--- The pipe was opened, and has these lists: if no file was found, its file 1 was created and begun; otherwise the last
--- file that was found was truncated where its records end, and the pipe continues there.
+-- The pipe was opened with these lists of files. If no file was found, its file 1 was created and got its header.
+-- Otherwise the last file that was found was truncated after its records and synced, and the pipe continues there.
 pub data OpensPipeBy (paths : FilePaths) (format : LogFileFormat) (found : FoundFiles) (files : PipeFiles)
     (old new : Disk) : Type 0 where
   begins : found.files.items ≡ [] → IsListedFirst format found.recycled.items files

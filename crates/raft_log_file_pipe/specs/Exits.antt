@@ -1,4 +1,4 @@
--- What holds for a pipe after each of its calls, whether it succeeds or fails.
+-- What each call of a pipe leaves, whether it succeeds or fails.
 use Rattle.std.specs.Prelude.{◌≡◌, ℕ, false, ◌≤◌, ◌^◌, List, [], ◌∷◌, ◌++◌, length, drop, suc}
 use Rattle.std.specs.declared.io.ErrorKind.{ErrorKind}
 use Rattle.raft_log_fs.specs.Disk.{Disk}
@@ -21,7 +21,7 @@ use Rattle.raft_log_file_pipe.specs.Files.{Listed, IsSpan, IsPipe}
 use Rattle.raft_log_file_pipe.specs.Calls.{IsUnopened, TurnsBy, TurnsNot}
 use Rattle.raft_log_file_pipe.specs.declared.pipe_files.PipeFiles.{PipeFiles}
 
--- a pipe has the same files, in the same lists
+-- the pipe has the same files in the same lists, and the same writer
 pub record SameFiles (before after : PipeFiles) : Type 0 where
   pub first : after.first_seq ≡ before.first_seq
   pub earlier : after.earlier.items ≡ before.earlier.items
@@ -29,14 +29,14 @@ pub record SameFiles (before after : PipeFiles) : Type 0 where
   pub writer : after.writer ≡ before.writer
   pub recycled : after.recycled.items ≡ before.recycled.items
 
--- what the next file holds when it gets its number: the content of the oldest file kept for recycling, or nothing if
--- there is none
+-- `stale` is what the next file holds when it gets its number: the content of the oldest file kept for recycling, or
+-- nothing if none is kept
 abbrev pub IsStaleOfNext : List Listed → Disk → List ℕ → Type 0
 IsStaleOfNext [] d stale = stale ≡ []
 IsStaleOfNext (f ∷ fs) d stale = HasFile f.handle.file (λ file. file.content ≡ stale) d
 
--- The active file is now one of the earlier files. The next one is written in this format; it was the oldest of the
--- files kept for recycling, if there was one.
+-- The file that was active is now the last of the earlier ones. The active file has the next number and this format.
+-- The oldest file kept for recycling, if there was one, is no longer in that list.
 pub record IsTurned (format : LogFileFormat) (before after : PipeFiles) : Type 0 where
   pub first : after.first_seq ≡ before.first_seq
   pub earlier : after.earlier.items ≡ before.earlier.items ++ before.active ∷ []
@@ -44,7 +44,8 @@ pub record IsTurned (format : LogFileFormat) (before after : PipeFiles) : Type 0
   pub format_is : after.active.format ≡ format
   pub recycled : after.recycled.items ≡ drop 1 before.recycled.items
 
--- a rotation: the queue continues in the next file, no gap is filled, and these calls were made
+-- If the pipe ran over a queue, the queue has rotated into its next file, and the pipe runs over it. No gap was filled,
+-- and these calls were made.
 abbrev pub Rotates : {R : Type 0} → Format R → (List ℕ → Type 0) → FilePaths → List ℕ → PipeFiles → PipeFiles
     → Disk → Disk → Type 0
 Rotates {R} F own paths header before after old new = (base : Disk) (q : LogFiles R)
@@ -53,8 +54,8 @@ Rotates {R} F own paths header before after old new = (base : Disk) (q : LogFile
     × IsPipe F own paths base after (with_room room (rotated header stale q)) new × GapsStay F q old new
     × TurnsBy paths header before.recycled.items before.writer after.active after.writer old new
 
--- A rotation failed because of a file call. The records are held, and there may be a next file without records; the
--- files of the live range exist, including the file that was active. These calls were made.
+-- If the pipe ran over a queue, a rotation failed, as a file call failed. The last file holds its records; there may be
+-- a next file without records. The files of the live range are at their paths, also the file that was active.
 abbrev pub FailsToRotate : {R : Type 0} → Format R → (List ℕ → Type 0) → FilePaths → List ℕ → PipeFiles
     → Disk → Disk → Type 0
 FailsToRotate {R} F own paths header before old new = (base : Disk) (q : LogFiles R)
@@ -64,15 +65,17 @@ FailsToRotate {R} F own paths header before old new = (base : Disk) (q : LogFile
     × IsSpan paths new.names before.first_seq (before.earlier.items ++ before.active ∷ []) (suc q.last)
     × TurnsNot paths header before.recycled.items before.writer (suc before.active.seq) old new
 
--- why a file that is kept for recycling wasn't opened: memory ran out, and the file system runs; or the file system has
--- stopped, or no file has the path
+-- the errors with which opening the oldest file kept for recycling fails: `Memory` while the file system runs, or
+-- `Failed` if it has stopped or no file has the path
 abbrev pub StaysClosed : List ℕ → Disk → Error → Type 0
 StaysClosed path d errors.Memory = d.stopped ≡ false
 StaysClosed path d errors.Failed = IsUnopened path d
 StaysClosed path d _ = ⊥
 
--- Why a rotation failed, and what holds then: memory ran out, or the file numbers have run out, and nothing was done;
--- or a file call failed.
+-- Why a rotation failed, and what it leaves.
+-- - `Memory`: memory ran out. Nothing was done.
+-- - `NumberRange`: the next number has more than sixteen digits. Nothing was done.
+-- - `Failed`: a file call failed.
 abbrev pub RotationLeaves : {R : Type 0} → Format R → (List ℕ → Type 0) → FilePaths → List ℕ → PipeFiles
     → PipeFiles → Error → Disk → Disk → Type 0
 RotationLeaves F own paths header before after errors.Memory old new = SameFiles before after × (new ≡ old)
@@ -83,7 +86,8 @@ RotationLeaves F own paths header before after errors.Failed old new =
     FailsToRotate F own paths header before old new
 RotationLeaves F own paths header before after _ old new = ⊥
 
--- a record with these bytes was appended at this offset of the active file; zeros may have been preallocated
+-- If the pipe ran over a queue, a record with these bytes was appended at the offset `at` of the active file. The pipe
+-- runs over the queue with this record, and zeros may be allocated after it.
 abbrev pub Adds : {R : Type 0} → Format R → (List ℕ → Type 0) → FilePaths → List ℕ → ℕ → PipeFiles → PipeFiles
     → Disk → Disk → Type 0
 Adds {R} F own paths bytes at before after old new = (base : Disk) (q : LogFiles R) (w : Written R)
@@ -91,8 +95,10 @@ Adds {R} F own paths bytes at before after old new = (base : Disk) (q : LogFiles
     → (at ≡ length (whole q))
     × ((room : ℕ) × IsPipe F own paths base after (with_more (w ∷ []) (with_room room q)) new)
 
--- What holds after a record's write failed. It was truncated away, and all records before it are durable. If that
--- failed too, the record may be there, and counts as the last pending one; the files of the live range exist.
+-- What a failed write of the record `w` leaves.
+-- - `CutBack`: what was written of it was truncated away. All records before it are durable, and the pipe still runs.
+-- - `Failed`: that failed too. The record may be on disk, and counts as the last pending one. The files of the live
+-- range are at their paths.
 abbrev pub AddLeaves : {R : Type 0} → Format R → (List ℕ → Type 0) → FilePaths → WriteFault → Disk → Written R
     → LogFiles R → PipeFiles → Disk → Type 0
 AddLeaves F own paths (CutBack kind) base w q after new = IsPipe F own paths base after (settled q) new
@@ -100,7 +106,8 @@ AddLeaves F own paths (Failed kind) base w q after new = (room : ℕ)
     × StandsWithRecords F own base (with_more (w ∷ []) (with_room room q)) new
     × IsSpan paths new.names after.first_seq after.earlier.items q.last
 
--- a record with these bytes wasn't added, for this fault: a file call failed
+-- if the pipe ran over a queue, a record with these bytes wasn't appended, as a file call failed; `AddLeaves` says what
+-- is left
 abbrev pub FailsToAdd : {R : Type 0} → Format R → (List ℕ → Type 0) → FilePaths → List ℕ → WriteFault →
     PipeFiles
     → PipeFiles → Disk → Disk → Type 0
@@ -108,20 +115,21 @@ FailsToAdd {R} F own paths bytes fault before after old new = (base : Disk) (q :
     → F.IsFrame q.last q.header w.bytes w.value → w.bytes ≡ bytes → IsPipe F own paths base before q old
     → Fails old new × AddLeaves F own paths fault base w q after new
 
--- a pipe has the same files, in the same lists; only its writer's numbers may differ
+-- the pipe has the same files in the same lists; its writer may be another one
 pub record SameLists (before after : PipeFiles) : Type 0 where
   pub first : after.first_seq ≡ before.first_seq
   pub earlier : after.earlier.items ≡ before.earlier.items
   pub active : after.active ≡ before.active
   pub recycled : after.recycled.items ≡ before.recycled.items
 
--- all records were synced, by one call
+-- if the pipe ran over a queue, one call synced all its records, and the pipe runs over it
 abbrev pub SyncsPipe : {R : Type 0} → Format R → (List ℕ → Type 0) → FilePaths → PipeFiles → Disk → Disk
     → Type 0
 SyncsPipe {R} F own paths files old new = (base : Disk) (q : LogFiles R) → IsPipe F own paths base files q old
     → IsPipe F own paths base files (synced q) new × Syncs files.writer.handle old new
 
--- the records weren't synced: that file call failed, they are held, and the files of the live range exist
+-- If the pipe ran over a queue, its records weren't synced, as the sync failed. The last file holds its records, and
+-- the files of the live range are at their paths.
 abbrev pub FailsToSyncPipe : {R : Type 0} → Format R → (List ℕ → Type 0) → FilePaths → PipeFiles → Disk → Disk
     → Type 0
 FailsToSyncPipe {R} F own paths files old new = (base : Disk) (q : LogFiles R)

@@ -1,4 +1,4 @@
--- The files of a pipe, and their state on a disk.
+-- The files in a pipe's lists, and how they are on a disk.
 use Rattle.std.specs.Prelude.{◌≡◌, ℕ, ◌<◌, ◌^◌, false, Some, List, [], ◌∷◌, suc}
 use Rattle.raft_log_fs.specs.Disk.{File, Disk}
 use Rattle.raft_log_file_writer.specs.LogFormat.{Format}
@@ -17,19 +17,20 @@ use Rattle.raft_log_file_pipe.specs.declared.pipe_files.PipeFiles.{PipeFiles}
 abbrev pub Listed : Type 0
 Listed = listed.File
 
--- these are the files of the numbers from `first` on, below `last`, each at its path
+-- the list has one file for each number from `first` on, below `last`, in this order; each is at its path, under the
+-- node number of its handle
 abbrev pub IsSpan : FilePaths → Names → ℕ → List Listed → ℕ → Type 0
 IsSpan paths N first [] last = first ≡ last
 IsSpan paths N first (f ∷ fs) last = (f.seq ≡ first) × (f.reserved ≡ false)
     × (N (path_of paths f) ≡ Some f.handle.file) × IsSpan paths N (suc first) fs last
 
--- the file holds no record under any number and header that it may get
+-- whatever number and header the file gets, it holds no record under these
 abbrev pub CanBeUsed : {R : Type 0} → Format R → File → Type 0
 CanBeUsed {R} F file = (q : LogFiles R) (header : List ℕ) → F.IsHeader header
     → IsNew F (begun header file.content q) file
 
--- A file that is kept for recycling may be recycled. It is at its path, which is a reserved one or that of a number
--- below the live range.
+-- File `f`, which is kept for recycling, can be recycled. It is at its path, and has a reserved name or a number below
+-- the live range. Under any number that it may get, it holds no record.
 pub record IsKeptForUse {R : Type 0} (F : Format R) (paths : FilePaths) (first : ℕ) (d : Disk)
     (f : Listed) : Type 0 where
   pub named : d.names (path_of paths f) ≡ Some f.handle.file
@@ -37,19 +38,21 @@ pub record IsKeptForUse {R : Type 0} (F : Format R) (paths : FilePaths) (first :
   pub small : f.seq < 10 ^ 16
   pub usable : HasFile f.handle.file (CanBeUsed F) d
 
--- none of these files has the path
+-- no file of the list has this path
 abbrev pub NoneHas : FilePaths → List ℕ → List Listed → Type 0
 NoneHas paths path [] = Unit {0}
 NoneHas paths path (f ∷ fs) = (path_of paths f ≡ path → ⊥) × NoneHas paths path fs
 
--- each of these files is kept for recycling, and no two of them have the same path
+-- each file of the list can be recycled, and no two of them have the same path
 abbrev pub AllKept : {R : Type 0} → Format R → FilePaths → ℕ → Disk → List Listed → Type 0
 AllKept F paths first d [] = Unit {0}
 AllKept F paths first d (f ∷ fs) = IsKeptForUse F paths first d f
     × NoneHas paths (path_of paths f) fs × AllKept F paths first d fs
 
--- The files of a pipe are those of a queue on a disk: its last file is the active one, the earlier ones exist from the
--- live range's first number on, and the files kept for recycling exist.
+-- The pipe with these lists runs over the queue `q` on the disk `d`.
+-- - The active file is the queue's last one, and the queue is open to the pipe's writer.
+-- - `span`: the earlier files are those from the live range's first number on.
+-- - `kept`: each file that is kept for recycling can be recycled.
 pub record IsPipe {R : Type 0} (F : Format R) (own : List ℕ → Type 0) (paths : FilePaths) (base : Disk)
     (files : PipeFiles) (q : LogFiles R) (d : Disk) : Type 0 where
   pub active : IsOpen F own base files.writer q (path_of paths files.active) d.names d

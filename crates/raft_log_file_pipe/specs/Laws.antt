@@ -1,4 +1,4 @@
--- What follows for a pipe on a disk, and for one that has failed.
+-- Laws of a pipe on a disk, also of one that has failed.
 use Rattle.std.specs.Prelude.{◌≡◌, ℕ, ◌≤◌, false, Option, List, length}
 use Rattle.raft_log_fs.specs.Disk.{Disk}
 use Rattle.raft_log_fs.specs.Image.{IsImage, IsSound}
@@ -15,10 +15,11 @@ use Rattle.raft_log_file_pipe.specs.Files.{Listed, IsSpan, AllKept, IsPipe}
 use Rattle.raft_log_file_pipe.specs.Opening.{IsFound, HasOwnHeader, first_number}
 use Rattle.raft_log_file_pipe.specs.declared.pipe_files.PipeFiles.{PipeFiles}
 
--- A queue whose records are held is kept. After any stop without a CRC collision, reading gives all records of its
--- earlier files and the durable ones of the last. Of the pending ones it gives some first ones. What the stop leaves is
--- the queue again, with these records. A running pipe holds its records, and so does a pipe after each call, whether it
--- succeeds or fails.
+-- What is read of a pipe's queue after a stop without a CRC collision.
+-- - `standing`: if a pipe runs over the queue, the queue's last file holds its records.
+-- - `kept`: if it does, reading gives all records of earlier files, and the last file's durable records and some first
+-- pending ones.
+-- - `restarts`: what the stop leaves is the queue again, with these records, all durable.
 pub record PipesAreKept {R : Type 0} (F : Format R) (own : List ℕ → Type 0) (paths : FilePaths) : Type 0 where
   pub standing : (base : Disk) (files : PipeFiles) (q : LogFiles R) (d : Disk)
       → IsPipe F own paths base files q d → StandsWithRecords F own base q d
@@ -28,8 +29,8 @@ pub record PipesAreKept {R : Type 0} (F : Format R) (own : List ℕ → Type 0) 
       → (path : List ℕ) × (id : ℕ) × (N : Names) × (count : ℕ) × (count ≤ length q.pending)
       × Stands F own image (kept_to count q) path id (IsLeftover F (kept_to count q)) N image
 
--- The files of a queue as they are found on a disk: the last one is open for writing, and was read up to `end`; the
--- earlier ones exist, and so do those that are kept for recycling.
+-- The files of a queue that were found on a disk. The last one, which has this number, is open for writing and was read
+-- up to `end`. The earlier ones, from the first number on, are at their paths, and those in `kept` can be recycled.
 pub record AreFoundOnDisk {R : Type 0} (F : Format R) (paths : FilePaths) (earlier : List Listed) (last : Listed)
     (end : Option ℕ) (kept : List Listed) (number : ℕ) (d : Disk) : Type 0 where
   pub number_is : last.seq ≡ number
@@ -40,8 +41,9 @@ pub record AreFoundOnDisk {R : Type 0} (F : Format R) (paths : FilePaths) (earli
   pub span : IsSpan paths d.names (first_number earlier last) earlier number
   pub spares : AllKept F paths (first_number earlier last) d kept
 
--- A pipe may be opened over what a stop without a CRC collision leaves of a queue whose records are held. It has some
--- of the first pending records. So a stop, an open and more calls compose.
+-- A queue's last file holds its records, and a stop without a CRC collision comes. Then a pipe may be opened over what
+-- is found of the queue's files. The queue then has the durable records and the first `count` pending ones. So a stop,
+-- an open and more calls compose.
 abbrev pub PipesAreFound : {R : Type 0} → Format R → (List ℕ → Type 0) → FilePaths → Type 0
 PipesAreFound {R} F own paths = CanTellFormat F → (base : Disk) (q : LogFiles R) (d image : Disk) → IsSound d
     → StandsWithRecords F own base q d → IsImage d image → NoChanceInLast F q d image

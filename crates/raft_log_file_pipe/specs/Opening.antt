@@ -1,4 +1,4 @@
--- Opening a pipe: over the files that were found of its queue, or over none.
+-- Opening a pipe over the files that were found of its queue, or, if none were found, beginning the queue.
 use Rattle.std.specs.Prelude.{◌≡◌, ℕ, false, Option, Some, None, List, [], ◌∷◌, ◌++◌}
 use Rattle.raft_log_fs.specs.Disk.{Disk}
 use Rattle.raft_log_fs.specs.Causes.{Fails}
@@ -21,23 +21,23 @@ use Rattle.raft_log_file_pipe.specs.declared.found_files.FoundFiles.{FoundFiles}
 use Rattle.raft_log_file_pipe.specs.declared.new_files.NewFiles.{NewFiles}
 use Rattle.raft_log_file_pipe.specs.declared.pipe_files.PipeFiles.{PipeFiles}
 
--- the last file as the pipe lists it: one without a header gets one of version 1
+-- the last file as the pipe lists it after it was read up to `end`: without a header (`None`), it gets one of version 1
 abbrev pub taken_up : Option ℕ → Listed → Listed
 taken_up (Some end) last = last
 taken_up None last = record last { format = first_format }
 
--- the number of the first of these files
+-- the number of the first file of the queue: the first of the earlier ones, or the last one if there are none
 abbrev pub first_number : List Listed → Listed → ℕ
 first_number [] last = last.seq
 first_number (f ∷ fs) last = f.seq
 
--- a file with a header has that of its format
+-- if the last file has a header (`Some end`), it is the header of the format with which the file is listed
 abbrev pub HasOwnHeader : {R : Type 0} → Format R → Option ℕ → Listed → Disk → Type 0
 HasOwnHeader F (Some end) last d = HandleBeginsWith F last.handle (header_bytes last.format) d
 HasOwnHeader F None last d = Unit {0}
 
--- The files of a queue as a stop left them, and as they were found: the last one was read up to `end`, the earlier ones
--- exist, and so do those that are kept for recycling.
+-- The files of a queue that a stop left, and that were found. The last one was read up to `end`, the earlier ones are
+-- at their paths, and those in `kept` can be recycled.
 pub record IsFound {R : Type 0} (F : Format R) (own : List ℕ → Type 0) (paths : FilePaths) (base : Disk)
     (earlier : List Listed) (last : Listed) (end : Option ℕ) (kept : List Listed) (q : LogFiles R) (d : Disk)
     : Type 0 where
@@ -48,7 +48,7 @@ pub record IsFound {R : Type 0} (F : Format R) (own : List ℕ → Type 0) (path
   pub span : IsSpan paths d.names (first_number earlier last) earlier q.last
   pub spares : AllKept F paths (first_number earlier last) d kept
 
--- the pipe's lists after it reopened these files
+-- the lists of a pipe that has reopened these files
 pub record IsListedAs (earlier : List Listed) (last : Listed) (kept : List Listed) (files : PipeFiles)
     : Type 0 where
   pub first : files.first_seq ≡ first_number earlier last
@@ -56,8 +56,8 @@ pub record IsListedAs (earlier : List Listed) (last : Listed) (kept : List Liste
   pub active : files.active ≡ last
   pub spares : files.recycled.items ≡ kept
 
--- the queue continues after what was read of its last file, all of which is durable; zeros may have been preallocated,
--- and these calls were made
+-- If these files of a queue were found, the pipe runs over the queue with all records that were read of it, all
+-- durable. Zeros may be allocated after the records. No gap was filled, and these calls were made.
 abbrev pub TakesUpFound : {R : Type 0} → Format R → (List ℕ → Type 0) → FilePaths → List Listed → Listed
     → Option ℕ → List Listed → PipeFiles → Disk → Disk → Type 0
 TakesUpFound {R} F own paths earlier last end kept files old new = (base : Disk) (q : LogFiles R)
@@ -67,8 +67,8 @@ TakesUpFound {R} F own paths earlier last end kept files old new = (base : Disk)
     × GapsStay F q old new
     × ReopensBy last.handle end (header_bytes (taken_up end last).format) files.writer old new
 
--- the queue doesn't continue: a file call failed, all records that were read are held, and the files that were found
--- exist
+-- If these files of a queue were found, the pipe wasn't opened, as a file call failed. The queue still has all records
+-- that were read of it, and the files that were found are still at their paths. No gap was filled.
 abbrev pub FailsToTakeUpFound : {R : Type 0} → Format R → (List ℕ → Type 0) → FilePaths → List Listed → Listed
     → Option ℕ → List Listed → Disk → Disk → Type 0
 FailsToTakeUpFound {R} F own paths earlier last end kept old new = (base : Disk) (q : LogFiles R)
@@ -76,13 +76,14 @@ FailsToTakeUpFound {R} F own paths earlier last end kept old new = (base : Disk)
     → Fails old new × GapsStay F q old new × IsSpan paths new.names (first_number earlier last) earlier q.last
     × IsHalfOpen F own base last.handle end (header_bytes (taken_up end last).format) q old new
 
--- a place for the queue, whose files kept for recycling have reserved names
+-- the queue may begin on the disk `d`, and each file in `kept` can be recycled and has a reserved name, or number 0
 pub record CanBeginWith {R : Type 0} (F : Format R) (own : List ℕ → Type 0) (paths : FilePaths) (base : Disk)
     (kept : List Listed) (d : Disk) : Type 0 where
   pub fresh : IsFresh F own base d
   pub spares : AllKept F paths 1 d kept
 
--- the queue began in its file 1, without a record; it has no file 0; these calls were made
+-- If the queue could begin, it has begun in its file 1, without a record, and the pipe runs over it. There is no file
+-- 0, and these calls were made.
 abbrev pub BeginsPipe : {R : Type 0} → Format R → (List ℕ → Type 0) → FilePaths → LogFileFormat → List Listed
     → PipeFiles → Disk → Disk → Type 0
 BeginsPipe {R} F own paths format kept files old new = (base : Disk) (older : ℕ → Past R)
@@ -92,14 +93,16 @@ BeginsPipe {R} F own paths format kept files old new = (base : Disk) (older : �
     × BeginsQueueBy (path_of paths files.active) (header_bytes format) files.active.handle files.writer
     old new
 
--- a pipe didn't begin: a file call failed; there is still a place for it, or its file 1 exists, without a record
+-- If the queue could begin, it has not, as a file call failed. It may still begin, or its file 1 exists without a
+-- record. There is no file 0.
 abbrev pub FailsToBeginPipe : {R : Type 0} → Format R → (List ℕ → Type 0) → FilePaths → LogFileFormat
     → List Listed → Disk → Disk → Type 0
 FailsToBeginPipe {R} F own paths format kept old new = (base : Disk) (older : ℕ → Past R)
     → CanBeginWith F own paths base kept old
     → Fails old new × IsHalfBegun F own base (fresh_queue older (header_bytes format)) new × IsAbsent F 0 new
 
--- the lists of a pipe that began: its file 1 is the active one, and there is none before it
+-- the lists of a pipe whose queue has begun: its active file is file 1, with this format, and there are no earlier
+-- files
 pub record IsListedFirst (format : LogFileFormat) (kept : List Listed) (files : PipeFiles) : Type 0 where
   pub first : files.first_seq ≡ 1
   pub number : files.active.seq ≡ 1
@@ -107,7 +110,8 @@ pub record IsListedFirst (format : LogFileFormat) (kept : List Listed) (files : 
   pub format_is : files.active.format ≡ format
   pub spares : files.recycled.items ≡ kept
 
--- A pipe was opened over what was found: if there was no file, the queue began; otherwise its last file was reopened.
+-- A pipe was opened over what was found. If no file was found, its queue has begun; otherwise its last file was
+-- reopened.
 pub data OpensPipe {R : Type 0} (F : Format R) (own : List ℕ → Type 0) (paths : FilePaths) (begin : NewFiles)
     (found : FoundFiles) (files : PipeFiles) (old new : Disk) : Type 0 where
   begins : found.files.items ≡ []
@@ -119,7 +123,8 @@ pub data OpensPipe {R : Type 0} (F : Format R) (own : List ℕ → Type 0) (path
       → IsListedAs earlier (taken_up found.end last) found.recycled.items files
       → OpensPipe F own paths begin found files old new
 
--- Why a queue didn't begin: memory ran out, and nothing was done; or a file call failed, and the error is its error.
+-- Why a queue didn't begin: memory ran out, and nothing was done; or a file call failed, and the error is that of the
+-- call.
 abbrev pub BeginLeaves : {R : Type 0} → Format R → (List ℕ → Type 0) → FilePaths → LogFileFormat → List Listed
     → Error → Disk → Disk → Type 0
 BeginLeaves F own paths format kept errors.Memory old new = new ≡ old
@@ -128,8 +133,8 @@ BeginLeaves F own paths format kept (errors.Io kind) old new =
     × FailsToBeginPipe F own paths format kept old new
 BeginLeaves F own paths format kept _ old new = ⊥
 
--- Why a last file wasn't reopened: memory ran out, or the file has an alignment, and nothing was done; or a file call
--- failed, and the error is its error.
+-- Why the last file wasn't reopened: memory ran out, or the file has an alignment, and nothing was done. Or a file call
+-- failed, and the error is that of the call.
 abbrev pub TakeUpLeaves : {R : Type 0} → Format R → (List ℕ → Type 0) → FilePaths → List Listed → Listed
     → Option ℕ → List Listed → Error → Disk → Disk → Type 0
 TakeUpLeaves F own paths earlier last end kept errors.Memory old new = new ≡ old
@@ -140,7 +145,7 @@ TakeUpLeaves F own paths earlier last end kept (errors.Io kind) old new =
     × FailsToTakeUpFound F own paths earlier last end kept old new
 TakeUpLeaves F own paths earlier last end kept _ old new = ⊥
 
--- why no pipe was opened over what was found, and what holds then
+-- why no pipe was opened over what was found, and what that leaves
 pub data OpenLeaves {R : Type 0} (F : Format R) (own : List ℕ → Type 0) (paths : FilePaths) (begin : NewFiles)
     (found : FoundFiles) (error : Error) (old new : Disk) : Type 0 where
   not_begun : found.files.items ≡ []

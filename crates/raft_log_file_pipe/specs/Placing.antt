@@ -6,28 +6,28 @@ use Rattle.std.specs.declared.io.ErrorKind.{ErrorKind}
 use Rattle.raft_log_active_file.specs.Layout.{plain_place}
 use Rattle.raft_log_file_pipe.specs.Files.{Listed}
 
--- a directory has room for `size` bytes: the free space reported for it is no less
+-- the free space that is reported for the directory is at least `size` bytes
 abbrev pub HasSpace : (List ℕ → ℕ → Type 0) → ℕ → List ℕ → Type 0
 HasSpace tells size directory = (space : ℕ) × tells directory space × (size ≤ space)
 
--- A directory lacks room: less free space is reported for it; or none is reported, as the file system has stopped or
--- the directory doesn't exist.
+-- The free space that is reported for the directory is less than `size` bytes. Or none is reported, as the file system
+-- has stopped or the directory doesn't exist.
 abbrev pub LacksRoom : (List ℕ → ℕ → Type 0) → Disk → ℕ → List ℕ → Type 0
 LacksRoom tells d size directory = ((space : ℕ) × tells directory space × (space < size))
     ⊎ ((d.stopped ≡ true) ⊎ ((error : ErrorKind) × WrongListing directory d error))
 
--- whether a directory has room for `size` bytes
+-- whether the directory has room for `size` bytes
 abbrev pub TellsRoom : (List ℕ → ℕ → Type 0) → Disk → ℕ → List ℕ → Bool → Type 0
 TellsRoom tells d size directory true = HasSpace tells size directory
 TellsRoom tells d size directory false = LacksRoom tells d size directory
 
--- these directories all lack room
+-- each of these directories lacks room for `size` bytes
 abbrev pub AllLackRoom : (List ℕ → ℕ → Type 0) → Disk → ℕ → List (List ℕ) → Type 0
 AllLackRoom tells d size [] = Unit {0}
 AllLackRoom tells d size (x ∷ xs) = LacksRoom tells d size x × AllLackRoom tells d size xs
 
--- The place of the directory for a new file of `size` bytes: the first directory that has room for it. It is the main
--- directory if none has room, or if there is no other, whose space isn't checked then.
+-- `place` is the position of the directory for a new file of `size` bytes: the first one that has room for it. It is 0,
+-- the main directory, if none has room. If there is only one directory, its space isn't checked.
 pub data IsChosen (tells : List ℕ → ℕ → Type 0) (d : Disk) (size : ℕ) (directories : List (List ℕ))
     (place : ℕ) : Type 0 where
   alone : length directories ≤ 1 → place ≡ 0 → IsChosen tells d size directories place
@@ -37,7 +37,8 @@ pub data IsChosen (tells : List ℕ → ℕ → Type 0) (d : Disk) (size : ℕ) 
       → IsChosen tells d size directories place
   none : AllLackRoom tells d size directories → place ≡ 0 → IsChosen tells d size directories place
 
--- The place of the next file's directory: a recycled file stays in its own, and its new name has no sign.
+-- `place` is the position of the next file's directory. A recycled file stays in its directory, and its new name has no
+-- sign; a new file goes where there is room.
 abbrev pub IsPlaced : (List ℕ → ℕ → Type 0) → Disk → ℕ → List (List ℕ) → List Listed → ℕ → Type 0
 IsPlaced tells d size directories [] place = IsChosen tells d size directories place
 IsPlaced tells d size directories (f ∷ fs) place = place ≡ plain_place (length directories) f.path_id

@@ -1,4 +1,5 @@
--- The files below a number leave the live range of a pipe: some are kept for recycling, the others are deleted.
+-- Purging a pipe: the files below a number leave the live range. Some of them are kept for recycling, the others are
+-- deleted.
 use Rattle.std.specs.Prelude.{◌≡◌, ℕ, ◌-◌, ◌<◌, ◌≤◌, ◌^◌, false, nat_lt, ◌&&◌, if◌then◌else◌, Some, None, List, [], ◌∷◌, ◌++◌, length, map, take, drop, slice_index_or, suc}
 use Rattle.std.specs.Map.{update}
 use Rattle.std.specs.Str.{bytes_eq}
@@ -18,41 +19,42 @@ use Rattle.raft_log_file_pipe.specs.Exits.{SameFiles}
 use Rattle.raft_log_file_pipe.specs.declared.pipe_files.PipeFiles.{PipeFiles}
 use Rattle.raft_log_record_base.specs.Files.{is_signed}
 
--- the files that leave the live range and are kept for recycling: the first ones that may be recycled, as long as there
--- is room for one more
+-- of these files, which leave the live range, those that are kept for recycling: the first ones with signed records, up
+-- to `room` files
 abbrev pub staying : ℕ → List Listed → List Listed
 staying room [] = []
 staying room (f ∷ fs) = if is_signed f.format.version && nat_lt 0 room then f ∷ staying (room - 1) fs
     else staying room fs
 
--- the files that leave the live range and aren't kept
+-- of these files, which leave the live range, those that are deleted: all that aren't kept for recycling
 abbrev pub going : ℕ → List Listed → List Listed
 going room [] = []
 going room (f ∷ fs) = if is_signed f.format.version && nat_lt 0 room then going (room - 1) fs
     else f ∷ going room fs
 
--- for how many more files there is room, after the live range begins at this number
+-- how many more files may be kept for recycling if the live range begins at `seq`
 abbrev pub room_from : ℕ → ℕ → PipeFiles → ℕ
 room_from capacity seq files = capacity - suc (files.active.seq - seq) - length files.recycled.items
 
--- a number of the live range
+-- `seq` is a number of the live range
 abbrev pub IsInSpan : ℕ → PipeFiles → Type 0
 IsInSpan seq files = (files.first_seq ≤ seq) × (seq - files.first_seq ≤ length files.earlier.items)
 
--- the names without those at these paths
+-- the names of a disk without these paths
 abbrev pub without : List (List ℕ) → Names → Names
 without [] N = N
 without (path ∷ paths) N = without paths (update bytes_eq N path None)
 
--- These files are at their paths, below the live range's first number. None of them is kept for recycling, and no two
--- of them have the same path.
+-- Each of these files is at its path, has a number below the live range, and isn't kept for recycling. No two of them
+-- have the same path.
 abbrev pub AreGone : FilePaths → Names → ℕ → List Listed → List Listed → Type 0
 AreGone paths N first kept [] = Unit {0}
 AreGone paths N first kept (f ∷ fs) = (f.seq < first) × (f.reserved ≡ false)
     × ((id : ℕ) × (N (path_of paths f) ≡ Some id)) × NoneHas paths (path_of paths f) kept
     × NoneHas paths (path_of paths f) fs × AreGone paths N first kept fs
 
--- the first `count` of these paths were deleted, one after the other, and the others exist
+-- A pipe runs over a queue, and the files at these paths may be deleted. Then the first `count` of them were deleted,
+-- one after the other. The others are still there, and the pipe still runs.
 abbrev pub DropsTo : {R : Type 0} → Format R → (List ℕ → Type 0) → FilePaths → List (List ℕ) → ℕ → Disk → Disk
     → Type 0
 DropsTo {R} F own paths gone count old new = (base : Disk) (files : PipeFiles) (q : LogFiles R)
@@ -62,12 +64,13 @@ DropsTo {R} F own paths gone count old new = (base : Disk) (files : PipeFiles) (
     × AreGone paths new.names files.first_seq files.recycled.items (drop count gs) × (new.names ≡ without
     (take count gone) old.names) × DropsBy (take count gone) old new
 
--- some first ones of these paths lost their names, and no other name changed
+-- some first ones of these paths name no file any more, and all other names are the same
 abbrev pub LosesFirst : List (List ℕ) → Disk → Disk → Type 0
 LosesFirst gone old new = (count : ℕ) × (new.names ≡ without (take count gone) old.names)
 
--- one of these files wasn't deleted: a file call failed, the records are held, and the live range exists; only some
--- first ones of these paths lost their names
+-- If a pipe runs over a queue, and the files at these paths may be deleted, then deleting one of them failed. Only some
+-- first ones of these paths lost their files. The last file holds its records, and the files of the live range are at
+-- their paths.
 abbrev pub FailsToDropAll : {R : Type 0} → Format R → (List ℕ → Type 0) → FilePaths → List (List ℕ) → Disk
     → Disk → Type 0
 FailsToDropAll {R} F own paths gone old new = (base : Disk) (files : PipeFiles) (q : LogFiles R)
@@ -77,7 +80,8 @@ FailsToDropAll {R} F own paths gone old new = (base : Disk) (files : PipeFiles) 
     × IsSpan paths new.names files.first_seq files.earlier.items q.last × LosesFirst gone old new
     × DropsUntil gone old new
 
--- the pipe's lists after the files below a number have left the live range
+-- the pipe's lists after a purge: the files below `seq` have left the live range, and some of them are kept for
+-- recycling
 pub record IsRaised (capacity seq : ℕ) (before after : PipeFiles) : Type 0 where
   pub first : after.first_seq ≡ seq
   pub earlier : after.earlier.items ≡ drop (seq - before.first_seq) before.earlier.items
@@ -86,12 +90,13 @@ pub record IsRaised (capacity seq : ℕ) (before after : PipeFiles) : Type 0 whe
   pub recycled : after.recycled.items ≡ before.recycled.items
       ++ staying (room_from capacity seq before) (take (seq - before.first_seq) before.earlier.items)
 
--- the paths of the files to delete
+-- the paths of the files that a purge deletes
 abbrev pub paths_going : FilePaths → ℕ → ℕ → PipeFiles → List (List ℕ)
 paths_going paths capacity seq files = map (path_of paths)
     (going (room_from capacity seq files) (take (seq - files.first_seq) files.earlier.items))
 
--- the files to delete were deleted, one after the other, and no other name changed
+-- if the pipe ran over a queue, the files to delete were deleted, one after the other; no other name changed, and the
+-- pipe still runs
 abbrev pub Purges : {R : Type 0} → Format R → (List ℕ → Type 0) → FilePaths → ℕ → ℕ → PipeFiles → PipeFiles
     → Disk → Disk → Type 0
 Purges {R} F own paths capacity seq before after old new = (base : Disk) (q : LogFiles R)
@@ -99,8 +104,8 @@ Purges {R} F own paths capacity seq before after old new = (base : Disk) (q : Lo
     × (new.names ≡ without (paths_going paths capacity seq before) old.names)
     × DropsBy (paths_going paths capacity seq before) old new
 
--- one of the files to delete wasn't deleted: a file call failed, the records are held, the live range exists, and only
--- some first ones of the files were deleted
+-- If the pipe ran over a queue, deleting one of the files to delete failed. Only the files before it were deleted. The
+-- last file holds its records, and the files of the live range are at their paths.
 abbrev pub FailsToPurge : {R : Type 0} → Format R → (List ℕ → Type 0) → FilePaths → ℕ → ℕ → PipeFiles
     → PipeFiles → Disk → Disk → Type 0
 FailsToPurge {R} F own paths capacity seq before after old new = (base : Disk) (q : LogFiles R)
@@ -109,30 +114,33 @@ FailsToPurge {R} F own paths capacity seq before after old new = (base : Disk) (
     × LosesFirst (paths_going paths capacity seq before) old new
     × DropsUntil (paths_going paths capacity seq before) old new
 
--- an error `Other`, with a text, or out of memory for that
+-- the error is `Other`, with any text, or out of memory
 abbrev pub IsOtherOrMemory : Error → Type 0
 IsOtherOrMemory (errors.Other fault) = Unit {0}
 IsOtherOrMemory errors.Memory = Unit {0}
 IsOtherOrMemory _ = ⊥
 
--- why the number of files below a number isn't returned: the number isn't in the live range, and the error says so or
--- memory ran out for it
+-- why the number of files below `seq` isn't returned: `seq` isn't in the live range, and the error says so, or memory
+-- ran out for its text
 abbrev pub CountFails : ℕ → PipeFiles → Error → Type 0
 CountFails seq files error = (IsInSpan seq files → ⊥) × IsOtherOrMemory error
 
--- one of these files has a number that no name has
+-- one of these files has a number of more than sixteen digits, which no name has
 abbrev pub HasFarFile : List Listed → Type 0
 HasFarFile fs = (f : Listed) × (i : ℕ) × (i < length fs) × (f ≡ slice_index_or fs i f) × (10 ^ 16 ≤ f.seq)
 
--- why files weren't split: memory ran out, or a number has no name
+-- why a list of files wasn't split into those to keep and those to delete: memory ran out, or no name has the number of
+-- one of them
 abbrev pub PartFails : List Listed → Error → Type 0
 PartFails fs errors.Memory = Unit {0}
 PartFails fs errors.NumberRange = HasFarFile fs
 PartFails fs _ = ⊥
 
--- Why a purge failed, and what holds then. `Memory`, `Other` (the number isn't in the live range) and `NumberRange` (a
--- file's number has no name): nothing was done. `Failed`: a file call failed, and the files below the number have left
--- the live range anyway.
+-- Why a purge failed, and what it leaves.
+-- - `Memory`: memory ran out. Nothing was done.
+-- - `Other`: the number isn't in the live range. Nothing was done.
+-- - `NumberRange`: no name has the number of one of the files. Nothing was done.
+-- - `Failed`: a file call failed. The files below the number have left the live range all the same.
 abbrev pub PurgeLeaves : {R : Type 0} → Format R → (List ℕ → Type 0) → FilePaths → ℕ → ℕ → PipeFiles →
     PipeFiles
     → Error → Disk → Disk → Type 0

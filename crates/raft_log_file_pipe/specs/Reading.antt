@@ -1,4 +1,4 @@
--- What is read of the files of a pipe.
+-- Reading bytes of a pipe's files at a location.
 use Rattle.std.specs.Prelude.{◌≡◌, ℕ, ◌-◌, ◌<◌, ◌≤◌, ◌⊎◌, List, length, slice_index_or}
 use Rattle.raft_log_fs.specs.Disk.{Disk}
 use Rattle.raft_log_fs.specs.Touching.{HasFile}
@@ -10,30 +10,32 @@ use Rattle.raft_log_file_writer.specs.Reader.{AreBytesAt, IsBlockRefusal}
 use Rattle.raft_log_file_pipe.specs.Files.{Listed}
 use Rattle.raft_log_file_pipe.specs.declared.pipe_files.PipeFiles.{PipeFiles}
 
--- the file with this number is that one: the active file if it has the number, otherwise an earlier one
+-- `id` is the node number of the file with the number `seq`: the active file if it has this number, otherwise the
+-- earlier file with it
 abbrev pub IsListed : ℕ → PipeFiles → ℕ → Type 0
 IsListed seq files id = ((seq ≡ files.active.seq) × (id ≡ files.active.handle.file))
     ⊎ ((f : Listed) × (seq ≡ files.active.seq → ⊥) × (files.first_seq ≤ seq)
     × (seq - files.first_seq < length files.earlier.items)
     × (f ≡ slice_index_or files.earlier.items (seq - files.first_seq) f) × (id ≡ f.handle.file))
 
--- no file of the live range has the number
+-- no file of the live range has the number `seq`
 abbrev pub IsUnlisted : ℕ → PipeFiles → Type 0
 IsUnlisted seq files = (seq ≡ files.active.seq → ⊥)
     × (files.first_seq ≤ seq → seq - files.first_seq < length files.earlier.items → ⊥)
 
--- why no file is returned: none has the number, or memory ran out for saying so
+-- why no file with the number `seq` is returned: there is none, and the error is a corruption; or memory ran out
 abbrev pub IsNotTold : ℕ → PipeFiles → Error → Type 0
 IsNotTold seq files errors.Memory = Unit {0}
 IsNotTold seq files (errors.Corruption text) = IsUnlisted seq files
 IsNotTold seq files _ = ⊥
 
--- these are the bytes at a location
+-- `bytes` are those at the location `block`, which may be fewer if the file ends first
 abbrev pub IsReadAt : PipeFiles → FileBlockHandle → List ℕ → Disk → Type 0
 IsReadAt files block bytes d = (id : ℕ) × IsListed block.id.seq files id
     × HasFile id (AreBytesAt block.offset block.len bytes) d
 
--- why the bytes at a location weren't read: no file has the number, the file system failed the read, or memory ran out
+-- why the bytes at a location weren't read: no file has its number, or the file system failed the read, or memory ran
+-- out
 abbrev pub IsReadRefused : PipeFiles → FileBlockHandle → Disk → Error → Type 0
 IsReadRefused files block d error = IsNotTold block.id.seq files error
     ⊎ ((handle : Handle) × IsListed block.id.seq files handle.file

@@ -1,4 +1,4 @@
--- On any disk, a pipe writes the file that it lists as the active one, and that file holds what it wrote.
+-- On any disk, a pipe writes to the file that it lists as the active one, and the file then has what was written.
 use Rattle.std.specs.Prelude.{◌≡◌, List, ℕ}
 use Rattle.raft_log_fs.specs.Disk.{Disk}
 use Rattle.raft_log_fs.specs.Touching.{HasFile}
@@ -14,18 +14,18 @@ use Rattle.raft_log_file_pipe.specs.declared.found_files.FoundFiles.{FoundFiles}
 use Rattle.raft_log_file_pipe.specs.declared.new_files.NewFiles.{NewFiles}
 use Rattle.raft_log_file_pipe.specs.declared.pipe_files.PipeFiles.{PipeFiles}
 
--- the pipe writes the file that it lists as the active one
+-- the handle of the pipe's writer is that of the file that it lists as the active one
 abbrev pub WritesItsLast : PipeFiles → Type 0
 WritesItsLast files = files.writer.handle ≡ files.active.handle
 
--- the bytes that an append wrote are in the active file, at the location that it returned
+-- the active file has the bytes of the record that an append wrote, at the location that the append returned
 abbrev pub StandsAt : LogQueue → (LogFileContext → List ℕ) → PipeFiles → FileBlockHandle → Disk → Type 0
 StandsAt queue signed files block d = (block.id ≡ record { queue = queue; seq = files.active.seq })
     × HasFile files.active.handle.file
     (AreBytesAt block.offset block.len (signed (context_of queue files))) d
 
--- On any disk, a pipe writes its active file after it was opened, and after it rotated. What an append wrote may be
--- read at the location that it returned.
+-- On any disk, a pipe writes to the file that it lists as the active one, after each of these calls. After an append,
+-- the record can be read at the location that the append returned.
 pub record PipesWriteTheirLast (paths : FilePaths) : Type 0 where
   pub opened : (format : LogFileFormat) (found : FoundFiles) (files : PipeFiles) (old new : Disk)
       → OpensPipeBy paths format found files old new → WritesItsLast files

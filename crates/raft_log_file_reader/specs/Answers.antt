@@ -1,4 +1,4 @@
--- What reading log files returns: their items, and why reading a file ends before the file does.
+-- What a reader of log files returns: their items, and the error that ends the reading of a file early.
 use Rattle.std.specs.Prelude.{◌≡◌, ℕ, ◌⊎◌, false, List, [], ◌∷◌, ◌++◌, map, Result, Ok, Err, length}
 use Rattle.std.specs.String.{string_bytes}
 use Rattle.raft_log_record_base.specs.declared.errors.Error.{Error}
@@ -16,21 +16,21 @@ use Rattle.raft_log_file_reader.specs.Refused.{FailsBehind}
 use Rattle.raft_log_file_reader.specs.declared.open_file.OpenFile.{OpenFile}
 use Rattle.raft_log_file_reader.specs.declared.log_file.LogFile.{LogFile}
 
--- an item, or the error that ends the items of a file
+-- an item, or the error that ends the reading of a file
 abbrev pub Answer : Type 0
 Answer = Result LogItem Error
 
--- each of these items, in order
+-- these items as results, in order
 abbrev pub given : List LogItem → List Answer
 given items = map Ok items
 
--- the items of each of these batches, in order
+-- the items of these batches as results, in order
 abbrev pub given_all : List (List LogItem) → List Answer
 given_all [] = []
 given_all (items ∷ batches) = given items ++ given_all batches
 
--- What is read of an open file from an offset on: the items of its batches up to its end, or up to a batch that fails,
--- followed by that error.
+-- `answers` is what is read of an open file from an offset on: the items of its batches, up to the end of the file. If
+-- reading a batch fails, it is the items up to there, and then the error.
 pub data GivesFrom (d : Disk) (file : OpenFile) (offset : ℕ) (answers : List Answer) : Type 0 where
   whole : (batches : List (List LogItem)) (end : ℕ)
       → HasBatches file (bytes_of file.source d) offset batches end
@@ -40,21 +40,22 @@ pub data GivesFrom (d : Disk) (file : OpenFile) (offset : ℕ) (answers : List A
       → HasBatches file (bytes_of file.source d) offset batches end → FailsBehind file d end error
       → answers ≡ given_all batches ++ Err error ∷ [] → GivesFrom d file offset answers
 
--- why the file at a path wasn't opened for reading: the file system has stopped; or it runs, and no file has the path
--- or memory ran out
+-- Why the file at `path` wasn't opened for reading: the file system has stopped; or it runs, and no file has the path,
+-- or memory ran out.
 abbrev pub IsReadOpenRefusal : List ℕ → Disk → Error → Type 0
 IsReadOpenRefusal path d (errors.Io kind) = IsAfterStop d kind ⊎ ((d.stopped ≡ false) × WrongName path d kind)
 IsReadOpenRefusal path d errors.Memory = d.stopped ≡ false
 IsReadOpenRefusal path d _ = ⊥
 
--- this log file is open, with the offset at which its header ends
+-- `current` is the log file `file`, open for reading, whose header ends at `start`
 pub record IsLogFileOpen (d : Disk) (file : LogFile) (current : OpenFile) (start : ℕ) : Type 0 where
   pub is : current.id ≡ file.id
   pub found : IsOpened (string_bytes file.path) ReadOnly current.source.handle d
   pub size : current.source.size ≡ length (bytes_of current.source d)
   pub header : SaysFormat (bytes_of current.source d) current.format start
 
--- What is read of a log file: an error if it wasn't found or opened, else what is read after its header.
+-- `answers` is what is read of a log file: only an error if it couldn't be found or opened, otherwise what is read
+-- after its header
 pub data GivesFile (d : Disk) (file : LogFile) (answers : List Answer) : Type 0 where
   unfound : (error : Error) → IsReadOpenRefusal (string_bytes file.path) d error → answers ≡ Err error ∷ []
       → GivesFile d file answers
@@ -63,7 +64,7 @@ pub data GivesFile (d : Disk) (file : LogFile) (answers : List Answer) : Type 0 
   opened : (current : OpenFile) (start : ℕ) → IsLogFileOpen d file current start
       → GivesFrom d current start answers → GivesFile d file answers
 
--- What is read of log files: what is read of each, one after the other.
+-- `answers` is what is read of several log files: what is read of each, one after the other
 abbrev pub GivesFiles : Disk → List LogFile → List Answer → Type 0
 GivesFiles d [] answers = answers ≡ []
 GivesFiles d (file ∷ files) answers = (first : List Answer) × (more : List Answer)

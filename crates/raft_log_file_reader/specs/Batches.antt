@@ -1,5 +1,6 @@
--- The batches in a log file's bytes: frames that follow one another, with padding between them if the file has an
--- alignment. Entry blocks aren't checked.
+-- The batches in the bytes of a log file. A batch has the items of one record (its bytes are a frame), and records
+-- follow one another. If the file has an alignment, padding may come between them. Whether the entry block of a record
+-- is whole isn't checked.
 use Rattle.std.specs.Prelude.{◌≡◌, ℕ, ◌+◌, ◌-◌, ◌%◌, ◌<◌, ◌≤◌, List, [], ◌∷◌, length, take, drop, Result, Ok, Err, IsErr, nat_lt, ◌==◌, if◌then◌else◌}
 use Rattle.raft_log_record_base.specs.Grammar.{◌>>=◌}
 use Rattle.raft_log_record_base.specs.Files.{signature_of}
@@ -13,12 +14,12 @@ use Rattle.raft_log_record_frames.specs.Record.{Front, header_at, frame_at, past
 use Rattle.raft_log_file_format.specs.Padding.{IsZeroPadded}
 use Rattle.raft_log_file_reader.specs.declared.open_file.OpenFile.{OpenFile}
 
--- how many bytes there are from an offset to the next multiple of the alignment; none without an alignment
+-- how many bytes are missing from `offset` to the next multiple of the alignment; 0 without an alignment
 abbrev pub padding_len : ℕ → ℕ → ℕ
 padding_len alignment offset = if alignment == 0 then 0 else (alignment - offset % alignment) % alignment
 
--- These bytes begin with padding of this many bytes instead of a header. The bytes suffice for a header, and the
--- padding is in them and begins and ends with a zero.
+-- `bytes` begin with padding of this many bytes: the first and the last of these are 0, and no valid header of a record
+-- begins there. `bytes` are long enough for such a header and for the padding.
 pub record IsPadding (padding : ℕ) (bytes : List ℕ) : Type 0 where
   pub some : 0 < padding
   pub room : 16 ≤ length bytes
@@ -26,42 +27,44 @@ pub record IsPadding (padding : ℕ) (bytes : List ℕ) : Type 0 where
   pub broken : IsErr (header_at bytes)
   pub zeros : IsZeroPadded (take padding bytes)
 
--- The record after an offset is at the next multiple of the alignment, if there is padding up to it, and otherwise at
--- the offset.
+-- The next record after `offset` is at `at`. If there is padding up to the next multiple of the alignment, this is that
+-- multiple, and otherwise `offset` itself.
 pub data GoesOnAt (alignment : ℕ) (content : List ℕ) (offset at : ℕ) : Type 0 where
   behind_padding : IsPadding (padding_len alignment offset) (drop offset content)
       → at ≡ offset + padding_len alignment offset → GoesOnAt alignment content offset at
   at_once : (IsPadding (padding_len alignment offset) (drop offset content) → ⊥) → at ≡ offset
       → GoesOnAt alignment content offset at
 
--- the context of the file, which its records need
+-- the file's id and format version, which are needed to read its records
 abbrev pub context_of : OpenFile → LogFileContext
 context_of file = record { id = file.id; version = file.format.version }
 
--- the location of the entry block, of `len` bytes, of the record at an offset
+-- the location of a record's entry block, which has `len` bytes; the record begins at the offset `at`, with a header of
+-- 16 bytes
 abbrev pub block_at : LogFileContext → ℕ → ℕ → FileBlockHandle
 block_at context at len = record { id = context.id; offset = at + 16; len = len }
 
--- the frame at an offset: its length in bytes, and its items with their locations
+-- what reading the record at the offset `at` returns: its length in bytes, and its items with the locations of their
+-- entries
 unfoldable pub batch_at : LogFileContext → ℕ → List ℕ → Result (ℕ × List LogItem) Fault
 batch_at context at content = frame_at (signature_of context) (drop at content)
     >>= λ front. Ok (front.len, placed (block_at context at (length front.bytes)) front.items)
 
--- the entry block of the frame at an offset is at this location
+-- `block` is the location of the entry block of the record at the offset `at`
 pub record IsBlockAt (context : LogFileContext) (at : ℕ) (content : List ℕ) (block : FileBlockHandle)
     : Type 0 where
   pub front : Front
   pub frame : frame_at (signature_of context) (drop at content) ≡ Ok front
   pub place : block ≡ block_at context at (length front.bytes)
 
--- after an offset, the next batch has its entry block at this location
+-- `block` is the location of the entry block of the next record after `offset`
 pub record HasBlock (file : OpenFile) (content : List ℕ) (offset : ℕ) (block : FileBlockHandle)
     : Type 0 where
   pub at : ℕ
   pub goes_on : GoesOnAt file.format.alignment content offset at
   pub lies : IsBlockAt (context_of file) at content block
 
--- after an offset, the next batch has these items, and ends at `end`
+-- the next record after `offset` has these items, and ends at `end`
 pub record HasBatch (file : OpenFile) (content : List ℕ) (offset : ℕ) (items : List LogItem)
     (end : ℕ) : Type 0 where
   pub at : ℕ
@@ -70,25 +73,25 @@ pub record HasBatch (file : OpenFile) (content : List ℕ) (offset : ℕ) (items
   pub frame : batch_at (context_of file) at content ≡ Ok (len, items)
   pub ends : end ≡ at + len
 
--- after an offset the file ends, or has only padding
+-- the file ends at `offset`, or it has only padding after it
 pub record HasNoMore (file : OpenFile) (content : List ℕ) (offset : ℕ) : Type 0 where
   pub goes_on : GoesOnAt file.format.alignment content offset (length content)
 
--- there are bytes after an offset, and this is the fault of the record there
+-- the next record after `offset` begins before the end of the file, and reading it fails with `fault`
 pub record IsBroken (file : OpenFile) (content : List ℕ) (offset : ℕ) (fault : Fault) : Type 0 where
   pub at : ℕ
   pub goes_on : GoesOnAt file.format.alignment content offset at
   pub inside : at < length content
   pub frame : batch_at (context_of file) at content ≡ Err fault
 
--- after an offset these batches follow one another, and the last one ends at `end`
+-- these batches follow one another from `offset` on, and the last one ends at `end`
 abbrev pub HasBatches : OpenFile → List ℕ → ℕ → List (List LogItem) → ℕ → Type 0
 HasBatches file content offset [] end = end ≡ offset
 HasBatches file content offset (items ∷ more) end =
     (next : ℕ) × HasBatch file content offset items next × HasBatches file content next more end
 
--- where the footer of the record at the front of these bytes begins, and how many bytes the record has; checks first
--- its header, then whether it ends within the bytes
+-- Reads the header of the record at the front of `bytes`. Returns where its footer begins and how long the record is,
+-- or the first fault: that of the header, or that the record doesn't end within `bytes`.
 unfoldable pub extent_at : List ℕ → Result (ℕ × ℕ) Fault
 extent_at bytes = header_at bytes
     >>= λ r. if nat_lt (length bytes) r.0.2 then Err (corrupt (past_input r.0.2)) else Ok (r.0.0, r.0.2)

@@ -1,4 +1,4 @@
--- Which files are read, and why there are none to read.
+-- Which log files are read, for a path or a directory, and the errors if there are none to read.
 use Rattle.std.specs.Prelude.{◌≡◌, ℕ, ◌⊎◌, List, [], ◌∷◌, ◌++◌, None, codes, false}
 use Rattle.std.specs.List.Sorted.{IsPermutation, IsSortedByKey}
 use Rattle.std.specs.String.{string_bytes}
@@ -14,17 +14,17 @@ use Rattle.raft_log_file_reader.specs.declared.log_file.LogFile.{LogFile}
 
 -- One file.
 
--- a name of this log file
+-- `name` is one that the log file `id` may have
 abbrev pub IsNameOf : FileId → List ℕ → Type 0
 IsNameOf id name = IsNamed (suffix_of id.queue) name id.seq
 
--- the part of the path after its last slash is a name of this log file
+-- the part of `path` after its last slash is a name that the log file `id` may have
 pub record IsLogPath (id : FileId) (path : List ℕ) : Type 0 where
   pub directory : List ℕ
   pub inside : IsPathIn directory path
   pub named : IsNameOf id inside.name
 
--- a file has the path, and only it is read, as the log file that its name says
+-- there is a file at `path`, and `files` has only this one, as the log file that its name says
 pub record IsFileAt (path : List ℕ) (d : Disk) (files : List LogFile) : Type 0 where
   pub there : d.names path ≡ None → ⊥
   pub file : LogFile
@@ -32,22 +32,22 @@ pub record IsFileAt (path : List ℕ) (d : Disk) (files : List LogFile) : Type 0
   pub says : IsLogPath file.id path
   pub by : string_bytes file.path ≡ path
 
--- these words, a colon and the path
+-- the text of an error about a path: these words, a colon, and the path
 abbrev pub told : List ℕ → List ℕ → List ℕ
 told words path = words ++ (codes ": " ++ path)
 
--- no file has the path, and the text says so
+-- no file has the path, and `text` is the error text that says so
 abbrev pub HasNoFileAt : List ℕ → Disk → List ℕ → Type 0
 HasNoFileAt path d text = (text ≡ told (codes "Not a file") path) × (d.names path ≡ None)
 
--- a file has the path, but its name isn't a log file's, and the text says so
+-- there is a file at `path`, but its name isn't a log file's, and `text` is the error text that says so
 pub record IsOtherFile (path : List ℕ) (d : Disk) (text : List ℕ) : Type 0 where
   pub tells : text ≡ told (codes "Invalid log file name") path
   pub there : d.names path ≡ None → ⊥
   pub other : (id : FileId) → IsLogPath id path → ⊥
 
--- Why there is no file to read: the file system has stopped; or it runs, and no file has the path, its name isn't a log
--- file's, or memory ran out.
+-- Why there is no file to read at `path`: the file system has stopped; or it runs, and no file has the path, its name
+-- isn't a log file's, or memory ran out.
 abbrev pub IsNoFile : List ℕ → Disk → Error → Type 0
 IsNoFile path d (errors.InvalidArgument text) =
     (d.stopped ≡ false) × (HasNoFileAt path d (string_bytes text) ⊎ IsOtherFile path d (string_bytes text))
@@ -57,7 +57,7 @@ IsNoFile path d _ = ⊥
 
 -- The files of a directory.
 
--- The log files among those with these names in a directory, in the order of the names.
+-- `files` are the log files of a directory among those with the names in this list, in the order of the list
 abbrev pub AreFoundAmong : List ℕ → List (List ℕ) → List LogFile → Type 0
 AreFoundAmong directory [] files = files ≡ []
 AreFoundAmong directory (name ∷ names) files =
@@ -66,8 +66,7 @@ AreFoundAmong directory (name ∷ names) files =
     × (string_bytes file.path ≡ directory ++ 47 ∷ name) × (files ≡ file ∷ more)
     × AreFoundAmong directory names more)
 
--- The log files of a directory: those of Rewrite before those of Append, and each queue's in the order of their
--- numbers.
+-- `files` are the log files of a directory: those of Rewrite before those of Append, and each queue's by rising number
 pub record AreFilesOf (directory : List ℕ) (d : Disk) (files : List LogFile) : Type 0 where
   pub names : List (List ℕ)
   pub listing : IsListing directory d names
@@ -76,8 +75,8 @@ pub record AreFilesOf (directory : List ℕ) (d : Disk) (files : List LogFile) :
   pub same : IsPermutation found files
   pub ordered : IsSortedByKey (λ file. file.id) file_cmp files
 
--- Why there is no directory to read: the file system has stopped; or it runs, and a file or nothing has the path, or
--- memory ran out.
+-- Why there are no log files to read in a directory: the file system has stopped; or it runs, and a file or nothing has
+-- the path, or memory ran out.
 abbrev pub IsNoDirectory : List ℕ → Disk → Error → Type 0
 IsNoDirectory path d (errors.InvalidArgument text) = (d.stopped ≡ false)
     × (string_bytes text ≡ told (codes "Not a directory") path)

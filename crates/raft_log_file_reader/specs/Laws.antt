@@ -10,23 +10,24 @@ use Rattle.raft_log_file_writer.specs.LawsChains.{Written, Reads}
 use Rattle.raft_log_file_reader.specs.Batches.{HasBatch, HasBatches, HasNoMore, IsBroken, padding_len, batch_at, block_at, context_of}
 use Rattle.raft_log_file_reader.specs.declared.open_file.OpenFile.{OpenFile}
 
--- after an offset there is no further batch: the file ends, or the record there is broken
+-- no batch follows at `offset`: the file ends there, or it has only padding, or reading the next record fails
 abbrev pub EndsBehind : OpenFile → List ℕ → ℕ → Type 0
 EndsBehind file content offset =
     HasNoMore file content offset ⊎ ((fault : Fault) × IsBroken file content offset fault)
 
--- From an offset on, a file's bytes are read in only one way, up to where no further batch follows.
+-- The bytes of a file determine which batches are read from an offset on, and where they end.
 abbrev pub OneReading : Type 0
 OneReading = (file : OpenFile) (content : List ℕ) (offset m n : ℕ) (xs ys : List (List LogItem))
     → HasBatches file content offset xs m → EndsBehind file content m
     → HasBatches file content offset ys n → EndsBehind file content n → (xs ≡ ys) × (m ≡ n)
 
--- There is one fault after an offset at most, and if there is one, the file doesn't end there.
+-- Reading the next record after an offset fails with at most one fault. If it fails, the file doesn't end at this
+-- offset.
 abbrev pub OneFault : Type 0
 OneFault = (file : OpenFile) (content : List ℕ) (offset : ℕ) (e f : Fault) → IsBroken file content offset e
     → (HasNoMore file content offset → ⊥) × (IsBroken file content offset f → e ≡ f)
 
--- A batch that follows other batches extends them by one, so that a loop knows what it has read.
+-- If batches are read from `offset` up to `m`, and one more from `m`, then all of them are read from `offset`.
 abbrev pub BatchesGoOn : Type 0
 BatchesGoOn = (file : OpenFile) (content : List ℕ) (offset m n : ℕ)
     (xs : List (List LogItem)) (items : List LogItem)
@@ -38,26 +39,27 @@ abbrev pub PaddingAligns : Type 0
 PaddingAligns = (alignment offset : ℕ) → 0 < alignment
     → ((offset + padding_len alignment offset) % alignment ≡ 0) × (padding_len alignment offset < alignment)
 
--- a frame of this file: its bytes, and its items with its entry block
+-- the bytes are a frame of this file; `frame` has its items and the bytes of its entry block
 abbrev pub IsFrameOf : LogFileContext → List ℕ → List LogItem × List ℕ → Type 0
 IsFrameOf context bytes frame = IsFrame (signature_of context) bytes frame.0 frame.1
 
--- the items of each of these frames with their locations, if the first frame is at this offset
+-- the items of each frame, with the locations of their entries; the first frame begins at the offset `at`, and each
+-- other one where the one before it ends
 abbrev pub placed_frames : LogFileContext → ℕ → List (Written (List LogItem × List ℕ)) → List (List LogItem)
 placed_frames context at [] = []
 placed_frames context at (w ∷ ws) =
     placed (block_at context at (length w.value.1)) w.value.0 ∷ placed_frames context (at + length w.bytes) ws
 
 -- If a file has no alignment, the batches that are read from an offset on are the frames that follow one another there.
--- Where no further batch follows, no frame begins.
+-- Where no batch follows any more, no frame begins.
 abbrev pub BatchesAreFrames : Type 0
 BatchesAreFrames = (file : OpenFile) (content : List ℕ) (offset end : ℕ) (xs : List (List LogItem))
     → file.format.alignment ≡ 0 → HasBatches file content offset xs end → EndsBehind file content end
     → (ws : List (Written (List LogItem × List ℕ))) × Reads (IsFrameOf (context_of file)) offset ws content
     × (xs ≡ placed_frames (context_of file) offset ws)
 
--- A batch whose entry block is whole is a record: its frame with the entries of the block. The block is at the location
--- that the batch's entries state.
+-- If the entry block of a batch is whole, the batch is a record, with the entries of this block. The items have the
+-- location of the block.
 abbrev pub WholeBlockMakesRecord : Type 0
 WholeBlockMakesRecord = (context : LogFileContext) (at len : ℕ) (content : List ℕ) (items : List LogItem)
     → batch_at context at content ≡ Ok (len, items)
@@ -66,7 +68,7 @@ WholeBlockMakesRecord = (context : LogFileContext) (at len : ℕ) (content : Lis
     × ((entries : List ℕ) → block_of (take (length front.bytes) (drop (at + 16) content)) ≡ Ok entries
     → record_at (signature_of context) (drop at content) ≡ Ok (record front { bytes = entries }))
 
--- A batch has more bytes than items, so a count of bytes bounds the number of items.
+-- A batch has more bytes than items. So the size of a file bounds the number of its items.
 abbrev pub BatchesOutweighItems : Type 0
 BatchesOutweighItems = (file : OpenFile) (content : List ℕ) (offset end : ℕ) (items : List LogItem)
     → HasBatch file content offset items end → offset + length items < end

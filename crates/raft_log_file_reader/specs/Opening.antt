@@ -1,4 +1,4 @@
--- The header at the start of a log file, and why it wasn't read.
+-- The header of a log file, and the errors with which opening the file can fail.
 use Rattle.std.specs.Prelude.{◌≡◌, ℕ, ◌⊎◌, List, ◌++◌, length, take}
 use Rattle.std.specs.declared.io.ErrorKind.{ErrorKind}
 use Rattle.raft_log_record_base.specs.Fault.{FailsOrMemory}
@@ -11,7 +11,7 @@ use Rattle.raft_log_file_format.specs.Header.{IsFileHeader, header_at, header_by
 use Rattle.raft_log_file_format.specs.declared.header.LogFileFormat.{LogFileFormat}
 use Rattle.raft_log_file_reader.specs.Source.{bytes_in}
 
--- The bytes begin with a header of this format, the one that is written for it, and it ends at `end`.
+-- `content` begins with the header of this format, as this code writes it, and the header ends at `end`
 pub record SaysFormat (content : List ℕ) (format : LogFileFormat) (end : ℕ) : Type 0 where
   pub header : List ℕ
   pub rest : List ℕ
@@ -20,12 +20,12 @@ pub record SaysFormat (content : List ℕ) (format : LogFileFormat) (end : ℕ) 
   pub splits : content ≡ header ++ rest
   pub ends : end ≡ length header
 
--- some of the first 69 bytes of the file couldn't be read; an unreadable byte after them fails no open
+-- reading the first 69 bytes of the file failed; unreadable bytes after these don't matter for an open
 abbrev pub IsUnreadInFront : Handle → Disk → ErrorKind → Type 0
 IsUnreadInFront handle d kind = IsUnread handle 0 69 d kind
 
--- Why a file wasn't opened: its size or its first bytes couldn't be read, or memory ran out. Otherwise it is the first
--- fault of a header in its first 69 bytes.
+-- Why a file wasn't opened: its size or its first 69 bytes couldn't be read, or memory ran out, or the header in these
+-- bytes has this fault.
 abbrev pub FailsToOpen : Handle → Disk → Error → Type 0
 FailsToOpen handle d (errors.Io kind) = IsNotMeasured handle d kind ⊎ IsUnreadInFront handle d kind
 FailsToOpen handle d e = FailsOrMemory e (header_at (take 69 (bytes_in (d.files handle.file))))

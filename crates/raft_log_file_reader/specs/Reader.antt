@@ -1,4 +1,4 @@
--- A reader of a log file: what callers see of it, and what its calls return.
+-- A reader of one log file at a time: its state, and what its calls return.
 use Rattle.std.specs.Prelude.{◌≡◌, ℕ, ◌+◌, ◌-◌, ◌≤◌, length, Option, Some, None, MatchOption}
 use Rattle.std.specs.Option.{ForSome}
 use Rattle.raft_log_record_base.specs.declared.pipe_log.FileId.{FileId}
@@ -20,33 +20,35 @@ use Rattle.raft_log_file_reader.specs.declared.reader.LogItemBatchFileReader.{Lo
 abbrev pub file_of : LogItemBatchFileReader → Option OpenFile
 file_of reader = reader.file
 
--- where the last valid record that was read ends, or the header if none was read
+-- where the last valid record that was read ends; if none was read yet, where the header ends
 abbrev pub end_of : LogItemBatchFileReader → ℕ
 end_of reader = reader.valid_offset
 
--- the location of the entry block of the last batch
+-- the location of the entry block of the batch that was read last
 abbrev pub last_block : LogItemBatchFileReader → FileBlockHandle
 last_block reader = reader.last_block
 
--- the reader reads this file, whose bytes on the disk are unchanged since it was opened
+-- the reader's window has the bytes that this file has on the disk, its size is the file's, and its offset is within
+-- the file
 pub record IsReadingFile (d : Disk) (reader : LogItemBatchFileReader) (file : OpenFile) : Type 0 where
   pub holds : HoldsPart file.source d reader.window
   pub within : reader.valid_offset ≤ file.source.size
 
--- the reader reads the open file, if there is one, from this disk
+-- if the reader has a file open, the reader's size, window and offset fit that file on the disk
 abbrev pub IsReading : Disk → LogItemBatchFileReader → Type 0
 IsReading d reader = ForSome reader.file (IsReadingFile d reader)
 
--- a location is within the open file
+-- the location is within the file that the reader has open
 abbrev pub IsInsideFile : FileBlockHandle → LogItemBatchFileReader → Type 0
 IsInsideFile block reader = ForSome reader.file (λ file. block.offset + block.len ≤ file.source.size)
 
--- no file is open
+-- the reader has no file open
 pub record HasNoneOpen (reader : LogItemBatchFileReader) : Type 0 where
   pub file : file_of reader ≡ None
   pub end : end_of reader ≡ 0
 
--- the file with this handle is open, and the reader is at the end of its header
+-- The reader has the file with this id and handle open. The file begins with a header of this format, and the reader's
+-- offset is at the end of the header.
 pub record Opens (id : FileId) (handle : Handle) (d : Disk) (format : LogFileFormat)
     (reader : LogItemBatchFileReader) : Type 0 where
   pub source : Source
@@ -55,24 +57,25 @@ pub record Opens (id : FileId) (handle : Handle) (d : Disk) (format : LogFileFor
   pub opened : file_of reader ≡ Some (record { id = id; source = source; format = format })
   pub header : SaysFormat (bytes_of source d) format (end_of reader)
 
--- the reader is unmoved: it is in the same file, at the same offset, after the same batch
+-- `new` has the same file open as `old`, the same offset, and the same last entry block
 pub record IsUnmoved (old new : LogItemBatchFileReader) : Type 0 where
   pub file : file_of new ≡ file_of old
   pub end : end_of new ≡ end_of old
   pub block : last_block new ≡ last_block old
 
--- The next batch with its end; or none if the file has no more, and the reader is unmoved.
+-- What reading the next batch returns: the batch, and the reader's offset is at its end. Or `None` if no batch follows,
+-- and the reader is unchanged.
 abbrev pub AnswersBatch : Disk → OpenFile → LogItemBatchFileReader → LogItemBatchFileReader → Option ItemBatch
     → Type 0
 AnswersBatch d file old new found = MatchOption found
     (HasNoMore file (bytes_of file.source d) (end_of old) × IsUnmoved old new)
     (λ batch. HasBatch file (bytes_of file.source d) (end_of old) batch.items (end_of new))
 
--- how many bytes an open file has; 0 if none is open
+-- the size of the open file; 0 if none is open
 abbrev pub size_in : Option OpenFile → ℕ
 size_in None = 0
 size_in (Some file) = file.source.size
 
--- how many bytes of its file the reader hasn't read yet
+-- how many bytes of the open file are after the reader's offset
 abbrev pub left_of : LogItemBatchFileReader → ℕ
 left_of reader = size_in (file_of reader) - end_of reader

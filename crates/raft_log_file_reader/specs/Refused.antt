@@ -1,4 +1,4 @@
--- Why a call of a reader fails.
+-- The errors with which the calls of a reader fail.
 use Rattle.std.specs.Prelude.{ℕ, List, take, drop, Result}
 use Rattle.std.specs.String.{string_bytes}
 use Rattle.raft_log_record_base.specs.Fault.{Fault, FailsOrMemory}
@@ -13,13 +13,14 @@ use Rattle.raft_log_file_reader.specs.Batches.{IsBroken}
 use Rattle.raft_log_file_reader.specs.declared.source.Source.{Source}
 use Rattle.raft_log_file_reader.specs.declared.open_file.OpenFile.{OpenFile}
 
--- bytes from an offset on couldn't be read, memory ran out, or this is the fault at which reading them stops
+-- `reading` is what reading the bytes at the offset `at` returns. The call fails with its fault; or because the file
+-- system failed a read from `at` on, or memory ran out.
 abbrev pub FailsAt : {Y : Type 0} → Source → Disk → ℕ → Error → Result Y Fault → Type 0
 FailsAt source d at (errors.Io kind) reading = IsUnreadFrom source at d kind
 FailsAt source d at e reading = FailsOrMemory e reading
 
--- Why no batch was read: bytes after an offset couldn't be read, memory ran out, or this is the first fault of the
--- record there.
+-- Why the next batch after `offset` wasn't read: the file system failed a read from there on, or memory ran out, or the
+-- next record has this fault.
 abbrev pub FailsBehind : OpenFile → Disk → ℕ → Error → Type 0
 FailsBehind file d offset (errors.Io kind) = IsUnreadFrom file.source offset d kind
 FailsBehind file d offset errors.Memory = Unit {0}
@@ -28,10 +29,11 @@ FailsBehind file d offset (errors.Corruption text) =
     IsBroken file (bytes_of file.source d) offset (corrupt (string_bytes text))
 FailsBehind file d offset _ = ⊥
 
--- the bytes at a location of the file
+-- the bytes of a file at a location
 abbrev pub bytes_at : FileBlockHandle → OpenFile → Disk → List ℕ
 bytes_at block file d = take block.len (drop block.offset (bytes_of file.source d))
 
--- why the entry block at a location wasn't found to be whole
+-- why a check that the entry block at a location is whole failed: a read failed, or memory ran out, or the block has
+-- this fault
 abbrev pub FailsToCheckBlock : FileBlockHandle → OpenFile → Disk → Error → Type 0
 FailsToCheckBlock block file d e = FailsAt file.source d block.offset e (block_of (bytes_at block file d))

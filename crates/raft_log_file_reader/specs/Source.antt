@@ -1,4 +1,4 @@
--- A file that is read.
+-- A file that is read, and why bytes of it can't be read.
 use Rattle.std.specs.Prelude.{ℕ, ◌+◌, ◌≤◌, List, [], Option, Some, None}
 use Rattle.std.specs.declared.io.ErrorKind.{ErrorKind}
 use Rattle.raft_log_record_base.specs.declared.errors.Error.{Error}
@@ -12,11 +12,11 @@ abbrev pub bytes_in : Option File → List ℕ
 bytes_in None = []
 bytes_in (Some file) = file.content
 
--- the bytes of the file on the disk; none if it was deleted
+-- the content of the file on the disk; none if it was deleted
 abbrev pub bytes_of : Source → Disk → List ℕ
 bytes_of source d = bytes_in (d.files source.handle.file)
 
--- a read of some of the file's bytes, none before this offset, failed
+-- the file system failed a read of bytes of the file, all of them at or after `offset`
 pub record IsUnreadFrom (source : Source) (offset : ℕ) (d : Disk) (kind : ErrorKind) : Type 0 where
   pub at : ℕ
   pub count : ℕ
@@ -24,13 +24,13 @@ pub record IsUnreadFrom (source : Source) (offset : ℕ) (d : Disk) (kind : Erro
   pub inside : at + count ≤ source.size
   pub unread : IsUnread source.handle at count d kind
 
--- why bytes from an offset on weren't read: the file system failed a read, or memory ran out
+-- why bytes at or after `offset` weren't read: the file system failed a read, or memory ran out
 abbrev pub CannotRead : Source → ℕ → Disk → Error → Type 0
 CannotRead source offset d (errors.Io kind) = IsUnreadFrom source offset d kind
 CannotRead source offset d errors.Memory = Unit {0}
 CannotRead source offset d _ = ⊥
 
--- why `count` bytes from an offset on weren't read: the file system failed the read, or memory ran out
+-- why `count` bytes from `offset` on weren't read: the file system failed the read, or memory ran out
 abbrev pub CannotReadPart : Source → ℕ → ℕ → Disk → Error → Type 0
 CannotReadPart source offset count d (errors.Io kind) = IsUnread source.handle offset count d kind
 CannotReadPart source offset count d errors.Memory = Unit {0}

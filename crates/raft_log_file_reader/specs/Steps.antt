@@ -10,40 +10,40 @@ use Rattle.raft_log_file_reader.specs.ItemBatches.{GivesOpen, AnswersGoOn, files
 use Rattle.raft_log_file_reader.specs.declared.log_file.LogFile.{LogFile}
 use Rattle.raft_log_file_reader.specs.declared.batches.BatchReader.{BatchReader}
 
--- the most results that the open file still gives
+-- a bound on the results that the open file still gives
 abbrev pub most_open : LogItemBatchFileReader → ℕ
 most_open reader = most_behind (file_of reader) (end_of reader)
 
--- these items were read of the open file, and fewer results than before are left
+-- `items` were read of the open file. The bound on its results has become lower by more than their number.
 pub record ReadsOn (d : Disk) (items : List LogItem) (old new : LogItemBatchFileReader) : Type 0 where
   pub goes_on : AnswersGoOn (GivesOpen d) old (given items) new
   pub fewer : length items + most_open new < most_open old
 
--- the file that was open has no more batches, and was closed
+-- nothing more is read of the file that the reader had open, if any, and it has none open now
 pub record EndsOpen (d : Disk) (old new : LogItemBatchFileReader) : Type 0 where
   pub nothing : GivesOpen d old []
   pub closed : HasNoneOpen new
 
--- this error ends what is read of the file that was open; it was closed
+-- all that is still read of the open file is this error, and the reader has closed it
 pub record FailsOpen (d : Disk) (error : Error) (old new : LogItemBatchFileReader) : Type 0 where
   pub told : GivesOpen d old (Err error ∷ [])
   pub some : 0 < most_open old
   pub closed : HasNoneOpen new
 
--- the first of the files that weren't opened yet is open
+-- the reader opened the first of the files that it hadn't opened yet
 pub record OpensNext (d : Disk) (old new : BatchReader) : Type 0 where
   pub file : LogFile
   pub next : files_of old ≡ file ∷ files_of new
   pub gives : (answers : List Answer) → GivesOpen d new.reader answers → GivesFile d file answers
   pub fewer : most_open new.reader < most_of d file
 
--- no file is left to open
+-- the reader has no file open, and none left to open
 pub record HasNoFileLeft (old new : BatchReader) : Type 0 where
   pub none : files_of old ≡ []
   pub none_left : files_of new ≡ []
   pub closed : HasNoneOpen new.reader
 
--- the first of the files that weren't opened yet fails with this error, and is skipped
+-- the first of the files that the reader hadn't opened yet couldn't be opened: all that is read of it is this error
 pub record FailsNext (d : Disk) (error : Error) (old new : BatchReader) : Type 0 where
   pub file : LogFile
   pub next : files_of old ≡ file ∷ files_of new

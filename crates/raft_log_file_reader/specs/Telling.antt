@@ -1,4 +1,4 @@
--- The errors for a path that isn't what it should be.
+-- The errors for a path that isn't that of a file or directory to read.
 use Rattle.std.specs.Prelude.{◌≡◌, ℕ, Bool, true, false, List}
 use Rattle.std.specs.String.{string_bytes}
 use Rattle.std.specs.declared.io.ErrorKind.{ErrorKind}
@@ -7,13 +7,14 @@ use Rattle.raft_log_record_base.specs.declared.errors.Error.{Error}
 use Rattle.raft_log_record_base.specs.declared.errors.Error.TheVariants as errors
 use Rattle.raft_log_file_reader.specs.Files.{told}
 
--- an invalid argument with these words and the path, or memory ran out
+-- an `InvalidArgument` whose text has these words and the path, or out of memory
 abbrev pub TellsInvalid : List ℕ → List ℕ → Error → Type 0
 TellsInvalid words path (errors.InvalidArgument text) = string_bytes text ≡ told words path
 TellsInvalid words path errors.Memory = Unit {0}
 TellsInvalid words path _ = ⊥
 
--- After a stop, the error of the file system. Otherwise an invalid argument, or `Memory` if memory ran out.
+-- The error of a call on a path if the file system failed it with `kind`. After a stop it is `Io` with this kind.
+-- Otherwise it is `InvalidArgument`, whose text has these words and the path, or `Memory`.
 abbrev pub TellsAbsent : Bool → ErrorKind → List ℕ → List ℕ → Error → Type 0
 TellsAbsent stopped kind words path (errors.InvalidArgument text) =
     (stopped ≡ false) × (kind ≡ OutOfMemory → ⊥) × (string_bytes text ≡ told words path)

@@ -1,4 +1,4 @@
--- How settings are printed as TOML: each key with its value, unless it has none.
+-- How settings are printed as TOML: each key with its value. A key without a value is left out.
 use Rattle.std.specs.Prelude.{◌≡◌, ℕ, pos, ◌++◌, ◌^◌, ◌<◌, Bool, false, nat_le, cond, if◌then◌else◌, List, [], ◌∷◌, Option, Some, None, codes}
 use Rattle.std.specs.Str.{bytes_eq}
 use Rattle.std.specs.Option.{option_map, option_or}
@@ -19,22 +19,22 @@ use Rattle.raft_log_file_settings.specs.Settings.{Settings}
 
 -- Values.
 
--- the word that is printed for a recovery mode; for `TolerateTailCorruption` the older one
+-- the word that is printed for a recovery mode; of the two words for `TolerateTailCorruption` it is the older one
 abbrev pub word_of : RecoveryMode → List ℕ
 word_of AbsoluteConsistency = codes "absolute-consistency"
 word_of TolerateTailCorruption = codes "tolerate-corrupted-tail-records"
 word_of TolerateAnyCorruption = codes "tolerate-any-corruption"
 
--- a size: a number of bytes, or a text if it is past the range of TOML's numbers
+-- a size as TOML: a number of bytes, or a text if it is 2^63 or more, which is past the range of TOML's numbers
 abbrev pub size_data : ℕ → Data
 size_data n = cond (nat_le (2 ^ 63) n) (string (size_text n)) (integer (pos n))
 
--- a size that fits 64 bits, if there is one
+-- the size, if there is one, is below 2^64
 abbrev pub SizeFits : Option ℕ → Type 0
 SizeFits None = Unit {0}
 SizeFits (Some n) = n < 2 ^ 64
 
--- each size fits 64 bits
+-- each size in the settings is below 2^64
 pub record SizesFit (s : Settings) : Type 0 where
   pub block : SizeFits (Some s.recovery_read_block_size)
   pub per_sync : SizeFits s.bytes_per_sync
@@ -44,7 +44,7 @@ pub record SizesFit (s : Settings) : Type 0 where
   pub memory : SizeFits s.memory_limit
   pub prefill : SizeFits s.prefill_limit
 
--- the value of a key, as TOML has it
+-- the value of a row in the code as a TOML value
 abbrev pub data_of : Entry → Data
 data_of (entries.Text text) = string text.now
 data_of (entries.Size size) = size_data size.0
@@ -53,15 +53,15 @@ data_of (entries.Switch on) = boolean on
 
 -- Rows.
 
--- a key and its value; without a value the key is left out
+-- A key, and its value if it has one.
 abbrev pub Row : Type 0
 Row = List ℕ × Option Data
 
--- a row of the code
+-- a row of the code as a `Row`
 abbrev pub row_of : Bor (List ℕ) × Option Entry → Row
 row_of row = (row.0.now, option_map data_of row.1)
 
--- the rows of settings
+-- the keys of these settings with their values
 abbrev pub rows_of : Settings → List Row
 rows_of s =
     (codes "dir", Some (string s.dir))
@@ -81,58 +81,60 @@ rows_of s =
     ∷ (codes "prefill-limit", option_map size_data s.prefill_limit)
     ∷ []
 
--- the values of keys after a row was added to a table
+-- the value of each key in a table after a row was added to it; a row without a value changes nothing
 abbrev pub with_row : Row → (List ℕ → Option Data) → List ℕ → Option Data
 with_row row at k = cond (bytes_eq row.0 k) (option_or row.1 (at k)) (at k)
 
--- the values of keys after rows were added to a table, one after another
+-- the value of each key in a table after these rows were added to it, one after another
 abbrev pub with_rows : List Row → (List ℕ → Option Data) → List ℕ → Option Data
 with_rows [] at = at
 with_rows (row ∷ rows) at = with_rows rows (with_row row at)
 
--- the table has exactly the values of these rows, and none of its values is nested
+-- the table has exactly the keys and values of these rows, and no value contains other values
 pub record HasRows (rows : List Row) (table : Members) : Type 0 where
   pub at : (k : List ℕ) → get_member k table ≡ with_rows rows (λ _. None) k
   pub flat : members_depth table ≡ 0
 
--- a text is TOML, and its table has exactly the values of these rows
+-- `text` is TOML, and its table has exactly the keys and values of these rows
 abbrev pub SaysRows : List ℕ → List Row → Type 0
 SaysRows text rows = (table : Members) × (parse_document text ≡ Some table) × HasRows rows table
 
--- a table got this value at a key, and stays flat if both are
+-- `new` is the table `old` with `value` at `key`; if neither `value` nor a value of `old` contains other values, no
+-- value of `new` does
 pub record PutsAt (key : List ℕ) (value : Data) (old new : Members) : Type 0 where
   pub at : (k : List ℕ) → get_member k new ≡ cond (bytes_eq key k) (Some value) (get_member k old)
   pub flat : depth value ≡ 0 → members_depth old ≡ 0 → members_depth new ≡ 0
 
--- a row was added to a table, which stays flat
+-- `new` is the table `old` with this row added; if no value of `old` contains other values, none of `new` does
 pub record PutsRow (row : Row) (old new : Members) : Type 0 where
   pub at : (k : List ℕ) → get_member k new ≡ with_row row (λ l. get_member l old) k
   pub flat : members_depth old ≡ 0 → members_depth new ≡ 0
 
 -- Errors.
 
--- a number that TOML can't express: 2^63 or more
+-- whether the value is a number that TOML can't express: 2^63 or more
 abbrev pub is_unsaid : Option Data → Bool
 is_unsaid (Some (integer (pos n))) = nat_le (2 ^ 63) n
 is_unsaid _ = false
 
--- the first key with such a number
+-- the key of the first number that TOML can't express, if there is one
 abbrev pub first_unsaid : List Row → Option (List ℕ)
 first_unsaid [] = None
 first_unsaid (row ∷ rows) = if is_unsaid row.1 then Some row.0 else first_unsaid rows
 
--- the text that names such a key
+-- the error text for a number at `key` that TOML can't express
 abbrev pub too_large : List ℕ → List ℕ
 too_large key = codes "number past the range of TOML at " ++ key
 
--- why rows aren't printed: the first number past the range of TOML, named by its key, or out of memory
+-- Why the rows can't be printed: TOML can't express a number, and the error names the first key that has one. Or memory
+-- ran out.
 abbrev pub IsUnprintable : List Row → Error → Type 0
 IsUnprintable rows (errors.InvalidArgument text) =
     (key : List ℕ) × (first_unsaid rows ≡ Some key) × (string_bytes text ≡ too_large key)
 IsUnprintable rows errors.Memory = Unit {0}
 IsUnprintable rows _ = ⊥
 
--- the error that names such a key, or out of memory
+-- the error for a number at `key` that TOML can't express, or out of memory
 abbrev pub SaysTooLarge : List ℕ → Error → Type 0
 SaysTooLarge key (errors.InvalidArgument text) = string_bytes text ≡ too_large key
 SaysTooLarge key errors.Memory = Unit {0}

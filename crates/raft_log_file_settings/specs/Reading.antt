@@ -1,4 +1,4 @@
--- How settings are read from TOML: each key with the type of its value, and its default.
+-- How settings are read from TOML: what type of value each key has, and its default.
 use Rattle.std.specs.Prelude.{◌≡◌, ℕ, ℤ, pos, negsuc, ◌++◌, Bool, List, Option, Some, None, Result, Ok, Err, ◌⊎◌, if◌then◌else◌, ◌==◌, codes}
 use Rattle.std.specs.Str.{bytes_eq, trim}
 use Rattle.std.specs.Option.{option_map, option_and_then}
@@ -21,20 +21,20 @@ use Rattle.raft_log_file_settings.specs.Settings.{Settings, settings_of, default
 
 -- Values.
 
--- a whole number that isn't negative
+-- the number, if it isn't negative
 abbrev pub natural : ℤ → Option ℕ
 natural (pos n) = Some n
 natural (negsuc n) = None
 
--- a number
+-- the number that a TOML value is, if it isn't negative
 abbrev pub number_of : Data → Option ℕ
 number_of d = option_and_then natural (as_integer d)
 
--- the size that a text spells
+-- the size that a text spells; white space around it doesn't matter
 abbrev pub size_of_text : List ℕ → Option ℕ
 size_of_text text = result_ok (size_in (trim text))
 
--- a size: a number of bytes, or a text
+-- the size that a TOML value is: a number of bytes, or a text that spells a size
 abbrev pub size_of : Data → Option ℕ
 size_of (string text) = size_of_text text
 size_of d = number_of d
@@ -43,11 +43,11 @@ size_of d = number_of d
 abbrev pub version_numbered : ℕ → Option Version
 version_numbered n = if n == 1 then Some V1 else (if n == 2 then Some V2 else None)
 
--- a version, by its number
+-- the format version whose number a TOML value is
 abbrev pub version_of : Data → Option Version
 version_of d = option_and_then version_numbered (number_of d)
 
--- the recovery mode for a word; `TolerateTailCorruption` has an older word too
+-- the recovery mode with this name; `TolerateTailCorruption` has two names, an older one and a newer one
 abbrev pub mode_word : List ℕ → Option RecoveryMode
 mode_word word =
     if bytes_eq word (codes "absolute-consistency") then Some AbsoluteConsistency
@@ -56,32 +56,34 @@ mode_word word =
     else (if bytes_eq word (codes "tolerate-any-corruption") then Some TolerateAnyCorruption
     else None)))
 
--- a recovery mode
+-- the recovery mode whose name a TOML value is
 abbrev pub mode_of : Data → Option RecoveryMode
 mode_of d = option_and_then mode_word (as_str d)
 
 -- Keys.
 
--- a value, or this error if there is none
+-- the value, or the error `key` if there is none
 abbrev pub ok_or : {X : Type 0} → Option X → List ℕ → Result X (List ℕ)
 ok_or (Some x) key = Ok x
 ok_or None key = Err key
 
--- a value that can't be read makes its key wrong
+-- What `read` makes of a key's TOML value, or `absent` if there is no value. If `read` can't read the value, the error
+-- is the key.
 abbrev pub at_value : {X : Type 0} → List ℕ → (Data → Option X) → X → Option Data → Result X (List ℕ)
 at_value key read absent None = Ok absent
 at_value key read absent (Some d) = ok_or (read d) key
 
--- the value of a key, or its default if the key is absent; a value of another kind makes the key wrong
+-- What `read` makes of the value of `key` in the table `t`, or `absent` if the table hasn't this key. If `read` can't
+-- read the value, the error is the key.
 abbrev pub at : {X : Type 0} → List ℕ → (Data → Option X) → X → Members → Result X (List ℕ)
 at key read absent t = at_value key read absent (get_member key t)
 
--- a value of an optional key, if it can be read
+-- what `read` makes of the value of an optional setting
 abbrev pub maybe : {X : Type 0} → (Data → Option X) → Data → Option (Option X)
 maybe read d = option_map (λ x. Some x) (read d)
 
--- What a table sets for recycling, over the usual settings: whether files are recycled, whether they are prefilled, and
--- how many bytes are prefilled.
+-- What a table sets for recycling: whether files are recycled, whether they are prefilled, and how many bytes are
+-- prefilled. A key that it leaves out has its value in `usual`.
 unfoldable pub recycling_in : Settings → Members → Result (Bool × Bool × Option ℕ) (List ℕ)
 recycling_in usual t = do
   enable_log_recycle ← at (codes "enable-log-recycle") as_bool usual.enable_log_recycle t
@@ -89,7 +91,8 @@ recycling_in usual t = do
   prefill_limit ← at (codes "prefill-limit") (maybe size_of) usual.prefill_limit t
   Ok (enable_log_recycle, prefill_for_recycle, prefill_limit)
 
--- what a table sets for purges: the sizes of Append and of Rewrite, and the share of garbage, above which they begin
+-- What a table sets for purges: the thresholds for the sizes of Append and of Rewrite, and the threshold for the share
+-- of garbage.
 unfoldable pub purging_in : Settings → Members → Result (ℕ × Option ℕ × ℕ) (List ℕ)
 purging_in usual t = do
   threshold ← at (codes "purge-threshold") size_of usual.purge_threshold t
@@ -97,7 +100,7 @@ purging_in usual t = do
   garbage_ratio ← at (codes "purge-rewrite-garbage-ratio") number_of usual.purge_rewrite_garbage_ratio t
   Ok (threshold, rewrite, garbage_ratio)
 
--- what a table sets for a recovery: how it handles damage, its block size and its workers
+-- What a table sets for recovery: how it handles damage, how many bytes it reads at once, and its number of threads.
 unfoldable pub recovery_in : Settings → Members → Result (RecoveryMode × ℕ × ℕ) (List ℕ)
 recovery_in usual t = do
   recovery_mode ← at (codes "recovery-mode") mode_of usual.recovery_mode t
@@ -105,7 +108,8 @@ recovery_in usual t = do
   recovery_threads ← at (codes "recovery-threads") number_of usual.recovery_threads t
   Ok (recovery_mode, block, recovery_threads)
 
--- what a table sets for new files: a setting without effect, their format, and the size at which they are full
+-- What a table sets for new files: `bytes-per-sync`, which has no effect, their format, and the size at which they are
+-- full.
 unfoldable pub files_in : Settings → Members → Result (Option ℕ × Version × ℕ) (List ℕ)
 files_in usual t = do
   bytes_per_sync ← at (codes "bytes-per-sync") (maybe size_of) usual.bytes_per_sync t
@@ -113,7 +117,8 @@ files_in usual t = do
   target_file_size ← at (codes "target-file-size") size_of usual.target_file_size t
   Ok (bytes_per_sync, format_version, target_file_size)
 
--- the usual settings, overridden by a table's, or its first wrong key in this order; other keys are ignored
+-- The settings `usual`, except for the keys that a table sets. If some values are wrong, the error is the first of
+-- their keys, in this order. Unknown keys are ignored.
 unfoldable pub settings_over : Settings → Members → Result Settings (List ℕ)
 settings_over usual t = do
   dir ← at (codes "dir") as_str usual.dir t
@@ -141,72 +146,78 @@ settings_over usual t = do
     prefill_limit = recycling.2;
   })
 
--- the settings that a table states; keys that it leaves out have their usual values
+-- the settings that a table sets; keys that it leaves out have their default values
 abbrev pub settings_in : Members → Result Settings (List ℕ)
 settings_in = settings_over default_settings
 
 -- What reading returns.
 
--- the text that names a wrong key
+-- the error text for a wrong value of `key`
 abbrev pub wrong_value : List ℕ → List ℕ
 wrong_value key = codes "wrong value of " ++ key
 
--- the text for what isn't TOML
+-- the error text for a text that isn't TOML
 abbrev pub no_toml : List ℕ
 no_toml = codes "settings are no TOML"
 
--- the error for what isn't TOML, or out of memory
+-- the error for a text that isn't TOML, or out of memory
 abbrev pub SaysNoToml : Error → Type 0
 SaysNoToml (errors.InvalidArgument text) = string_bytes text ≡ no_toml
 SaysNoToml errors.Memory = Unit {0}
 SaysNoToml _ = ⊥
 
--- the error that names this key, or out of memory
+-- the error for a wrong value of `key`, or out of memory
 abbrev pub NamesKey : Error → List ℕ → Type 0
 NamesKey (errors.InvalidArgument text) key = string_bytes text ≡ wrong_value key
 NamesKey errors.Memory key = Unit {0}
 NamesKey _ key = ⊥
 
--- a value of a key was read, or the key is wrong, or memory ran out
+-- What the code returns for `key`: the value that `reading` has; or the error for a wrong value, if `reading` is one.
+-- Or memory ran out.
 abbrev pub GivesAt : {X : Type 0} → Result X Error → List ℕ → Result X (List ℕ) → Type 0
 GivesAt (Ok x) key reading = reading ≡ Ok x
 GivesAt (Err errors.Memory) key reading = Unit {0}
 GivesAt (Err e) key reading = (reading ≡ Err key) × NamesKey e key
 
--- the values of several keys were read, or the first wrong key is returned, or memory ran out
+-- What the code returns for several keys: the values that `reading` has; or the error for the key that `reading` names.
+-- Or memory ran out.
 abbrev pub GivesKeys : {X : Type 0} → Result X Error → Result X (List ℕ) → Type 0
 GivesKeys (Ok x) reading = reading ≡ Ok x
 GivesKeys (Err errors.Memory) reading = Unit {0}
 GivesKeys (Err e) reading = (key : List ℕ) × (reading ≡ Err key) × NamesKey e key
 
--- a borrowed text was read at a key, or the key is wrong, or memory ran out
+-- What the code returns for `key`, as a borrowed text: the text that `reading` has; or the error for a wrong value, if
+-- `reading` is one. Or memory ran out.
 abbrev pub GivesText : Result (Bor (List ℕ)) Error → List ℕ → Result (List ℕ) (List ℕ) → Type 0
 GivesText (Ok x) key reading = reading ≡ Ok x.now
 GivesText (Err errors.Memory) key reading = Unit {0}
 GivesText (Err e) key reading = (reading ≡ Err key) × NamesKey e key
 
--- a borrowed text, which may be absent, was read at a key, or the key is wrong, or memory ran out
+-- What the code returns for `key`, as a borrowed text, or `None` if there is none: what `reading` has; or the error for
+-- a wrong value, if `reading` is one. Or memory ran out.
 abbrev pub GivesTextIfAny : Result (Option (Bor (List ℕ))) Error → List ℕ
     → Result (Option (List ℕ)) (List ℕ) → Type 0
 GivesTextIfAny (Ok x) key reading = reading ≡ Ok (option_map (λ text. text.now) x)
 GivesTextIfAny (Err errors.Memory) key reading = Unit {0}
 GivesTextIfAny (Err e) key reading = (reading ≡ Err key) × NamesKey e key
 
--- Settings were read from a table, or its first wrong key is returned, or memory ran out.
+-- What the code returns for a table: the settings that `reading` has; or the error for the key that `reading` names. Or
+-- memory ran out.
 abbrev pub GivesSettings : Result Config Error → Result Settings (List ℕ) → Type 0
 GivesSettings (Ok config) reading = reading ≡ Ok (settings_of config)
 GivesSettings (Err errors.Memory) reading = Unit {0}
 GivesSettings (Err e) reading = (key : List ℕ) × (reading ≡ Err key) × NamesKey e key
 
--- a text is TOML, and its table states these settings
+-- `text` is TOML, and its table sets these settings
 abbrev pub SaysSettings : List ℕ → Settings → Type 0
 SaysSettings text s = (table : Members) × (parse_document text ≡ Some table) × (settings_in table ≡ Ok s)
 
--- a text is TOML, and this is the first wrong key of its table
+-- `text` is TOML, and `key` is the first key of its table, in the order of `settings_over`, that has a wrong value
 abbrev pub HasWrongKey : List ℕ → List ℕ → Type 0
 HasWrongKey text key = (table : Members) × (parse_document text ≡ Some table) × (settings_in table ≡ Err key)
 
--- What reading a text returns: the settings of its table, or its first wrong key, or that it isn't TOML.
+-- What the code returns for a text: the settings that its table sets. Or an error: the text isn't TOML, or a key has a
+-- wrong value, or memory ran out.
 abbrev pub GivesSettingsOf : Result Config Error → List ℕ → Type 0
 GivesSettingsOf (Err errors.Memory) text = Unit {0}
 GivesSettingsOf (Err (errors.InvalidArgument why)) text =

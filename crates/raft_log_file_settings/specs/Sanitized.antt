@@ -1,4 +1,4 @@
--- Which settings are rejected, what the others become, and the capacities that follow from them.
+-- Which settings are rejected, how the others are completed, and how many files they let the log keep and prefill.
 use Rattle.std.specs.Prelude.{◌≡◌, ℕ, ◌<◌, ◌*◌, ◌/◌, ◌^◌, ◌-◌, ◌⊎◌, max, min, nat_le, ◌&&◌, Bool, true, false, if◌then◌else◌, List, ◌∷◌, ◌++◌, Option, Some, None, IsSomeAnd, unwrap_or}
 use Rattle.anyhow.specs.Error.{HasMessage}
 use Rattle.raft_log_record_base.specs.declared.errors.Error.{Error}
@@ -13,20 +13,20 @@ use Rattle.raft_log_file_settings.specs.Settings.{Settings}
 use Rattle.raft_log_file_settings.specs.Text.{fault_text}
 use Rattle.raft_log_record_base.specs.Files.{is_signed}
 
--- the name of a log file, or of a file that is kept for recycling
+-- the name of a log file, or of a file that Append keeps for recycling
 abbrev pub IsFileName : List ℕ → Type 0
 IsFileName name =
     (n : ℕ) × (((queue : LogQueue) × IsNamed (suffix_of queue) name n) ⊎ IsNamed reserved_suffix name n)
 
--- a path that a file of the log in this directory may have
+-- `path` consists of `directory`, a slash, and a name that the log uses
 abbrev pub IsFileIn : List ℕ → List ℕ → Type 0
 IsFileIn directory path = (name : List ℕ) × IsFileName name × (path ≡ directory ++ 47 ∷ name)
 
--- the two directories are the same, or one has the path of a file in the other
+-- `dir` and `spill` are the same directory, or one is at a path that a file of the log may have in the other
 abbrev pub Clash : List ℕ → List ℕ → Type 0
 Clash dir spill = (dir ≡ spill) ⊎ (IsFileIn dir spill ⊎ IsFileIn spill dir)
 
--- what is wrong with settings
+-- what is wrong with settings that have this fault
 abbrev pub HasFault : Settings → ConfigFault → Type 0
 HasFault s faults.PurgeBelowTarget = s.purge_threshold < s.target_file_size
 HasFault s faults.NoTargetSize = s.target_file_size ≡ 0
@@ -34,7 +34,7 @@ HasFault s faults.DirectoriesClash = IsSomeAnd s.spill_dir (Clash s.dir)
 HasFault s faults.RecycleUnsigned = (s.enable_log_recycle ≡ true) × (s.format_version ≡ V1)
 HasFault s faults.PrefillWithoutRecycle = (s.prefill_for_recycle ≡ true) × (s.enable_log_recycle ≡ false)
 
--- the order in which faults are reported
+-- the position of a fault in the order in which faults are reported
 abbrev pub place : ConfigFault → ℕ
 place faults.PurgeBelowTarget = 0
 place faults.NoTargetSize = 1
@@ -42,7 +42,7 @@ place faults.DirectoriesClash = 2
 place faults.RecycleUnsigned = 3
 place faults.PrefillWithoutRecycle = 4
 
--- the settings have this fault and none before it
+-- the settings have this fault, and none that is reported earlier
 pub record IsFirstFault (s : Settings) (fault : ConfigFault) : Type 0 where
   pub has : HasFault s fault
   pub first : (other : ConfigFault) → place other < place fault → HasFault s other → ⊥
@@ -51,20 +51,22 @@ pub record IsFirstFault (s : Settings) (fault : ConfigFault) : Type 0 where
 abbrev pub HasNoFault : Settings → Type 0
 HasNoFault s = (fault : ConfigFault) → HasFault s fault → ⊥
 
--- why settings are rejected: the text of their first fault, or memory ran out for it
+-- Why settings are rejected: the error has the text of their first fault. Or they have a fault, and memory ran out.
 abbrev pub IsRefusedFor : Settings → Error → Type 0
 IsRefusedFor s (errors.Other why) =
     (fault : ConfigFault) × IsFirstFault s fault × HasMessage (Some (fault_text fault)) why.value
 IsRefusedFor s errors.Memory = (fault : ConfigFault) × IsFirstFault s fault
 IsRefusedFor s _ = ⊥
 
--- the first value, or this one if there is none
+-- the value, or `default` if there is none
 abbrev pub or_else : Option ℕ → ℕ → Option ℕ
 or_else (Some n) default = Some n
 or_else None default = Some default
 
--- Valid settings, completed: a rewrite threshold, a block of at least 512 bytes, and at least one worker. There is a
--- limit of prefilled files if and only if files are prefilled.
+-- Settings as the log uses them.
+-- - If no rewrite threshold is set, it is a tenth of the purge threshold, but at least the target size.
+-- - Recovery reads blocks of at least 512 bytes, and has at least one thread.
+-- - If files are prefilled and no limit is set, it is the purge threshold. If they aren't, there is no limit.
 abbrev pub sanitized : Settings → Settings
 sanitized s = record s {
   purge_rewrite_threshold =
@@ -74,21 +76,21 @@ sanitized s = record s {
   prefill_limit = if s.prefill_for_recycle then or_else s.prefill_limit s.purge_threshold else None;
 }
 
--- one and a half times as many files as fit into so many bytes, at most 2^32 - 1
+-- one and a half times the number of files of `target` bytes that fit into `limit` bytes, at most 2^32 - 1
 abbrev pub files_within : ℕ → ℕ → ℕ
 files_within limit target = min (limit / target * 3 / 2) (2 ^ 32 - 1)
 
--- records are signed and files are recycled
+-- whether files can be recycled: the settings enable it, and the format version has signed records
 abbrev pub can_recycle : Settings → Bool
 can_recycle s = s.enable_log_recycle && is_signed s.format_version
 
--- how many files are kept for recycling
+-- how many files the log keeps for recycling
 abbrev pub recycle_capacity : Settings → ℕ
 recycle_capacity s =
     if can_recycle s && nat_le s.target_file_size s.purge_threshold
     then files_within s.purge_threshold s.target_file_size else 0
 
--- how many files are filled with zeros at an open
+-- how many files an open prefills with zeros
 abbrev pub prefill_capacity : Settings → ℕ
 prefill_capacity s =
     let limit = unwrap_or s.prefill_limit 0 in

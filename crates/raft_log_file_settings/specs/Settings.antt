@@ -8,7 +8,7 @@ use Rattle.raft_log_file_settings.specs.declared.recovery_mode.RecoveryMode.{Rec
 use Rattle.raft_log_file_settings.specs.declared.recovery_mode.RecoveryMode.TheVariants.{TolerateTailCorruption}
 use Rattle.raft_log_file_settings.specs.declared.config.Config.{Config}
 
--- sizes in bytes, the ratio in thousandths
+-- sizes are in bytes, and the garbage ratio is in thousandths
 pub record Settings : Type 0 where
   pub dir : List ℕ
   pub spill_dir : Option (List ℕ)
@@ -46,7 +46,7 @@ settings_of c = record {
   prefill_limit = option_map (λ size. size.0) c.prefill_limit;
 }
 
--- the usual settings
+-- the default settings
 abbrev pub default_settings : Settings
 default_settings = record {
   dir = [];
@@ -66,11 +66,11 @@ default_settings = record {
   prefill_limit = None;
 }
 
--- the spill directory, if there is one
+-- the spill directory as a list, which is empty if there is none
 abbrev pub spill_directory : Option (List ℕ) → List (List ℕ)
 spill_directory None = []
 spill_directory (Some path) = path ∷ []
 
--- the directories of a log's files by these settings, the main one first
+-- the directories of the log's files, the main one first
 abbrev pub directories_of : Settings → List (List ℕ)
 directories_of s = s.dir ∷ spill_directory s.spill_dir

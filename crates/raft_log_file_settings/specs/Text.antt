@@ -1,9 +1,9 @@
--- The texts for what may be wrong with settings.
+-- The error texts for faults of settings.
 use Rattle.std.specs.Prelude.{ℕ, List, codes}
 use Rattle.raft_log_file_settings.specs.declared.fault.ConfigFault.{ConfigFault}
 use Rattle.raft_log_file_settings.specs.declared.fault.ConfigFault.TheVariants as faults
 
--- the text of a fault
+-- the error text for a fault
 abbrev pub fault_text : ConfigFault → List ℕ
 fault_text faults.PurgeBelowTarget = codes "purge-threshold < target-file-size"
 fault_text faults.NoTargetSize = codes "target-file-size is 0"

@@ -1,4 +1,4 @@
--- A chain of records in a file: what each call of the file's writer does to it.
+-- A chain of records in a file (records without gaps between them), and what each call of the file's writer does to it.
 use Rattle.std.specs.Prelude.{◌≡◌, ℕ, ◌≤◌, Bool, true, Some, List, [], ◌∷◌, ◌++◌, length, take, drop}
 use Rattle.std.specs.declared.io.ErrorKind.{ErrorKind}
 use Rattle.raft_log_fs.specs.Disk.{File, Disk, at_rest, zeros}
@@ -12,13 +12,13 @@ use Rattle.raft_log_fs.specs.Touching.{HasFile}
 use Rattle.raft_log_file_writer.specs.declared.writer.LogFileWriter.{LogFileWriter}
 use Rattle.raft_log_file_writer.specs.Writer.{IsWritten, IsDurable, WritesNext, FailsToWriteNext, Closes, FailsToClose, TakesUp, FailsToTakeUp, needs_header}
 
--- the durable bytes of a file remain after any stop
+-- durable bytes stay after any stop: what a stop leaves of their file begins with them
 abbrev pub DurableIsLeft : Type 0
 DurableIsLeft = (bytes left : List ℕ) (file : File) → IsDurable bytes file → IsLeft file left
     → take (length bytes) left ≡ bytes
 
--- Up to the writer's offset its file has a chain of records, and holds it. `more` are records whose write failed; any
--- part of them may follow the offset.
+-- Up to the writer's offset, the file has the records `durable` and `pending`, from `start` on. It holds this chain and
+-- the records `more`, whose write failed: any part of these may follow the offset.
 pub record IsAtEnd {R : Type 0} (IsFrame : List ℕ → R → Type 0) (start : ℕ) (stale : List ℕ)
     (durable pending more : List (Written R))
     (writer : LogFileWriter) (d : Disk) : Type 0 where
@@ -28,24 +28,26 @@ pub record IsAtEnd {R : Type 0} (IsFrame : List ℕ → R → Type 0) (start : �
   pub chain : drop start bytes ≡ spelled (durable ++ pending)
   pub holds : HasFile writer.handle.file (HoldsChain IsFrame start stale durable (pending ++ more)) d
 
--- from this offset on the file has only stale bytes, and it is no shorter than these
+-- From the offset `from` on, the file has only bytes of `stale`, each at its old offset. The file is no shorter than
+-- `stale`.
 pub record HasStaleFrom (from : ℕ) (stale : List ℕ) (file : File) : Type 0 where
   pub stands : StandsBehind from stale file.content
   pub covers : length stale ≤ length file.content
 
--- Up to the writer's offset its file has a chain of records, and holds it. No write has failed since the file was
--- closed, and only stale bytes follow the offset.
+-- Up to the writer's offset, the file has the records `durable` and `pending`, from `start` on, and it holds this
+-- chain. Only stale bytes follow the offset: since the last close, no write has failed.
 abbrev pub IsReady : {R : Type 0} → (List ℕ → R → Type 0) → ℕ → List ℕ → List (Written R) → List (Written R)
     → LogFileWriter → Disk → Type 0
 IsReady IsFrame start stale durable pending writer d = IsAtEnd IsFrame start stale durable pending [] writer d
     × HasFile writer.handle.file (HasStaleFrom writer.written stale) d
 
 -- What the calls of a writer do to a chain.
--- - `written`: the record is the last pending one; preallocated zeros count as stale.
--- - `refused`: a record whose write failed counts as the last pending one, and the writer's offset is unchanged.
--- - `synced`: all records are durable. `not_synced`: at least the durable ones are still durable.
--- - `closed`: the file has exactly the other records, without the failed ones, all durable. `not_closed`: the durable
---   ones are still durable, and the failed ones count.
+-- - `written`: the record that was written is the last pending one. Zeros that were allocated count as stale.
+-- - `refused`: the record whose write failed counts as the last pending one. The writer's offset is unchanged.
+-- - `synced`: all records are durable.
+-- - `not_synced`: the durable records are still durable; some first pending ones may be durable too.
+-- - `closed`: the file has exactly the durable and pending records, all durable, without those whose write failed.
+-- - `not_closed`: the durable records are still durable. Those whose write failed count as pending.
 pub record ChainIsWritten {R : Type 0} (IsFrame : List ℕ → R → Type 0) (start : ℕ) (stale : List ℕ)
     (durable pending : List (Written R))
     (before after : LogFileWriter) (old new : Disk) : Type 0 where
@@ -70,7 +72,7 @@ pub record ChainIsWritten {R : Type 0} (IsFrame : List ℕ → R → Type 0) (st
       → FailsToClose before after error old new
       → HasFile before.handle.file (HoldsAtLeast IsFrame start stale durable (pending ++ more)) new
 
--- each call of a writer has these effects on a chain of records, whatever was written
+-- each call of a writer has these effects on each chain, if the frame relation is self-delimiting
 abbrev pub WriterKeepsChain : {R : Type 0} → (List ℕ → R → Type 0) → Type 0
 WriterKeepsChain {R} IsFrame = IsSelfDelimiting IsFrame
     → (start : ℕ) (stale : List ℕ) (durable pending : List (Written R))
@@ -83,13 +85,14 @@ pub record HoldsNothing {R : Type 0} (IsFrame : List ℕ → R → Type 0) (star
   pub chain : HoldsChain IsFrame start stale [] [] file
   pub only : HasStaleFrom 0 stale file
 
--- each file at rest, new or recycled, is one without records
+-- A file whose bytes are all synced is one without records, if all its bytes count as stale. This is so for a new file
+-- and for a recycled one.
 abbrev pub RestHoldsNothing : {R : Type 0} → (List ℕ → R → Type 0) → Type 0
 RestHoldsNothing IsFrame = (start : ℕ) (content : List ℕ)
     → HoldsNothing IsFrame start content (at_rest content)
 
--- How a chain begins: a file without records that gets a header is ready for its first record. If writing the header
--- fails, it is still without records.
+-- How a chain begins: a file without records gets its header, and is ready for its first record. If writing the header
+-- fails, the file is still without records.
 pub record ChainBegins {R : Type 0} (IsFrame : List ℕ → R → Type 0) (handle : Handle)
     (header stale : List ℕ) (reset : Bool) (old new : Disk) : Type 0 where
   pub begun : (writer : LogFileWriter) → handle.permission ≡ ReadWrite
@@ -98,12 +101,12 @@ pub record ChainBegins {R : Type 0} (IsFrame : List ℕ → R → Type 0) (handl
   pub refused : (error : ErrorKind) → FailsToTakeUp handle header reset error old new
       → HasFile handle.file (HoldsChain IsFrame (length header) stale [] []) new
 
--- the handle's file gets a header
+-- opening a writer for the handle's file writes a header: the file is to be reset, or it is shorter than the header
 abbrev pub GetsHeader : Handle → List ℕ → Bool → Disk → Type 0
 GetsHeader handle header reset d = (file : File) → d.files handle.file ≡ Some file
     → needs_header header reset file.content ≡ true
 
--- a chain begins in each file without records that gets a header; if that fails, the file is still without records
+-- `ChainBegins` holds for each file without records that gets a header
 abbrev pub WriterBeginsChain : {R : Type 0} → (List ℕ → R → Type 0) → Type 0
 WriterBeginsChain {R} IsFrame = (handle : Handle) (header stale : List ℕ) (reset : Bool) (old new : Disk)
     → HasFile handle.file (HoldsNothing IsFrame (length header) stale) old → GetsHeader handle header reset old

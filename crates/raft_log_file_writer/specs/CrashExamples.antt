@@ -7,13 +7,13 @@ use Rattle.raft_log_fs.specs.Image.{IsLeft}
 use Rattle.raft_log_file_writer.specs.LawsChains.{Written, IsSelfDelimiting, spelled, AreFrames, Refuses, Reads}
 use Rattle.raft_log_file_writer.specs.KeepsSynced.{IsStale, NoChanceMatch, HoldsChain}
 
--- a file with these bytes synced, and a record written after them since
+-- a file with the bytes `synced`, all synced, after which the record `w` was written without a sync
 abbrev pub one_unsynced : {R : Type 0} → List ℕ → Written R → File
 one_unsynced synced w =
     record { content = synced ++ w.bytes; synced = synced; changes = Wrote (length synced) w.bytes ∷ [] }
 
--- Some records are synced, and the last one isn't: a stop may leave only a prefix of that one. Then there is no CRC
--- collision, and exactly the synced records are read: the last one is lost.
+-- Some records are synced, the last one (`w`) isn't, and a stop leaves only a prefix of it. Then there is no CRC
+-- collision, and exactly the synced records are read.
 abbrev pub TornRecordIsLost : {R : Type 0} → (List ℕ → R → Type 0) → Type 0
 TornRecordIsLost {R} IsFrame = IsSelfDelimiting IsFrame
     → (front stale : List ℕ) (durable : List (Written R)) (w : Written R) (landed : ℕ)
@@ -24,8 +24,8 @@ TornRecordIsLost {R} IsFrame = IsSelfDelimiting IsFrame
     IsLeft file bytes × NoChanceMatch IsFrame (length front) stale (spelled (durable ++ w ∷ [])) file bytes
     × Reads IsFrame (length front) durable bytes)
 
--- The last record of a file isn't synced, and another record is no longer than it. A stop may leave the other record in
--- its place, and the premise excludes that.
+-- The last record of a file (`w`) isn't synced. A stop may leave a different record of at most the same length in its
+-- place, but that is a CRC collision.
 abbrev pub ForeignRecordIsChance : {R : Type 0} → (List ℕ → R → Type 0) → Type 0
 ForeignRecordIsChance {R} IsFrame = IsSelfDelimiting IsFrame
     → (front stale : List ℕ) (durable : List (Written R)) (w foreign : Written R)
@@ -46,8 +46,8 @@ ForeignRecordBehindIsRefused {R} IsFrame = IsSelfDelimiting IsFrame
     → HoldsChain IsFrame (length front) stale durable pending
     (at_rest ((front ++ spelled durable) ++ (foreign.bytes ++ behind))) → ⊥
 
--- A recycled file has its new records synced over its stale bytes, and no record begins after them. Then the premise
--- holds for what a stop leaves, and exactly the new records are read.
+-- The new records of a recycled file are synced over its stale bytes, and no record begins right after them. Then the
+-- file has no CRC collision, and exactly the new records are read.
 abbrev pub RecycledFileMeetsIt : {R : Type 0} → (List ℕ → R → Type 0) → Type 0
 RecycledFileMeetsIt {R} IsFrame = (front stale : List ℕ) (durable : List (Written R))
     → IsSelfDelimiting IsFrame → AreFrames IsFrame durable
@@ -57,8 +57,7 @@ RecycledFileMeetsIt {R} IsFrame = (front stale : List ℕ) (durable : List (Writ
     × NoChanceMatch IsFrame (length front) stale (spelled durable) (at_rest bytes) bytes
     × Reads IsFrame (length front) durable bytes)
 
--- If all bytes of a file are synced, and it was empty when it got its number, the premise holds for whatever a stop
--- leaves.
+-- If a file was empty when it got its number, and all its bytes are synced, a stop leaves no CRC collision.
 abbrev pub SyncedFileHasNoChance : {R : Type 0} → (List ℕ → R → Type 0) → Type 0
 SyncedFileHasNoChance IsFrame = IsSelfDelimiting IsFrame → (start : ℕ) (file : File) (bytes : List ℕ)
     → file.changes ≡ [] → IsLeft file bytes

@@ -3,12 +3,13 @@
 -- encoding is a prefix of another.
 use Rattle.std.specs.Prelude.{◌≡◌, ℕ, ◌+◌, ◌⊎◌, List, [], ◌∷◌, ◌++◌, length, take, drop}
 
--- a record as it was written: its bytes, and their value
+-- a record as it was written: its bytes, and the value that they encode
 pub record Written (R : Type 0) : Type 0 where
   pub bytes : List ℕ
   pub value : R
 
--- no encoding is a prefix of another one or of another record's, and none is empty
+-- if two byte strings begin with an encoding of a record each, and are equal, so are the encodings and the records; no
+-- encoding is empty
 pub record IsSelfDelimiting {R : Type 0} (IsFrame : List ℕ → R → Type 0) : Type 0 where
   pub apart : (a b x y : List ℕ) (r s : R) → IsFrame a r → IsFrame b s → a ++ x ≡ b ++ y → (a ≡ b) × (r ≡ s)
   pub filled : (r : R) → IsFrame [] r → ⊥
@@ -23,7 +24,7 @@ abbrev pub AreFrames : {R : Type 0} → (List ℕ → R → Type 0) → List (Wr
 AreFrames IsFrame [] = Unit {0}
 AreFrames IsFrame (w ∷ ws) = IsFrame w.bytes w.value × AreFrames IsFrame ws
 
--- no record begins here
+-- `bytes` begin with no record
 abbrev pub Refuses : {R : Type 0} → (List ℕ → R → Type 0) → List ℕ → Type 0
 Refuses {R} IsFrame bytes = (w : Written R) (rest : List ℕ) → IsFrame w.bytes w.value
     → bytes ≡ w.bytes ++ rest → ⊥
@@ -33,14 +34,15 @@ abbrev pub HoldsNoFrame : {R : Type 0} → (List ℕ → R → Type 0) → List 
 HoldsNoFrame {R} IsFrame bytes = (ahead inside behind : List ℕ) (r : R)
     → bytes ≡ ahead ++ (inside ++ behind) → IsFrame inside r → ⊥
 
--- the bytes from `start` on begin with these records
+-- from the offset `start` on, `bytes` begin with the records `ws`, without gaps
 pub record BeginsWith {R : Type 0} (IsFrame : List ℕ → R → Type 0)
     (start : ℕ) (ws : List (Written R)) (bytes : List ℕ) : Type 0 where
   pub rest : List ℕ
   pub splits : drop start bytes ≡ spelled ws ++ rest
   pub frames : AreFrames IsFrame ws
 
--- from `start` on exactly these records are read
+-- from the offset `start` on, exactly the records `ws` are read of `bytes`: they follow without gaps, and no record
+-- begins after them
 pub record Reads {R : Type 0} (IsFrame : List ℕ → R → Type 0)
     (start : ℕ) (ws : List (Written R)) (bytes : List ℕ) : Type 0 where
   pub rest : List ℕ
@@ -48,7 +50,7 @@ pub record Reads {R : Type 0} (IsFrame : List ℕ → R → Type 0)
   pub frames : AreFrames IsFrame ws
   pub ends : Refuses IsFrame rest
 
--- reading from `start` on reaches this record at this offset
+-- reading `bytes` from `start` on finds the record `w` at the offset `at`: only whole records come before it
 pub record Meets {R : Type 0} (IsFrame : List ℕ → R → Type 0)
     (start at : ℕ) (w : Written R) (bytes : List ℕ) : Type 0 where
   pub before : List (Written R)
@@ -62,22 +64,22 @@ pub record LiesIn (from : ℕ) (all : List ℕ) (at : ℕ) (bytes : List ℕ) : 
   pub splits : all ≡ ahead ++ (bytes ++ behind)
   pub place : at ≡ from + length ahead
 
--- it is decidable whether bytes begin with a record
+-- for any bytes it is decidable whether they begin with a record
 abbrev pub CanTell : {R : Type 0} → (List ℕ → R → Type 0) → Type 0
 CanTell {R} IsFrame = (bytes : List ℕ) → ((w : Written R) × (rest : List ℕ) × IsFrame w.bytes w.value
     × (bytes ≡ w.bytes ++ rest)) ⊎ Refuses IsFrame bytes
 
--- bytes are read in only one way
+-- bytes can be read as records in only one way
 abbrev pub ReadsOneWay : {R : Type 0} → (List ℕ → R → Type 0) → Type 0
 ReadsOneWay {R} IsFrame = (start : ℕ) (bytes : List ℕ) (vs ws : List (Written R))
     → Reads IsFrame start vs bytes → Reads IsFrame start ws bytes → ws ≡ vs
 
--- if it is decidable whether a record begins, all bytes can be read
+-- if it is decidable whether bytes begin with a record, then from any offset on some list of records is read
 abbrev pub ReadsSome : {R : Type 0} → (List ℕ → R → Type 0) → Type 0
 ReadsSome {R} IsFrame = CanTell IsFrame → (start : ℕ) (bytes : List ℕ) → (ws : List (Written R))
     × Reads IsFrame start ws bytes
 
--- if two files agree up to the end of a chain, and one begins with the chain, the other does too
+-- if `d` agrees with `c` up to the end of a chain, and `c` begins with this chain, so does `d`
 abbrev pub AgreesUpToEnd : {R : Type 0} → (List ℕ → R → Type 0) → Type 0
 AgreesUpToEnd {R} IsFrame = (start : ℕ) (ws : List (Written R)) (c d : List ℕ)
     → take (start + length (spelled ws)) d ≡ take (start + length (spelled ws)) c

@@ -1,16 +1,17 @@
--- A log in numbered files: each has a header, and records after it. The frame of a record depends on the number of its
--- file, so that records from an earlier number of the file don't count. Also the premise on CRC collisions in one file.
+-- The format of a log: numbered files, each with a header, and records after the header. How a record is encoded
+-- depends on the number of its file: records that were written under an earlier number of the file don't count. Also
+-- the premise on CRC collisions in one file.
 use Rattle.std.specs.Prelude.{◌≡◌, ℕ, ◌<◌, ◌⊎◌, List, [], ◌++◌, length}
 use Rattle.raft_log_fs.specs.Disk.{File}
 use Rattle.raft_log_file_writer.specs.LawsChains.{Written, IsSelfDelimiting, CanTell, Reads}
 use Rattle.raft_log_file_writer.specs.KeepsSynced.{NoChanceMatch}
 
 -- How the files of a log are written:
--- - `IsFrame`: which bytes encode which record, in the file with this number and header (whose format says whether
---   records are signed).
+-- - `IsFrame`: which bytes encode which record, in the file with this number and header. The header gives the format
+-- version, and so whether records are signed.
 -- - `IsHeader`: which bytes are a header.
--- - `IsAligned`: which bytes a reader takes for a file with this number and an alignment; no file of the log is written
---   like that.
+-- - `IsAligned`: which bytes a reader takes for a file with this number and an alignment. No file of the log is written
+-- like that.
 -- - `IsPath`: which paths a file with this number may have, one in each directory of the log.
 -- - `limit`: all numbers are below it.
 pub record Format (R : Type 0) : Type 1 where
@@ -20,8 +21,8 @@ pub record Format (R : Type 0) : Type 1 where
   pub IsPath : ℕ → List ℕ → Type 0
   pub limit : ℕ
 
--- no record's encoding is a prefix of another's, and no header is a prefix of another; neither bytes that begin with a
--- header nor an empty file are aligned; no two numbers share a path
+-- The encodings of records are self-delimiting, and no header is a prefix of another. Neither bytes that begin with a
+-- header nor an empty file count as aligned. No two numbers share a path.
 pub record IsFormat {R : Type 0} (F : Format R) : Type 0 where
   pub free : (n : ℕ) (header : List ℕ) → IsSelfDelimiting (F.IsFrame n header)
   pub headers : (x y a b : List ℕ) → F.IsHeader x → F.IsHeader y → x ++ a ≡ y ++ b → x ≡ y
@@ -36,21 +37,24 @@ pub record HasHeader {R : Type 0} (F : Format R) (header bytes : List ℕ) : Typ
   pub rest : List ℕ
   pub splits : bytes ≡ header ++ rest
 
--- it is decidable whether bytes begin with a header, or with a record
+-- it is decidable whether bytes begin with a header, and whether they begin with a record of a file with this number
+-- and header
 pub record CanTellFormat {R : Type 0} (F : Format R) : Type 0 where
   pub headers : (bytes : List ℕ) → ((header : List ℕ) × HasHeader F header bytes)
       ⊎ ((header : List ℕ) → HasHeader F header bytes → ⊥)
   pub frames : (n : ℕ) (header : List ℕ) → CanTell (F.IsFrame n header)
 
--- The records that are read of the file with this number: those after its header, or none if it has no header.
+-- The records that are read of `bytes` as the file with number `n`: those after the header, or none if they begin with
+-- no header.
 abbrev pub ReadsFile : {R : Type 0} → Format R → ℕ → List (Written R) → List ℕ → Type 0
 ReadsFile F n ws bytes = ((ws ≡ []) × ((header : List ℕ) → HasHeader F header bytes → ⊥))
     ⊎ ((header : List ℕ) × HasHeader F header bytes × Reads (F.IsFrame n header) (length header) ws bytes)
 
--- No CRC collision in a file:
--- - It has no other header than its own; a torn header could be read as one of another version and length.
--- - It has no record that wasn't written there under its number.
--- - It isn't read as a file with an alignment.
+-- No CRC collision in what a stop left (`bytes`) of the file with number `n`:
+-- - `headers`: it begins with no other header than its own. A torn header could be read as one of another version and
+-- length.
+-- - `records`: each record that is read of it was written at that offset under this number.
+-- - `plain`: a reader doesn't take it for a file with an alignment.
 pub record NoChanceInFile {R : Type 0} (F : Format R) (n : ℕ) (header stale own : List ℕ)
     (file : File) (bytes : List ℕ) : Type 0 where
   pub headers : (other : List ℕ) → HasHeader F other bytes → other ≡ header

@@ -1,4 +1,4 @@
--- What is read of one log file, and why a read fails.
+-- What is read of one log file, and the errors with which reading it can fail.
 use Rattle.std.specs.Prelude.{◌≡◌, ℕ, ◌⊎◌, ◌++◌, false, List, take, drop, Result, Ok}
 use Rattle.raft_log_record_base.specs.declared.errors.Error.{Error}
 use Rattle.raft_log_record_base.specs.declared.errors.Error.TheVariants as errors
@@ -11,32 +11,34 @@ use Rattle.raft_log_fs.specs.Reading.{IsUnread, IsNotMeasured}
 use Rattle.raft_log_fs.specs.Touching.{HasFile}
 use Rattle.raft_log_fs.specs.declared.handle.Handle.{Handle}
 
--- why a file wasn't opened: the file system has stopped, or, if it runs, memory ran out or no file has the path
+-- Why the file at `path` wasn't opened: the file system has stopped; or it runs, and memory ran out or no file has the
+-- path.
 abbrev pub IsOpenRefusal : List ℕ → Disk → Error → Type 0
 IsOpenRefusal path d errors.Memory = d.stopped ≡ false
 IsOpenRefusal path d (errors.Io kind) = IsAfterStop d kind ⊎ ((d.stopped ≡ false) × WrongName path d kind)
 IsOpenRefusal path d _ = ⊥
 
--- why so many bytes from an offset on weren't read: the file system failed the call
+-- why `count` bytes from the offset `at` on weren't read: the file system failed the read
 abbrev pub IsReadRefusal : Handle → ℕ → ℕ → Disk → Error → Type 0
 IsReadRefusal handle at count d (errors.Io kind) = IsUnread handle at count d kind
 IsReadRefusal handle at count d _ = ⊥
 
--- why so many bytes weren't read into a new buffer: the file system failed the call, or memory ran out
+-- why `count` bytes from the offset `at` on weren't read into a new buffer: the file system failed the read, or memory
+-- ran out
 abbrev pub IsBlockRefusal : Handle → ℕ → ℕ → Disk → Error → Type 0
 IsBlockRefusal handle at count d errors.Memory = Unit {0}
 IsBlockRefusal handle at count d error = IsReadRefusal handle at count d error
 
--- why a size wasn't returned: the file system failed the call
+-- why the size of a file wasn't returned: the file system failed the call
 abbrev pub IsSizeRefusal : Handle → Disk → Error → Type 0
 IsSizeRefusal handle d (errors.Io kind) = IsNotMeasured handle d kind
 IsSizeRefusal handle d _ = ⊥
 
--- the bytes of a file from an offset on, so many of them, or fewer if the file ends first
+-- `bytes` are the `count` bytes of the file from the offset `at` on, or fewer if the file ends first
 abbrev pub AreBytesAt : ℕ → ℕ → List ℕ → File → Type 0
 AreBytesAt at count bytes file = bytes ≡ take count (drop at file.content)
 
--- what reading a file's header returns; at most as many bytes are read as the longest header has
+-- what reading the header of a file returns; only its first 69 bytes are read, the length of the longest header
 abbrev pub header_of : File → Result (LogFileFormat × List ℕ) Fault
 header_of file = header_at (take 69 file.content)
 
@@ -51,7 +53,8 @@ pub record BeginsWithHeader (format : LogFileFormat) (file : File) : Type 0 wher
 abbrev pub GivesFormat : LogFileFormat → File → Type 0
 GivesFormat format file = (rest : List ℕ) × (header_of file ≡ Ok (format, rest))
 
--- why no format was read: the file system failed the call, or memory ran out, or this is the first fault of the header
+-- why no format was read of a file: the file system failed the read of the first 69 bytes, or memory ran out, or the
+-- header has this fault
 abbrev pub IsFormatRefusal : Handle → Disk → Error → Type 0
 IsFormatRefusal handle d errors.Memory = Unit {0}
 IsFormatRefusal handle d (errors.Io kind) = IsUnread handle 0 69 d kind

@@ -1,12 +1,13 @@
--- Truncating a file after some of its records: what holds before, between and after the two calls, the truncation and
--- the sync. Each may fail, and a failed truncation may have been made.
+-- Truncating a file after some of its records, and syncing it. What the file holds before, between and after these two
+-- calls. Each of them may fail, and a truncation that failed may have been done all the same.
 use Rattle.std.specs.Prelude.{◌≡◌, ℕ, ◌+◌, ◌≤◌, List, ◌++◌, length, take, drop}
 use Rattle.raft_log_fs.specs.Disk.{ShortenedTo, File}
 use Rattle.raft_log_fs.specs.Calls.{after_change, with_change, flushed}
 use Rattle.raft_log_file_writer.specs.LawsChains.{Written, IsSelfDelimiting, AreFrames, spelled}
 use Rattle.raft_log_file_writer.specs.KeepsSynced.{HoldsChain, HoldsAtLeast, kept_records}
 
--- The file holds these records, and up to `size` it has exactly the durable ones and the first `count` pending ones.
+-- The file holds the chain. Up to the offset `size` it has exactly the durable records and the first `count` pending
+-- ones.
 pub record CanShorten {R : Type 0} (IsFrame : List ℕ → R → Type 0)
     (start : ℕ) (stale : List ℕ) (size count : ℕ)
     (durable pending : List (Written R)) (file : File) : Type 0 where
@@ -15,14 +16,13 @@ pub record CanShorten {R : Type 0} (IsFrame : List ℕ → R → Type 0)
   pub front : drop start (take size file.content) ≡ spelled (kept_records durable pending count)
   pub end : size ≡ start + length (spelled (kept_records durable pending count))
 
--- The file still holds these records, and has exactly those after which it was truncated.
+-- The file holds the chain. From `start` on it has exactly the durable records and the first `count` pending ones.
 pub record IsShortened {R : Type 0} (IsFrame : List ℕ → R → Type 0) (start : ℕ) (stale : List ℕ) (count : ℕ)
     (durable pending : List (Written R)) (file : File) : Type 0 where
   pub holds : HoldsChain IsFrame start stale durable pending file
   pub all : drop start file.content ≡ spelled (kept_records durable pending count)
 
--- The file holds these records, and up to `size` it has exactly those that are read of it, which begin with the durable
--- ones.
+-- The file holds the chain. Up to the offset `size` it has exactly the records `ws`, which begin with the durable ones.
 pub record CanShortenRead {R : Type 0} (IsFrame : List ℕ → R → Type 0) (start : ℕ) (stale : List ℕ) (size : ℕ)
     (durable pending ws : List (Written R)) (file : File) : Type 0 where
   pub holds : HoldsChain IsFrame start stale durable pending file
@@ -32,7 +32,7 @@ pub record CanShortenRead {R : Type 0} (IsFrame : List ℕ → R → Type 0) (st
   pub front : drop start (take size file.content) ≡ spelled ws
   pub end : size ≡ start + length (spelled ws)
 
--- The file still holds these records, and has exactly those that were read of it, which begin with the durable ones.
+-- The file holds the chain. From `start` on it has exactly the records `ws`, which begin with the durable ones.
 pub record IsShortenedRead {R : Type 0} (IsFrame : List ℕ → R → Type 0) (start : ℕ) (stale : List ℕ)
     (durable pending ws : List (Written R)) (file : File) : Type 0 where
   pub holds : HoldsChain IsFrame start stale durable pending file
@@ -41,13 +41,16 @@ pub record IsShortenedRead {R : Type 0} (IsFrame : List ℕ → R → Type 0) (s
   pub frames : AreFrames IsFrame ws
   pub all : drop start file.content ≡ spelled ws
 
--- the file holds at least the durable records, and others after them
+-- the file holds a chain that begins with at least the durable records
 abbrev pub KeepsDurable : {R : Type 0} → (List ℕ → R → Type 0) → ℕ → List ℕ → List (Written R) → File → Type 0
 KeepsDurable {R} IsFrame start stale durable file =
     (later : List (Written R)) × HoldsAtLeast IsFrame start stale durable later file
 
--- Before, between and after the two calls the file holds at least these records: through the truncation, made or not,
--- and through the sync after it, after which the remaining ones are durable.
+-- What holds when a file is truncated at `size` and synced:
+-- - `before`: it holds the chain.
+-- - `tried`: it holds the same chain while the truncation may or may not be done.
+-- - `done`: after the truncation it also has exactly the first `count` pending records after the durable ones.
+-- - `synced`: after the sync it still holds the chain, with at least the durable records synced.
 pub record ShorteningKeeps {R : Type 0} (IsFrame : List ℕ → R → Type 0)
     (start : ℕ) (stale : List ℕ) (size count : ℕ)
     (durable pending : List (Written R)) (file : File) : Type 0 where
@@ -58,7 +61,7 @@ pub record ShorteningKeeps {R : Type 0} (IsFrame : List ℕ → R → Type 0)
   pub synced : HoldsAtLeast IsFrame start stale durable pending
       (flushed (after_change (ShortenedTo size) file))
 
--- this holds for a file that can be truncated so
+-- `ShorteningKeeps` holds for each file that can be truncated at `size`
 abbrev pub ShortenedIsKept : {R : Type 0} → (List ℕ → R → Type 0) → Type 0
 ShortenedIsKept {R} IsFrame = IsSelfDelimiting IsFrame
     → (start : ℕ) (stale : List ℕ) (size count : ℕ) (durable pending : List (Written R)) (file : File)

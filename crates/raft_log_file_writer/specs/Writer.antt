@@ -1,4 +1,5 @@
--- One log file as it is written: its offset, its capacity, and the effects of each call.
+-- The writer of one log file: its offset, its capacity, and the effects of each call. The capacity is an upper bound on
+-- the file's length.
 use Rattle.std.specs.Prelude.{◌≡◌, ℕ, ◌+◌, ◌-◌, ◌<◌, ◌≤◌, ◌++◌, Bool, true, false, Some, None, List, length, nat_lt, if◌then◌else◌, ◌||◌}
 use Rattle.std.proofs.Common.{min, max}
 use Rattle.std.specs.declared.io.ErrorKind.{ErrorKind}
@@ -12,10 +13,10 @@ use Rattle.raft_log_fs.specs.declared.handle.Handle.{Handle}
 use Rattle.raft_log_fs.specs.declared.handle.Permission.TheVariants.{ReadWrite}
 use Rattle.raft_log_file_writer.specs.declared.writer.LogFileWriter.{LogFileWriter}
 
--- What the file holds.
+-- The bytes of the writer's file.
 
--- The file exists and may be written. These are its bytes up to the writer's offset, whatever follows them, and the
--- file ends at or before the writer's capacity.
+-- The writer's file exists and may be written. Up to the writer's offset it has exactly `bytes`, and anything may
+-- follow. It ends at or before the writer's capacity.
 pub record IsWritten (writer : LogFileWriter) (bytes : List ℕ) (d : Disk) : Type 0 where
   pub permitted : writer.handle.permission ≡ ReadWrite
   pub offset : writer.written ≡ length bytes
@@ -25,20 +26,20 @@ pub record IsWritten (writer : LogFileWriter) (bytes : List ℕ) (d : Disk) : Ty
   pub content : file.content ≡ bytes ++ behind
   pub end : length file.content ≤ writer.capacity
 
--- these are all bytes of the writer's file
+-- `bytes` are all bytes of the writer's file, and its offset is at their end
 abbrev pub AreItsBytes : LogFileWriter → List ℕ → Disk → Type 0
 AreItsBytes writer bytes d = IsWritten writer bytes d
     × HasFile writer.handle.file (λ file. file.content ≡ bytes) d
 
--- these are all bytes of the writer's file, and they are synced
+-- `bytes` are all bytes of the writer's file, all synced, and its offset is at their end
 abbrev pub IsClosed : LogFileWriter → List ℕ → Disk → Type 0
 IsClosed writer bytes d = IsWritten writer bytes d × (d.files writer.handle.file ≡ Some (at_rest bytes))
 
--- After any stop, the file begins with these bytes: they are synced, and no change since touches one of them.
+-- The file begins with `bytes` after any stop: they are synced, and no unsynced change touches them.
 abbrev pub IsDurable : List ℕ → File → Type 0
 IsDurable bytes file = HeaderStands bytes file
 
--- the bytes up to the writer's offset, which are durable
+-- up to the writer's offset, the file has exactly `bytes`, and they are durable
 abbrev pub IsSynced : LogFileWriter → List ℕ → Disk → Type 0
 IsSynced writer bytes d = IsWritten writer bytes d × HasFile writer.handle.file (IsDurable bytes) d
 
@@ -47,30 +48,31 @@ abbrev pub DurableStays : LogFileWriter → Disk → Disk → Type 0
 DurableStays writer old new = (bytes : List ℕ) → length bytes ≤ writer.written
     → HasFile writer.handle.file (IsDurable bytes) old → HasFile writer.handle.file (IsDurable bytes) new
 
--- A failed call: the failure was counted or is a stop, and the bytes up to the offset are unchanged.
+-- After a failed call, the file still has the same bytes up to the writer's offset. The failure was counted, or the
+-- file system has stopped.
 abbrev pub KeepsWritten : LogFileWriter → LogFileWriter → Disk → Disk → Type 0
 KeepsWritten before after old new =
     (bytes : List ℕ) → IsWritten before bytes old → IsWritten after bytes new × Fails old new
 
--- a writer of this file with this offset and this capacity
+-- the writer has this handle, this offset and this capacity
 pub record IsWriterAt (writer : LogFileWriter) (handle : Handle) (written capacity : ℕ) : Type 0 where
   pub handle_is : writer.handle ≡ handle
   pub written_is : writer.written ≡ written
   pub capacity_is : writer.capacity ≡ capacity
 
--- Writing: which calls are made, in this order.
+-- Writing: which calls are made, in which order.
 
--- How much is allocated for a write up to `end`, if the file may end before it: what is missing, or, if that is more,
--- what is left to the target size, up to 2 MiB.
+-- How many bytes are allocated for a write that ends at `end`, after `capacity`: those that are missing. Or those
+-- missing to the target size, but at most 2 MiB, if these are more.
 abbrev pub allocated : ℕ → ℕ → ℕ → ℕ
 allocated capacity end target = max (end - capacity) (min 2097152 (target - capacity))
 
--- where the file may end at most, after space was made up to `end`
+-- the capacity after space was made for a write that ends at `end`
 abbrev pub reach : ℕ → ℕ → ℕ → ℕ
 reach capacity end target = if nat_lt capacity end then capacity + allocated capacity end target else capacity
 
--- Makes space up to `end` in a file that ends at or before `capacity`. It may exist already; otherwise it is allocated,
--- and a failure of that is ignored.
+-- Space is made for a write that ends at `end`, in a file that is at most `capacity` bytes long. If the write may not
+-- fit, space is allocated; a failure of that is ignored.
 pub data MakesRoom (handle : Handle) (capacity end target : ℕ) (old new : Disk) : Type 0 where
   is_there : end ≤ capacity → new ≡ old → MakesRoom handle capacity end target old new
   is_allocated : capacity < end → Grows handle (capacity + allocated capacity end target) old new
@@ -79,29 +81,29 @@ pub data MakesRoom (handle : Handle) (capacity end target : ℕ) (old new : Disk
       → FailsToGrow handle (capacity + allocated capacity end target) error old new
       → MakesRoom handle capacity end target old new
 
--- bytes were written at an offset, after space was made for them
+-- space was made for `bytes` at the offset `at`, and then they were written there
 pub record WritesAtPlace (handle : Handle) (at capacity : ℕ) (bytes : List ℕ) (target : ℕ) (old new : Disk)
     : Type 0 where
   pub between : Disk
   pub room : MakesRoom handle capacity (at + length bytes) target old between
   pub writes : Writes handle at bytes between new
 
--- space was made for the bytes of a write at an offset, and the write failed
+-- space was made for `bytes` at the offset `at`, but writing them failed
 pub record FailsToWriteAt (handle : Handle) (at capacity : ℕ) (bytes : List ℕ) (target : ℕ)
     (error : ErrorKind) (old new : Disk) : Type 0 where
   pub between : Disk
   pub room : MakesRoom handle capacity (at + length bytes) target old between
   pub fails : FailsToWrite handle at bytes error between new
 
--- a writer's next bytes were written, and its offset is after them
+-- `bytes` were written at the writer's offset, which is now after them
 pub record WritesNext (before after : LogFileWriter) (bytes : List ℕ) (target : ℕ) (old new : Disk)
     : Type 0 where
   pub calls : WritesAtPlace before.handle before.written before.capacity bytes target old new
   pub moved : IsWriterAt after before.handle (before.written + length bytes)
       (reach before.capacity (before.written + length bytes) target)
 
--- writing a writer's next bytes failed, and its offset is unchanged; but the file may end where the write would have
--- ended
+-- Writing `bytes` at the writer's offset failed, and the offset is unchanged. The capacity is raised as for a
+-- successful write.
 pub record FailsToWriteNext (before after : LogFileWriter) (bytes : List ℕ) (target : ℕ)
     (error : ErrorKind) (old new : Disk) : Type 0 where
   pub calls : FailsToWriteAt before.handle before.written before.capacity bytes target error old new
@@ -110,26 +112,26 @@ pub record FailsToWriteNext (before after : LogFileWriter) (bytes : List ℕ) (t
 
 -- Truncating.
 
--- the file was truncated at the writer's offset if it may be longer; otherwise no call was made
+-- the file was truncated at the writer's offset, if its capacity is after that; otherwise no call was made
 pub data CutsBehind (before after : LogFileWriter) (old new : Disk) : Type 0 where
   ends_there : before.capacity ≤ before.written → after ≡ before → new ≡ old → CutsBehind before after old new
   is_cut : before.written < before.capacity → Shortens before.handle before.written old new
       → IsWriterAt after before.handle before.written before.written
       → CutsBehind before after old new
 
--- a file that may be longer than the writer's offset wasn't truncated: the call failed
+-- the file may be longer than the writer's offset, and truncating it there failed
 pub record FailsToCutBehind (before after : LogFileWriter) (error : ErrorKind) (old new : Disk) : Type 0 where
   pub longer : before.written < before.capacity
   pub fails : FailsToShorten before.handle before.written error old new
   pub same : after ≡ before
 
--- the file was truncated if it may be longer, and synced
+-- the file was truncated at the writer's offset, unless it ended there already, and then synced
 pub record Closes (before after : LogFileWriter) (old new : Disk) : Type 0 where
   pub between : Disk
   pub cuts : CutsBehind before after old between
   pub syncs : Syncs before.handle between new
 
--- the truncation failed, and no sync was tried; or the sync failed
+-- either truncating the file failed, and no sync was tried, or the sync failed
 pub data FailsToClose (before after : LogFileWriter) (error : ErrorKind) (old new : Disk) : Type 0 where
   not_cut : FailsToCutBehind before after error old new → FailsToClose before after error old new
   not_synced : (between : Disk) → CutsBehind before after old between
@@ -137,15 +139,18 @@ pub data FailsToClose (before after : LogFileWriter) (error : ErrorKind) (old ne
 
 -- Opening a writer.
 
--- whether a file gets a header: it is reset, or too short to have one
+-- whether opening a writer writes a header: the file is to be reset, or it is shorter than the header
 abbrev pub needs_header : List ℕ → Bool → List ℕ → Bool
 needs_header header reset content = reset || nat_lt (length content) (length header)
 
--- the bytes of a file whose writer is opened: only its header, or all its content
+-- the bytes up to the writer's offset after the writer was opened: only the header if it was written, otherwise all the
+-- content
 abbrev pub taken_up : List ℕ → Bool → List ℕ → List ℕ
 taken_up header reset content = if needs_header header reset content then header else content
 
--- a writer continues at the end of a file, without a call; or it wrote the header at the front
+-- A writer was opened:
+-- - `goes_on`: the file needs no header. The writer continues at its end, and no call changed it.
+-- - `begins`: the header was written at offset 0, and the writer continues after it.
 pub data TakesUp (handle : Handle) (header : List ℕ) (reset : Bool) (writer : LogFileWriter) (old new : Disk)
     : Type 0 where
   goes_on : (file : File) → old.files handle.file ≡ Some file → needs_header header reset file.content ≡ false
@@ -156,7 +161,7 @@ pub data TakesUp (handle : Handle) (header : List ℕ) (reset : Bool) (writer : 
       → IsWriterAt writer handle (length header) (reach (length file.content) (length header) 0)
       → TakesUp handle header reset writer old new
 
--- the file's size couldn't be read; or the file gets a header, and writing that failed
+-- Opening a writer failed: the file's size couldn't be read, or the file needs a header, and writing that failed.
 pub data FailsToTakeUp (handle : Handle) (header : List ℕ) (reset : Bool) (error : ErrorKind) (old new : Disk)
     : Type 0 where
   not_measured : IsNotMeasured handle old error → new ≡ old
@@ -166,12 +171,13 @@ pub data FailsToTakeUp (handle : Handle) (header : List ℕ) (reset : Bool) (err
       → FailsToWriteAt handle 0 (length file.content) header 0 error old new
       → FailsToTakeUp handle header reset error old new
 
--- the handle's file exists, and may be written
+-- the handle's file exists, and the handle may write it
 pub record CanBeTakenUp (handle : Handle) (d : Disk) : Type 0 where
   pub permitted : handle.permission ≡ ReadWrite
   pub there : d.files handle.file ≡ None → ⊥
 
--- what is written in the file whose writer was opened
+-- after the writer was opened, the file has its header up to the writer's offset if that was written, otherwise all its
+-- old content
 abbrev pub IsTakenUp : Handle → List ℕ → Bool → LogFileWriter → Disk → Disk → Type 0
 IsTakenUp handle header reset writer old new = (file : File) → handle.permission ≡ ReadWrite
     → old.files handle.file ≡ Some file → IsWritten writer (taken_up header reset file.content) new

@@ -1,4 +1,4 @@
--- What the calls of a file system in memory return, beyond what every file system does.
+-- What the calls of a file system in memory return and do, in more detail than the contracts of every file system.
 use Rattle.std.specs.Prelude.{◌≡◌, ◌⊎◌, ◌++◌, ℕ, true, false, None, List, [], ◌∷◌, Result}
 use Rattle.std.specs.Result.{IfErr}
 use Rattle.std.specs.declared.io.ErrorKind.{ErrorKind}
@@ -16,80 +16,82 @@ use Rattle.raft_log_fs_memory.specs.Turns.{ArmedRefusalFell, ArmedPartFell, Arme
 
 -- Why a call failed.
 
--- A failed call that is done whole or not at all. `wrong` is how its arguments may be wrong; if it is done, it changes
--- the disk by `done` and leaves the changes of all files in this order.
+-- If `result` is an error: how a call failed that is done whole or not at all. `wrong` gives the errors of wrong
+-- arguments. If the call was done in spite of the error, it changed the disk by `done`, and `order` gives the unsynced
+-- changes.
 abbrev pub RefusesWhole : {A : Type 0} → (Disk → ErrorKind → Type 0) → (Disk → Disk → Type 0)
     → (Kept → List (ℕ × Change)) → Result A ErrorKind → MemoryFileSystem → MemoryFileSystem → Type 0
 RefusesWhole wrong done order result old new =
     IfErr result (λ error.
     IsRefusedWhole (done (disk_of old)) (order (kept old)) (wrong (disk_of old)) error old new)
 
--- a failed change of a handle's file
+-- if `result` is an error: why this change of the handle's file failed, and what is left of it
 abbrev pub RefusesChange : {A : Type 0} → Handle → Change → Result A ErrorKind
     → MemoryFileSystem → MemoryFileSystem → Type 0
 RefusesChange handle change result old new =
     IfErr result (λ error.
     IsRefusedChange handle.file change (WrongWriter handle (disk_of old)) error old new)
 
--- there was space for a change of a handle's file
+-- there is enough free space for `change` of the handle's file
 abbrev pub FindsSpace : Handle → Change → MemoryFileSystem → Type 0
 FindsSpace handle change old = HasSpaceFor handle.file change old
 
--- an armed failure fell at this call, whole or in part
+-- an armed failure, full or partial, was due at this call; nothing was done, and the failure was counted or became a
+-- stop
 abbrev pub HasRefused : ErrorKind → MemoryFileSystem → MemoryFileSystem → Type 0
 HasRefused error old new = ArmedRefusalFell error old new ⊎ ArmedPartFell error old new
 
--- an armed failure or the armed stop fell at this call
+-- an armed failure or an armed stop was due at this call, and nothing was done
 abbrev pub HasFallen : ErrorKind → MemoryFileSystem → MemoryFileSystem → Type 0
 HasFallen error old new = HasRefused error old new ⊎ ArmedStopFell error old new
 
--- The order of the changes of all files.
+-- The unsynced changes of all files, in the order of the calls.
 
--- the change is the last one of all
+-- `change` of the handle's file was added as the last unsynced change of all files
 abbrev pub AddsLast : Handle → Change → MemoryFileSystem → MemoryFileSystem → Type 0
 AddsLast handle change old new = unsynced new ≡ unsynced old ++ (handle.file, change) ∷ []
 
--- the order unchanged
+-- the unsynced changes, as they are
 abbrev pub order_of : Kept → List (ℕ × Change)
 order_of old = old.unsynced
 
--- the order without the changes of a file
+-- the unsynced changes without those of file `id`
 abbrev pub order_without : ℕ → Kept → List (ℕ × Change)
 order_without id old = without_file id old.unsynced
 
--- the order without the changes of the file at a path
+-- the unsynced changes without those of the file at `path`
 abbrev pub order_without_named : List ℕ → Kept → List (ℕ × Change)
 order_without_named path old = without_named (old.disk.names path) old.unsynced
 
--- the order without the changes of the file that a rename replaces
+-- the unsynced changes without those of the file that a rename replaces
 abbrev pub order_without_replaced : List ℕ → List ℕ → Kept → List (ℕ × Change)
 order_without_replaced from to old = with_moved (old.disk.names from) (old.disk.names to) old.unsynced
 
--- the changes of the file at a path were removed
+-- the changes of the file at `path` were removed from the unsynced ones
 abbrev pub ForgetsNamed : List ℕ → MemoryFileSystem → MemoryFileSystem → Type 0
 ForgetsNamed path old new = unsynced new ≡ order_without_named path (kept old)
 
--- the changes of the file that a rename replaced were removed
+-- the changes of the file that a rename replaced were removed from the unsynced ones
 abbrev pub ForgetsReplaced : List ℕ → List ℕ → MemoryFileSystem → MemoryFileSystem → Type 0
 ForgetsReplaced from to old new = unsynced new ≡ order_without_replaced from to (kept old)
 
 -- What a call does.
 
--- an empty file got a name, and a number that no file had
+-- an empty file was created at `path`, with the next number, which no file had
 abbrev pub CreatesNext : List ℕ → Disk → Disk → Type 0
 CreatesNext path old new = Creates path old.unused old new
 
--- a file's bytes were made durable
+-- all bytes of file `id` were synced
 abbrev pub SyncsAll : ℕ → Disk → Disk → Type 0
 SyncsAll id old new = Changes id flushed old new
 
 -- What is checked before a call.
 
--- the file system runs, and the path is a directory's
+-- the file system runs, and there is a directory at `path`
 abbrev pub RunsWithDirectory : List ℕ → Disk → Type 0
 RunsWithDirectory path d = (d.stopped ≡ false) × (d.directories path ≡ true)
 
--- the file system has stopped, or it runs and the path isn't a directory's
+-- the error of a call that needs a directory at `path`: the file system has stopped, or it runs and there is none
 abbrev pub LacksDirectory : List ℕ → Disk → ErrorKind → Type 0
 LacksDirectory path d error = IsAfterStop d error ⊎ ((d.stopped ≡ false) × WrongListing path d error)
 
@@ -97,7 +99,7 @@ LacksDirectory path d error = IsAfterStop d error ⊎ ((d.stopped ≡ false) × 
 abbrev pub RunsWithFile : Handle → Disk → Type 0
 RunsWithFile handle d = (d.stopped ≡ false) × (d.files handle.file ≡ None → ⊥)
 
--- the file system has stopped, or it runs and the handle's file was deleted
+-- the error of a call that needs the handle's file: the file system has stopped, or it runs and the file was deleted
 abbrev pub LacksFile : Handle → Disk → ErrorKind → Type 0
 LacksFile handle d error = IsAfterStop d error ⊎ ((d.stopped ≡ false) × WrongHandle handle d error)
 
@@ -106,10 +108,11 @@ abbrev pub RunsWithWriter : Handle → Disk → Type 0
 RunsWithWriter handle d =
     (d.stopped ≡ false) × (d.files handle.file ≡ None → ⊥) × (handle.permission ≡ ReadWrite)
 
--- the file system has stopped, or it runs and the handle's file was deleted or the handle may only read
+-- the error of a call that writes: the file system has stopped, or it runs and the handle's file was deleted or is open
+-- only for reading
 abbrev pub LacksWriter : Handle → Disk → ErrorKind → Type 0
 LacksWriter handle d error = IsAfterStop d error ⊎ ((d.stopped ≡ false) × WrongWriter handle d error)
 
--- the file system that a crash leaves, as `what` chooses
+-- `after` has the disk that a crash of `system` leaves, as `what` chooses
 abbrev pub IsLeftOf : Remainder → MemoryFileSystem → MemoryFileSystem → Type 0
 IsLeftOf what system after = disk_of after ≡ left_disk what (unsynced system) (disk_of system)

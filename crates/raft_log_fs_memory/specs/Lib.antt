@@ -2,5 +2,5 @@ pub mod Memory
 pub mod Space
 pub mod Turns
 pub mod Answers
--- a library below, handed on to the crates above this one
+-- a crate below this one, which is re-exported for the crates above
 pub use Rattle.raft_log_fs_state

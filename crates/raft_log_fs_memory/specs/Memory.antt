@@ -1,4 +1,4 @@
--- A file system in memory, as a disk, and the order of the changes of all its files.
+-- A file system in memory as a disk, and the unsynced changes of all its files.
 use Rattle.std.specs.Prelude.{◌≡◌, ℕ, ◌+◌, ◌<◌, ◌≤◌, ◌⊎◌, Bool, true, false, suc, cond, Option, Some, None, List, [], ◌∷◌}
 use Rattle.std.proofs.Common.{nat_eq, nat_lt}
 use Rattle.std.specs.declared.io.ErrorKind.{ErrorKind}
@@ -9,7 +9,7 @@ use Rattle.raft_log_fs_state.specs.Order.{without_file}
 use Rattle.raft_log_fs_state.specs.Steps.{without_replaced}
 use Rattle.raft_log_fs_state.specs.Storage.{contents_of, unsynced_of}
 
--- whether a place of a file is among those that can't be read
+-- whether the byte at offset `place` of file `id` is marked as unreadable
 abbrev pub is_denied : List (ℕ × ℕ) → ℕ → ℕ → Bool
 is_denied [] id place = false
 is_denied (mark ∷ marks) id place =
@@ -25,14 +25,14 @@ disk_of system = record (contents_of system.storage) {
   kinds = system.kinds.told;
 }
 
--- one of the `count` bytes of the file from `start` on can't be read
+-- one of the `count` bytes of file `id` from offset `start` on is marked as unreadable
 pub record HasDenied (marks : List (ℕ × ℕ)) (id start count : ℕ) : Type 0 where
   pub place : ℕ
   pub from : start ≤ place
   pub below : place < start + count
   pub denied : is_denied marks id place ≡ true
 
--- none of the `count` bytes of the file from `start` on is unreadable
+-- none of the `count` bytes of file `id` from offset `start` on is marked as unreadable
 abbrev pub HasNoDenied : List (ℕ × ℕ) → ℕ → ℕ → ℕ → Type 0
 HasNoDenied marks id start count =
     (place : ℕ) → start ≤ place → place < start + count → is_denied marks id place ≡ false
@@ -41,7 +41,7 @@ HasNoDenied marks id start count =
 abbrev pub unsynced : MemoryFileSystem → List (ℕ × Change)
 unsynced system = unsynced_of system.storage
 
--- what a file system in memory holds: its disk, and the order of the changes of all its files
+-- what a file system in memory holds: its disk, and the unsynced changes of all files in the order of the calls
 pub record Kept : Type 0 where
   pub disk : Disk
   pub unsynced : List (ℕ × Change)
@@ -50,26 +50,28 @@ pub record Kept : Type 0 where
 abbrev pub kept : MemoryFileSystem → Kept
 kept system = record { disk = disk_of system; unsynced = unsynced system }
 
--- a file system has stopped when this many failures were counted
+-- the count of failures at which a file system stops: 2^64 - 1
 abbrev pub most_failures : ℕ
 most_failures = 18446744073709551615
 
--- the disk with one more failure, which was reported as this kind; if the count would reach 2^64 - 1, with a stop
--- instead
+-- The disk after one more failure, which returned `error`. If the count would reach 2^64 - 1, the file system stops
+-- instead.
 abbrev pub failed_once : ErrorKind → Disk → Disk
 failed_once error d = cond (nat_lt (suc d.failures) most_failures) (counted error d) (at_stop d)
 
--- the error that such a failure reports: its kind, or, if a stop replaces it, the error of a stop
+-- the error that the call returns for such a failure of this kind: `kind`, or, if the file system stops instead, the
+-- error of a stop
 abbrev pub IsToldOnce : ErrorKind → ErrorKind → Disk → Type 0
 IsToldOnce kind error d = ((suc d.failures < most_failures) × (error ≡ kind))
     ⊎ ((most_failures ≤ suc d.failures) × IsToldAtStop kind error)
 
--- the changes that are left after the file at a path was deleted
+-- the unsynced changes after the deletion of a file, if there is one: without that file's changes
 abbrev pub without_named : Option ℕ → List (ℕ × Change) → List (ℕ × Change)
 without_named None changes = changes
 without_named (Some id) changes = without_file id changes
 
--- the changes that are left after the first file got the name of the second one
+-- the unsynced changes after a file `id`, if there is one, was renamed to the name of `replaced`: without the changes
+-- of `replaced`
 abbrev pub with_moved : Option ℕ → Option ℕ → List (ℕ × Change) → List (ℕ × Change)
 with_moved None replaced changes = changes
 with_moved (Some id) replaced changes = without_replaced id replaced changes

@@ -1,4 +1,4 @@
--- How many bytes the files of a directory have, and by how many they may still grow.
+-- The total size of the files of a directory, and by how many bytes they may still grow.
 use Rattle.std.specs.Prelude.{◌≡◌, ℕ, ◌-◌, ◌<◌, ◌≤◌, ◌⊎◌, ◌++◌, Option, Some, None, List, [], ◌∷◌, length, sum_by, slice_index_or}
 use Rattle.std.specs.List.{Contains}
 use Rattle.std.specs.declared.io.ErrorKind.{ErrorKind}
@@ -7,16 +7,16 @@ use Rattle.raft_log_fs.specs.Disk.{Change, Disk, IsPlain, IsPathIn, file_limit}
 use Rattle.raft_log_fs.specs.Image.{end_of}
 use Rattle.raft_log_fs_state.specs.Steps.{size_of, GrowsPast}
 
--- the size of this file in bytes; 0 if there is none
+-- the size in bytes of the file with this number; 0 if there is none
 abbrev pub size_named : Disk → Option ℕ → ℕ
 size_named d None = 0
 size_named d (Some id) = size_of (d.files id)
 
--- the size of the file at a path in bytes; 0 if there is none
+-- the size in bytes of the file at `path`; 0 if there is none
 abbrev pub size_at : Disk → List ℕ → ℕ
 size_at d path = size_named d (d.names path)
 
--- the names of a directory's files, each once
+-- `names` are the names of all files in the directory, each once
 pub record ListsFiles (directory : List ℕ) (d : Disk) (names : List (List ℕ)) : Type 0 where
   pub listed : (name : List ℕ) → Contains names name → (d.names (directory ++ 47 ∷ name) ≡ None → ⊥)
       × IsPlain name
@@ -34,35 +34,37 @@ pub record HasUsed (directory : List ℕ) (d : Disk) (used : ℕ) : Type 0 where
 abbrev pub unlimited : ℕ
 unlimited = 18446744073709551615
 
--- what is left of the space that is set for a directory; `unlimited` if none is set
+-- `free` is what the directory's files leave of the space that is set for it, or 0; it is `unlimited` if none is set
 abbrev pub IsLeftFree : Option ℕ → List ℕ → Disk → ℕ → Type 0
 IsLeftFree None directory d free = free ≡ unlimited
 IsLeftFree (Some space) directory d free = (used : ℕ) × HasUsed directory d used × (free ≡ space - used)
 
--- by how many bytes a directory's files may still grow under these spaces
+-- `free` is by how many bytes the files of a directory may still grow; `spaces` gives the space set for each directory
 abbrev pub IsFree : (List ℕ → Option ℕ) → List ℕ → Disk → ℕ → Type 0
 IsFree spaces directory d free = IsLeftFree (spaces directory) directory d free
 
--- a file is in a directory
+-- file `id` has a name in this directory
 pub record LiesIn (id : ℕ) (directory : List ℕ) (d : Disk) : Type 0 where
   pub path : List ℕ
   pub named : d.names path ≡ Some id
   pub inside : IsPathIn directory path
 
--- by how many bytes a file may still grow: as many as the files of its directory, if a space is set for it
+-- `free` is by how many bytes file `id` may still grow: the free space of a directory that it has a name in. It is
+-- `unlimited` if no space is set for any such directory.
 abbrev pub MayGrowBy : (List ℕ → Option ℕ) → ℕ → Disk → ℕ → Type 0
 MayGrowBy spaces id d free = ((directory : List ℕ) × LiesIn id directory d × IsFree spaces directory d free)
     ⊎ (((directory : List ℕ) → LiesIn id directory d → spaces directory ≡ None) × (free ≡ unlimited))
 
--- no space for a change: it would make its file grow by more bytes than it may
+-- `change` would make file `id` grow by more bytes than are free for it
 abbrev pub LacksSpace : (List ℕ → Option ℕ) → ℕ → Change → Disk → Type 0
 LacksSpace spaces id change d = (free : ℕ) × MayGrowBy spaces id d free × GrowsPast free id change d
 
--- enough space for a change
+-- the bytes that are free for file `id` are enough for `change`
 abbrev pub HasSpace : (List ℕ → Option ℕ) → ℕ → Change → Disk → Type 0
 HasSpace spaces id change d = LacksSpace spaces id change d → ⊥
 
--- why there is no room for a change: out of memory, or the file would get too long, or there is no space
+-- why there is no room for `change`: memory ran out, or the change ends at offset 2^63 or after, or too few bytes are
+-- free
 abbrev pub HasNoRoom : (List ℕ → Option ℕ) → ℕ → Change → Disk → ErrorKind → Type 0
 HasNoRoom spaces id change d error = (error ≡ OutOfMemory)
     ⊎ ((error ≡ StorageFull) × ((file_limit ≤ end_of change) ⊎ LacksSpace spaces id change d))

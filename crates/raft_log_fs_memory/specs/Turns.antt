@@ -1,4 +1,5 @@
--- Which changing calls of a file system in memory fail, and how.
+-- Failures that a test arms in a file system in memory, and how they make a changing call fail. A changing call is one
+-- that changes names or files, or syncs. An armed failure is due at a call given by its number, counted from now on.
 use Rattle.std.specs.Prelude.{◌≡◌, ℕ, ◌-◌, ◌⊎◌, Bool, true, false, cond, Option, Some, None, List, [], ◌∷◌, ◌++◌, Result}
 use Rattle.std.specs.Result.{MatchResult}
 use Rattle.std.specs.String.{string_bytes}
@@ -19,11 +20,12 @@ use Rattle.raft_log_fs_memory.specs.declared.memory.MemoryFileSystem.{MemoryFile
 use Rattle.raft_log_fs_memory.specs.Memory.{disk_of, Kept, kept, failed_once, IsToldOnce}
 use Rattle.raft_log_fs_memory.specs.Space.{HasSpace, HasNoRoom}
 
--- What is armed:
--- - `refusals`: for each failure, the number of changing calls up to it.
--- - `parts`: the same for each partial failure, with the number of bytes that a write writes there.
--- - `stop`: the number of changing calls up to the stop, or 0 if none is armed; `after`: whether that call is done.
--- - `spaces`: the space that is set for a directory, if any.
+-- What is armed. A call number of 1 means the next changing call.
+-- - `refusals`: for each failure, the number of its call.
+-- - `parts`: for each partial failure, the number of its call, and how many bytes a write writes at it.
+-- - `stop`: the number of the call at which the file system stops, or 0 if no stop is armed.
+-- - `after`: whether that call is done before the stop.
+-- - `spaces`: for each directory, the space that is set for it, if any.
 pub record Armed : Type 0 where
   pub refusals : List ℕ
   pub parts : List (ℕ × ℕ)
@@ -31,7 +33,7 @@ pub record Armed : Type 0 where
   pub after : Bool
   pub spaces : List ℕ → Option ℕ
 
--- what is armed
+-- what is armed in a file system in memory
 abbrev pub armed : MemoryFileSystem → Armed
 armed system = record {
   refusals = system.refusals.items;
@@ -41,16 +43,16 @@ armed system = record {
   spaces = get_by_text system.spaces;
 }
 
--- no failure, no stop and no space
+-- no failure and no stop is armed, and no space is set
 abbrev pub nothing_armed : Armed
 nothing_armed = record { refusals = []; parts = []; stop = 0; after = false; spaces = λ directory. None }
 
--- a space for a directory, replacing what was set for it
+-- with this space set for a directory, in place of the one set before
 abbrev pub with_space : List ℕ → ℕ → Armed → Armed
 with_space directory space a = record a { spaces = update bytes_eq a.spaces directory (Some space) }
 
--- one more failure, or a stop that replaces the one before; the number 0 arms nothing (an unreadable place is a mark on
--- the disk)
+-- After one more fault is armed. A stop replaces the one armed before, and call number 0 arms nothing. `DenyRead` arms
+-- nothing either: an unreadable place is a mark on the disk.
 abbrev pub armed_with : Fault → Armed → Armed
 armed_with (Refuse n) a = record a { refusals = cond (nat_eq n 0) a.refusals (a.refusals ++ n ∷ []) }
 armed_with (RefuseInPart n count) a =
@@ -60,94 +62,98 @@ armed_with (StopAt n) a = cond (nat_eq n 0) a (record a { stop = n; after = fals
 armed_with (StopAfter n) a = cond (nat_eq n 0) a (record a { stop = n; after = true })
 armed_with (Space directory space) a = with_space (string_bytes directory) space a
 
--- the failures that don't fall at the next changing call, one call nearer
+-- the armed failures after one more call: those that were due at it are removed, and the others are one call nearer
 abbrev pub nearer : List ℕ → List ℕ
 nearer refusals = map (λ n. n - 1) (filter (λ n. nat_lt 1 n) refusals)
 
--- a partial failure, one call nearer
+-- a partial failure after one more call
 abbrev pub part_later : ℕ × ℕ → ℕ × ℕ
 part_later part = (part.0 - 1, part.1)
 
--- the partial failures that don't fall at the next changing call, one call nearer
+-- the partial failures after one more call: those that were due at it are removed, and the others are one call nearer
 abbrev pub nearer_parts : List (ℕ × ℕ) → List (ℕ × ℕ)
 nearer_parts parts = map part_later (filter (λ (part : ℕ × ℕ). nat_lt 1 part.0) parts)
 
--- how many bytes the first partial failure writes among those that fall at the next changing call
+-- how many bytes a write at the next changing call writes by the first partial failure due there; none if none is due
 abbrev pub front_of : List (ℕ × ℕ) → Option ℕ
 front_of [] = None
 front_of (part ∷ parts) = cond (nat_eq part.0 1) (Some part.1) (front_of parts)
 
--- one changing call later
+-- what is armed after one more changing call
 abbrev pub call_later : Armed → Armed
 call_later a =
     record a { refusals = nearer a.refusals; parts = nearer_parts a.parts; stop = a.stop - 1 }
 
--- nothing falls at the next changing call
+-- no failure, no partial failure and no stop is due at the next changing call
 pub record IsSpared (a : Armed) : Type 0 where
   pub refusal : Contains a.refusals 1 → ⊥
   pub part : front_of a.parts ≡ None
   pub stop : a.stop ≡ 1 → ⊥
 
--- a partial failure falls at the next changing call, and nothing that has priority over it
+-- A partial failure is due at the next changing call, and `count` is how many bytes a write writes at it. No full
+-- failure or stop is due there; these have priority.
 pub record PartFalls (count : ℕ) (a : Armed) : Type 0 where
   pub front : front_of a.parts ≡ Some count
   pub refusal : Contains a.refusals 1 → ⊥
   pub stop : a.stop ≡ 1 → ⊥
 
--- the call counts as a changing one: the file system runs, and the arguments are valid
+-- The call counts as a changing one: the file system ran, and no argument was wrong. Each armed fault is now one call
+-- nearer.
 pub record IsCounted (wrong : ErrorKind → Type 0) (old new : MemoryFileSystem) : Type 0 where
   pub runs : (disk_of old).stopped ≡ false
   pub right : (error : ErrorKind) → wrong error → ⊥
   pub next : armed new ≡ call_later (armed old)
 
--- a successful call: nothing fell at it
+-- nothing armed was due at this call, and each armed fault is now one call nearer
 pub record IsAnswered (old new : MemoryFileSystem) : Type 0 where
   pub spared : IsSpared (armed old)
   pub next : armed new ≡ call_later (armed old)
 
--- the file system stops at the next changing call, after it is done
+-- a stop is due at the next changing call, which is done before the stop
 pub record StopsAfter (a : Armed) : Type 0 where
   pub falls : a.stop ≡ 1
   pub done : a.after ≡ true
 
--- an armed failure fell, and nothing was done
+-- An armed failure and no stop was due at this call. The call returned `Other`. On the disk, the failure was counted,
+-- or the file system stopped if the count was full; nothing else changed.
 pub record ArmedRefusalFell (error : ErrorKind) (old new : MemoryFileSystem) : Type 0 where
   pub falls : Contains (armed old).refusals 1
   pub no_stop : (armed old).stop ≡ 1 → ⊥
   pub kind : error ≡ Other
   pub left : disk_of new ≡ failed_once error (disk_of old)
 
--- an armed partial failure fell, and nothing was done
+-- A partial failure was due at this call. The call returned `Other`. On the disk, the failure was counted, or the file
+-- system stopped if the count was full; nothing else changed.
 pub record ArmedPartFell (error : ErrorKind) (old new : MemoryFileSystem) : Type 0 where
   pub count : ℕ
   pub falls : PartFalls count (armed old)
   pub kind : error ≡ Other
   pub left : disk_of new ≡ failed_once error (disk_of old)
 
--- an armed stop fell before the call, and nothing was done
+-- A stop was due before this call. The call returned `Other`; on the disk, nothing else changed.
 pub record ArmedStopFell (error : ErrorKind) (old new : MemoryFileSystem) : Type 0 where
   pub falls : (armed old).stop ≡ 1
   pub undone : (armed old).after ≡ false
   pub kind : error ≡ Other
   pub left : disk_of new ≡ at_stop (disk_of old)
 
--- what holds after a failure that was reported as this kind: nothing was done, and it was counted, or became a stop if
--- no more can be counted
+-- the state `k` after a failure that returned `error`: it was counted, or, if the count is full, the file system has
+-- stopped
 abbrev pub after_failure : ErrorKind → Kept → Kept
 after_failure error k = record k { disk = failed_once error k.disk }
 
--- what holds after a stop that left this
+-- the state `k` after the file system stopped
 abbrev pub after_stop : Kept → Kept
 after_stop k = record k { disk = at_stop k.disk }
 
--- Why a changing call failed, and what it left:
--- - `uncounted`: the file system has stopped, which returns `Other`, or an argument is wrong. Nothing changed.
--- - `stop_fell`: the armed stop fell.
--- - `refusal_fell`: an armed failure fell.
--- - `part_fell`: an armed partial failure fell.
--- - `room_short`: nothing fell, and there was no room for the change.
--- A failure is counted as the error that is returned. Only if the count would reach 2^64 - 1, a stop replaces it, and
--- the error isn't out of memory.
+-- Why a changing call failed, and what is left:
+-- - `uncounted`: the file system has stopped, and the call returned `Other`, or an argument is wrong. Nothing changed.
+-- - `stop_fell`: a stop was due. `left_at_stop` says what it left.
+-- - `refusal_fell`: an armed failure was due. Nothing was done.
+-- - `part_fell`: a partial failure was due. `left_in_part` says what it left.
+-- - `room_short`: nothing was due, and there was no room for the change. `no_room` says why.
+-- In the last three cases the failure is counted with the error that the call returned. If the count is full, the file
+-- system stops instead, and the error isn't out of memory.
 pub data IsRefusedCall (left_at_stop : ErrorKind → Kept → Type 0)
     (left_in_part : ℕ → ErrorKind → Kept → Type 0) (wrong no_room : ErrorKind → Type 0) (error : ErrorKind) (old new : MemoryFileSystem) : Type 0 where
   uncounted : IsAfterStop (disk_of old) error ⊎ wrong error → armed new ≡ armed old → kept new ≡ kept old
@@ -166,37 +172,38 @@ pub data IsRefusedCall (left_at_stop : ErrorKind → Kept → Type 0)
       → kept new ≡ after_failure error (kept old)
       → IsRefusedCall left_at_stop left_in_part wrong no_room error old new
 
--- nothing was done
+-- the call returned `Other`, and nothing was done
 abbrev pub Untouched : Kept → ErrorKind → Kept → Type 0
 Untouched old error left = (error ≡ Other) × (left ≡ old)
 
--- a call was done that is done whole or not at all, and the changes of all files are in this order
+-- The call was done: `done` says what the disk is now, and `changes` are the unsynced changes of all files.
 pub record IsCallDone (done : Disk → Type 0) (changes : List (ℕ × Change)) (left : Kept) : Type 0 where
   pub disk : done left.disk
   pub order : left.unsynced ≡ changes
 
--- What a stop leaves of a call that is done whole or not at all. After a stop before the call, nothing was done. At a
--- stop after it, the call was done and returns `Other`; if memory ran out, it wasn't done and returns `ResourceBusy`.
+-- What a stop leaves of a call that is done whole or not at all. After a stop before the call (`false`), nothing was
+-- done. At a stop after it, the call was done and returns `Other`; if memory ran out, it wasn't done and returns
+-- `ResourceBusy`.
 abbrev pub LeftAtStop : Bool → (Disk → Type 0) → List (ℕ × Change) → Kept → ErrorKind → Kept → Type 0
 LeftAtStop false done order old error left = Untouched old error left
 LeftAtStop true done order old error left =
     ((error ≡ Other) × IsCallDone done order left) ⊎ ((error ≡ ResourceBusy) × (left ≡ old))
 
--- a change was made, and is the last one of all
+-- `change` of file `id` was made, and is the last unsynced change of all files
 pub record IsChangeMade (id : ℕ) (change : Change) (old left : Kept) : Type 0 where
   pub disk : Changes id (after_change change) old.disk left.disk
   pub order : left.unsynced ≡ old.unsynced ++ (id, change) ∷ []
 
--- What a stop, before or after the call, leaves of a write, truncation or growth. The change is made but not synced,
--- and the call returns `Other`. If there is no room for it, it isn't made; the call returns that error, but
+-- What a stop, before or after the call, leaves of a write, truncation or growth. If there was room, the change was
+-- made but not synced, and the call returned `Other`. Otherwise nothing was done, and the call returned why, but
 -- `ResourceBusy` if memory ran out.
 abbrev pub MadeUnlessShort : Type 0 → (ErrorKind → Type 0) → ℕ → Change → Kept → ErrorKind → Kept → Type 0
 MadeUnlessShort space no_room id change old error left =
     ((error ≡ Other) × space × IsChangeMade id change old left)
     ⊎ ((kind : ErrorKind) × no_room kind × IsToldAtStop kind error × (left ≡ old))
 
--- the first bytes of a write were written, and are the last change of all; the whole write counts as an unsynced change
--- of the file
+-- The first `count` bytes of a write were written, and that is the last unsynced change of all files. The file's own
+-- list of changes has the whole write.
 pub record IsFrontMade (id at : ℕ) (bytes : List ℕ) (count : ℕ) (old left : Kept) : Type 0 where
   pub file : File
   pub is : old.disk.files id ≡ Some file
@@ -204,8 +211,8 @@ pub record IsFrontMade (id at : ℕ) (bytes : List ℕ) (count : ℕ) (old left 
       (overwritten at (take count bytes) file.content) file)) old.disk
   pub order : left.unsynced ≡ old.unsynced ++ (id, Wrote at (take count bytes)) ∷ []
 
--- What a partial failure leaves of a change. A write wrote its first `count` bytes; if there was no room, as for lack
--- of space for the whole write, it wrote none and returns that error. Any other change wasn't made.
+-- What a partial failure leaves of a change. A write wrote its first `count` bytes and returned `Other`. If there was
+-- no room for the whole write, it wrote none and returned why. A truncation or growth wasn't made.
 abbrev pub LeftInPart : Type 0 → (ErrorKind → Type 0) → ℕ → Change → Kept → ℕ → ErrorKind → Kept → Type 0
 LeftInPart space no_room id (Wrote at bytes) old count error left =
     ((error ≡ Other) × space × IsFrontMade id at bytes count old left)
@@ -213,22 +220,23 @@ LeftInPart space no_room id (Wrote at bytes) old count error left =
 LeftInPart space no_room id (ShortenedTo size) old count error left = Untouched old error left
 LeftInPart space no_room id (GrewTo size) old count error left = Untouched old error left
 
--- a failed call that is done whole or not at all
+-- how a call failed that is done whole or not at all; its arguments are wrong, or something armed was due, or memory
+-- ran out
 abbrev pub IsRefusedWhole : (Disk → Type 0) → List (ℕ × Change) → (ErrorKind → Type 0) → ErrorKind
     → MemoryFileSystem → MemoryFileSystem → Type 0
 IsRefusedWhole done order wrong error old new =
     IsRefusedCall (LeftAtStop (armed old).after done order (kept old)) (λ count. Untouched (kept old)) wrong
     (λ e. e ≡ OutOfMemory) error old new
 
--- why there is no room for a change
+-- `error` says why there is no room for `change` of file `id`
 abbrev pub NoRoomFor : ℕ → Change → MemoryFileSystem → ErrorKind → Type 0
 NoRoomFor id change old error = HasNoRoom (armed old).spaces id change (disk_of old) error
 
--- there is space for a change
+-- there is enough free space for `change` of file `id`
 abbrev pub HasSpaceFor : ℕ → Change → MemoryFileSystem → Type 0
 HasSpaceFor id change old = HasSpace (armed old).spaces id change (disk_of old)
 
--- a failed write, truncation or growth
+-- how a write, truncation or growth failed: an argument is wrong, or something armed was due, or there was no room
 abbrev pub IsRefusedChange : ℕ → Change → (ErrorKind → Type 0) → ErrorKind
     → MemoryFileSystem → MemoryFileSystem → Type 0
 IsRefusedChange id change wrong error old new =
@@ -236,9 +244,11 @@ IsRefusedChange id change wrong error old new =
     (LeftInPart (HasSpaceFor id change old) (NoRoomFor id change old) id change (kept old)) wrong
     (NoRoomFor id change old) error old new
 
--- How a call ended: `stops` is whether the file system stops at it, `done` whether it was done. At a stop, the error is
--- `Other` if the call was done. If it wasn't, the error says why, but it is `ResourceBusy` if memory ran out. Without a
--- stop the call wasn't done, and that is a failure.
+-- How a call that didn't succeed ended. `stops` is whether the file system stops at it, and `done` whether its work was
+-- done, or why not.
+-- At a stop, the error is `Other` if the work was done. Otherwise it is the reason, but `ResourceBusy` if memory ran
+-- out.
+-- Without a stop the work wasn't done, and a failure is counted.
 pub data IsEnded {E : Type 0} (kind_of : E → ErrorKind) (stops : Bool) (done : Result (Unit {0}) E)
     (error : ErrorKind) (old new : Disk) : Type 0 where
   at_the_stop : stops ≡ true → MatchResult done (λ v. error ≡ Other) (λ e. IsToldAtStop (kind_of e) error)
@@ -246,10 +256,10 @@ pub data IsEnded {E : Type 0} (kind_of : E → ErrorKind) (stops : Bool) (done :
   not_made : stops ≡ false → MatchResult done (λ v. ⊥) (λ e. IsToldOnce (kind_of e) error old)
       → new ≡ failed_once error old → IsEnded kind_of stops done error old new
 
--- how a change ended
+-- how a write, truncation or growth that didn't succeed ended
 abbrev pub IsChangeEnded : Bool → Result (Unit {0}) ErrorKind → ErrorKind → Disk → Disk → Type 0
 IsChangeEnded = IsEnded (λ kind. kind)
 
--- how a call ended that is done whole or not at all: it fails only if memory runs out
+-- how a call ended that is done whole or not at all; its work fails only if memory runs out
 abbrev pub IsCallEnded : Bool → Result (Unit {0}) AllocError → ErrorKind → Disk → Disk → Type 0
 IsCallEnded = IsEnded (λ none. OutOfMemory)

@@ -1,4 +1,4 @@
--- What holds after directories were opened.
+-- The file system after the directories of the operating system were opened.
 use Rattle.std.specs.Prelude.{◌≡◌, ℕ, false, Some, List, []}
 use Rattle.std.proofs.Props.{props}
 use Rattle.raft_log_fs.proofs.Props.{File-set}
@@ -9,13 +9,13 @@ use Rattle.raft_log_fs_traced.specs.Device.{Trace, held_by, settled}
 use Rattle.raft_log_fs_state.specs.Steps.{size_of}
 use Rattle.raft_log_fs_traced.specs.WritingBack.{LeavesBytes, RestsAt, WritesBack}
 
--- the file system runs, and no failure was counted or reported
+-- the file system runs, and has counted and reported no failure
 pub record StartsFresh (d : Disk) : Type 0 where
   pub runs : d.stopped ≡ false
   pub uncounted : d.failures ≡ 0
   pub untold : d.kinds ≡ []
 
--- the file with this number, if it exists, has these bytes instead, all synced; nothing else changed
+-- if file `id` exists in `old`, then `new` has `bytes` as its content, all synced, and otherwise the same disk
 abbrev pub FillsFile : ℕ → List ℕ → Storage → Storage → Type 0
 FillsFile id bytes old new = (file : File) → (contents_of old).files id ≡ Some file
     → contents_of new ≡ with_file id (Some (at_rest bytes)) (contents_of old)
@@ -28,15 +28,16 @@ AllRest storage = (id : ℕ) → RestsAt id (contents_of storage)
 pub AllRest-prop : (storage : Storage) → IsProp (AllRest storage)
 AllRest-prop storage = hlevel (File-set, props)
 
--- Whatever calls were made since, calls see what was found, and a crash leaves it too.
+-- Calls see the disk that was found at the opening, and a crash leaves it too, whatever calls were made since.
 abbrev pub StandsAsFound : Trace → Type 0
 StandsAsFound trace = held_by trace ≡ settled trace.found
 
--- the file at a path, if there is one, was written back whole, and synced
+-- the file at `path`, if there is one, was written back whole and synced, and no other call was made
 abbrev pub IsWrittenBack : List ℕ → Disk → Trace → Trace → Type 0
 IsWrittenBack path d old new =
     (file : ℕ) → d.names path ≡ Some file → WritesBack file (size_of (d.files file)) old new
 
--- if no directory had to be synced, then what was found, what calls see and what a crash leaves is unchanged
+-- If no directory had to be synced, then the calls made since left no effect. Calls see, and a crash leaves, the same
+-- disk as before.
 abbrev pub StaysSettled : Trace → Trace → Type 0
 StaysSettled old new = (d : Disk) → held_by old ≡ settled d → LeavesBytes old new

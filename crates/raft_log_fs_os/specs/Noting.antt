@@ -1,9 +1,11 @@
--- How a call of the operating system is noted: its kind, a file, an offset or a size, and a path or bytes.
+-- How the record of calls encodes a call to the operating system: its kind, a file, an offset or a size, and a path or
+-- bytes.
 use Rattle.std.specs.Prelude.{ℕ, List, slice_index, ◌==◌, if◌then◌else◌}
 use Rattle.raft_log_fs.specs.Disk.{Wrote, ShortenedTo, GrewTo}
 use Rattle.raft_log_fs_traced.specs.Device.{DeviceCall, Created, Deleted, MadeDirectory, SyncedDirectory, Changed, Synced, WroteBack}
 
--- the call of this kind, with this file, number, and path or bytes
+-- the call with this number as its kind; `file`, `number` (an offset or a size) and `text` (a path or bytes) are its
+-- arguments
 abbrev pub call_of_kind : ℕ → ℕ → ℕ → List ℕ → DeviceCall
 call_of_kind kind file number text =
     if kind == 0 then Created text file
@@ -16,7 +18,7 @@ call_of_kind kind file number text =
     else (if kind == 7 then Synced file
     else WroteBack file number text)))))))
 
--- the call that these three numbers and this path or these bytes encode
+-- the call that three numbers (its kind, a file, and an offset or a size) and `text` (a path or bytes) encode
 abbrev pub call_of : List ℕ → List ℕ → DeviceCall
 call_of numbers text =
     call_of_kind (slice_index numbers 0) (slice_index numbers 1) (slice_index numbers 2) text

@@ -1,4 +1,4 @@
--- The changes that a file system in memory keeps, as changes of a disk.
+-- The changes that a file system in memory stores, as changes of a disk.
 use Rattle.std.specs.Prelude.{◌≡◌, ℕ, ◌++◌, take, drop, List, []}
 use Rattle.raft_log_fs.specs.Disk.{Wrote, ShortenedTo, GrewTo}
 use Rattle.raft_log_fs.specs.Disk as disk
@@ -6,40 +6,40 @@ use Rattle.raft_log_fs_state.specs.declared.change.Change.{Change}
 use Rattle.raft_log_fs_state.specs.declared.change.Change.TheVariants.{Write, Shortening, Growth}
 use Rattle.raft_log_fs_state.specs.declared.change.Stamped.{Stamped}
 
--- a write with more bytes after its own; another change unchanged
+-- a write with `rest` appended to its bytes; a truncation or growth unchanged
 abbrev pub with_rest : disk.Change → List ℕ → disk.Change
 with_rest (Wrote at bytes) rest = Wrote at (bytes ++ rest)
 with_rest (ShortenedTo size) rest = ShortenedTo size
 with_rest (GrewTo size) rest = GrewTo size
 
--- a change as it was made, and as it was asked for: a write that failed may have written only a prefix of its bytes
+-- `landed` is what was done of `asked`: all of it, or, of a failed write, only a prefix of its bytes
 abbrev pub IsLanded : disk.Change → disk.Change → Type 0
 IsLanded landed asked = (rest : List ℕ) × (asked ≡ with_rest landed rest)
 
--- the change of a disk that was made, a write with these bytes
+-- a stored change as a change of a disk; a stored write has no bytes of its own, so `bytes` are those that it wrote
 abbrev pub change_of : Change → List ℕ → disk.Change
 change_of (Write offset rest) bytes = Wrote offset bytes
 change_of (Shortening size) bytes = ShortenedTo size
 change_of (Growth size) bytes = GrewTo size
 
--- the bytes after these that a failed write was also asked to write
+-- the bytes that a failed write was asked to write, but didn't; none for other changes
 abbrev pub rest_of : Change → List ℕ
 rest_of (Write offset rest) = rest.items
 rest_of (Shortening size) = []
 rest_of (Growth size) = []
 
--- the change of a disk that was asked for
+-- a stored change as its call asked for it; `bytes` are those that a write wrote
 abbrev pub asked_of : Change → List ℕ → disk.Change
 asked_of change bytes = with_rest (change_of change bytes) (rest_of change)
 
--- the bytes that a write of `count` bytes put into a content, read from the content after it
+-- the bytes that a write of `count` bytes put at its offset, read from the content after it; none for other changes
 abbrev pub bytes_in : Change → ℕ → List ℕ → List ℕ
 bytes_in (Write offset rest) count after = take count (drop offset after)
 bytes_in (Shortening size) count after = []
 bytes_in (Growth size) count after = []
 
--- A change as it was made. `rest` are the bytes after it that were also asked for; `stamp` is how many changes of any
--- file were made before it.
+-- A change that was made. `rest` are the bytes that a failed write was also asked to write. `stamp` is the number of
+-- changes, of any file, that were made before it.
 pub record Made : Type 0 where
   pub stamp : ℕ
   pub change : disk.Change

@@ -1,4 +1,4 @@
--- What a crash leaves of changes that weren't synced, as chosen by a `Remainder`.
+-- What a crash leaves of the unsynced changes. A test chooses that by a `Remainder`.
 use Rattle.std.specs.Prelude.{ℕ, false, cond, List, [], ◌∷◌, Option, Some, None, length, suc, slice_get}
 use Rattle.std.specs.Option.{option_map}
 use Rattle.std.proofs.Common.{take, nat_eq, nat_lt}
@@ -9,26 +9,29 @@ use Rattle.raft_log_fs_state.specs.declared.remainder.Remainder.TheVariants.{Las
 use Rattle.raft_log_fs_state.specs.declared.remainder.Piece.{Piece}
 use Rattle.raft_log_fs_state.specs.declared.remainder.Piece.TheVariants.{Keep, Lose, Bytes}
 
--- the first bytes of a write, and nothing of another change
+-- `old` after only the first `count` bytes of a write; a truncation or growth is lost
 abbrev pub left_front : ℕ → disk.Change → List ℕ → List ℕ
 left_front count (Wrote at bytes) old = overwritten at (take count bytes) old
 left_front count (ShortenedTo size) old = old
 left_front count (GrewTo size) old = old
 
--- other bytes in place of a write's, at most as many; another change whole
+-- `old` after a write that left, in place of its own bytes, the bytes `other`, at most as many; a truncation or growth
+-- is done whole
 abbrev pub left_as : List ℕ → disk.Change → List ℕ → List ℕ
 left_as other (Wrote at bytes) old = overwritten at (take (length bytes) other) old
 left_as other (ShortenedTo size) old = changed (ShortenedTo size) old
 left_as other (GrewTo size) old = changed (GrewTo size) old
 
--- what the piece chosen for a change leaves; a change past the end of the list is lost
+-- `old` after what the chosen piece keeps of `change`; without a piece (the list of pieces is too short) the change is
+-- lost
 abbrev pub left_as_said : Option Piece → disk.Change → List ℕ → List ℕ
 left_as_said None change old = old
 left_as_said (Some Keep) change old = changed change old
 left_as_said (Some Lose) change old = old
 left_as_said (Some (Bytes other)) change old = left_as other.items change old
 
--- what the change at this place in the order of the calls leaves of a content
+-- The content `old` after the crash keeps of `change` what is chosen for its position. `place` is that position among
+-- the unsynced changes of all files, in the order of the calls.
 abbrev pub left_by : Remainder → ℕ → disk.Change → List ℕ → List ℕ
 left_by LastSync place change old = old
 left_by AllWritten place change old = changed change old
@@ -37,18 +40,20 @@ left_by (First pieces bytes) place change old =
     (cond (nat_eq place pieces) (left_front bytes change old) old)
 left_by (Pieces list) place change old = left_as_said (slice_get list.items place) change old
 
--- what the changes from this place on leave of one file; places count the changes of all files, in the order of the
--- calls
+-- The content of file `id` after the crash: `old` with what is kept of the file's changes in this list. The list has
+-- the changes of all files in the order of the calls, and `place` is the position of its first one.
 abbrev pub left_of : Remainder → ℕ → ℕ → List (ℕ × disk.Change) → List ℕ → List ℕ
 left_of what place id [] old = old
 left_of what place id (u ∷ us) old =
     left_of what (suc place) id us (cond (nat_eq u.0 id) (left_by what place u.1 old) old)
 
--- a file as the restart finds it: at rest, with the synced bytes and what is left of the changes since
+-- File `id` as the restart finds it: the synced bytes with what the crash keeps of the unsynced changes. All its bytes
+-- now count as synced.
 abbrev pub left_file : Remainder → List (ℕ × disk.Change) → ℕ → File → File
 left_file what unsynced id file = at_rest (left_of what 0 id unsynced file.synced)
 
--- the disk that a crash leaves: the names unchanged, what is left of each file, and no unreadable byte, stop or failure
+-- The disk that a crash leaves. Names are unchanged, and each file has what the crash leaves of it. No byte is
+-- unreadable, the file system runs, and no failure is counted.
 abbrev pub left_disk : Remainder → List (ℕ × disk.Change) → Disk → Disk
 left_disk what unsynced d = record d {
   files = λ id. option_map (left_file what unsynced id) (d.files id);

@@ -1,4 +1,4 @@
--- Which names a directory's listing has.
+-- Which names the listing of a directory has.
 use Rattle.std.specs.Prelude.{◌≡◌, ℕ, ◌⊎◌, ◌++◌, List, [], ◌∷◌, Option, Some, None, MatchOption}
 use Rattle.std.specs.Borrow.{Bor}
 use Rattle.std.specs.declared.string.String.{String}
@@ -8,19 +8,20 @@ use Rattle.raft_log_fs.specs.Disk.{IsPlain}
 use Rattle.raft_log_fs_state.specs.declared.storage.Node.{Node}
 use Rattle.raft_log_fs_state.specs.Storage.{file_named}
 
--- a file of the directory, and its name there
+-- `node` is a file, and `path` consists of `directory`, a slash and `name`, which has no slash
 pub record IsChild (directory path : List ℕ) (node : Node) (name : List ℕ) : Type 0 where
   pub joined : path ≡ directory ++ 47 ∷ name
   pub plain : IsPlain name
   pub file : file_named (Some node) ≡ None → ⊥
 
--- the result is the name of the file at this path, if that is a file in the directory, and none otherwise
+-- the result is the name that the file at `path` has in `directory`; it is `None` if `node` is no file or `path` is not
+-- in there
 abbrev pub TellsChild : List ℕ → List ℕ → Node → Option (Bor (List ℕ)) → Type 0
 TellsChild directory path node told =
     MatchOption told ((name : List ℕ) → IsChild directory path node name → ⊥) (λ name.
     IsChild directory path node name.now)
 
--- the names are those of the directory's files among the entries, in the entries' order
+-- `names` are the names of the files in `directory` among these entries, in the order of the entries
 abbrev pub ListsNames : List ℕ → List (String Global × Node) → List (List ℕ) → Type 0
 ListsNames directory [] names = names ≡ []
 ListsNames directory (e ∷ es) names =

@@ -1,5 +1,5 @@
--- The stamps of all changes, which give each change's place in the order of the calls, and what is left of a file by
--- them.
+-- The stamps of changes. They give each change its position in the order of the calls, and so what a crash leaves of
+-- it.
 use Rattle.std.specs.Prelude.{ℕ, suc, zero, Option, Some, None, List, [], ◌∷◌, ◌++◌, length}
 use Rattle.std.specs.List.{filter}
 use Rattle.std.proofs.Common.{map, nat_lt}
@@ -29,23 +29,24 @@ abbrev pub stamps_of : (ℕ → Option Held) → ℕ → List ℕ
 stamps_of files zero = []
 stamps_of files (suc id) = stamps_of files id ++ file_stamps (files id)
 
--- how many of the stamps are below this one
+-- how many of `stamps` are below `stamp`: the position of the change that has `stamp`
 abbrev pub place_in : List ℕ → ℕ → ℕ
 place_in stamps stamp = length (filter (λ other. nat_lt other stamp) stamps)
 
--- these are the stamps of all changes of these files
+-- `stamps` are the stamps of all changes of all files, in any order
 abbrev pub HasAllStamps : List (Option Stored) → List ℕ → Type 0
 HasAllStamps files stamps = IsPermutation (stamps_of (held_of files) (length files)) stamps
 
--- what a file's changes leave of a content, if each change's place follows from its stamp
+-- The content `old` after the crash keeps what is chosen for each of a file's changes. `place` gives each stamp's
+-- position among the unsynced changes of all files.
 abbrev pub left_own : Remainder → (ℕ → ℕ) → List Made → List ℕ → List ℕ
 left_own what place [] old = old
 left_own what place (m ∷ ms) old = left_own what place ms (left_by what (place m.stamp) m.change old)
 
--- what is left of a file's bytes, if these are the stamps of all changes
+-- what a crash leaves of a file's bytes, if `stamps` are the stamps of the unsynced changes of all files
 abbrev pub left_of_file : Remainder → List ℕ → Held → List ℕ
 left_of_file what stamps file = left_own what (place_in stamps) file.changes file.synced
 
--- a file as the restart finds it
+-- a file as the restart finds it, with all bytes that the crash left synced; `place` gives each stamp's position
 abbrev pub left_held : Remainder → (ℕ → ℕ) → Held → Held
 left_held what place file = resting (left_own what place file.changes file.synced)

@@ -1,4 +1,4 @@
--- What each change of a file system in memory does to its disk, and to the order of the changes of all files.
+-- What each change of a file system in memory does to its disk, and to the list of unsynced changes of all files.
 use Rattle.std.specs.Prelude.{◌≡◌, ℕ, ◌+◌, ◌⊎◌, ◌<◌, ◌≤◌, cond, nat_eq, Option, Some, None, List, [], ◌∷◌, ◌++◌, length}
 use Rattle.std.specs.declared.io.ErrorKind.{ErrorKind}
 use Rattle.std.specs.declared.io.ErrorKind.TheVariants.{OutOfMemory, StorageFull}
@@ -12,64 +12,67 @@ use Rattle.raft_log_fs_state.specs.Left.{left_disk}
 use Rattle.raft_log_fs_state.specs.declared.remainder.Remainder.{Remainder}
 use Rattle.raft_log_fs_state.specs.Storage.{contents_of, unsynced_of}
 
--- the disk and the order of the changes are the same
+-- `new` has the same disk as `old`, and the same unsynced changes in the same order
 pub record IsSame (old new : Storage) : Type 0 where
   pub contents : contents_of new ≡ contents_of old
   pub order : unsynced_of new ≡ unsynced_of old
 
--- the file after a change of which only this part was made, though `rest` was asked for too
+-- The file after `change` was made. A failed write may have been asked to write `rest` too: the file's list of changes
+-- includes these bytes, its content doesn't.
 abbrev pub after_part : Change → List ℕ → File → File
 after_part change rest file = with_change (with_rest change rest) (changed change file.content) file
 
--- a file was changed, and this change is the last of all; `rest` was asked for after a write's bytes
+-- File `id`, if it exists, got `change`, and this is the last unsynced change of all files. A failed write may have
+-- been asked to write `rest` too.
 pub record Makes (id : ℕ) (change : Change) (rest : List ℕ) (old new : Storage) : Type 0 where
   pub contents : (file : File) → (contents_of old).files id ≡ Some file
       → contents_of new ≡ with_file id (Some (after_part change rest file)) (contents_of old)
   pub order : unsynced_of new ≡ unsynced_of old ++ (id, change) ∷ []
 
--- a file was synced, and its changes are removed from the unsynced ones
+-- file `id`, if it exists, was synced, and its changes were removed from the unsynced ones
 pub record SyncsFile (id : ℕ) (old new : Storage) : Type 0 where
   pub contents : (file : File) → (contents_of old).files id ≡ Some file
       → contents_of new ≡ with_file id (Some (flushed file)) (contents_of old)
   pub order : unsynced_of new ≡ without_file id (unsynced_of old)
 
--- the storage that a crash leaves, as `what` chooses, with the changes in this order
+-- `after` has the disk that a crash of `old` leaves, as `what` chooses
 abbrev pub IsLeftBy : Remainder → Storage → Storage → Type 0
 IsLeftBy what old after = contents_of after ≡ left_disk what (unsynced_of old) (contents_of old)
 
--- a name was added, and no file changed
+-- the disk changed by `next`, for example got a new name, and the unsynced changes are the same
 pub record AddsName (next : Disk → Disk) (old new : Storage) : Type 0 where
   pub contents : contents_of new ≡ next (contents_of old)
   pub order : unsynced_of new ≡ unsynced_of old
 
--- a name and its file were removed, with the file's changes
+-- the name `path` and its file `id` were deleted, and the file's changes were removed from the unsynced ones
 pub record DropsName (path : List ℕ) (id : ℕ) (old new : Storage) : Type 0 where
   pub contents : contents_of new ≡ deleted path id (contents_of old)
   pub order : unsynced_of new ≡ without_file id (unsynced_of old)
 
--- without the changes of the file that a rename replaces, unless it is the renamed file itself
+-- The unsynced changes after file `id` was renamed to a name that another file had: those of the replaced file are
+-- gone. If the name was the file's own, nothing is removed.
 abbrev pub without_replaced : ℕ → Option ℕ → List (ℕ × Change) → List (ℕ × Change)
 without_replaced id None unsynced = unsynced
 without_replaced id (Some gone) unsynced = cond (nat_eq gone id) unsynced (without_file gone unsynced)
 
--- a file got another name; the file that had that name, if any, was removed with its changes
+-- File `id` was renamed. The file that had the name `to`, if any, was deleted, with its unsynced changes.
 pub record MovesName (from to : List ℕ) (id : ℕ) (old new : Storage) : Type 0 where
   pub contents : contents_of new ≡ renamed from to id (contents_of old)
   pub order : unsynced_of new ≡ without_replaced id ((contents_of old).names to) (unsynced_of old)
 
--- a file's size in bytes; 0 if it doesn't exist
+-- a file's size in bytes; 0 if there is none
 abbrev pub size_of : Option File → ℕ
 size_of None = 0
 size_of (Some file) = length file.content
 
--- the change would make its file grow by more than `free` bytes
+-- file `id` exists, and `change` would make it grow by more than `free` bytes
 pub record GrowsPast (free id : ℕ) (change : Change) (d : Disk) : Type 0 where
   pub file : File
   pub is : d.files id ≡ Some file
   pub past : length file.content + free < length (changed change file.content)
 
--- Why a change wasn't made: out of memory; or out of space, because the file would reach its limit or grow by more
--- bytes than are free.
+-- `error` says why `change` wasn't made. `OutOfMemory`: memory ran out. `StorageFull`: the change ends at offset 2^63
+-- or after, or its file would grow by more than `free` bytes.
 abbrev pub IsRoomFault : ℕ → ℕ → Change → Disk → ErrorKind → Type 0
 IsRoomFault free id change d error = (error ≡ OutOfMemory)
     ⊎ ((error ≡ StorageFull) × ((file_limit ≤ end_of change) ⊎ GrowsPast free id change d))

@@ -1,4 +1,4 @@
--- What a file system in memory holds, as a disk.
+-- The paths and files of a file system in memory, as a disk.
 use Rattle.std.specs.Prelude.{◌≡◌, ℕ, Bool, true, false, List, [], ◌∷◌, Option, Some, None, suc, vec_len}
 use Rattle.std.specs.Option.{option_map}
 use Rattle.std.specs.List.{AllZip}
@@ -16,31 +16,31 @@ use Rattle.raft_log_fs_state.specs.Changes.{Made, IsLanded}
 use Rattle.raft_log_fs_state.specs.Held.{held_of, file_of}
 use Rattle.raft_log_fs_state.specs.Order.{in_order, changes_of, Rises, AreStamped}
 
--- the file at a path
+-- the number of the file that the node is, if it is a file
 abbrev pub file_named : Option Node → Option ℕ
 file_named None = None
 file_named (Some nodes.Directory) = None
 file_named (Some (nodes.File id)) = Some id
 
--- whether there is a directory at a path
+-- whether the node is a directory
 abbrev pub is_directory : Option Node → Bool
 is_directory None = false
 is_directory (Some nodes.Directory) = true
 is_directory (Some (nodes.File id)) = false
 
--- what is at a path
+-- the node (file or directory) at a path
 abbrev pub node_at : Storage → List ℕ → Option Node
 node_at storage path = get_by_text storage.paths path
 
--- each path names the same node as before
+-- each path has the same node in `new` as in `old`, or none in both
 abbrev pub SameNodes : Storage → Storage → Type 0
 SameNodes old new = (path : List ℕ) → node_at new path ≡ node_at old path
 
--- each path but one names the same node as before; that one names `node`
+-- `path` has `node` in `new` (none if it is `None`); each other path has what it has in `old`
 abbrev pub PutsNode : List ℕ → Option Node → Storage → Storage → Type 0
 PutsNode path node old new = (q : List ℕ) → node_at new q ≡ update bytes_eq (node_at old) path node q
 
--- the contents as a disk without stops, failures or unreadable bytes
+-- the storage as the disk of a file system that runs, without failures or unreadable bytes
 abbrev pub contents_of : Storage → Disk
 contents_of storage = record {
   directories = λ path. is_directory (node_at storage path);
@@ -53,17 +53,17 @@ contents_of storage = record {
   kinds = [];
 }
 
--- the changes of all files that aren't synced, in the order of the calls
+-- the unsynced changes of all files, each with its file's number, in the order of the calls
 abbrev pub unsynced_of : Storage → List (ℕ × Change)
 unsynced_of storage = in_order storage.made (held_of storage.files.items) (vec_len storage.files)
 
--- the disk is sound, and the stamps give the order in which the changes were made
+-- the disk is sound; the stamps of each file's changes rise, and no two files share a stamp
 pub record IsStorageSound (storage : Storage) : Type 0 where
   pub sound : IsSound (contents_of storage)
   pub stamped : AreStamped storage.made (held_of storage.files.items)
 
--- The order of all files' changes has, for each existing file, exactly its unsynced changes, in its order. If only part
--- of a write was made, the order has that part.
+-- For each existing file, the list of all files' unsynced changes has exactly that file's changes, in their order. If a
+-- failed write wrote only a prefix, the list has this prefix, and the file has all bytes that were passed in.
 abbrev pub OrderIsTheFiles : Type 0
 OrderIsTheFiles = (storage : Storage) (id : ℕ) (file : File) → IsStorageSound storage
     → (contents_of storage).files id ≡ Some file

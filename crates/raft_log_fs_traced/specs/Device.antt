@@ -1,4 +1,4 @@
--- A device: the calls made on it, and what it holds after them.
+-- A device: the calls made on it, and the disk that calls see and the disk that a crash leaves after them.
 use Rattle.std.specs.Prelude.{◌≡◌, ℕ, ◌+◌, ◌≤◌, ◌⊎◌, not, suc, Option, Some, None, List, [], ◌∷◌, ◌++◌, length, take, drop, unwrap_or}
 use Rattle.std.specs.List.{filter}
 use Rattle.std.specs.Map.{update}
@@ -20,27 +20,27 @@ pub data DeviceCall : Type 0 where
   WroteBack : (file at : ℕ) (bytes : List ℕ) → DeviceCall
   Synced : (file : ℕ) → DeviceCall
 
--- what a device had when it was opened, and the calls made on it since, the last one first
+-- A trace: the disk that a device had when it was opened, and the calls made on it since, the last one first.
 pub record Trace : Type 0 where
   pub found : Disk
   pub made : List DeviceCall
 
--- What a device holds: what its calls see, what a crash leaves, and the directories that must be synced, because names
--- in them have changed.
+-- A device after some calls. `seen` is the disk that calls see, and `kept` the disk that a crash leaves. `owed` are the
+-- directories that still have to be synced, because names in them have changed.
 pub record Held : Type 0 where
   pub seen : Disk
   pub kept : Disk
   pub owed : List (List ℕ)
 
--- a device without a directory to sync: a crash leaves what calls see
+-- a device on which no directory has to be synced: a crash leaves the disk that calls see
 abbrev pub settled : Disk → Held
 settled d = record { seen = d; kept = d; owed = [] }
 
--- the parent directory of a path; the empty text is the directory that paths start from
+-- the parent directory of a path; the empty string is the directory that relative paths start from
 abbrev pub home : List ℕ → List ℕ
 home path = unwrap_or (path_parent path) []
 
--- the disk with an empty file under a new name, at this number
+-- the disk with a new empty file at `path`, with the number `file`
 abbrev pub created_as : List ℕ → ℕ → Disk → Disk
 created_as path file d = record d {
   names = update bytes_eq d.names path (Some file);
@@ -48,22 +48,22 @@ created_as path file d = record d {
   unused = suc file;
 }
 
--- the disk without the file at a path, if there is one
+-- the disk without `path` and the file that it names, if there is one
 abbrev pub without_named : Option ℕ → List ℕ → Disk → Disk
 without_named None path d = d
 without_named (Some file) path d = deleted path file d
 
--- the disk with the file at a path renamed, if there is one
+-- the disk with the file at `from`, if there is one, renamed to `to`
 abbrev pub with_moved : Option ℕ → List ℕ → List ℕ → Disk → Disk
 with_moved None from to d = d
 with_moved (Some file) from to d = renamed from to file d
 
--- the disk with another state of a file, if it exists
+-- the disk with `file`, if it exists, changed by `next`
 abbrev pub with_next : Option File → (File → File) → ℕ → Disk → Disk
 with_next None next file d = d
 with_next (Some state) next file d = with_file file (Some (next state)) d
 
--- each call as it changes a disk; neither a directory sync nor a write-back changes what calls see
+-- the disk after a call, as later calls see it; a directory sync and a write-back change nothing
 abbrev pub changed_by : DeviceCall → Disk → Disk
 changed_by (Created path file) d = created_as path file d
 changed_by (Deleted path) d = without_named (d.names path) path d
@@ -74,26 +74,28 @@ changed_by (Changed file change) d = with_next (d.files file) (after_change chan
 changed_by (WroteBack file at bytes) d = d
 changed_by (Synced file) d = with_next (d.files file) flushed file d
 
--- A call that changes names: calls see that at once, but a crash doesn't until these directories are synced.
+-- The device after a call that changes names: calls see the change at once. The directories `homes` have to be synced
+-- now; a crash keeps the change once no directory has to be.
 abbrev pub with_names : DeviceCall → List (List ℕ) → Held → Held
 with_names call homes held =
     record { seen = changed_by call held.seen; kept = held.kept; owed = homes ++ held.owed }
 
--- a call that changes a file: a crash leaves that too
+-- the device after a call that changes a file's bytes, or syncs them: both calls and a crash see the change
 abbrev pub with_bytes : DeviceCall → Held → Held
 with_bytes call held =
     record { seen = changed_by call held.seen; kept = changed_by call held.kept; owed = held.owed }
 
--- with these directories to sync: once there are none, a crash leaves all names as calls see them
+-- The device with these directories left to sync. If there are none, a crash leaves the disk that calls see.
 abbrev pub owing : List (List ℕ) → Held → Held
 owing [] held = settled held.seen
 owing (path ∷ paths) held = record { seen = held.seen; kept = held.kept; owed = path ∷ paths }
 
--- the directories except one
+-- the directories without `path`
 abbrev pub but_for : List ℕ → List (List ℕ) → List (List ℕ)
 but_for path owed = filter (λ other. not (bytes_eq path other)) owed
 
--- What a device holds after a call.
+-- What a call makes of a device: of the disk that calls see, of the disk that a crash leaves, and of the directories to
+-- sync.
 abbrev pub after : DeviceCall → Held → Held
 after (Created path file) held = with_names (Created path file) (home path ∷ []) held
 after (Deleted path) held = with_names (Deleted path) (home path ∷ []) held
@@ -104,12 +106,12 @@ after (Changed file change) held = with_bytes (Changed file change) held
 after (WroteBack file at bytes) held = held
 after (Synced file) held = with_bytes (Synced file) held
 
--- what a device holds after these calls, the last of which comes first
+-- the device after these calls, the last of which comes first; `found` is the disk at its opening
 abbrev pub replayed : Disk → List DeviceCall → Held
 replayed found [] = settled found
 replayed found (call ∷ earlier) = after call (replayed found earlier)
 
--- what a device holds, by its trace
+-- the device after the calls of a trace
 abbrev pub held_by : Trace → Held
 held_by trace = replayed trace.found trace.made
 
@@ -117,22 +119,22 @@ held_by trace = replayed trace.found trace.made
 abbrev pub noted : DeviceCall → Trace → Trace
 noted call trace = record { found = trace.found; made = call ∷ trace.made }
 
--- a file has these bytes from an offset on
+-- the file, if it exists, has `bytes` from offset `at` on
 abbrev pub HasBytes : ℕ → ℕ → List ℕ → Disk → Type 0
 HasBytes file at bytes d = (state : File) → d.files file ≡ Some state
     → (at + length bytes ≤ length state.content) × (take (length bytes) (drop at state.content) ≡ bytes)
 
--- a failed call: it was made, or it wasn't
+-- a call that failed: either it was made on the device, or no call was
 abbrev pub MayBeMade : DeviceCall → Trace → Trace → Type 0
 MayBeMade call old new = (new ≡ old) ⊎ (new ≡ noted call old)
 
--- Successful calls that change a disk by `next`. If no directory was to be synced before, none is after, and both calls
--- and a crash see the change.
+-- Successful calls that change the disk by `next`. If no directory had to be synced before them, none has to be after,
+-- and both calls and a crash see the change.
 abbrev pub Does : (Disk → Disk) → Trace → Trace → Type 0
 Does next old new = (d : Disk) → held_by old ≡ settled d → held_by new ≡ settled (next d)
 
--- Calls that change a disk by `next`, one of which failed: a crash leaves what it would have left before, or the whole
--- change.
+-- Calls that change the disk by `next`, one of which failed. If no directory had to be synced before them, a crash
+-- leaves either the disk before them or the disk with the whole change.
 abbrev pub MayDo : (Disk → Disk) → Trace → Trace → Type 0
 MayDo next old new = (d : Disk) → held_by old ≡ settled d
     → ((held_by new).kept ≡ d) ⊎ ((held_by new).kept ≡ next d)

@@ -1,4 +1,4 @@
--- What a file system over a device shows, and how its calls fail.
+-- The disk of a file system over a device, and how its calls fail.
 use Rattle.std.specs.Prelude.{◌≡◌, ◌⊎◌, ℕ, true, false, None, List, Result, Ok}
 use Rattle.std.specs.Result.{IfErr, OnOk, MatchResult}
 use Rattle.std.specs.declared.io.ErrorKind.{ErrorKind}
@@ -13,30 +13,31 @@ use Rattle.raft_log_fs_traced.specs.Following.{shown}
 use Rattle.raft_log_fs_traced.specs.declared.device.Device as device
 use Rattle.raft_log_fs_traced.specs.declared.directory.DirectoryFileSystem.{DirectoryFileSystem}
 
--- the disk with this many failures counted, which were reported as these kinds
+-- the disk with `failures` as the count of failures, and `kinds` as the errors that were returned for them
 abbrev pub with_failures : ℕ → List ErrorKind → Disk → Disk
 with_failures failures kinds d = record d { failures = failures; kinds = kinds }
 
--- A failure was counted and reported as its kind; or the count is full, the file system stopped, and the error isn't
--- out of memory. Nothing else happened.
+-- A failure of this kind was counted, and `error` is its kind. Or the file system stopped, and `error` is that of a
+-- stop. Nothing else changed.
 abbrev pub FailsOnce : ErrorKind → ErrorKind → Disk → Disk → Type 0
 FailsOnce kind error old new =
     ((error ≡ kind) × (new ≡ counted error old)) ⊎ (IsToldAtStop kind error × (new ≡ at_stop old))
 
--- what is returned for a device call that succeeded or failed: a failed one is a stop
+-- what a call returns after a device call: success if that succeeded; otherwise the error of a stop
 abbrev pub IsToldOf : Result (Unit {0}) ErrorKind → Result (Unit {0}) ErrorKind → Type 0
 IsToldOf made result =
     MatchResult made (λ v. result ≡ Ok v) (λ kind. IfErr result (IsToldAtStop kind) × OnOk result ⊥)
 
--- the file system has stopped, or it runs and the path isn't a directory's
+-- the error of a call that needs a directory at `path`: the file system has stopped, or it runs and there is none
 abbrev pub LacksDirectory : List ℕ → Disk → ErrorKind → Type 0
 LacksDirectory path d error = IsAfterStop d error ⊎ ((d.stopped ≡ false) × WrongListing path d error)
 
--- the file system has stopped, or it runs and the handle's file was deleted
+-- the error of a call that needs the handle's file: the file system has stopped, or it runs and the file was deleted
 abbrev pub LacksFile : Handle → Disk → ErrorKind → Type 0
 LacksFile handle d error = IsAfterStop d error ⊎ ((d.stopped ≡ false) × WrongHandle handle d error)
 
--- the file system has stopped, or it runs and the handle's file was deleted or the handle may only read
+-- the error of a call that writes: the file system has stopped, or it runs and the handle's file was deleted or is open
+-- only for reading
 abbrev pub LacksWriter : Handle → Disk → ErrorKind → Type 0
 LacksWriter handle d error = IsAfterStop d error ⊎ ((d.stopped ≡ false) × WrongWriter handle d error)
 
@@ -45,17 +46,18 @@ module _ {D : Type 0} (g : device.Ghosts D) where
   abbrev pub disk_of : DirectoryFileSystem D g → Disk
   disk_of system = shown (g.trace system.device) system.stopped system.failures system.kinds.told
 
-  -- what a file system's device had when it was opened, and the calls made on it since
+  -- the trace of a file system's device: what the device had when it was opened, and the calls made on it since
   abbrev pub calls_of : DirectoryFileSystem D g → Trace
   calls_of system = g.trace system.device
 
-  -- the file system runs, and so its disk has what the model has
+  -- the file system runs, and its disk is the one of its model in memory, except for the count of failures and their
+  -- kinds
   pub record Runs (system : DirectoryFileSystem D g) : Type 0 where
     pub running : system.stopped ≡ false
     pub same : disk_of system
         ≡ with_failures system.failures system.kinds.told (contents_of system.storage)
 
-  -- the file system runs, and the path is a directory's
+  -- the file system runs, and there is a directory at `path`
   pub record RunsWithDirectory (path : List ℕ) (system : DirectoryFileSystem D g) : Type 0 where
     pub runs : Runs system
     pub there : (contents_of system.storage).directories path ≡ true

@@ -1,4 +1,4 @@
--- How a model in memory follows a device, and what a file system over both shows.
+-- The model in memory that a file system keeps of its device, and the disk of that file system.
 use Rattle.std.specs.Prelude.{◌≡◌, ℕ, Bool, false, List}
 use Rattle.std.specs.declared.io.ErrorKind.{ErrorKind}
 use Rattle.std.proofs.Props.{props}
@@ -8,11 +8,12 @@ use Rattle.raft_log_fs_state.specs.declared.storage.Storage.{Storage}
 use Rattle.raft_log_fs_state.specs.Storage.{contents_of}
 use Rattle.raft_log_fs_traced.specs.Device.{Trace, held_by, settled}
 
--- Until a stop, the model holds what the device does, and no directory has to be synced.
+-- Until a stop, calls on the device see the disk of the model, and a crash leaves the same disk: no directory has to be
+-- synced.
 abbrev pub Follows : Bool → Storage → Trace → Type 0
 Follows stopped storage trace = stopped ≡ false → held_by trace ≡ settled (contents_of storage)
 
--- The disk is what a crash leaves of the device; each place of it can be read.
+-- The disk of the file system: what a crash of the device would leave, with every byte readable.
 abbrev pub shown : Trace → Bool → ℕ → List ErrorKind → Disk
 shown trace stopped failures kinds = record (held_by trace).kept {
   unreadable = λ id place. false;

@@ -33,8 +33,8 @@ AreNumberedFrom n (Part (Begin k) xs ∷ rs) = (n ≤ k) × AreNumberedFrom n rs
 AreNumberedFrom n (Part (Middle k) xs ∷ rs) = (n ≤ k) × AreNumberedFrom n rs
 AreNumberedFrom n (Part (End k) xs ∷ rs) = (n ≤ k) × AreNumberedFrom n rs
 
--- If the atomic groups of `new` have numbers above all that `old` leaves open, the records of `new` count as if none
--- had been left open. They also leave those open, unchanged.
+-- Let the atomic groups of `new` have numbers above all that `old` leaves open. Then the records of `new` count as if
+-- none had been left open. They also leave those open, unchanged.
 abbrev pub NewGroupsEndNoOldOnes : Type 0 → Type 0 → Type 0
 NewGroupsEndNoOldOnes E V = (old new : List (Record E V)) (n : ℕ) → AreOpenBelow n (opened none_open old)
     → AreNumberedFrom n new

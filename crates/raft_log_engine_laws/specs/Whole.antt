@@ -92,9 +92,8 @@ abbrev pub whole_moves : {E : Type 0} {at : Located → E} {gate : Option ℕ} {
     → IsWholeCopy at gate v xs → List Move
 whole_moves w = filed_moves (in_one w.first w.pieces ++ w.rest)
 
--- If the items of the parts are a whole copy, applying them part after part gives what the moves with the pieces as
--- one run give. These moves are allowed, and the items of the parts may be replaced by them: each index and key gets
--- the same.
+-- Let the items of the parts be a whole copy. Applying them part after part gives the same tables as the moves with
+-- the pieces as one run. These moves are allowed. They give each index and key the same content as the parts' items.
 abbrev pub WholeGroupsAreMoved : Type 0 → Type 0
 WholeGroupsAreMoved E = (at : Located → E) (gate : Option ℕ) (v : Shown) (g : ℕ) (ps : List WrittenPart)
     → IsOrderly v → (w : IsWholeCopy at gate v (filed_items g ps))
@@ -113,8 +112,8 @@ MovedFilesRise E = (at : Located → E) (gate : Option ℕ) (a r n : ℕ) (v : S
 abbrev pub batches_of : List WrittenPart → List Batch
 batches_of ps = map (λ p. p.batch) ps
 
--- The batches are copies of what the tables show of the contents `m`, and the gate lets them move at the end of an
--- atomic group. This holds wherever the batches are written, and whatever bytes are at other locations.
+-- The batches are copies of what the tables show of the contents `m`. The gate lets them move at the end of an atomic
+-- group. This holds wherever the batches are written, and whatever bytes are at other locations.
 abbrev pub HasWhole : Option ℕ → List Batch → (ℕ → Shown) → LogMap → Type 0
 HasWhole gate bs v m = (ps : List WrittenPart) (at : Located → List ℕ) → batches_of ps ≡ bs → AreMeant at v m
     → Each (SaysPart at) ps → (g : ℕ) → IsWholeCopy at gate (v g) (filed_items g ps)

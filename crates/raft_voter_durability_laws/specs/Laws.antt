@@ -45,8 +45,8 @@ ToldRequestsAreServed = (q : ℕ × Request) (a : Reply) (s : EngineState) (os :
     → IsBare (os q.0) → IsReplyOfEach (os q.0) q.1 (answers.Told a) → LeavesEach (os q.0) q.1
     → Served q a false s s os os
 
--- A request that changes its voter is served, if the record of the change was written, and the outline of its group
--- made the same step.
+-- A request that changes its voter is served, if the record of the change was written. The outline of its group must
+-- have made the same step.
 abbrev pub WrittenRequestsAreServed : Type 0
 WrittenRequestsAreServed = (q : ℕ × Request) (a : Reply) (c : Change) (b : Batch) (len : ℕ) (s t : EngineState)
     (os us : ℕ → State) → IsBare (os q.0) → IsReplyOfEach (os q.0) q.1 (answers.Told a)
@@ -140,8 +140,8 @@ pub record RepliesTellPlaces (V : World) (qs : List (ℕ × Request)) (told : Li
   pub told_is : told ≡ replies_from 0 (refused_from 0 told) V qs
   pub taken_is : took qs told ≡ taken_from 0 (length qs) (refused_from 0 told) qs
 
--- If each request of a round got a reply, and those that aren't `Refused` are the voters', the refused positions
--- determine the replies and the requests taken.
+-- Let each request of a round have a reply, and let those that aren't `Refused` be the voters'. Then the refused
+-- positions determine the replies and the requests taken.
 abbrev pub ToldRoundsAreAnswered : Type 0
 ToldRoundsAreAnswered = (V : World) (qs : List (ℕ × Request)) (told : List Reply) → AreTold V qs told
     → length told ≡ length qs → RepliesTellPlaces V qs told
@@ -191,8 +191,8 @@ pub record LeftBehindRounds : Type 0 where
   pub alone : (home : LogDirectories) (V : World) (d : Disk) → IsLeftWith home d V
       → IsLeftAmong home d (TakesFirst V [] [])
 
--- An open in place, after a crash or of a fork finds voters that the log's files may have, and so do all opens after
--- it.
+-- An open finds voters that the log's files may have, and so do all opens after it. The open may be in place, over
+-- files that no crash has touched, or after a crash, or of a fork.
 abbrev pub OpensFindVoters : Type 0
 OpensFindVoters = (home : LogDirectories) (d : Disk) (V : World) (qs : List (ℕ × Request)) (refused : List ℕ)
     (left : IsLeftAmong home d (TakesFirst V qs refused)) (k : ℕ) → k ≤ length left.pending

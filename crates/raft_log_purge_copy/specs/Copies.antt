@@ -15,7 +15,8 @@ use Rattle.raft_log_purge_copy.specs.Reasons.{HasReason}
 use Rattle.raft_log_purge_copy.specs.Refusals.{IsOverlong}
 
 -- A batch that isn't empty was written to Rewrite at `block`, and the tables applied it under the number of its file.
--- If its items are copies, and it is no part of an atomic group, the log has the same contents.
+-- The log has the same contents, if no batch was pending, the items are copies, and they are no part of an atomic
+-- group.
 pub record MovesCopies (gate : Option ℕ) (b : Batch) (s t : EngineState) : Type 0 where
   pub block : FileBlockHandle
   pub alive : has_failed t ≡ false
@@ -31,7 +32,8 @@ pub record MovesCopies (gate : Option ℕ) (b : Batch) (s t : EngineState) : Typ
 abbrev pub WritesCopies : Option ℕ → Batch → EngineState → EngineState → Type 0
 WritesCopies gate b s t = ((b.items ≡ []) × (t ≡ s)) ⊎ (((b.items ≡ []) → ⊥) × MovesCopies gate b s t)
 
--- A batch of copies wasn't written, and the tables are unchanged. If it is no part of an atomic group:
+-- A batch of copies wasn't written, and the tables are unchanged. If it is no part of an atomic group, and no batch
+-- was pending:
 -- - its record would be too long, or the error has a reason that any part may have
 -- - if its items are copies, the log has the same contents, or the engine has failed and its files can be opened with
 --   them

@@ -38,8 +38,8 @@ abbrev pub ItemsAreRefused : List LogItem → Error → LogPipes → LogPipes �
 ItemsAreRefused items error v w = (m : MemTables) → AreOwed m items → (cache : BlockCache)
     → PartIsRefused error (shows v m cache) (shows w m cache)
 
--- The owed tombstones were written to Rewrite and synced, and no group owes one any more. The log has the same
--- contents, and nothing is pending in either queue.
+-- The owed tombstones were written to Rewrite and synced, and no group owes one any more. If no batch was pending, the
+-- log has the same contents, and nothing is pending in either queue.
 pub record CarriesMarks (s t : EngineState) : Type 0 where
   pub alive : has_failed t ≡ false
   pub tables : t.tables ≡ (λ g. unmarked (s.tables g))

@@ -1,5 +1,5 @@
--- The reserved files of a log: empty files that are kept for recycling, under names of their own. An open makes those
--- that the settings want.
+-- The reserved files of a log: files of zeros that are kept for recycling, under names of their own. An open makes
+-- those that the settings want.
 use Rattle.std.specs.Prelude.{◌≡◌, ◌-◌, ◌⊎◌, ℕ, min, List, [], length}
 use Rattle.raft_log_record_base.specs.declared.errors.Error.{Error}
 use Rattle.raft_log_record_base.specs.declared.errors.Error.TheVariants as errors
@@ -13,7 +13,8 @@ use Rattle.raft_log_recovery.specs.Directories.{paths_of}
 use Rattle.raft_log_recovery.specs.Recovering.{append_files}
 use Rattle.raft_log_recovery.specs.declared.builder.DualPipesBuilder.{DualPipesBuilder}
 
--- how many reserved files the settings want, with those of Append that there are already
+-- how many reserved files the settings want: the prefill limit, or fewer, so that they and Append's files are within
+-- the limit for recycling
 abbrev pub wanted_files : DualPipesBuilder → ℕ
 wanted_files b = min (prefill_capacity (settings_of b.config))
     (recycle_capacity (settings_of b.config) - length (append_files b))

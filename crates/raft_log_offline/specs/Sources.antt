@@ -14,8 +14,8 @@ use Rattle.raft_log_recovery_scan.specs.declared.scanning.found.FoundFile.{Found
 use Rattle.raft_log_offline.specs.Copies.{IsSourceThere}
 use Rattle.raft_log_offline.specs.declared.source_file.SourceFile.{SourceFile}
 
--- `a` is in an earlier directory than `b`; or they are in the same one, and only `b` has a name with a sign, or both
--- have or neither
+-- `a` is in an earlier directory than `b`. Or they are in the same one, and if the name of `a` has a sign, so has that
+-- of `b`.
 abbrev pub IsNoLater : FoundFile → FoundFile → Type 0
 IsNoLater a b = (a.path_id < b.path_id)
     ⊎ ((a.path_id ≡ b.path_id) × (a.signed ≡ true → b.signed ≡ true))

@@ -81,7 +81,8 @@ WrittenEndsKeepTheMap = (home : LogDirectories) (e t : EngineState) (gate : Opti
     e.tables t.tables → KeepsOrForgets e t → Represents home t m []
 
 -- An append of the record that ends an atomic group failed, and the tables are unchanged. If the group is given up,
--- the log is as after any failed append to Rewrite. It also stays open, if the queue's records are the same.
+-- the log is as after any failed append to Rewrite. After `NumberRange` or `Memory` the group is also still open, and
+-- may continue.
 pub record RefusedEndsKeepTheMap : Type 0 where
   pub given_up : (home : LogDirectories) (e t : EngineState) (gate : Option ℕ) (o : UnendedGroup) (b : Batch) (m : LogMap)
       (error : Error) → HoldsInGroup home e m o → IsGroupPart o.number End b

@@ -34,7 +34,8 @@ LeavesRecords errors.Memory = Unit {0}
 LeavesRecords _ = ⊥
 
 -- An append of a part that begins or continues an atomic group failed. If the group is given up, the log is as after
--- any failed append to Rewrite. A group that was open also stays open, if the queue's records are the same.
+-- any failed append to Rewrite. After `NumberRange` or `Memory` a group that was open is also still open, and may
+-- continue.
 pub record RefusedPartsKeepTheMap : Type 0 where
   pub begins : (home : LogDirectories) (e t : EngineState) (number : ℕ) (b : Batch) (m : LogMap) (error : Error)
       → Represents home e m [] → IsGroupPart number Begin b → SameTables e t

@@ -18,8 +18,8 @@ use Rattle.raft_log_recovery.specs.Unaligned.{AreUnaligned}
 use Rattle.raft_log_recovery.specs.declared.builder.DualPipesBuilder.{DualPipesBuilder}
 use Rattle.raft_log_open.specs.Unpadding.{FailsToUnpad, Unpads}
 
--- The files that a builder found were read on the disk, and one of them has an alignment, so there may be padding
--- between its records.
+-- The files that a builder found were read on the disk. One of them has an alignment, so there may be padding between
+-- its records.
 pub record HasPadding (b : DualPipesBuilder) (d : Disk) : Type 0 where
   pub append : MemTableRecoverContext
   pub rewrite : MemTableRecoverContext

@@ -57,7 +57,7 @@ pub record BringsInRewrite (config : Config) (d : Disk) (n : ℕ) : Type 0 where
   pub all : length segments ≡ length (rewrite_files found)
   pub count : n ≡ min (written_by (all_batches segments)) (2 ^ 64 - 1)
 
--- the tables are the context of Append merged over that of Rewrite, and no room is reserved in them for a batch
+-- the tables are the context of Append merged over that of Rewrite, and no batch is prepared in them
 pub record AreMergedOf (append rewrite : MemTableRecoverContext) (tables : MemTables) : Type 0 where
   pub over : (first behind : List ReadRecord) → HasRead Rewrite first rewrite → HasRead Append behind append
       → ComesOver first behind tables

@@ -1,4 +1,5 @@
--- A purge of all stale files: each queue rotates, and all files in which no group has anything leave its live range.
+-- A purge of all stale files: each queue rotates. Then all its files below the lowest in which a group has something
+-- leave its live range.
 use Rattle.std.specs.Prelude.{◌≡◌, ◌↔◌, ◌⊎◌, IsTrue, ℕ, List, false}
 use Rattle.raft_log_model_laws.specs.Groups.{taken}
 use Rattle.raft_log_fs.specs.Causes.{IsLater}
@@ -44,8 +45,8 @@ pub record FailsToTurn (queue : LogQueue) (error : Error) (s t : EngineState) : 
   pub cause : (home : LogDirectories) (log : LogMap) → HoldsSettled home s log → HasFileReason error s t
 
 -- All stale files were purged. Append was synced, and the owed tombstones were written to Rewrite. Then each queue,
--- Rewrite first, rotated and lost the files in which no group has anything. The log has the same contents, and nothing
--- is pending.
+-- Rewrite first, rotated and lost the files below the lowest in which a group has something. The log has the same
+-- contents, and nothing is pending in either queue.
 pub record PurgesAllStale (m : MemTables) (s t : EngineState) : Type 0 where
   pub synced : LogPipes
   pub syncs : SyncsQueue InAppend s.pipes synced

@@ -26,8 +26,8 @@ abbrev pub capacity_of : LogQueue → Config → ℕ
 capacity_of Append config = recycle_capacity (settings_of config)
 capacity_of Rewrite config = 0
 
--- The pipe is in the log's directories, and its new files get the format and size that the settings want for this
--- queue.
+-- The pipe is in the log's directories. Its new files get the format and size that the settings want, and it keeps as
+-- many files as they want for this queue.
 pub record IsWantedAs (queue : LogQueue) (config : Config) (pipe : FoundPipe) : Type 0 where
   pub lies : IsFoundAs queue (paths_of config) pipe
   pub version : pipe.settings.new_files.format.version ≡ config.format_version

@@ -35,7 +35,7 @@ HasRecords file content offset [] end = end ≡ offset
 HasRecords file content offset (items ∷ more) end =
     (next : ℕ) × HasRecord file content offset items next × HasRecords file content next more end
 
--- In a last file, no record follows `end`, or `fault` is what is wrong with the next one, or with its entry block.
+-- no record follows `end`; or `fault` is what is wrong with the next one: with its frame, or with its entry block
 abbrev pub StopsWhole : OpenFile → List ℕ → ℕ → Option Fault → Type 0
 StopsWhole file content end None = HasNoMore file content end
 StopsWhole file content end (Some fault) = IsRecordTorn file content end fault

@@ -61,8 +61,8 @@ pub record FailsToHaveAll (directories : List (List ℕ)) (error : Error) (old n
 
 -- Reading them.
 
--- The error for a file system call that failed with `kind` and changes nothing: `Memory` if it ran out of memory,
--- unless the file system has stopped. Else `Io` with this kind.
+-- The errors for a call that changes nothing, and that the file system failed with `kind`. `Io` has this kind, which
+-- isn't `OutOfMemory` unless the file system has stopped. `Memory` is returned only if it hasn't stopped.
 abbrev pub TellsRefusal : Bool → ErrorKind → Error → Type 0
 TellsRefusal stopped kind (errors.Io told) = (told ≡ kind) × ((stopped ≡ true) ⊎ (kind ≡ OutOfMemory → ⊥))
 TellsRefusal stopped kind errors.Memory = stopped ≡ false

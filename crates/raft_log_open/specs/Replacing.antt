@@ -29,7 +29,7 @@ pub data UnmadeBy (path bytes : List ℕ) (kind : ErrorKind) (old new : Disk) : 
   not_synced : (handle : Handle) (begun full : Disk) → Creates path handle.file old begun
       → Writes handle 0 bytes begun full → FailsToSync handle kind full new → UnmadeBy path bytes kind old new
 
--- why making a file fails: by the call that failed; the file may be incomplete, and nothing else changed
+-- making a file failed at one of its calls; the file may be incomplete, and nothing else changed
 pub record FailsToMake (path bytes : List ℕ) (kind : ErrorKind) (old new : Disk) : Type 0 where
   pub others : TouchesOnlyNames (λ other. other ≡ path) old new
   pub told : UnmadeBy path bytes kind old new

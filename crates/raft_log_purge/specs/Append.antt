@@ -82,9 +82,9 @@ RewritesAll gate s t = RewritesSynced (λ g. true) gate s t
 abbrev pub beginning : ℕ → ℕ → LogPipes → ℕ
 beginning gate least v = max (first_at InAppend v) (max (suc gate) least)
 
--- Append's files up to the gate left the live range. So did later ones, up to the lowest file in which a group has
--- something. If the groups had nothing up to the gate, and no tombstone is owed, a log with nothing pending keeps its
--- contents.
+-- If nothing was pending, Append's live range begins after the gate now. It may begin later, up to the lowest file in
+-- which a group has an entry or value. The log then keeps its contents, if the groups had nothing up to the gate, and
+-- no tombstone is owed.
 pub record LosesTo (gate : ℕ) (m : MemTables) (s t : EngineState) : Type 0 where
   pub least : ℕ
   pub is : IsLeastOf Append (last_of InAppend s.pipes) m least

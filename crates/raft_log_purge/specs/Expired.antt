@@ -43,9 +43,9 @@ pub record PicksGroups (marks : Watermarks) (restated : Bool) (m : MemTables) (o
 
 -- Append's files.
 
--- Append's live range begins at `least` now, but never earlier than before. `least` is the lowest of three: the first
--- pinned file, the active file, and the first file in which a group has something. If no tombstone is owed, a log with
--- nothing pending keeps its contents.
+-- If nothing was pending, Append's live range begins at `least` now, or where it began if that is later. `least` is
+-- the lowest of three: the first pinned file, the active file, and the first file in which a group has an entry or
+-- value. The log then keeps its contents, if no tombstone is owed.
 pub record LosesBelow (held : Option ℕ) (m : MemTables) (s t : EngineState) : Type 0 where
   pub least : ℕ
   pub is : IsLeastOf Append (up_to held (last_of InAppend s.pipes)) m least
@@ -84,9 +84,9 @@ pub record RewritesPicked (test : ℕ → Bool) (gate : ℕ) (held : Option ℕ)
 
 -- The whole.
 
--- Append was purged, and `groups` are returned. One more purge was counted for each group that is asked to be
--- compacted. The groups that the rules pick were rewritten before files left the live range. The rules use the tables
--- before the purge.
+-- Append was purged, and `groups` are returned. Each group's count of purges in a row that asked for it was updated.
+-- The groups that the rules pick were rewritten before files left the live range. The rules use the tables before the
+-- purge.
 pub record PurgesAppend (held : Option ℕ) (restated : Bool) (before after : MemTables) (old new : Rounds)
     (groups : List ℕ) (s t : EngineState) : Type 0 where
   pub answered : ListsGroups (answers_at (Some (watermarks_of s.pipes)) restated before) groups

@@ -40,9 +40,9 @@ abbrev pub first_file : EngineState → ℕ
 first_file s = (pipe_at InRewrite (files_of s.pipes)).first_seq
 
 -- Rewrite was rewritten. It rotated, all groups were restated, and it was synced. Then the files below the lowest in
--- which a group has something left its live range. If no batch was pending, the log has the same contents, and nothing
--- is pending in either queue. In that case the live range begins after the file that was active at the start. All that
--- each group has in Rewrite is after that file too.
+-- which a group has an entry or value left its live range. If no batch was pending, the log has the same contents, and
+-- nothing is pending in either queue. In that case the live range begins after the file that was active at the start.
+-- All that each group has in Rewrite is after that file too.
 pub record RewritesRewrite (m : MemTables) (s t : EngineState) : Type 0 where
   pub turned : LogPipes
   pub turns : RotatesQueue InRewrite s.pipes turned

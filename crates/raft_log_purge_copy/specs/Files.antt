@@ -23,9 +23,9 @@ abbrev pub MayLoseFiles : Which → (ℕ → Shown) → Type 0
 MayLoseFiles InAppend v = (g : ℕ) → OwesNothing (whereabouts (v g))
 MayLoseFiles InRewrite v = Unit {0}
 
--- The queue's live range begins at `least` now, but never earlier than before. `least` is the lowest file in which any
--- group has something, or `limit` if that is lower. A log with nothing pending keeps its contents, and no block is
--- cached.
+-- Files left the queue's live range, and no block is cached. If nothing was pending, the range begins at `least` now,
+-- or where it began if that is later. `least` is the lowest file in which any group has an entry or value, or `limit`
+-- if that is lower. The log then keeps its contents; for Append this needs that no tombstone is owed.
 pub record LosesFiles (queue : LogQueue) (limit : ℕ) (m : MemTables) (count : ℕ) (s t : EngineState) : Type 0 where
   pub least : ℕ
   pub is : IsLeastOf queue limit m least

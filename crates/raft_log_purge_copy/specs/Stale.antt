@@ -1,5 +1,5 @@
--- A purge of all stale files: each queue rotates. Then all its files below the lowest in which a group has something
--- leave its live range.
+-- A purge of all stale files: each queue rotates. Then all its files below the lowest in which a group has an entry or
+-- value leave its live range.
 use Rattle.std.specs.Prelude.{◌≡◌, ◌↔◌, ◌⊎◌, IsTrue, ℕ, List, false}
 use Rattle.raft_log_model_laws.specs.Groups.{taken}
 use Rattle.raft_log_fs.specs.Causes.{IsLater}
@@ -24,8 +24,9 @@ use Rattle.raft_log_purge_copy.specs.Reasons.{HasFileReason, HasPurgeReason}
 abbrev pub written_file : LogQueue → LogPipes → ℕ
 written_file queue v = (pipe_at (which_of queue) (files_of v)).active.seq
 
--- The queue rotated. Then the files before the new active one, below the lowest in which any group has something, left
--- its live range. A log with nothing pending keeps its contents.
+-- The queue rotated. Then the files before the new active one left its live range, up to the lowest in which any group
+-- has an entry or value. A log with nothing pending keeps its contents; for Append this needs that no tombstone is
+-- owed.
 pub record TurnsAndLoses (queue : LogQueue) (m : MemTables) (count : ℕ) (s t : EngineState) : Type 0 where
   pub turned : LogPipes
   pub turns : RotatesQueue (which_of queue) s.pipes turned
@@ -45,8 +46,8 @@ pub record FailsToTurn (queue : LogQueue) (error : Error) (s t : EngineState) : 
   pub cause : (home : LogDirectories) (log : LogMap) → HoldsSettled home s log → HasFileReason error s t
 
 -- All stale files were purged. Append was synced, and the owed tombstones were written to Rewrite. Then each queue,
--- Rewrite first, rotated and lost the files below the lowest in which a group has something. The log has the same
--- contents, and nothing is pending in either queue.
+-- Rewrite first, rotated and lost the files below the lowest in which a group has an entry or value. The log has the
+-- same contents, and nothing is pending in either queue.
 pub record PurgesAllStale (m : MemTables) (s t : EngineState) : Type 0 where
   pub synced : LogPipes
   pub syncs : SyncsQueue InAppend s.pipes synced

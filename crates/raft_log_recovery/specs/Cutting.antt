@@ -11,7 +11,7 @@ abbrev pub CutsIf : Bool → File → FileEnding → Disk → Disk → Type 0
 CutsIf true file ending old new = Trims file.handle (unwrap_or ending.end 0) old new
 CutsIf false file ending old new = new ≡ old
 
--- such a truncation, if `ending` says that the file is damaged
+-- if `ending` says that the file is damaged, it was truncated and synced in this way
 abbrev pub CutsOne : File → FileEnding → Disk → Disk → Type 0
 CutsOne file ending old new = CutsIf ending.is_damaged file ending old new
 

@@ -44,7 +44,8 @@ abbrev pub torn_header : List ℕ
 torn_header = codes "log file header has an alignment, and no record after it"
 
 -- What the bytes of a file contain; `last` says whether it is its queue's last file. If they don't begin with a
--- header, or with a torn one, nothing is read, and that is the fault. Else it is what follows the header.
+-- header, or with a torn one, they contain nothing, and that is the fault. Else they contain the header's format and
+-- the batches after it.
 pub data ReadsBytes (last : Bool) (id : FileId) (content : List ℕ) (read : FileReading) : Type 0 where
   headless : (fault : Fault) → header_at (take 69 content) ≡ Err fault
       → TellsIfAny read.fault (Some fault) → read.batches ≡ [] → read.end ≡ None

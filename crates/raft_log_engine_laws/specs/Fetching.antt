@@ -48,7 +48,7 @@ pub record TellsEntry {M : Type 0} (reading : List ℕ → Option M) (g i : ℕ)
       → IsEntryTold reading (taken m pending) g i message
 
 -- Why a read of an entry that the log has fails: its file can't be read, memory ran out, or its bytes don't parse as a
--- message. It is never reported as damaged.
+-- message. The error never reports damage.
 pub record IsUntold {M : Type 0} (reading : List ℕ → Option M) (g i : ℕ) (s : EngineState) (m : LogMap) (error : Error)
     : Type 0 where
   pub entry : EntryIndex
@@ -63,7 +63,8 @@ pub record IsUntold {M : Type 0} (reading : List ℕ → Option M) (g i : ℕ) (
 abbrev pub HadFailed : EngineState → EngineState → Error → Type 0
 HadFailed s t error = (error ≡ errors.Failed) × (has_failed s ≡ true) × (t ≡ s)
 
--- A read of an entry failed. The engine hadn't failed, and at most the cached block changed.
+-- A read of an entry that the log has failed: its file can't be read, memory ran out, or its bytes don't parse as a
+-- message. At most the cached block changed.
 pub record FailsToTell {M : Type 0} (reading : List ℕ → Option M) (g i : ℕ) (s t : EngineState) (error : Error)
     : Type 0 where
   pub lived : has_failed s ≡ false

@@ -19,8 +19,8 @@ use Rattle.raft_log_engine_laws.specs.EngineState.{LogDirectories, IsLaidOut, Is
 use Rattle.raft_log_engine_laws.specs.Holding.{EndsAt, Represents, IsRecoverableAs, RunsAs}
 use Rattle.raft_log_engine_laws.specs.Writing.{Leaves, items_at}
 
--- the batch may be written: it isn't empty, its marks are whole, its entries leave no hole, and its record has its
--- contents
+-- the batch may be written: it isn't empty, its marks are whole, its entries leave no hole, and its record is read
+-- back with its contents
 pub record MayBeWritten (e : EngineState) (b : Batch) : Type 0 where
   pub some : b.items ≡ [] → ⊥
   pub marked : IsWellMarked b
@@ -37,7 +37,8 @@ BatchesAreWritten = (home : LogDirectories) (e t : EngineState) (b : Batch) (blo
     → t.tables ≡ all_shown block.id.seq e.tables (items_at block b) → KeepsOrForgets e t
     → EndsAt home t m (pending ++ said_of b ∷ [])
 
--- After the pipes failed to append a batch, and the tables stayed the same, the log is as the error says.
+-- After the pipes failed to append a batch, and the tables stayed the same, the log is without the batch. If the
+-- engine has failed, its files can be opened, with the batch or without it.
 abbrev pub RefusalsLeaveNoTrace : Type 0
 RefusalsLeaveNoTrace = (home : LogDirectories) (e t : EngineState) (b : Batch) (m : LogMap) (pending : List LogRecordValue)
     (error : Error) → Represents home e m pending → MayBeWritten e b → t.tables ≡ e.tables → KeepsOrForgets e t

@@ -13,7 +13,7 @@ use Rattle.raft_log_engine_laws.specs.EngineState.{LogDirectories, LogMap, Engin
 use Rattle.raft_log_engine_laws.specs.Holding.{Represents, IsRecoverableAs, RunsAs}
 use Rattle.raft_log_engine_laws.specs.Settled.{HoldsSettled, SameTables}
 
--- a log with nothing pending in either queue has no batch pending
+-- if nothing is pending in either queue, as in `HoldsSettled`, the log has no pending batches, as in `Represents`
 abbrev pub SettledLogsAreHeld : Type 0
 SettledLogsAreHeld = (home : LogDirectories) (e : EngineState) (m : LogMap) → HoldsSettled home e m → Represents home e m []
 
@@ -51,7 +51,8 @@ TurnLeavesHeld home m pending t errors.NumberRange = Represents home t m pending
 TurnLeavesHeld home m pending t errors.Failed = IsRecoverableAs home t.pipes.disk m pending
 TurnLeavesHeld home m pending t _ = ⊥
 
--- after a failed rotation of either queue, the log has the same contents and pending batches, as the error says
+-- After a failed rotation of either queue, the log has the same contents and pending batches. If the engine has
+-- failed, its files can be opened with them.
 abbrev pub RefusedRotationsKeepTheMap : Type 0
 RefusedRotationsKeepTheMap = (which : Which) (home : LogDirectories) (e t : EngineState) (m : LogMap) (pending : List LogRecordValue)
     (error : Error) → Represents home e m pending → SameTables e t

@@ -47,8 +47,8 @@ PurgeLeavesHeld home m t errors.NumberRange = HoldsSettled home t m
 PurgeLeavesHeld home m t errors.Failed = IsRecoverableAs home t.pipes.disk m []
 PurgeLeavesHeld home m t _ = ⊥
 
--- Files below `n`, at which the queue may begin, failed to leave its live range. The log keeps its contents with
--- nothing pending, as the error says.
+-- Files below `n`, at which the queue may begin, failed to leave its live range. The log keeps its contents, with
+-- nothing pending. If the engine has failed, its files can be opened with them.
 abbrev pub RefusedPurgesKeepTheMap : Type 0
 RefusedPurgesKeepTheMap = (which : Which) (home : LogDirectories) (e t : EngineState) (m : LogMap) (n : ℕ) (error : Error)
     → HoldsSettled home e m → MayBegin which n e.tables → t.tables ≡ e.tables → t.cache.place ≡ None

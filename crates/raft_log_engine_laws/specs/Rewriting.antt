@@ -1,5 +1,6 @@
 -- Records that are written to Rewrite: owed tombstones, and copies of entries and values. The log keeps its contents,
--- whether the write succeeds or fails.
+-- whether the write succeeds or fails. The gate is the last file of Append from which a purge copies; without a gate,
+-- it copies only what is in Rewrite already.
 use Rattle.std.specs.Prelude.{◌≡◌, ℕ, false, Option, List, [], map}
 use Rattle.raft_log_model_laws.specs.Item.{Tagged}
 use Rattle.raft_log_model_laws.specs.Groups.{of_group}

@@ -152,7 +152,7 @@ StaysOrIsLeftSettled error s t = OweNothing s.tables → (home : LogDirectories)
 
 -- Append's files up to the gate failed to leave the live range. If groups had nothing in them, no tombstone was owed
 -- and nothing pending, the log has the same contents. If the engine has failed, its files can be opened with them. The
--- error has its reason if the gate is before Append's active file.
+-- reason for the error is known if the gate is before Append's active file.
 pub record FailsToLoseTo (gate : ℕ) (error : Error) (s t : EngineState) : Type 0 where
   pub tells : has_failed s ≡ false → IsTrue (has_failed t) ↔ (error ≡ errors.Failed)
   pub later : IsLater s.pipes.disk t.pipes.disk
@@ -161,8 +161,8 @@ pub record FailsToLoseTo (gate : ℕ) (error : Error) (s t : EngineState) : Type
       → HasFileReason error s t
 
 -- A step after the owed tombstones failed. If no tombstone was owed and nothing pending, the log has the same
--- contents. If the engine has failed, its files can be opened with them. The error has its reason if also the gate is
--- before Append's active file.
+-- contents. If the engine has failed, its files can be opened with them. The reason for the error is known if also the
+-- gate is before Append's active file.
 pub record StopsGoingOn (gate : ℕ) (error : Error) (s t : EngineState) : Type 0 where
   pub tells : has_failed s ≡ false → IsTrue (has_failed t) ↔ (error ≡ errors.Failed)
   pub later : IsLater s.pipes.disk t.pipes.disk
@@ -170,7 +170,7 @@ pub record StopsGoingOn (gate : ℕ) (error : Error) (s t : EngineState) : Type 
   pub cause : gate < last_of InAppend s.pipes → OweNothing s.tables → (home : LogDirectories) (log : LogMap)
       → HoldsSettled home s log → HasReason home log error s t
 
--- A rewrite of Append failed, and the error has its reason:
+-- A rewrite of Append failed, and the error says why:
 -- - the log has the same contents, with no batch pending
 -- - or the engine has failed, and its files can be opened, with the batches that were pending now durable or still
 --   pending

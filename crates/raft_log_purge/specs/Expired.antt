@@ -58,8 +58,8 @@ pub record LosesBelow (held : Option ℕ) (m : MemTables) (s t : EngineState) : 
   pub keeps : OweNothing s.tables → (home : LogDirectories) (log : LogMap) → HoldsSettled home s log
       → HoldsSettled home t log
 
--- Append's files failed to leave the live range, and the error has its reason. If no tombstone was owed and nothing
--- pending, the log has the same contents. If the engine has failed, its files can be opened with them.
+-- Append's files failed to leave the live range, and the error says why. If no tombstone was owed and nothing pending,
+-- the log has the same contents. If the engine has failed, its files can be opened with them.
 pub record FailsToLoseBelow (error : Error) (s t : EngineState) : Type 0 where
   pub tells : has_failed s ≡ false → IsTrue (has_failed t) ↔ (error ≡ errors.Failed)
   pub later : IsLater s.pipes.disk t.pipes.disk
@@ -108,8 +108,8 @@ PurgesIfPast thresholds held restated before after old new groups s t =
     (TakesAppend thresholds s.pipes × PurgesAppend held restated before after old new groups s t)
     ⊎ ((TakesAppend thresholds s.pipes → ⊥) × LeavesAppend restated before old new groups s t)
 
--- A purge of Append failed, and the error has its reason. If no batch was pending, the log has the same contents, or
--- the engine has failed and its files can be opened with them.
+-- A purge of Append failed, and the error says why. If no batch was pending, the log has the same contents, or the
+-- engine has failed and its files can be opened with them.
 pub record FailsToPurgeAppend (error : Error) (s t : EngineState) : Type 0 where
   pub tells : has_failed s ≡ false → IsTrue (has_failed t) ↔ (error ≡ errors.Failed)
   pub later : IsLater s.pipes.disk t.pipes.disk

@@ -62,7 +62,7 @@ pub record PurgesExpired (hold_back : LogPipes → Option ℕ → Type 0) (thres
   pub holds : (home : LogDirectories) (log : LogMap) (pending : List LogRecordValue) → Represents home s log pending
       → Represents home t (taken log pending) []
 
--- A purge of expired files, or a rewrite of Rewrite, failed, and the error has its reason:
+-- A purge of expired files, or a rewrite of Rewrite, failed, and the error says why:
 -- - the log has the same contents, with no batch pending
 -- - or the engine has failed, and its files can be opened, with the batches that were pending now durable or still
 --   pending

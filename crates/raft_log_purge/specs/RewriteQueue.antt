@@ -61,8 +61,8 @@ pub record RewritesRewrite (m : MemTables) (s t : EngineState) : Type 0 where
       → IsRestatedFrom (last_file s + 1) (s.tables g) (t.tables g)
   pub settles : (home : LogDirectories) (log : LogMap) → Represents home s log [] → HoldsSettled home t log
 
--- A rewrite of Rewrite failed, and the error has its reason. If no batch was pending, the log has the same contents,
--- or the engine has failed and its files can be opened with them.
+-- A rewrite of Rewrite failed, and the error says why. If no batch was pending, the log has the same contents, or the
+-- engine has failed and its files can be opened with them.
 pub record FailsToRewriteRewrite (error : Error) (s t : EngineState) : Type 0 where
   pub counts : t.counts ≡ s.counts
   pub tells : has_failed s ≡ false → IsTrue (has_failed t) ↔ (error ≡ errors.Failed)

@@ -51,8 +51,8 @@ IsNoLimit queue limit (errors.Other fault) s =
     IsInSpan limit (pipe_at (which_of queue) (files_of s.pipes)) → ⊥
 IsNoLimit queue limit _ s = ⊥
 
--- The files below `limit` failed to leave the queue's live range, and the error has its reason. A log with nothing
--- pending keeps its contents; if the engine has failed, its files can be opened with them.
+-- The files below `limit` failed to leave the queue's live range, and the error says why. A log with nothing pending
+-- keeps its contents; if the engine has failed, its files can be opened with them.
 pub record FailsToLoseFiles (queue : LogQueue) (limit : ℕ) (error : Error) (s t : EngineState) : Type 0 where
   pub tells : has_failed s ≡ false → IsTrue (has_failed t) ↔ (error ≡ errors.Failed)
   pub later : IsLater s.pipes.disk t.pipes.disk

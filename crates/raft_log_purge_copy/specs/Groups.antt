@@ -30,7 +30,7 @@ pub record Rewrites (test : ℕ → Bool) (gate : ℕ) (s t : EngineState) : Typ
   pub stays : StaysInFile s.pipes t.pipes
   pub holds : StaysHeld s t
 
--- Rewriting the groups failed after a part of it. If no tombstone is owed, the error has its reason.
+-- Rewriting the groups failed after a part of it. If no tombstone is owed, the error says why.
 pub record StopsRewriting (test : ℕ → Bool) (gate : ℕ) (error : Error) (s t : EngineState) : Type 0 where
   pub part : RewritesPart test gate s t
   pub tells : has_failed s ≡ false → IsTrue (has_failed t) ↔ (error ≡ errors.Failed)

@@ -35,7 +35,7 @@ pub record CopiesKeys (group gate : ℕ) (s t : EngineState) : Type 0 where
   pub later : IsLater s.pipes.disk t.pipes.disk
   pub holds : StaysHeld s t
 
--- the group's values weren't copied, and the tables are unchanged; the error has its reason
+-- the group's values weren't copied, and the tables are unchanged; the error says why
 pub record FailsToCopyKeys (error : Error) (s t : EngineState) : Type 0 where
   pub same : t ≡ record s { pipes = t.pipes }
   pub tells : has_failed s ≡ false → IsTrue (has_failed t) ↔ (error ≡ errors.Failed)

@@ -19,8 +19,8 @@ abbrev pub Remains : LogDirectories → LogMap → EngineState → Error → Typ
 Remains home m t errors.Failed = IsRecoverableAs home t.pipes.disk m []
 Remains home m t _ = Represents home t m []
 
--- The part that writes the owed tombstones failed with `error`, which has its reason. The engine has failed now
--- exactly if the error is `Failed`. If no batch was pending, the log keeps its contents.
+-- The part that writes the owed tombstones failed, and `error` says why. The engine has failed now exactly if the
+-- error is `Failed`. If no batch was pending, the log keeps its contents.
 pub record PartIsRefused (error : Error) (s t : EngineState) : Type 0 where
   pub tells : has_failed s ≡ false → IsTrue (has_failed t) ↔ (error ≡ errors.Failed)
   pub later : IsLater s.pipes.disk t.pipes.disk

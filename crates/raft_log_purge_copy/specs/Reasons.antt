@@ -1,4 +1,4 @@
--- Why a part of a purge fails, by its error.
+-- Why a part of a purge fails. A comment that says *the error says why* means one of these reasons.
 use Rattle.std.specs.Prelude.{◌≡◌, ◌⊎◌, ℕ, false, List, [], Some}
 use Rattle.raft_log_model_laws.specs.Meaning.Slot.{Key}
 use Rattle.raft_log_model_laws.specs.Meaning.Content.{Value}
@@ -69,7 +69,7 @@ HasReason home m (errors.InvalidArgument text) s t = HasMarkValue m
 HasReason home m errors.Memory s t = Unit {0}
 HasReason home m _ s t = ⊥
 
--- if the log had the contents `m` with nothing pending, the error has its reason
+-- if the log had the contents `m` with nothing pending, `error` has one of the reasons in `HasReason`
 abbrev pub GivesReason : Error → EngineState → EngineState → Type 0
 GivesReason error s t = (home : LogDirectories) (m : LogMap) → Represents home s m [] → HasReason home m error s t
 

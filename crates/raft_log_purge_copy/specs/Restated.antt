@@ -67,7 +67,7 @@ pub record Restates (test : ℕ → Bool) (s t : EngineState) : Type 0 where
 abbrev pub RestatesOne : ℕ → EngineState → EngineState → Type 0
 RestatesOne group s t = Restates (λ g. group == g) s t
 
--- Restating failed, and the tables are unchanged. The error has its reason.
+-- Restating failed, and the tables are unchanged. The error says why.
 pub record FailsToRestate (error : Error) (s t : EngineState) : Type 0 where
   pub same : t ≡ record s { pipes = t.pipes; cache = t.cache }
   pub tells : has_failed s ≡ false → IsTrue (has_failed t) ↔ (error ≡ errors.Failed)
@@ -79,7 +79,7 @@ pub record FailsToRestate (error : Error) (s t : EngineState) : Type 0 where
 abbrev pub RestatesEach : List ℕ → EngineState → EngineState → Type 0
 RestatesEach groups s t = Restates (λ g. list_any (λ k. k == g) groups) s t
 
--- Not all of these groups were restated, and other groups are unchanged. The error has its reason.
+-- Not all of these groups were restated, and other groups are unchanged. The error says why.
 pub record StopsRestating (groups : List ℕ) (error : Error) (s t : EngineState) : Type 0 where
   pub others : (g : ℕ) → list_any (λ k. k == g) groups ≡ false → t.tables g ≡ s.tables g
   pub counts : t.counts ≡ s.counts

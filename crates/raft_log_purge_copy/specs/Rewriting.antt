@@ -48,7 +48,7 @@ abbrev pub CopiesIfAny : ℕ → ℕ → Bool → EngineState → EngineState �
 CopiesIfAny group gate true s t = CopiesEntries group gate s t
 CopiesIfAny group gate false s t = (t ≡ s) × AreNext gate (s.tables group) []
 
--- The group's entries weren't copied, and the tables are unchanged. The error has its reason.
+-- The group's entries weren't copied, and the tables are unchanged. The error says why.
 pub record FailsToCopyEntries (error : Error) (s t : EngineState) : Type 0 where
   pub same : t ≡ record s { pipes = t.pipes; cache = t.cache }
   pub tells : has_failed s ≡ false → IsTrue (has_failed t) ↔ (error ≡ errors.Failed)

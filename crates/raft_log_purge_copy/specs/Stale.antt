@@ -36,8 +36,8 @@ pub record TurnsAndLoses (queue : LogQueue) (m : MemTables) (count : ℕ) (s t :
   pub keeps : (home : LogDirectories) (log : LogMap) → HoldsSettled home s log
       → MayLoseFiles (which_of queue) s.tables → HoldsSettled home t log
 
--- The queue's rotation failed, or its files failed to leave the live range; the error has its reason. A log with
--- nothing pending keeps its contents; if the engine has failed, its files can be opened with them.
+-- The queue's rotation failed, or its files failed to leave the live range; the error says why. A log with nothing
+-- pending keeps its contents; if the engine has failed, its files can be opened with them.
 pub record FailsToTurn (queue : LogQueue) (error : Error) (s t : EngineState) : Type 0 where
   pub tells : has_failed s ≡ false → IsTrue (has_failed t) ↔ (error ≡ errors.Failed)
   pub later : IsLater s.pipes.disk t.pipes.disk
@@ -63,8 +63,8 @@ pub record PurgesAllStale (m : MemTables) (s t : EngineState) : Type 0 where
   pub settles : (home : LogDirectories) (log : LogMap) (pending : List LogRecordValue) → Represents home s log pending
       → HoldsSettled home t (taken log pending)
 
--- A purge of all stale files failed, and the error has its reason. The log has the same contents. If the engine has
--- failed, its files can be opened, with the batches that were pending now durable or still pending.
+-- A purge of all stale files failed, and the error says why. The log has the same contents. If the engine has failed,
+-- its files can be opened, with the batches that were pending now durable or still pending.
 pub record FailsToPurgeAll (error : Error) (s t : EngineState) : Type 0 where
   pub tells : has_failed s ≡ false → IsTrue (has_failed t) ↔ (error ≡ errors.Failed)
   pub later : IsLater s.pipes.disk t.pipes.disk

@@ -43,7 +43,8 @@ pub record Answered (home : LogDirectories) (V : World) (qs : List (ℕ × Reque
   pub tells : AreTold V qs told
 
 -- The engine failed at a request of the round, after these replies, which are the voters'. The log's files can be
--- opened. They store the voters after some first requests taken, perhaps with the request at which the engine failed.
+-- opened. They store the voters after the first few requests taken, perhaps with the request at which the engine
+-- failed.
 pub record GaveUp (home : LogDirectories) (V : World) (qs : List (ℕ × Request)) (told : List Reply) (s t : EngineState)
     : Type 0 where
   pub failed : has_failed t ≡ true
@@ -51,8 +52,8 @@ pub record GaveUp (home : LogDirectories) (V : World) (qs : List (ℕ × Request
   pub tells : AreTold V qs told
   pub left : IsLeftAmong home t.pipes.disk (IsPassedOrOneMore V qs told)
 
--- The sync at the end of a round failed. The log's files can be opened, and store the voters after some first requests
--- taken.
+-- The sync at the end of a round failed. The log's files can be opened, and store the voters after the first few
+-- requests taken.
 pub record Unsynced (home : LogDirectories) (V : World) (qs : List (ℕ × Request)) (told : List Reply) (s t : EngineState)
     : Type 0 where
   pub failed : has_failed t ≡ true

@@ -22,8 +22,8 @@ pub record PurgesAndCounts (hold_back : LogPipes → Option ℕ → Type 0) (thr
   pub purges : PurgesExpired hold_back thresholds before after counted purged groups s t
   pub second : CountsIf past after purged new
 
--- The counts after such a purge failed: they were updated before it if a queue was past its threshold, and then kept
--- by the step that failed.
+-- The counts after a purge of expired files failed. They were updated before it if a queue was past its threshold;
+-- then the step that failed decides which are kept.
 pub record CountsIfPast (thresholds : Thresholds) (before : MemTables) (old new : PurgeCounts) (s t : EngineState)
     : Type 0 where
   pub past : Bool
@@ -39,7 +39,8 @@ pub record CountsAndResets (before : MemTables) (old new : PurgeCounts) : Type 0
   pub stats : new.stats ≡ reset_counts counted.stats
   pub rounds : new.rounds ≡ old.rounds
 
--- the counts after a rewrite of Rewrite failed: they were updated before it, and then kept by the step that failed
+-- the counts after a rewrite of Rewrite failed: they were updated before it, and then the step that failed decides
+-- which are kept
 pub record CountsAndKeeps (before : MemTables) (old new : PurgeCounts) (s t : EngineState) : Type 0 where
   pub counted : PurgeCounts
   pub first : CountsStanding before old counted

@@ -25,7 +25,7 @@ MayLoseFiles InRewrite v = Unit {0}
 
 -- Files left the queue's live range, and no block is cached. If nothing was pending, the range begins at `least` now,
 -- or where it began if that is later. `least` is the lowest file in which any group has an entry or value, or `limit`
--- if that is lower. The log then keeps its contents; for Append this needs that no tombstone is owed.
+-- if that is lower. The log then keeps its contents, for Append only if no tombstone is owed.
 pub record LosesFiles (queue : LogQueue) (limit : ℕ) (m : MemTables) (count : ℕ) (s t : EngineState) : Type 0 where
   pub least : ℕ
   pub is : IsLeastOf queue limit m least

@@ -22,7 +22,7 @@ pub record IsKeysBatch (g : ℕ) (pairs : List (List ℕ × List ℕ)) (b : Batc
   pub plain : AreNoMarks b.items
 
 -- All values that the group has in Append, in files up to the gate, were copied to Rewrite in one record. Nothing else
--- changed in the tables. If there are no such values, nothing was written.
+-- changed in the tables. If there are none, nothing was written.
 pub record CopiesKeys (group gate : ℕ) (s t : EngineState) : Type 0 where
   pub pairs : List (List ℕ × List ℕ)
   pub all : ListsAll (appended_values gate (s.tables group)) pairs

@@ -41,7 +41,7 @@ pub record AreOfGroup (g first : ℕ) (bytes : List (List ℕ)) (pairs : List (L
   pub are : items ≡ (entries_items g 0 indexes bytes ++ map (λ e. put_item g e.0 e.1) pairs) ++ mark
   pub joins : entries ≡ joined bytes
 
--- the bytes of entries that one record may have: at most 131,072 together, or those of a single entry
+-- entries with these bytes fit in one record: they have at most 131,072 bytes together, or there is at most one
 abbrev pub AreOnePiece : List (List ℕ) → Type 0
 AreOnePiece bytes = (length bytes ≤ 1) ⊎ (bytes_len bytes ≤ max_piece)
 

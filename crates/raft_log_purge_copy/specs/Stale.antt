@@ -25,8 +25,7 @@ abbrev pub written_file : LogQueue → LogPipes → ℕ
 written_file queue v = (pipe_at (which_of queue) (files_of v)).active.seq
 
 -- The queue rotated. Then the files before the new active one left its live range, up to the lowest in which any group
--- has an entry or value. A log with nothing pending keeps its contents; for Append this needs that no tombstone is
--- owed.
+-- has an entry or value. A log with nothing pending keeps its contents, for Append only if no tombstone is owed.
 pub record TurnsAndLoses (queue : LogQueue) (m : MemTables) (count : ℕ) (s t : EngineState) : Type 0 where
   pub turned : LogPipes
   pub turns : RotatesQueue (which_of queue) s.pipes turned

@@ -68,7 +68,7 @@ abbrev pub ReadsFileAs : Bool → FileId → Handle → Disk → FileReading →
 ReadsFileAs last id handle d read = ReadsBytes last id (bytes_in (d.files handle.file)) read
 
 -- Why reading a file fails. `Io`: its size or some of its bytes can't be read. `Memory`: memory ran out. Damaged bytes
--- are no such reason.
+-- are not a reason.
 abbrev pub FailsToRead : Handle → Disk → Error → Type 0
 FailsToRead handle d (errors.Io kind) = IsNotMeasured handle d kind
     ⊎ IsUnread handle 0 (length (bytes_in (d.files handle.file))) d kind

@@ -94,8 +94,8 @@ pub record FailsToCopyAll (target : List ℕ) (files : List SourceFile) (error :
 
 -- The whole.
 
--- The directory `target` exists, and has a copy of one file of the log for each number in each queue. Nothing else
--- changed. `copied` has the paths of the copies, in the order of the files.
+-- The directory `target` exists. For each number in each queue it has a copy of one of the log's files with that
+-- number. Nothing else changed. `copied` has the paths of the copies, in the order of the files.
 pub record Forks (s : Settings) (target : List ℕ) (copied : List (List ℕ)) (old new : Disk) : Type 0 where
   pub allowed : AllowsFork s target old
   pub files : List SourceFile

@@ -49,7 +49,7 @@ both_kept (Some earlier) (Some later) = Some (followed earlier later)
 abbrev pub kept_of : ConsistencyChecker → ℕ → Option GroupRuns
 kept_of checker group = get nat_cmp checker.groups group
 
--- for each group, the checker keeps what is kept of its runs in these batches; the queue doesn't matter
+-- for each group, the checker keeps the ends and the finding of its runs in these batches; the queue doesn't matter
 abbrev pub KeepsRuns : LogQueue → List Batch → ConsistencyChecker → Type 0
 KeepsRuns queue batches checker = (group : ℕ) → kept_of checker group ≡ kept (runs_of group batches)
 

@@ -31,7 +31,7 @@ pub record HasBytes (file : OpenFile) (content : List ℕ) (offset : ℕ) (bytes
   pub batch : HasBatch file content offset items end
   pub are : bytes ≡ take batch.len (drop batch.at content)
 
--- consecutive records after `offset`: the bytes of each, and the offset `end` of the last one's end
+-- consecutive records after `offset`: the bytes of each, and the offset `end` where the last one ends
 abbrev pub HasAllBytes : OpenFile → List ℕ → ℕ → List (List ℕ) → ℕ → Type 0
 HasAllBytes file content offset [] end = end ≡ offset
 HasAllBytes file content offset (bytes ∷ more) end =

@@ -50,8 +50,8 @@ pub record ReadsAnew (was : DualPipesBuilder) (append rewrite : MemTableRecoverC
   pub anew : FindsAnew was found old scanned
   pub recovers : RecoversLog HasReadBatches append rewrite found b scanned new
 
--- The log's files were found, and none was written. Or one of them had an alignment: then those with padding were
--- written without it, and the files were found again.
+-- The log's files were found as they are. Or one of them had an alignment: then those with padding were written
+-- without it, and the files were found again.
 pub data FindsUnpadded (config : Config) (b : DualPipesBuilder) (old new : Disk) : Type 0 where
   as_it_stood : FindsLog config b old new → FindsUnpadded config b old new
   once_unpadded : (was : DualPipesBuilder) (padded : Disk) → FindsPadding config was old padded

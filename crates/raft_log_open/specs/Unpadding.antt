@@ -45,7 +45,8 @@ abbrev pub ClearsAll : List (List ℕ) → Disk → Disk → Type 0
 ClearsAll [] old new = new ≡ old
 ClearsAll (directory ∷ more) old new = (mid : Disk) × ClearsOne directory old mid × ClearsAll more mid new
 
--- why clearing a directory of a temporary file fails
+-- why clearing a directory of a temporary file fails: memory ran out, the file could not be looked up, or its deletion
+-- failed
 pub data FailsToClearOne (directory : List ℕ) (error : Error) (old new : Disk) : Type 0 where
   short : error ≡ errors.Memory → new ≡ old → FailsToClearOne directory error old new
   unknown : FailsToLookAt (temporary_in directory) old error → new ≡ old

@@ -29,11 +29,11 @@ pub record WritesMarks (tables : ℕ → Shown) (v w : LogPipes) : Type 0 where
       → Represents home (showing v tables counts cache) m []
       → Represents home (showing w (λ g. unmarked (tables g)) counts cache) m []
 
--- `items` were written to Rewrite; they are the tombstones that the tables owe
+-- if `items` are the tombstones that the tables owe, they were written to Rewrite
 abbrev pub WritesItems : List LogItem → LogPipes → LogPipes → Type 0
 WritesItems items v w = (m : MemTables) → AreOwed m items → WritesMarks (shown_of m) v w
 
--- `items`, the tombstones that the tables owe, weren't written to Rewrite
+-- if `items` are the tombstones that the tables owe, writing them to Rewrite failed
 abbrev pub ItemsAreRefused : List LogItem → Error → LogPipes → LogPipes → Type 0
 ItemsAreRefused items error v w = (m : MemTables) → AreOwed m items → (cache : BlockCache)
     → PartIsRefused error (shows v m cache) (shows w m cache)

@@ -27,7 +27,7 @@ IsNotedFrom n (Some files) = n ≤ files.from
 
 -- From `v` to `w` the group was restated: all entries and values that it has in Rewrite are in file `n` and later
 -- ones.
--- - The files noted for atomic groups begin no earlier than before, or than `n`.
+-- - The files noted for atomic groups begin no earlier than the lower of `n` and where they began before.
 -- - If they began past a file below `n`, or ended at or before it, they still do.
 -- - The group owes the same tombstones.
 pub record IsRestatedFrom (n : ℕ) (v w : Shown) : Type 0 where

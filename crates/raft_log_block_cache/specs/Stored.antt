@@ -104,13 +104,14 @@ abbrev pub CallsKeepLog : Type 0 → Type 0
 CallsKeepLog R = (which : Which) (s : LogOnDisk R) (files : LogFiles R) (d : Disk)
     → KeepsBytes (spanned_at which s).files files → KeepsLog s (next_log which s files d)
 
--- While the log keeps its bytes, entries that the tables show stay readable at their locations. If the tables and
+-- While the log keeps its bytes, entries that the tables show stay in the log at their locations. If the tables and
 -- these bytes gave the contents `m`, they still do.
 abbrev pub StoredEntriesStay : Type 0 → Type 0
 StoredEntriesStay R = (s t : LogOnDisk R) → KeepsLog s t → (v : ℕ → Shown) → AreStored s v
     → AreStored t v × ((m : Map (List ℕ) (List ℕ)) → AreMeant (entries_at s) v m → AreMeant (entries_at t) v m)
 
--- If a block was written to the queue of a running pipe, reading it returns the bytes that were written.
+-- If a block was written to the queue of a running pipe, a read of its location that succeeds returns the bytes that
+-- were written.
 abbrev pub StoredBlockIsRead : {R : Type 0} → QueueLayout R → Type 0
 StoredBlockIsRead {R} layout = IsQueueLayout layout → (files : PipeFiles) (q : Spanned R) (d : Disk)
     → RunsQueue layout files q d → (block : FileBlockHandle)

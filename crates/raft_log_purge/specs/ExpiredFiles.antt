@@ -90,8 +90,8 @@ pub record StopsAtAppend (thresholds : Thresholds) (before : MemTables) (old new
   pub rewrites : RewritesIfPast thresholds old new before between restated
       (record s { pipes = synced }) (shows pipes between cache)
 
--- The counts after a purge failed: no group was counted as asked, and the counts of Rewrite depend on the step that
--- failed.
+-- The counts after a purge failed: those of purges that asked for a group are unchanged, and those of Rewrite depend
+-- on the step that failed.
 pub record KeepsCounts (thresholds : Thresholds) (before : MemTables) (old new : PurgeCounts) (s t : EngineState)
     : Type 0 where
   pub rounds : new.rounds ≡ old.rounds

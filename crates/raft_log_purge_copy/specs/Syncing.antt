@@ -30,8 +30,8 @@ SyncsIfDue old new v w = ((old < max_unsynced) × (new ≡ old) × (w ≡ v))
 abbrev pub left_unsynced : ℕ → ℕ
 left_unsynced old = if nat_lt old max_unsynced then old else 0
 
--- `new` is the count of unsynced bytes after the batch's record was written, if it was `old` before, and Rewrite was
--- synced if that was due
+-- `new` is the count of unsynced bytes after the batch's record was written. Before, it was `old`, and Rewrite was
+-- synced if that was due.
 abbrev pub CountsRecord : Batch → ℕ → ℕ → Type 0
 CountsRecord b old new = (len : ℕ) × IsReadyForEach len b.items b.entries
     × (new ≡ min (left_unsynced old + len) (2 ^ 64 - 1))

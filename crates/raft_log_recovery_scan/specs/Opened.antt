@@ -56,7 +56,7 @@ pub record IsOpenBehind (kind : FileKind) (directories : List (List ℕ)) (d : D
   pub earlier : AreOpen kind directories d (permission_before mode) before opened
   pub writable : IsOpenFile kind directories d ReadWrite last active
 
--- the files of a queue are open; or there are none
+-- the files of a queue are open, as the recovery mode requires; or there are none
 abbrev pub IsOpenQueue :
     FileKind → List (List ℕ) → Disk → RecoveryMode → List FoundFile → List File → Type 0
 IsOpenQueue kind directories d mode found files =

@@ -146,7 +146,7 @@ KeptBlocksAreWritten = (log : LogSense) (v : LogPipes) (s : State) → RunsOn lo
     → (old new : BlockCache) → IsOfLog s old → (block : FileBlockHandle) → BlockIsStored s block
     → KeepsBlock v block old new → IsOfLog s new × (new.bytes.items ≡ written_block s block)
 
--- If a block was written to the log whole, with a right checksum, reading it fails only if its file can't be read or
+-- A whole block was written to the log, with a right checksum. Reading it then fails only if its file can't be read or
 -- memory runs out. This holds for each log over which the pipes run.
 abbrev pub WholeBlocksAreRead : Type 0
 WholeBlocksAreRead = (log : LogSense) (v : LogPipes) (s : State) → RunsOn log v s → (block : FileBlockHandle)

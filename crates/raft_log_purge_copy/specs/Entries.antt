@@ -19,7 +19,7 @@ abbrev pub max_piece : ℕ
 max_piece = 131072
 
 -- How many of the entries at these locations are copied in one batch: those before the first one in a file past the
--- gate, but no more than one record may have. A record may have at least one entry.
+-- gate, but no more than one record may have. Any record may have one entry, however long.
 abbrev pub copied_count : ℕ → List Place → ℕ
 copied_count gate ps = min (sized (Some max_piece) ps) (passing gate ps)
 

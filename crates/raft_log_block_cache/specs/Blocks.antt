@@ -1,4 +1,4 @@
--- The cached entry block, and what is read from it.
+-- The cache of one entry block: which block it has, and how entries are read through it.
 use Rattle.std.specs.Prelude.{◌≡◌, ℕ, ◌+◌, ◌-◌, ◌≤◌, ◌⊎◌, None, Option, Some, List, [], ◌∷◌, ◌++◌, length, IsOk, Err}
 use Rattle.raft_log_fs.specs.Reading.{IsUnread}
 use Rattle.raft_log_fs.specs.declared.handle.Handle.{Handle}
@@ -16,27 +16,31 @@ use Rattle.raft_log_dual_pipes.specs.Pipes.{LogPipes, LogSense, RunsOn, State, f
 use Rattle.raft_log_block_cache.specs.Stored.{BlockLiesIn, KeepsLog, block_at, part}
 use Rattle.raft_log_block_cache.specs.declared.block_cache.BlockCache.{BlockCache}
 
--- the pipes read these bytes at this block's location
+-- the file system has `bytes` at the location of `block`, in the file that this queue's pipe lists under the block's
+-- file number
 abbrev pub StandsAt : LogPipes → FileBlockHandle → List ℕ → Type 0
 StandsAt v block bytes = IsReadAt (pipe_at (which_of block.id.queue) (files_of v)) block bytes v.disk
 
--- the cache holds another block than this one, or none
+-- the cache has no block, or a block other than `block`
 abbrev pub IsNotKept : FileBlockHandle → BlockCache → Type 0
 IsNotKept block cache = cache.place ≡ Some block → ⊥
 
--- the block is cached: it was before, and nothing changed; or it wasn't, was read, and its checksum is right
+-- After a read, `new` has `block` cached. Either `old` had it, and nothing changed. Or `old` did not, the bytes were
+-- read from the block's file, and their checksum is right.
 abbrev pub KeepsBlock : LogPipes → FileBlockHandle → BlockCache → BlockCache → Type 0
 KeepsBlock v block old new = (new.place ≡ Some block)
     × (((old.place ≡ Some block) × (new ≡ old))
     ⊎ (IsNotKept block old × StandsAt v block new.bytes.items × IsOk (block_of new.bytes.items)))
 
--- why a block can't be cached: the pipes fail to read it, or decoding the bytes read there fails
+-- The errors with which caching `block` can fail: reading its bytes fails, or decoding them does, as by a wrong
+-- checksum or for lack of memory.
 abbrev pub IsBlockUnread : LogPipes → FileBlockHandle → Error → Type 0
 IsBlockUnread v block error =
     IsReadRefused (pipe_at (which_of block.id.queue) (files_of v)) block v.disk error
     ⊎ ((bytes : List ℕ) × StandsAt v block bytes × FailsOrMemory error (block_of bytes))
 
--- why a whole block of the log isn't read: the file system fails to read the block's file, or memory ran out
+-- The errors with which reading an undamaged block of the log can fail: `Io` if the file system can't read these bytes
+-- of the block's file, or `Memory`.
 abbrev pub IsFileUnread : LogPipes → FileBlockHandle → Error → Type 0
 IsFileUnread v block (errors.Io kind) = (handle : Handle)
     × IsListed block.id.seq (pipe_at (which_of block.id.queue) (files_of v)) handle.file
@@ -44,36 +48,38 @@ IsFileUnread v block (errors.Io kind) = (handle : Handle)
 IsFileUnread v block errors.Memory = Unit {0}
 IsFileUnread v block _ = ⊥
 
--- the entry is in no file; `Memory` if there was none for the message
+-- The errors for an entry that has no location in a file: `InvalidArgument`, or `Memory` if its message could not be
+-- allocated.
 abbrev pub IsUnplaced : EntryIndex → Error → Type 0
 IsUnplaced entry errors.Memory = entry.entries ≡ None
 IsUnplaced entry (errors.InvalidArgument text) = entry.entries ≡ None
 IsUnplaced entry _ = ⊥
 
--- the block wasn't cached, and reading it failed with this error; no block is cached now
+-- `old` did not have `block` cached, and reading it failed with `error`. No block is cached in `new`.
 abbrev pub LosesBlock : LogPipes → FileBlockHandle → BlockCache → BlockCache → Error → Type 0
 LosesBlock v block old new error =
     IsBlockUnread v block error × (new.place ≡ None) × IsNotKept block old
 
--- how many bytes of entries the cached block has
+-- how many bytes of entries the cached block has: all but the 4 bytes of its checksum
 abbrev pub entries_in : BlockCache → ℕ
 entries_in cache = length cache.bytes.items - 4
 
--- why bytes aren't returned: they reach past so many bytes; `Memory` if there was none for the message
+-- The errors if `len` bytes from `offset` on reach past `room` bytes: `Corruption`, or `Memory` if its message could
+-- not be allocated.
 abbrev pub IsOutside : ℕ → ℕ → ℕ → Error → Type 0
 IsOutside offset len room errors.Memory = offset + len ≤ room → ⊥
 IsOutside offset len room (errors.Corruption text) = offset + len ≤ room → ⊥
 IsOutside offset len room _ = ⊥
 
--- why no entry is returned: it reaches past the block's entries
+-- the errors if an entry's offset and length reach past the entries of the cached block
 abbrev pub IsNoEntry : ℕ → ℕ → BlockCache → Error → Type 0
 IsNoEntry offset len cache = IsOutside offset len (entries_in cache)
 
--- why an entry isn't read, one of:
--- - it is in no file
--- - its block wasn't cached and isn't read, and none is cached now
--- - it reaches past the block's entries
--- - its bytes don't parse as a message
+-- Why reading `entry` fails with `error`, and which block is cached then:
+-- - the entry has no location, and the cache is unchanged
+-- - its block wasn't cached, and reading it failed; no block is cached now
+-- - its block is cached now, and the entry's offset and length reach past its entries
+-- - its block is cached now, and the entry's bytes don't parse as a message
 abbrev pub IsEntryUnread : {M : Type 0} → (List ℕ → Option M) → LogPipes → EntryIndex → BlockCache → BlockCache
     → Error → Type 0
 IsEntryUnread {M} reading v entry old new error = (IsUnplaced entry error × (new ≡ old))
@@ -82,7 +88,7 @@ IsEntryUnread {M} reading v entry old new error = (IsUnplaced entry error × (ne
     ⊎ (KeepsBlock v block old new × (IsNoEntry entry.entry_offset entry.entry_len new error
     ⊎ Parses {M = M} (Err error) (reading (part entry.entry_offset entry.entry_len new.bytes.items))))))
 
--- the entry was read: its block is cached, the entry is inside it, and its bytes parse as this message
+-- `entry` was read as `message`: its block is cached now, it is inside that block, and its bytes parse as `message`
 pub record ReadsEntry {M : Type 0} (reading : List ℕ → Option M) (v : LogPipes) (entry : EntryIndex)
     (old new : BlockCache) (message : M) : Type 0 where
   pub block : FileBlockHandle
@@ -91,7 +97,7 @@ pub record ReadsEntry {M : Type 0} (reading : List ℕ → Option M) (v : LogPip
   pub inside : entry.entry_offset + entry.entry_len ≤ entries_in new
   pub is : reading (part entry.entry_offset entry.entry_len new.bytes.items) ≡ Some message
 
--- the entries were read one after another: these are their messages
+-- the entries were read in order, from cache `old` to cache `new`, and parse as `messages`
 abbrev pub ReadsEntries : {M : Type 0} → (List ℕ → Option M) → LogPipes → List EntryIndex → BlockCache → BlockCache
     → List M → Type 0
 ReadsEntries reading v [] old new messages = (new ≡ old) × (messages ≡ [])
@@ -99,13 +105,15 @@ ReadsEntries reading v (e ∷ es) old new [] = ⊥
 ReadsEntries reading v (e ∷ es) old new (m ∷ ms) =
     (next : BlockCache) × ReadsEntry reading v e old next m × ReadsEntries reading v es next new ms
 
--- the entries were read one after another, and their messages were appended to the old ones
+-- The entries were read in order, from cache `old` to cache `new`. Their messages were appended to `were`, which gives
+-- `now`.
 abbrev pub AddsEntries : {M : Type 0} → (List ℕ → Option M) → LogPipes → List EntryIndex → BlockCache → BlockCache
     → List M → List M → Type 0
 AddsEntries {M} reading v es old new were now =
     (more : List M) × (now ≡ were ++ more) × ReadsEntries reading v es old new more
 
--- why entries aren't read: memory ran out after some of them; or one isn't read, and those before it were
+-- Why reading the entries in order fails: after some of them were read, memory ran out, or reading the next one failed
+-- with `error`.
 abbrev pub AreUnread : {M : Type 0} → (List ℕ → Option M) → LogPipes → List EntryIndex → BlockCache → BlockCache
     → Error → Type 0
 AreUnread reading v [] old new error = (error ≡ errors.Memory) × (new ≡ old)
@@ -113,35 +121,39 @@ AreUnread {M} reading v (e ∷ es) old new error = ((error ≡ errors.Memory) ×
     ⊎ (IsEntryUnread reading v e old new error
     ⊎ ((next : BlockCache) × (m : M) × ReadsEntry reading v e old next m × AreUnread reading v es next new error))
 
--- the queue that a block is in
+-- the queue of the log, Append or Rewrite, that the location of `block` names
 abbrev pub queue_at : State → FileBlockHandle → Spanned LogRecord
 queue_at s block = spanned_at (which_of block.id.queue) s
 
--- the block is in the log
+-- the location of `block` is inside what was written to a file of its queue's live range
 abbrev pub BlockIsStored : State → FileBlockHandle → Type 0
 BlockIsStored s block = BlockLiesIn (queue_at s block) block.id.seq block.offset block.len
 
--- the bytes that were written there
+-- the bytes that were written to the log at the location of `block`
 abbrev pub written_block : State → FileBlockHandle → List ℕ
 written_block s block = block_at (queue_at s block).files block.id.seq block.offset block.len
 
--- the cached block, if there is one, is in the log, and the cache has the bytes that were written there
+-- If the cache has a block, that block's location is inside what was written to the log. The cache has the bytes that
+-- were written there.
 abbrev pub IsOfLog : State → BlockCache → Type 0
 IsOfLog s cache = (block : FileBlockHandle) → cache.place ≡ Some block
     → BlockIsStored s block × (cache.bytes.items ≡ written_block s block)
 
--- Over any log: if the cache keeps a block that is in the log, it holds the bytes that were written there.
+-- After a block of the log was read through the cache, the cache has the bytes that were written to the log there.
+-- This holds for each log over which the pipes run.
 abbrev pub KeptBlocksAreWritten : Type 0
 KeptBlocksAreWritten = (log : LogSense) (v : LogPipes) (s : State) → RunsOn log v s
     → (old new : BlockCache) → IsOfLog s old → (block : FileBlockHandle) → BlockIsStored s block
     → KeepsBlock v block old new → IsOfLog s new × (new.bytes.items ≡ written_block s block)
 
--- Over any log: reading a whole block of the log fails only because the file can't be read or memory runs out.
+-- A whole block was written to the log, with a right checksum. Reading it then fails only if its file can't be read or
+-- memory runs out. This holds for each log over which the pipes run.
 abbrev pub WholeBlocksAreRead : Type 0
 WholeBlocksAreRead = (log : LogSense) (v : LogPipes) (s : State) → RunsOn log v s → (block : FileBlockHandle)
     → BlockIsStored s block → IsOk (block_of (written_block s block)) → (error : Error)
     → IsBlockUnread v block error → IsFileUnread v block error
 
--- a cached block with the bytes that were written stays so through calls that keep the log's bytes
+-- if the log goes from `s` to `t` and keeps its bytes, the cached block still has the bytes that were written to the
+-- log
 abbrev pub KeptBlocksStay : Type 0
 KeptBlocksStay = (s t : State) → KeepsLog s t → (cache : BlockCache) → IsOfLog s cache → IsOfLog t cache

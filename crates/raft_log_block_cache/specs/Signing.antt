@@ -1,4 +1,5 @@
--- What the record of a batch contains, whichever file it is signed for.
+-- The contents of a batch's record. They are the same for each file; only the checksum in the footer depends on the
+-- file number.
 use Rattle.std.specs.Prelude.{◌≡◌, ℕ, List, [], map}
 use Rattle.raft_log_model_laws.specs.Item.{Record}
 use Rattle.raft_log_record_base.specs.Files.{signature_of}
@@ -10,15 +11,16 @@ use Rattle.raft_log_active_file.specs.declared.record.LogRecord.{LogRecord}
 use Rattle.raft_log_dual_pipes.specs.Queues.{SaysRecord}
 use Rattle.raft_log_dual_pipes.specs.Own.{log_layout}
 
--- the bytes of a batch's record in this file
+-- the bytes of the batch's record if it is written to the file of `context`, whose number its footer's checksum covers
 abbrev pub signed_for : Batch → LogFileContext → List ℕ
 signed_for b context = batch_bytes (signature_of context) b.items b.entries
 
--- what a batch's record contains: the items without their places, and the bytes of their entries
+-- the contents of a batch's record: its items without the locations of their entries, and the bytes of the entries
 abbrev pub record_said : Batch → LogRecord
 record_said b = record { items = map plain_item b.items; entries = b.entries }
 
--- Unless the batch is empty, the bytes are its record, whichever file of a queue they are signed for.
+-- Unless `b` is empty: for each file of a queue, `signed` gives bytes that are read in that file as one record with
+-- the contents of `b`.
 abbrev pub SaysItself : (LogFileContext → List ℕ) → Batch → Type 0
 SaysItself signed b = (b.items ≡ [] → ⊥) → (says : LogRecord → Record (List ℕ) (List ℕ)) (queue : LogQueue)
     (directories : List (List ℕ))

@@ -1,4 +1,4 @@
--- Which bytes a log on a disk has at each place, by the records of its files.
+-- Which bytes a log has at each location: those that were written to the file there, as its header and records.
 use Rattle.std.specs.Prelude.{◌≡◌, ℕ, ◌+◌, ◌-◌, ◌≤◌, Bool, true, false, cond, List, [], ◌∷◌, ◌++◌, length, take, drop, IsOk}
 use Rattle.std.proofs.Common.{nat_eq}
 use Rattle.raft_log_model_laws.specs.Groups.{Map}
@@ -20,63 +20,64 @@ use Rattle.raft_log_memtable_index.specs.Shown.{Shown}
 use Rattle.raft_log_memtable_index.specs.Bridge.{Located, located}
 use Rattle.raft_log_memtables.specs.Views.{AreMeant}
 
--- this holds of each element
+-- `P` holds for each element of the list
 abbrev pub Each : {A : Type 0} → (A → Type 0) → List A → Type 0
 Each P [] = Unit {0}
 Each P (x ∷ xs) = P x × Each P xs
 
--- all that was written to a queue's file of this number: its header and its records
+-- all bytes that were written to the queue's file `n`: its header and its records
 abbrev pub file_bytes : {R : Type 0} → LogFiles R → ℕ → List ℕ
 file_bytes q n = cond (nat_eq n q.last) (whole q) (past_bytes (q.older n))
 
--- so many bytes, from an offset on
+-- `len` bytes of `bytes`, from `offset` on
 abbrev pub part : ℕ → ℕ → List ℕ → List ℕ
 part offset len bytes = take len (drop offset bytes)
 
--- the block is inside what was written to a file of the queue's live range
+-- file `n` is in the queue's live range, and `len` bytes from `offset` on are inside what was written to it
 pub record BlockLiesIn {R : Type 0} (q : Spanned R) (n offset len : ℕ) : Type 0 where
   pub first : q.first ≤ n
   pub last : n ≤ q.files.last
   pub inside : offset + len ≤ length (file_bytes q.files n)
 
--- the bytes of the block
+-- the `len` bytes that were written to file `n` from `offset` on
 abbrev pub block_at : {R : Type 0} → LogFiles R → ℕ → ℕ → ℕ → List ℕ
 block_at q n offset len = part offset len (file_bytes q n)
 
--- the bytes of an entry, by its offset and length in its block
+-- the bytes of the entry at location `p`: its offset and length count within its block
 abbrev pub entry_at : {R : Type 0} → LogFiles R → Place → List ℕ
 entry_at q p = part p.entry_offset p.entry_len (block_at q p.file p.offset p.len)
 
--- the entry ends before its block's checksum; the block is whole, and inside what was written to a file of the live
--- range
+-- The location `p` is that of an entry that was written to queue `q`. Its block was written to a file of the live
+-- range, with a right checksum. The entry ends before that checksum.
 pub record EntryLiesIn {R : Type 0} (q : Spanned R) (p : Place) : Type 0 where
   pub block : BlockLiesIn q p.file p.offset p.len
   pub whole : IsOk (block_of (block_at q.files p.file p.offset p.len))
   pub entry : p.entry_offset + p.entry_len ≤ p.len - 4
 
--- the queue that a place is in
+-- Append if the flag is true, else Rewrite
 abbrev pub queue_in : {R : Type 0} → LogOnDisk R → Bool → Spanned R
 queue_in s true = s.append
 queue_in s false = s.rewrite
 
--- the bytes of each entry of a log
+-- the bytes that were written to the log at the location of an entry
 abbrev pub entries_at : {R : Type 0} → LogOnDisk R → Located → List ℕ
 entries_at s l = entry_at (queue_in s l.appended).files l.place
 
--- the entry is in the log
+-- the location is that of an entry that was written to the live range of its queue
 abbrev pub IsStored : {R : Type 0} → LogOnDisk R → Located → Type 0
 IsStored s l = EntryLiesIn (queue_in s l.appended) l.place
 
--- each entry with a place in the tables is in the log
+-- each location that the tables have for an entry is that of an entry that was written to the live range of its queue
 abbrev pub AreStored : {R : Type 0} → LogOnDisk R → (ℕ → Shown) → Type 0
 AreStored s v = (g : ℕ) → Each (IsStored s) (located (v g).rewritten (v g).places)
 
--- Each file of the first queue starts with the same bytes in the second, which may have appended more.
+-- `p` has at least the files of `q`, and each file of `q` has the same bytes in `p`, perhaps with more appended.
 pub record KeepsBytes {R : Type 0} (q p : LogFiles R) : Type 0 where
   pub last : q.last ≤ p.last
   pub files : (n : ℕ) → n ≤ q.last → (more : List ℕ) × (file_bytes p n ≡ file_bytes q n ++ more)
 
--- An append, the truncation of a failed one, a rotation and a sync keep what was written to a queue's files.
+-- The bytes that were written to a queue's files stay through an append, the truncation of a failed append, a rotation
+-- and a sync. They also stay if nothing is done, and through several such steps.
 pub record CallsKeepBytes (R : Type 0) : Type 0 where
   pub same : (q : LogFiles R) → KeepsBytes q q
   pub later : (q p r : LogFiles R) → KeepsBytes q p → KeepsBytes p r → KeepsBytes q r
@@ -89,24 +90,28 @@ pub record CallsKeepBytes (R : Type 0) : Type 0 where
   pub synced : (q : LogFiles R) → KeepsBytes q (synced q)
   pub settled : (q : LogFiles R) → KeepsBytes q (settled q)
 
--- the log's files keep their bytes, and neither live range begins later
+-- From `s` to `t`, the files of both queues keep the bytes that were written to them. Neither live range begins at a
+-- later file.
 pub record KeepsLog {R : Type 0} (s t : LogOnDisk R) : Type 0 where
   pub append : KeepsBytes s.append.files t.append.files
   pub rewrite : KeepsBytes s.rewrite.files t.rewrite.files
   pub append_first : t.append.first ≤ s.append.first
   pub rewrite_first : t.rewrite.first ≤ s.rewrite.first
 
--- a call on one queue that keeps the bytes of its files keeps those of the log, and neither live range begins later
+-- If a call on one queue keeps the bytes that were written to its files, the whole log keeps its bytes. Neither live
+-- range begins at a later file.
 abbrev pub CallsKeepLog : Type 0 → Type 0
 CallsKeepLog R = (which : Which) (s : LogOnDisk R) (files : LogFiles R) (d : Disk)
     → KeepsBytes (spanned_at which s).files files → KeepsLog s (next_log which s files d)
 
--- If the log keeps its bytes, its entries stay in it, and the tables mean the same map.
+-- While the log keeps its bytes, entries that the tables show stay in the log at their locations. If the tables and
+-- these bytes gave the contents `m`, they still do.
 abbrev pub StoredEntriesStay : Type 0 → Type 0
 StoredEntriesStay R = (s t : LogOnDisk R) → KeepsLog s t → (v : ℕ → Shown) → AreStored s v
     → AreStored t v × ((m : Map (List ℕ) (List ℕ)) → AreMeant (entries_at s) v m → AreMeant (entries_at t) v m)
 
--- A running pipe reads from a block of its queue the bytes that were written there.
+-- If a block was written to the queue of a running pipe, a read of its location that succeeds returns the bytes that
+-- were written.
 abbrev pub StoredBlockIsRead : {R : Type 0} → QueueLayout R → Type 0
 StoredBlockIsRead {R} layout = IsQueueLayout layout → (files : PipeFiles) (q : Spanned R) (d : Disk)
     → RunsQueue layout files q d → (block : FileBlockHandle)

@@ -1,4 +1,4 @@
--- The entries of a written batch are in the log, at the places in its items.
+-- After a batch is written, its entries are in the log, at the locations that the tables get for them.
 use Rattle.std.specs.Prelude.{◌≡◌, ℕ, ◌≤◌, true, List, [], length, IsOk}
 use Rattle.raft_log_model_laws.specs.Item.{Item, Tagged, Record, items_of}
 use Rattle.raft_log_model_laws.specs.Item.Item.{Run}
@@ -23,33 +23,34 @@ use Rattle.raft_log_dual_pipes.specs.Turning.{HasLast}
 use Rattle.raft_log_memtables.specs.Views.{AreMeant, view_of}
 use Rattle.raft_log_block_cache.specs.Stored.{AreStored, Each, IsStored, entries_at}
 
--- the entries of an item are in Append
+-- if the item is a run of entries, each of them is at its location in Append
 abbrev pub RunIsStored : {R : Type 0} → LogOnDisk R → Item Place (List ℕ) → Type 0
 RunIsStored s (Run f ps) = Each (λ p. IsStored s (in_queue true p)) ps
 RunIsStored s x = Unit {0}
 
--- the entries of all the items are in Append
+-- each entry of the items of each group is at its location in Append
 abbrev pub RunsAreStored : {R : Type 0} → LogOnDisk R → List (Tagged Place (List ℕ)) → Type 0
 RunsAreStored s xs = (g : ℕ) → Each (RunIsStored s) (of_group g xs)
 
--- If the tables apply a batch whose entries are in the log, every entry with a place in them is in the log.
+-- Assume that the tables' entries are in the log, and a batch's entries are in Append. After the tables apply the
+-- batch, all their entries are in the log.
 abbrev pub TakenEntriesAreStored : Type 0 → Type 0
 TakenEntriesAreStored R = (s : LogOnDisk R) (n : ℕ) (v : ℕ → Shown) (xs : List (Tagged Place (List ℕ)))
     → ((g : ℕ) → IsOrderly (v g)) → MayFollowAll v xs → AreStored s v → RunsAreStored s xs
     → AreStored s (all_shown n v xs)
 
--- a batch's items, whose entries fill these bytes one after another
+-- the batch isn't empty, and its entries fill `entries` one after another, with no bytes left
 pub record IsLaidOver (items : List LogItem) (entries : List ℕ) : Type 0 where
   pub some : items ≡ [] → ⊥
   pub laid : laid_out 0 items ≡ items
   pub adds : entries_len items ≡ length entries
 
--- the items with the places of a batch's written entries
+-- the batch's items after its record was written at `block`: each entry with its location there
 abbrev pub placed_items : FileBlockHandle → List LogItem → List ℕ → List (Tagged Place (List ℕ))
 placed_items block items entries = tagged_items place_of (written (block_place block entries) items)
 
--- If the last record of Append is a batch's, and its block is whole, its entries are in the log at their places. The
--- bytes there are those that the batch was given.
+-- The last record of Append is this batch's, at `block`, and its entry block is whole. Then each of its entries is in
+-- the log at its location, with the bytes that were added to the batch.
 abbrev pub WrittenEntriesAreStored : Type 0 → Type 0
 WrittenEntriesAreStored R = (s : LogOnDisk R) (said : R) (block : FileBlockHandle) (items : List LogItem)
     (entries : List ℕ)
@@ -58,8 +59,8 @@ WrittenEntriesAreStored R = (s : LogOnDisk R) (said : R) (block : FileBlockHandl
     → RunsAreStored s (placed_items block items entries)
     × (all_written (entries_at s) (placed_items block items entries) ≡ tagged_items (entry_bytes entries) items)
 
--- Before a batch is written, the view can grow by it in whichever file the write picks. If the write fails, the
--- record may be there or not.
+-- If a batch may follow what the tables show, it may follow in any file `n` of Append. For each `n` there is a view,
+-- locations and contents, that the tables can get by applying the batch.
 abbrev pub AnyFileMayTakeIt : Type 0 → Type 0
 AnyFileMayTakeIt R = (s : LogOnDisk R) (v : ℕ → Shown) (m : Map (List ℕ) (List ℕ)) (items : List LogItem)
     (entries : List ℕ) (y : Record (List ℕ) (List ℕ)) → AreMeant (entries_at s) v m → AreStored s v

@@ -1,4 +1,5 @@
--- The record that ends an atomic group is written to Rewrite, or its write fails. The map is kept at every exit.
+-- The record that ends an atomic group is written to Rewrite. The log keeps its contents, whether the write succeeds
+-- or fails.
 use Rattle.std.specs.Prelude.{◌≡◌, ℕ, Bool, true, false, List, [], ◌∷◌, ◌++◌, Option}
 use Rattle.raft_log_model_laws.specs.Item.{Tagged}
 use Rattle.raft_log_model_laws.specs.Groups.{of_group}
@@ -24,15 +25,15 @@ use Rattle.raft_log_engine_laws.specs.Parts.{FilesGoUp, HoldsInGroup, IsGroupPar
 use Rattle.raft_log_engine_laws.specs.GroupWriting.{LeavesRecords}
 use Rattle.raft_log_engine_laws.specs.Whole.{HasWhole, IsWholeCopy, batches_of, filed_copies, filed_items, parts_moved, whole_moves}
 
--- How the tables take a whole group: which groups' tables change, and below which file each of them then has nothing
--- in Rewrite.
+-- How the tables apply a whole atomic group. `about` says which groups' tables change; the parts have no items of the
+-- others. After the change, group `g` has nothing in Rewrite in files below `least g`.
 pub record TakesWhole (gate : Option ℕ) (ps : List WrittenPart) (v : ℕ → Shown) : Type 0 where
   pub about : ℕ → Bool
   pub least : ℕ → ℕ
   pub lowest : (g : ℕ) → about g ≡ true → IsLeastInRewrite (parts_moved gate g ps (v g)) (least g)
   pub others : (g : ℕ) → about g ≡ false → filed_items g ps ≡ []
 
--- the end of a group of copies in these files, which the tables take as a whole
+-- the end of an atomic group of copies in these files, as one step of the tables
 abbrev pub whole_end : {E : Type 0} {at : Located → E} {gate : Option ℕ} {ps : List WrittenPart}
     {v : ℕ → Shown} → GroupFiles → TakesWhole gate ps v
     → ((g : ℕ) → IsWholeCopy at gate (v g) (filed_items g ps))
@@ -40,7 +41,8 @@ abbrev pub whole_end : {E : Type 0} {at : Located → E} {gate : Option ℕ} {ps
 whole_end files k w =
     record { files = files; about = k.about; moves = λ g. whole_moves (w g); least = k.least }
 
--- A whole group may end if its parts are in files up to its last one, and say the items.
+-- An atomic group of copies may end, with the moves of all its parts, if the parts are in these files and have these
+-- items.
 abbrev pub WholeGroupsMayEnd : Type 0 → Type 0
 WholeGroupsMayEnd E = (at : Located → E) (gate : Option ℕ) (ps : List WrittenPart) (v : ℕ → Shown)
     (files : GroupFiles) (items : List (Tagged E (List ℕ))) (k : TakesWhole gate ps v)
@@ -49,13 +51,14 @@ WholeGroupsMayEnd E = (at : Located → E) (gate : Option ℕ) (ps : List Writte
     → ((g : ℕ) → of_group g items ≡ filed_copies at (filed_items g ps))
     → MayEnd at (whole_end files k w) v items
 
--- A table whose file numbers never fall notes a group's files with a file below which it has nothing in Rewrite.
+-- Assume that a table's file numbers never fall as the index rises. Noting an atomic group's files in it is the same
+-- as noting them with some `least`, a file below which it has nothing in Rewrite.
 abbrev pub WholeGroupsAreNoted : Type 0
 WholeGroupsAreNoted = (t : Raw) (files : GroupFiles) (a r : ℕ) → IsOrderly (shown t) → FilesRise a r (shown t)
     → (least : ℕ) × IsLeastInRewrite (shown t) least × (with_group t files ≡ with_note (shown t) least files)
 
--- What the tables show after they took a whole group: in each group that changes the places moved, and the files are
--- noted.
+-- What the tables show after they applied a whole atomic group. In each group that changes, the items of the parts
+-- moved to Rewrite, and the atomic group's files are noted.
 pub record ShowsWhole (gate : Option ℕ) (ps : List WrittenPart) (files : GroupFiles) (v u : ℕ → Shown)
     : Type 0 where
   pub took : TakesWhole gate ps v
@@ -63,11 +66,12 @@ pub record ShowsWhole (gate : Option ℕ) (ps : List WrittenPart) (files : Group
       → u g ≡ with_note (parts_moved gate g ps (v g)) (took.least g) files
   pub others : (g : ℕ) → took.about g ≡ false → u g ≡ v g
 
--- the files of a group that ends with a record at this place
+-- the files of an atomic group that ends with the record at `block`: from its first part's file to that of `block`
 abbrev pub files_of_group : UnendedGroup → FileBlockHandle → GroupFiles
 files_of_group o block = record { from = o.first.block.id.seq; to = block.id.seq }
 
--- The record with the end was written, and the tables took the whole group: the map is kept.
+-- After the record that ends an atomic group was written, and the tables applied the whole group, the log has the same
+-- contents.
 abbrev pub WrittenEndsKeepTheMap : Type 0
 WrittenEndsKeepTheMap = (home : LogDirectories) (e t : EngineState) (gate : Option ℕ) (o : UnendedGroup) (b : Batch)
     (block : FileBlockHandle) (m : LogMap) → HoldsInGroup home e m o → IsGroupPart o.number End b
@@ -76,8 +80,9 @@ WrittenEndsKeepTheMap = (home : LogDirectories) (e t : EngineState) (gate : Opti
     → ShowsWhole gate (parts_of o ++ record { block = block; batch = b } ∷ []) (files_of_group o block)
     e.tables t.tables → KeepsOrForgets e t → Represents home t m []
 
--- Rewrite failed to write the part that ends a group, and the tables are unchanged. The group is given up; or it may
--- continue, if nothing was done to its records.
+-- An append of the record that ends an atomic group failed, and the tables are unchanged. If the group is given up,
+-- the log is as after any failed append to Rewrite. After `NumberRange` or `Memory` the group is also still open, and
+-- may continue.
 pub record RefusedEndsKeepTheMap : Type 0 where
   pub given_up : (home : LogDirectories) (e t : EngineState) (gate : Option ℕ) (o : UnendedGroup) (b : Batch) (m : LogMap)
       (error : Error) → HoldsInGroup home e m o → IsGroupPart o.number End b

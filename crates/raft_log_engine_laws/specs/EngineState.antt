@@ -1,4 +1,4 @@
--- What an engine shows, and how its log is read.
+-- An engine's state as the laws see it, and how its log's records are read.
 use Rattle.std.specs.Prelude.{◌≡◌, ◌⊎◌, ℕ, Bool, List, [], None, unwrap_or, length}
 use Rattle.raft_log_model_laws.specs.Item.{Record}
 use Rattle.raft_log_model_laws.specs.Item.Record.{Plain}
@@ -23,62 +23,63 @@ use Rattle.raft_log_block_cache.specs.raft_log_dual_pipes.specs.Pipes.{LogPipes,
 use Rattle.raft_log_block_cache.specs.declared.block_cache.BlockCache.{BlockCache}
 use Rattle.raft_log_record_base.specs.Files.{no_block}
 
--- what is read through an engine: for each group and slot an entry's bytes, or a key's value
+-- The contents of a log: for each group, the bytes of its entry at each index, and the value of each key.
 abbrev pub LogMap : Type 0
 LogMap = Map (List ℕ) (List ℕ)
 
--- what an engine shows: what its tables say of each group, which groups count, its pipes, and its cached block
+-- An engine's state: what its tables show of each group, which groups count, its pipes, and its cached entry block. A
+-- group counts if an item of it came after its last Clean.
 pub record EngineState : Type 0 where
   pub tables : ℕ → Shown
   pub counts : ℕ → Bool
   pub pipes : LogPipes
   pub cache : BlockCache
 
--- an engine with these pipes, these tables and this block shows this
+-- the state of an engine with these pipes, tables and cached block
 abbrev pub shows : LogPipes → MemTables → BlockCache → EngineState
 shows v tables cache = record { tables = shown_of tables; counts = counts tables; pipes = v; cache = cache }
 
--- the cached block stays cached, or none is any more
+-- from `s` to `t`, the cached block stayed the same, or none is cached any more
 abbrev pub KeepsOrForgets : EngineState → EngineState → Type 0
 KeepsOrForgets s t = (t.cache ≡ s.cache) ⊎ (t.cache.place ≡ None)
 
--- whether the engine has failed: a failed call couldn't be undone
+-- whether the engine has failed: a file system call failed, and what it did could not be undone
 abbrev pub has_failed : EngineState → Bool
 has_failed e = is_failed e.pipes
 
--- the directories that have the files of either queue
+-- the directories of each queue's files
 pub record LogDirectories : Type 0 where
   pub append : List (List ℕ)
   pub rewrite : List (List ℕ)
 
--- What a record says when it is read, with the bytes of each entry. If its marks are broken, it says what its items
--- say, as Append reads it; no engine writes such a record.
+-- What a record says when it is read, with the bytes of each entry. If its marks of an atomic group are broken, its
+-- items count as those of an unmarked record, as in Append. No engine writes such a record.
 abbrev pub said_by : LogRecord → LogRecordValue
 said_by r = unwrap_or (record_of (entry_bytes (block_bytes r.entries)) (placed no_block r.items))
     (Plain (tagged_items (entry_bytes (block_bytes r.entries)) (placed no_block r.items)))
 
--- the log in these directories
+-- the log in the directories `home`: what its records say, and where its files are
 abbrev pub sense : LogDirectories → LogSense
 sense home = record { says = said_by; append = home.append; rewrite = home.rewrite }
 
--- the two queues of the log in these directories
+-- the two queues of the log in the directories `home`
 abbrev pub log_in : LogDirectories → TwoQueues LogRecord (List ℕ) (List ℕ)
 log_in home = queues (sense home)
 
--- what a batch says, with the bytes that were added for each entry
+-- what the record of a batch says, with the bytes that were added for each entry
 abbrev pub said_of : Batch → LogRecordValue
 said_of b = unwrap_or (record_of (entry_bytes b.entries) b.items) (Plain [])
 
--- a batch's entries are laid out over its bytes one after another, and there are no other bytes
+-- the batch's entries fill its bytes one after another, with no bytes left
 pub record IsLaidOut (b : Batch) : Type 0 where
   pub laid : laid_out 0 b.items ≡ b.items
   pub adds : entries_len b.items ≡ length b.entries
 
--- a batch has at most one mark of an atomic group, and that is whole
+-- the batch has no broken marking: at most one mark of an atomic group, and a whole one
 abbrev pub IsWellMarked : Batch → Type 0
 IsWellMarked b = marking_of_items b.items ≡ Broken → ⊥
 
--- a batch in this state may be written: it has no signature yet, though its record may be made already
+-- a batch in this state may be written: its record may be encoded already, but is not signed for a file yet
 abbrev pub IsWritable : BatchState → Type 0
 IsWritable Filling = Unit {0}
 IsWritable Populated = Unit {0}

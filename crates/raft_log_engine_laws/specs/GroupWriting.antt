@@ -1,5 +1,5 @@
--- A part of an atomic group that doesn't end it is written to Rewrite, or its write fails. The map is kept at every
--- exit.
+-- A part of an atomic group that begins or continues the group is written to Rewrite. The log keeps its contents,
+-- whether the write succeeds or fails.
 use Rattle.std.specs.Prelude.{ℕ, []}
 use Rattle.raft_log_record_base.specs.declared.errors.Error.{Error}
 use Rattle.raft_log_record_base.specs.declared.errors.Error.TheVariants as errors
@@ -15,7 +15,8 @@ use Rattle.raft_log_engine_laws.specs.Rewriting.{RewriteLeaves}
 use Rattle.raft_log_engine_laws.specs.Settled.{SameTables}
 use Rattle.raft_log_engine_laws.specs.Parts.{HoldsInGroup, IsGroupPart, UnendedGroup, begun_by, gone_on_by}
 
--- A record that begins or continues a group was written: the group is open with that part. The tables are unchanged.
+-- A part that begins or continues an atomic group was written to Rewrite. The group is open, with this part as its
+-- last one, and the log has the same contents.
 pub record WrittenPartsKeepTheMap : Type 0 where
   pub begins : (home : LogDirectories) (e t : EngineState) (number : ℕ) (b : Batch) (block : FileBlockHandle) (m : LogMap)
       → Represents home e m [] → IsGroupPart number Begin b
@@ -26,14 +27,15 @@ pub record WrittenPartsKeepTheMap : Type 0 where
       → AppendsTo InRewrite (signed_for b) block e.pipes t.pipes → SameTables e t
       → HoldsInGroup home t m (gone_on_by o (record { block = block; batch = b }))
 
--- the errors after which nothing was done to the records of the queue
+-- the errors of an append after which the queue's records are the same: `NumberRange` and `Memory`
 abbrev pub LeavesRecords : Error → Type 0
 LeavesRecords errors.NumberRange = Unit {0}
 LeavesRecords errors.Memory = Unit {0}
 LeavesRecords _ = ⊥
 
--- Rewrite failed to write a part that begins or continues a group. The group may be given up: then the log is left as
--- by any failed write to Rewrite. A group that had begun may also continue, if nothing was done to its records.
+-- An append of a part that begins or continues an atomic group failed. If the group is given up, the log is as after
+-- any failed append to Rewrite. After `NumberRange` or `Memory` a group that was open is also still open, and may
+-- continue.
 pub record RefusedPartsKeepTheMap : Type 0 where
   pub begins : (home : LogDirectories) (e t : EngineState) (number : ℕ) (b : Batch) (m : LogMap) (error : Error)
       → Represents home e m [] → IsGroupPart number Begin b → SameTables e t
@@ -45,7 +47,7 @@ pub record RefusedPartsKeepTheMap : Type 0 where
       → HoldsInGroup home e m o → IsGroupPart o.number Middle b → SameTables e t → LeavesRecords error
       → FailsToAppendTo InRewrite (signed_for b) error e.pipes t.pipes → HoldsInGroup home t m o
 
--- a sync of Rewrite leaves a group open
+-- if an atomic group is open, it is open after a sync of Rewrite, and the log has the same contents
 abbrev pub SyncsLeaveGroupsOpen : Type 0
 SyncsLeaveGroupsOpen = (home : LogDirectories) (e t : EngineState) (o : UnendedGroup) (m : LogMap) → HoldsInGroup home e m o
     → SameTables e t → SyncsQueue InRewrite e.pipes t.pipes → HoldsInGroup home t m o

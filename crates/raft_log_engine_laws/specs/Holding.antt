@@ -1,5 +1,6 @@
--- What is true of an engine: which map its log means, and which batches are pending after it. No code stores either;
--- each clause on a call holds for every map and batches that were true of the engine before.
+-- Which contents an engine's log has: durable ones, and batches that were written after them and not yet synced, which
+-- are pending. No code stores either. A law on a call holds for all contents and pending batches that were right
+-- before the call.
 use Rattle.std.specs.Prelude.{◌≡◌, ◌≤◌, ℕ, List, ◌++◌, Some}
 use Rattle.raft_log_model_laws.specs.Groups.{taken}
 use Rattle.raft_log_fs.specs.Disk.{Disk}
@@ -16,22 +17,24 @@ use Rattle.raft_log_block_cache.specs.raft_log_dual_pipes.specs.Pipes.{LogPipes,
 use Rattle.raft_log_block_cache.specs.Blocks.{IsOfLog}
 use Rattle.raft_log_engine_laws.specs.EngineState.{LogDirectories, LogMap, EngineState, log_in, sense}
 
--- along each group's entries the file numbers never fall, in either queue, up to the last file of the queue
+-- As the index of a group's entries rises, their file numbers never fall, in Append or in Rewrite. No number is above
+-- that of the queue's last file.
 abbrev pub FilesRiseIn : State → (ℕ → Shown) → Type 0
 FilesRiseIn s v = (g : ℕ) → FilesRise s.append.files.last s.rewrite.files.last (v g)
 
--- the files noted of atomic groups end no later than the last file of Rewrite
+-- the files that the tables note for atomic groups end no later than the last file of Rewrite
 abbrev pub NotesEndIn : State → (ℕ → Shown) → Type 0
 NotesEndIn s v =
     (g : ℕ) (files : GroupFiles) → (v g).noted ≡ Some files → files.to ≤ s.rewrite.files.last
 
--- The engine's log, in these directories, is the map m with the batches pending after it:
--- - its pipes run over such a log
--- - each place that its tables show is in it
--- - along a group's entries the file numbers never fall
--- - no file is noted past the last one
--- - the bytes at these places are the map after the batches
--- - the cached block is what was written at its place
+-- The log of engine `e` is in the directories `home`. Its durable contents are `m`, and the batches `pending` are
+-- written after them, not yet synced:
+-- - its pipes run over that log
+-- - each location that its tables have is that of an entry in the log
+-- - as the index of a group's entries rises, their file numbers never fall
+-- - no file that is noted for an atomic group is after the last file of Rewrite
+-- - its tables, with the bytes at their locations, give the contents after the pending batches
+-- - the cached block has the bytes that were written at its location
 pub record Represents (home : LogDirectories) (e : EngineState) (m : LogMap) (pending : List LogRecordValue) : Type 0 where
   pub state : State
   pub map : LogMap
@@ -43,29 +46,31 @@ pub record Represents (home : LogDirectories) (e : EngineState) (m : LogMap) (pe
   pub cached : IsOfLog state e.cache
   pub at : IsAt (Ties (log_in home) state) (view_of e.tables map) m pending
 
--- the pipes run over a log in these directories that is the map m with these batches pending, whatever any tables
--- show
+-- The pipes run over a log in these directories. Its durable contents are `m`, and `pending` is written after them.
+-- Nothing is said of the engine's tables.
 pub record RunsAs (home : LogDirectories) (v : LogPipes) (m : LogMap) (pending : List LogRecordValue) : Type 0 where
   pub state : State
   pub view : View (List ℕ) (List ℕ)
   pub runs : RunsOn (sense home) v state
   pub at : IsAt (Ties (log_in home) state) view m pending
 
--- the pipes run over this map and these batches; some first batches are synced, the others pending
+-- The pipes run over a log with the contents `m` and then the batches `pending`. The first few of these batches may be
+-- durable; the others are pending.
 pub record RunsEnding (home : LogDirectories) (v : LogPipes) (m : LogMap) (pending : List LogRecordValue) : Type 0 where
   pub done : List LogRecordValue
   pub rest : List LogRecordValue
   pub splits : done ++ rest ≡ pending
   pub runs : RunsAs home v (taken m done) rest
 
--- an engine holds this map and these batches; some first batches are synced, the others pending
+-- The log of engine `e` has the contents `m` and then the batches `pending`. The first few of these batches may be
+-- durable; the others are pending.
 pub record EndsAt (home : LogDirectories) (e : EngineState) (m : LogMap) (pending : List LogRecordValue) : Type 0 where
   pub done : List LogRecordValue
   pub rest : List LogRecordValue
   pub splits : done ++ rest ≡ pending
   pub holds : Represents home e (taken m done) rest
 
--- what a failed engine leaves on its disk: a log that can be opened; some first batches are synced, the others
--- pending
+-- The log's files on disk `d` can be opened. They hold the contents `m` and then the batches `pending`. The first few
+-- of these batches may be durable; the others are pending.
 abbrev pub IsRecoverableAs : LogDirectories → Disk → LogMap → List LogRecordValue → Type 0
 IsRecoverableAs home d m pending = (open_ones : OpenPipes) × LogEndsLying (log_in home) open_ones d m pending

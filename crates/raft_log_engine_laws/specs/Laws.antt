@@ -1,4 +1,4 @@
--- Each call on an engine's pipes and tables, as a step of its log.
+-- What each call on an engine's pipes and tables does to the contents of its log.
 use Rattle.std.specs.Prelude.{◌≡◌, ℕ, List, [], ◌∷◌, ◌++◌}
 use Rattle.raft_log_model_laws.specs.Groups.{taken}
 use Rattle.raft_log_fs.specs.Causes.{Fails}
@@ -19,7 +19,8 @@ use Rattle.raft_log_engine_laws.specs.EngineState.{LogDirectories, IsLaidOut, Is
 use Rattle.raft_log_engine_laws.specs.Holding.{EndsAt, Represents, IsRecoverableAs, RunsAs}
 use Rattle.raft_log_engine_laws.specs.Writing.{Leaves, items_at}
 
--- what is known of a batch that may be written
+-- the batch may be written: it isn't empty, its marks are whole, its entries leave no hole, and its record is read
+-- back with its contents
 pub record MayBeWritten (e : EngineState) (b : Batch) : Type 0 where
   pub some : b.items ≡ [] → ⊥
   pub marked : IsWellMarked b
@@ -27,7 +28,8 @@ pub record MayBeWritten (e : EngineState) (b : Batch) : Type 0 where
   pub says : SaysItself (signed_for b) b
   pub laid : IsLaidOut b
 
--- a batch that the pipes wrote, and that the tables applied in the file of its place
+-- After the pipes wrote a batch and the tables applied it under the number of its file, it is the last batch of the
+-- log. The first few of the pending batches may be durable.
 abbrev pub BatchesAreWritten : Type 0
 BatchesAreWritten = (home : LogDirectories) (e t : EngineState) (b : Batch) (block : FileBlockHandle) (m : LogMap)
     (pending : List LogRecordValue) → Represents home e m pending → MayBeWritten e b
@@ -35,35 +37,38 @@ BatchesAreWritten = (home : LogDirectories) (e t : EngineState) (b : Batch) (blo
     → t.tables ≡ all_shown block.id.seq e.tables (items_at block b) → KeepsOrForgets e t
     → EndsAt home t m (pending ++ said_of b ∷ [])
 
--- a batch that the pipes failed to write
+-- After the pipes failed to append a batch, and the tables stayed the same, the log is without the batch. If the
+-- engine has failed, its files can be opened, with the batch or without it.
 abbrev pub RefusalsLeaveNoTrace : Type 0
 RefusalsLeaveNoTrace = (home : LogDirectories) (e t : EngineState) (b : Batch) (m : LogMap) (pending : List LogRecordValue)
     (error : Error) → Represents home e m pending → MayBeWritten e b → t.tables ≡ e.tables → KeepsOrForgets e t
     → FailsToAppendTo InAppend (signed_for b) error e.pipes t.pipes → Leaves home b m pending e t error
 
--- a sync puts all batches into the map
+-- after a sync of Append, all pending batches are durable
 abbrev pub SyncsAreHeld : Type 0
 SyncsAreHeld = (home : LogDirectories) (e t : EngineState) (m : LogMap) (pending : List LogRecordValue) → Represents home e m pending
     → t.tables ≡ e.tables → KeepsOrForgets e t → SyncsQueue InAppend e.pipes t.pipes
     → Represents home t (taken m pending) []
 
--- a sync that failed leaves the log on the disk, with its map and pending batches
+-- After a failed sync of Append, the log's files can be opened, with the same contents and pending batches. A file
+-- system call has failed.
 abbrev pub FailuresLeaveLogs : Type 0
 FailuresLeaveLogs = (home : LogDirectories) (v w : LogPipes) (m : LogMap) (pending : List LogRecordValue)
     → RunsAs home v m pending → FailsToSyncQueue InAppend v w
     → Fails v.disk w.disk × IsRecoverableAs home w.disk m pending
 
--- A close leaves an engine's log on the disk, with its map and its pending batches, whatever failed meanwhile.
+-- After a close, even a failed one, the log's files can be opened, with the same contents and the same batches still
+-- pending.
 abbrev pub ClosedEnginesAreLeft : Type 0
 ClosedEnginesAreLeft = (home : LogDirectories) (e : EngineState) (m : LogMap) (pending : List LogRecordValue) (d : Disk)
     → Represents home e m pending → ClosesLog e.pipes d → IsRecoverableAs home d m pending
 
--- A close that doesn't fail leaves the log on the disk with all batches in its map, and none pending.
+-- After a close that didn't fail, the log's files can be opened, with all batches durable and none pending.
 abbrev pub ClosedEnginesAreDurable : Type 0
 ClosedEnginesAreDurable = (home : LogDirectories) (e : EngineState) (m : LogMap) (pending : List LogRecordValue) (d : Disk)
     → Represents home e m pending → ClosesSettled e.pipes d → IsRecoverableAs home d (taken m pending) []
 
--- the log of an engine is on its disk, while both pipes run
+-- the log's files on the disk of a running engine hold the contents `m` and then the pending batches
 abbrev pub EnginesLieOnDisks : Type 0
 EnginesLieOnDisks = (home : LogDirectories) (e : EngineState) (m : LogMap) (pending : List LogRecordValue) → Represents home e m pending
     → LogLiesOn (log_in home) (both_open (files_of e.pipes)) e.pipes.disk m pending

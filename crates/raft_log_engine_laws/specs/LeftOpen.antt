@@ -1,4 +1,4 @@
--- Atomic groups that are left open: none of them counts, whatever records follow it.
+-- Atomic groups that get no end: nothing of them counts, whatever records follow.
 use Rattle.std.specs.Prelude.{◌≡◌, ℕ, ◌<◌, ◌≤◌, List, [], ◌∷◌, ◌++◌, None}
 use Rattle.raft_log_model_laws.specs.Item.{Record, Tagged}
 use Rattle.raft_log_model_laws.specs.Item.Mark.{Begin, End, Middle}
@@ -9,22 +9,23 @@ use Rattle.raft_log_engine_laws.specs.EngineState.{LogDirectories, LogMap, Engin
 use Rattle.raft_log_engine_laws.specs.Holding.{Represents}
 use Rattle.raft_log_engine_laws.specs.Parts.{HoldsInGroup, UnendedGroup}
 
--- a group may be given up at any time: the log stays as it was
+-- an open atomic group may be given up at any time: the log has the same contents
 abbrev pub GroupsMayBeGivenUp : Type 0
 GroupsMayBeGivenUp = (home : LogDirectories) (e : EngineState) (m : LogMap) (o : UnendedGroup) → HoldsInGroup home e m o
     → Represents home e m []
 
--- records after a group that is left open, which don't continue it, count as if nothing of the group were there
+-- If no later record continues an atomic group that is left open, all other records count as if the group's records
+-- were not there.
 abbrev pub GroupsLeftOpenCountNot : Type 0 → Type 0 → Type 0
 GroupsLeftOpenCountNot E V = (front back : List (Record E V)) (n : ℕ) (first : List (Tagged E V))
     (more : List (List (Tagged E V))) → UnbrokenFrom None back
     → settled (front ++ (begun n first more ++ back)) ≡ settled (front ++ back)
 
--- all groups that are open have lower numbers
+-- each open atomic group has a number below `n`
 abbrev pub AreOpenBelow : {E V : Type 0} → ℕ → Open E V → Type 0
 AreOpenBelow n o = (k : ℕ) → n ≤ k → o k ≡ None
 
--- each record is part of a group from that number on, or of none
+-- each record that is part of an atomic group has a group number of `n` or above
 abbrev pub AreNumberedFrom : {E V : Type 0} → ℕ → List (Record E V) → Type 0
 AreNumberedFrom n [] = Unit {0}
 AreNumberedFrom n (Plain xs ∷ rs) = AreNumberedFrom n rs
@@ -32,7 +33,8 @@ AreNumberedFrom n (Part (Begin k) xs ∷ rs) = (n ≤ k) × AreNumberedFrom n rs
 AreNumberedFrom n (Part (Middle k) xs ∷ rs) = (n ≤ k) × AreNumberedFrom n rs
 AreNumberedFrom n (Part (End k) xs ∷ rs) = (n ≤ k) × AreNumberedFrom n rs
 
--- Groups whose numbers are above those left open count as if none had been left open, and leave those unchanged.
+-- Let the atomic groups of `new` have numbers above all that `old` leaves open. Then the records of `new` count as if
+-- none had been left open. They also leave those open, unchanged.
 abbrev pub NewGroupsEndNoOldOnes : Type 0 → Type 0 → Type 0
 NewGroupsEndNoOldOnes E V = (old new : List (Record E V)) (n : ℕ) → AreOpenBelow n (opened none_open old)
     → AreNumberedFrom n new

@@ -1,4 +1,5 @@
--- An engine's log while an atomic group of copies is open in Rewrite.
+-- An engine's log while an atomic group of copies is open in Rewrite: begun, and not ended. Its records count together
+-- at its end, or not at all.
 use Rattle.std.specs.Prelude.{◌≡◌, ℕ, ◌≤◌, List, [], ◌∷◌, ◌++◌, map}
 use Rattle.raft_log_model_laws.specs.Item.{Item, Tagged}
 use Rattle.raft_log_model_laws.specs.Item.Item.{Run}
@@ -23,34 +24,35 @@ use Rattle.raft_log_engine_laws.specs.EngineState.{LogDirectories, IsLaidOut, Lo
 use Rattle.raft_log_engine_laws.specs.Holding.{Represents}
 use Rattle.raft_log_engine_laws.specs.Writing.{items_at}
 
--- a part of an atomic group that was written: the place of its record, and its batch
+-- a part of an atomic group: the location of its record's entry block, and its batch
 pub record WrittenPart : Type 0 where
   pub block : FileBlockHandle
   pub batch : Batch
 
--- an atomic group that has begun and not ended: its number, its first part, and those after it
+-- an atomic group that has begun and not ended: its number, its first part, and the parts after that
 pub record UnendedGroup : Type 0 where
   pub number : ℕ
   pub first : WrittenPart
   pub more : List WrittenPart
 
--- all parts of an atomic group that has begun and not ended
+-- all parts of the group that were written, in order
 abbrev pub parts_of : UnendedGroup → List WrittenPart
 parts_of o = o.first ∷ o.more
 
--- the group that begins with this part
+-- the group `number` with `p` as its only part
 abbrev pub begun_by : ℕ → WrittenPart → UnendedGroup
 begun_by number p = record { number = number; first = p; more = [] }
 
--- the group with one more part
+-- the group with `p` as one more part
 abbrev pub gone_on_by : UnendedGroup → WrittenPart → UnendedGroup
 gone_on_by o p = record { number = o.number; first = o.first; more = o.more ++ p ∷ [] }
 
--- what a batch says, with the bytes of each entry
+-- the items of a batch, with the bytes of each entry
 abbrev pub said_items : Batch → List (Tagged (List ℕ) (List ℕ))
 said_items b = tagged_items (entry_bytes b.entries) b.items
 
--- the batch is this part of the atomic group; its record says it, and no run of it ends at too great an index
+-- The batch may be written as a part of atomic group `number`: its mark says this number and status. No run of entries
+-- in it ends past the greatest index that an entry may have.
 pub record IsGroupPart (number : ℕ) (status : AtomicGroupStatus) (b : Batch) : Type 0 where
   pub some : b.items ≡ [] → ⊥
   pub part : marking_of_items b.items ≡ Part number status
@@ -58,31 +60,32 @@ pub record IsGroupPart (number : ℕ) (status : AtomicGroupStatus) (b : Batch) :
   pub laid : IsLaidOut b
   pub fits : AllFit (said_items b)
 
--- the place of each entry of the item satisfies this
+-- if the item is a run of entries, `P` holds for the location of each
 abbrev pub OfEntries : (Place → Type 0) → Item Place (List ℕ) → Type 0
 OfEntries P (Run f ps) = Each P ps
 OfEntries P x = Unit {0}
 
--- the bytes in Rewrite at the places of the part's entries are those that its batch says, group by group
+-- for each group, the bytes in Rewrite at the locations of the part's entries are those in its batch
 abbrev pub SaysPart : (Located → List ℕ) → WrittenPart → Type 0
 SaysPart at p =
     (g : ℕ) → copied_items at (of_group g (items_at p.block p.batch)) ≡ of_group g (said_items p.batch)
 
--- the part's entries are in Rewrite, and the bytes there are those that its batch says
+-- the part's entries were written to the live range of Rewrite, and the bytes at their locations are those in its
+-- batch
 pub record LiesInRewrite (s : State) (p : WrittenPart) : Type 0 where
   pub entries : (g : ℕ) → Each (OfEntries (EntryLiesIn s.rewrite)) (of_group g (items_at p.block p.batch))
   pub says : SaysPart (entries_at s) p
 
--- the file numbers of the parts never fall, and are from the one number to the other
+-- the file numbers of the parts never fall from one to the next, and are between `low` and `high`
 abbrev pub FilesGoUp : ℕ → ℕ → List WrittenPart → Type 0
 FilesGoUp low high [] = low ≤ high
 FilesGoUp low high (p ∷ ps) = (low ≤ p.block.id.seq) × FilesGoUp p.block.id.seq high ps
 
--- An engine's log while an atomic group of copies is open in Rewrite. It is the map, and the tables show it, as if
--- nothing of the group were there.
--- - The records of the group are the last ones of Rewrite, from the file of its begin on.
--- - Its parts are in these files.
--- - No entry that the tables show in Rewrite is in a later file than the begin.
+-- An atomic group `o` of copies is open in Rewrite. The log has the contents `m`, and the tables show them, as if none
+-- of its parts had been written.
+-- - The group's records are the last ones of Rewrite, in the file of its first part and later ones.
+-- - The entries of each part are in these files.
+-- - No entry that the tables show in Rewrite is in a later file than the first part.
 pub record HoldsInGroup (home : LogDirectories) (e : EngineState) (m : LogMap) (o : UnendedGroup) : Type 0 where
   pub holds : Represents home e m []
   pub unended : GoesOnFrom holds.at.files.rewrite o.first.block.id.seq o.number (said_items o.first.batch)

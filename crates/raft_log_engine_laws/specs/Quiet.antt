@@ -1,5 +1,5 @@
--- The parts of a purge that write nothing and delete no file: syncs and rotations of either queue. The map is kept at
--- every exit.
+-- The steps of a purge that write no record and delete no file: syncs and rotations of either queue. The log keeps its
+-- contents, whether they succeed or fail.
 use Rattle.std.specs.Prelude.{◌≡◌, List, []}
 use Rattle.raft_log_model_laws.specs.Groups.{taken}
 use Rattle.raft_log_fs.specs.Causes.{Fails}
@@ -13,26 +13,27 @@ use Rattle.raft_log_engine_laws.specs.EngineState.{LogDirectories, LogMap, Engin
 use Rattle.raft_log_engine_laws.specs.Holding.{Represents, IsRecoverableAs, RunsAs}
 use Rattle.raft_log_engine_laws.specs.Settled.{HoldsSettled, SameTables}
 
--- a settled log is held with nothing pending
+-- if nothing is pending in either queue, as in `HoldsSettled`, the log has no pending batches, as in `Represents`
 abbrev pub SettledLogsAreHeld : Type 0
 SettledLogsAreHeld = (home : LogDirectories) (e : EngineState) (m : LogMap) → HoldsSettled home e m → Represents home e m []
 
--- A sync of Rewrite changes nothing of what is held. If nothing is pending in Append, nothing is pending in either
--- queue after it.
+-- A sync of Rewrite leaves the log's contents and pending batches as they were. If no batch is pending in Append,
+-- nothing is pending in either queue after it.
 pub record RewriteSyncsKeepTheMap : Type 0 where
   pub keeps : (home : LogDirectories) (e t : EngineState) (m : LogMap) (pending : List LogRecordValue) → Represents home e m pending
       → SameTables e t → SyncsQueue InRewrite e.pipes t.pipes → Represents home t m pending
   pub settles : (home : LogDirectories) (e t : EngineState) (m : LogMap) → Represents home e m []
       → SameTables e t → SyncsQueue InRewrite e.pipes t.pipes → HoldsSettled home t m
 
--- a failed sync of either queue leaves the log on the disk, with its map and pending batches
+-- After a failed sync of either queue, the log's files can be opened, with the same contents and pending batches. A
+-- file system call has failed.
 abbrev pub FailedSyncsLeaveLogs : Type 0
 FailedSyncsLeaveLogs = (which : Which) (home : LogDirectories) (v w : LogPipes) (m : LogMap) (pending : List LogRecordValue)
     → RunsAs home v m pending → FailsToSyncQueue which v w
     → Fails v.disk w.disk × IsRecoverableAs home w.disk m pending
 
--- A rotation of Append puts all batches into the map, and keeps a settled log settled. A rotation of Rewrite settles
--- a log without pending batches.
+-- A rotation of Append makes all pending batches durable. If nothing was pending in either queue, nothing is after it.
+-- A rotation of Rewrite without pending batches leaves nothing pending in either queue.
 pub record RotationsKeepTheMap : Type 0 where
   pub append : (home : LogDirectories) (e t : EngineState) (m : LogMap) (pending : List LogRecordValue) → Represents home e m pending
       → SameTables e t → RotatesQueue InAppend e.pipes t.pipes → Represents home t (taken m pending) []
@@ -41,14 +42,17 @@ pub record RotationsKeepTheMap : Type 0 where
   pub rewrite : (home : LogDirectories) (e t : EngineState) (m : LogMap) → Represents home e m []
       → SameTables e t → RotatesQueue InRewrite e.pipes t.pipes → HoldsSettled home t m
 
--- what is true after a failed rotation: the log is held as before; or the engine has failed, and left it on the disk
+-- What is true after a failed rotation, by the error:
+-- - `Memory`, `NumberRange`: the log's contents and pending batches are the same, and the engine runs on
+-- - `Failed`: the log's files can be opened, with the same contents and pending batches
 abbrev pub TurnLeavesHeld : LogDirectories → LogMap → List LogRecordValue → EngineState → Error → Type 0
 TurnLeavesHeld home m pending t errors.Memory = Represents home t m pending
 TurnLeavesHeld home m pending t errors.NumberRange = Represents home t m pending
 TurnLeavesHeld home m pending t errors.Failed = IsRecoverableAs home t.pipes.disk m pending
 TurnLeavesHeld home m pending t _ = ⊥
 
--- a failed rotation keeps the map: the log is held as before, or the engine has failed and left it on the disk
+-- After a failed rotation of either queue, the log has the same contents and pending batches. If the engine has
+-- failed, its files can be opened with them.
 abbrev pub RefusedRotationsKeepTheMap : Type 0
 RefusedRotationsKeepTheMap = (which : Which) (home : LogDirectories) (e t : EngineState) (m : LogMap) (pending : List LogRecordValue)
     (error : Error) → Represents home e m pending → SameTables e t

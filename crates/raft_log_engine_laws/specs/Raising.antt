@@ -1,5 +1,5 @@
--- Files that are no longer needed leave a queue's live range. The map is kept if nothing that the tables show is in
--- them and, for Append, no tombstone is owed to Rewrite.
+-- Files that are no longer needed leave a queue's live range. The log keeps its contents if the tables show nothing in
+-- these files. For Append, no group may owe a tombstone to Rewrite either.
 use Rattle.std.specs.Prelude.{◌≡◌, ℕ, ◌≤◌, None, List, []}
 use Rattle.raft_log_record_base.specs.declared.errors.Error.{Error}
 use Rattle.raft_log_record_base.specs.declared.errors.Error.TheVariants as errors
@@ -14,29 +14,32 @@ use Rattle.raft_log_engine_laws.specs.EngineState.{LogDirectories, LogMap, Engin
 use Rattle.raft_log_engine_laws.specs.Holding.{IsRecoverableAs}
 use Rattle.raft_log_engine_laws.specs.Settled.{HoldsSettled}
 
--- Append may begin at this file: no group owes a tombstone, and nothing of Append is in a file below
+-- Append's live range may begin at file `n`: no group owes a tombstone to Rewrite, and no entry or value that the
+-- tables show in Append is in an earlier file.
 abbrev pub AppendMayBegin : ℕ → (ℕ → Shown) → Type 0
 AppendMayBegin n v = (g : ℕ) → OwesNothing (whereabouts (v g)) × IsLeastInAppend (v g) n
 
--- Rewrite may begin at this file: no group has anything of Rewrite in a file below. An atomic group's files count
--- from the first of them on.
+-- Rewrite's live range may begin at file `n`: no entry or value that the tables show in Rewrite is in an earlier file.
+-- What came with an atomic group counts as if it were in the group's first file.
 abbrev pub RewriteMayBegin : ℕ → (ℕ → Shown) → Type 0
 RewriteMayBegin n v =
     (g : ℕ) → (least : ℕ) × IsLeastInRewrite (v g) least × (n ≤ start_of least (v g).noted)
 
--- the queue may begin at this file
+-- the live range of this queue may begin at file `n`
 abbrev pub MayBegin : Which → ℕ → (ℕ → Shown) → Type 0
 MayBegin InAppend n v = AppendMayBegin n v
 MayBegin InRewrite n v = RewriteMayBegin n v
 
--- A purge of files below one at which the queue may begin keeps the map. It forgets the cached block.
+-- The files of a queue below `n` leave the live range, which may begin at `n`. Then the log keeps its contents,
+-- nothing is pending, and no block is cached.
 abbrev pub PurgesKeepTheMap : Type 0
 PurgesKeepTheMap = (which : Which) (home : LogDirectories) (e t : EngineState) (m : LogMap) (n : ℕ) → HoldsSettled home e m
     → MayBegin which n e.tables → t.tables ≡ e.tables → t.cache.place ≡ None → PurgesQueue which n e.pipes t.pipes
     → HoldsSettled home t m
 
--- what is true after it failed: the map is kept, with nothing pending; or the engine has failed, and left it on the
--- disk
+-- What is true after the files failed to leave the live range, by the error:
+-- - `Memory`, `Other`, `NumberRange`: the log has the same contents, and nothing is pending
+-- - `Failed`: the log's files can be opened, with the same contents and nothing pending
 abbrev pub PurgeLeavesHeld : LogDirectories → LogMap → EngineState → Error → Type 0
 PurgeLeavesHeld home m t errors.Memory = HoldsSettled home t m
 PurgeLeavesHeld home m t (errors.Other fault) = HoldsSettled home t m
@@ -44,8 +47,8 @@ PurgeLeavesHeld home m t errors.NumberRange = HoldsSettled home t m
 PurgeLeavesHeld home m t errors.Failed = IsRecoverableAs home t.pipes.disk m []
 PurgeLeavesHeld home m t _ = ⊥
 
--- a failed purge of either queue keeps the map: nothing is pending, or the engine has failed and left its log on the
--- disk
+-- Files below `n`, at which the queue may begin, failed to leave its live range. The log keeps its contents, with
+-- nothing pending. If the engine has failed, its files can be opened with them.
 abbrev pub RefusedPurgesKeepTheMap : Type 0
 RefusedPurgesKeepTheMap = (which : Which) (home : LogDirectories) (e t : EngineState) (m : LogMap) (n : ℕ) (error : Error)
     → HoldsSettled home e m → MayBegin which n e.tables → t.tables ≡ e.tables → t.cache.place ≡ None

@@ -1,4 +1,5 @@
--- What is read from an engine's tables alone is the map's.
+-- Reads that need only the tables: the first and last index of a group, and its keys. They return the contents of the
+-- log.
 use Rattle.std.specs.Prelude.{◌≡◌, ◌<◌, ◌&&◌, ℕ, Bool, true, false, List, Option, None, Some, option_map, bytes_eq}
 use Rattle.std.specs.Cmp.Lexicographic.{slice_cmp}
 use Rattle.std.specs.List.Sorted.{IsStrictlySortedBy}
@@ -15,50 +16,50 @@ use Rattle.raft_log_block_cache.specs.raft_log_dual_pipes.specs.Pipes.{LogRecord
 use Rattle.raft_log_engine_laws.specs.EngineState.{LogDirectories, LogMap, EngineState}
 use Rattle.raft_log_engine_laws.specs.Holding.{Represents}
 
--- the first index of a group that has an entry, if there is one
+-- the first index at which group `g` has an entry, or none if it has no entry
 abbrev pub IsFirstIn : LogMap → ℕ → Option ℕ → Type 0
 IsFirstIn m g None = (i : ℕ) → m g (Index i) ≡ None
 IsFirstIn m g (Some i) = (m g (Index i) ≡ None → ⊥) × ((j : ℕ) → j < i → m g (Index j) ≡ None)
 
--- the last index of a group that has an entry, if there is one
+-- the last index at which group `g` has an entry, or none if it has no entry
 abbrev pub IsLastIn : LogMap → ℕ → Option ℕ → Type 0
 IsLastIn m g None = (i : ℕ) → m g (Index i) ≡ None
 IsLastIn m g (Some i) = (m g (Index i) ≡ None → ⊥) × ((j : ℕ) → i < j → m g (Index j) ≡ None)
 
--- the value of a key, if there is one
+-- the value of key `k` of group `g`, or none if the key has no value
 abbrev pub StandsUnder : LogMap → ℕ → List ℕ → Option (List ℕ) → Type 0
 StandsUnder m g k value = m g (Key k) ≡ option_map Value value
 
--- A group's first index was returned: the tables', which is the map's after the pending batches.
+-- The first index of group `g`, or none, was returned. It is that of the log's contents after the pending batches.
 pub record ReadsFirst (e : EngineState) (g : ℕ) (index : Option ℕ) : Type 0 where
   pub shown : index ≡ first_of (e.tables g)
   pub exact : (home : LogDirectories) (m : LogMap) (pending : List LogRecordValue) → Represents home e m pending
       → IsFirstIn (taken m pending) g index
 
--- A group's last index was returned: the tables', which is the map's after the pending batches.
+-- The last index of group `g`, or none, was returned. It is that of the log's contents after the pending batches.
 pub record ReadsLast (e : EngineState) (g : ℕ) (index : Option ℕ) : Type 0 where
   pub shown : index ≡ last_of (e.tables g)
   pub exact : (home : LogDirectories) (m : LogMap) (pending : List LogRecordValue) → Represents home e m pending
       → IsLastIn (taken m pending) g index
 
--- The value of a group's key was returned: the tables', which is the map's after the pending batches.
+-- The value of a key of group `g`, or none, was returned. It is that of the log's contents after the pending batches.
 pub record ReadsValue (e : EngineState) (g : ℕ) (key : List ℕ) (value : Option (List ℕ)) : Type 0 where
   pub shown : value ≡ bytes_held ((e.tables g).held key)
   pub exact : (home : LogDirectories) (m : LogMap) (pending : List LogRecordValue) → Represents home e m pending
       → StandsUnder (taken m pending) g key value
 
--- whether a key is in the range: not below the start, and below the end
+-- whether key `k` is at or above `start`, and below `end`; without one of them the range is open on that side
 abbrev pub is_within : Option (List ℕ) → Option (List ℕ) → List ℕ → Bool
 is_within start end k = is_from start k && is_below end k
 
--- the pairs are the keys of a group in the range, each once, in the order of their bytes, with their values
+-- `es` has each key of group `g` in the range, with its value: each key once, in the order of their bytes
 pub record AreKeysOf (m : LogMap) (g : ℕ) (start end : Option (List ℕ)) (es : List (List ℕ × List ℕ))
     : Type 0 where
   pub rising : IsStrictlySortedBy (slice_cmp nat_cmp) (keys_of es)
   pub inside : (k : List ℕ) → is_within start end k ≡ true → StandsUnder m g k (lookup (bytes_eq k) es)
   pub outside : (k : List ℕ) → is_within start end k ≡ false → lookup (bytes_eq k) es ≡ None
 
--- All keys of a group in the range were returned with their values: the tables', which are the map's after the
+-- All keys of group `g` in the range were returned, with their values. They are those of the log's contents after the
 -- pending batches.
 pub record ReadsKeys (e : EngineState) (g : ℕ) (start end : Option (List ℕ)) (es : List (List ℕ × List ℕ))
     : Type 0 where
@@ -66,7 +67,7 @@ pub record ReadsKeys (e : EngineState) (g : ℕ) (start end : Option (List ℕ))
   pub exact : (home : LogDirectories) (m : LogMap) (pending : List LogRecordValue) → Represents home e m pending
       → AreKeysOf (taken m pending) g start end es
 
--- what may be returned from an engine's tables
+-- what the tables show of first and last indexes, values and keys is right for the log's contents
 pub record TablesTell : Type 0 where
   pub first : (e : EngineState) (g : ℕ) → ReadsFirst e g (first_of (e.tables g))
   pub last : (e : EngineState) (g : ℕ) → ReadsLast e g (last_of (e.tables g))

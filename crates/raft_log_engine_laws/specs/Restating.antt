@@ -1,5 +1,5 @@
--- What a purge writes to rewrite a group: its rewritten entries, from an index on, in pieces, and rewritten keys with
--- their values.
+-- What a purge writes to Rewrite to restate a group: its entries there from some index on, in pieces, and keys with
+-- their values there.
 use Rattle.std.specs.Prelude.{◌≡◌, ℕ, ◌+◌, ◌≤◌, false, List, [], ◌∷◌, ◌++◌, length, Option, Some}
 use Rattle.raft_log_model_laws.specs.Item.{Item}
 use Rattle.raft_log_model_laws.specs.Item.Item.{Put, Run}
@@ -13,17 +13,17 @@ use Rattle.raft_log_engine_laws.specs.EngineState.{LogMap}
 use Rattle.raft_log_engine_laws.specs.Parts.{said_items}
 use Rattle.raft_log_engine_laws.specs.Whole.{HasWhole}
 
--- what batches say of a group, one after another
+-- the items of group `g` in the batches, in order, with the bytes of each entry
 abbrev pub said_of_group : ℕ → List Batch → List (Item (List ℕ) (List ℕ))
 said_of_group g [] = []
 said_of_group g (b ∷ bs) = of_group g (said_items b) ++ said_of_group g bs
 
--- entries in pieces, as runs from an index on
+-- entries from index `f` on, as one run for each piece
 abbrev pub runs_in : ℕ → List (List (List ℕ)) → List (Item (List ℕ) (List ℕ))
 runs_in f [] = []
 runs_in f (es ∷ more) = Run f es ∷ runs_in (f + length es) more
 
--- the entries of all pieces
+-- the bytes of the entries of all pieces, in order
 abbrev pub entries_of_pieces : List (List (List ℕ)) → List (List ℕ)
 entries_of_pieces [] = []
 entries_of_pieces (es ∷ more) = es ++ entries_of_pieces more
@@ -33,21 +33,21 @@ pub record KeyBytes : Type 0 where
   pub key : List ℕ
   pub value : List ℕ
 
--- the keys are put with their values
+-- an item for each key that puts its value
 abbrev pub puts : List KeyBytes → List (Item (List ℕ) (List ℕ))
 puts [] = []
 puts (k ∷ ks) = Put k.key k.value ∷ puts ks
 
--- the key has the value, and is in Rewrite
+-- the table shows this value of the key, in Rewrite
 pub record HoldsRewritten (v : Shown) (k : KeyBytes) : Type 0 where
   pub held : KeyValue
   pub is : v.held k.key ≡ Some held
   pub bytes : held.bytes ≡ k.value
   pub rewritten : held.appended ≡ false
 
--- The batches say what Rewrite has of a group:
--- - the entries from an index on, up to the last rewritten one, with their bytes
--- - rewritten keys with their values
+-- The batches have only these items of group `g`, with bytes as in the contents `m`:
+-- - its entries from some index on, up to the last one that is in Rewrite
+-- - keys with values that are in Rewrite
 pub record RestatesGroup (g : ℕ) (bs : List Batch) (v : Shown) (m : Slot → Option (Content (List ℕ) (List ℕ)))
     : Type 0 where
   pub first : ℕ
@@ -59,7 +59,7 @@ pub record RestatesGroup (g : ℕ) (bs : List Batch) (v : Shown) (m : Slot → O
   pub entries : RunStands m first (entries_of_pieces pieces)
   pub held : Each (HoldsRewritten v) keys
 
--- Batches that restate each group so are a whole group of copies, whatever the gate.
+-- Batches that restate each group in this way are a whole atomic group of copies, whatever the gate.
 abbrev pub RestatedGroupsAreWhole : Type 0
 RestatedGroupsAreWhole = (gate : Option ℕ) (bs : List Batch) (v : ℕ → Shown) (m : LogMap)
     → ((g : ℕ) → RestatesGroup g bs (v g) (m g)) → HasWhole gate bs v m

@@ -1,4 +1,6 @@
--- Records that are written to Rewrite: owed tombstones, and copies. The map is kept at every exit.
+-- Records that are written to Rewrite: owed tombstones, and copies of entries and values. The log keeps its contents,
+-- whether the write succeeds or fails. The gate is the last file of Append from which a purge copies; without a gate,
+-- it copies only what is in Rewrite already.
 use Rattle.std.specs.Prelude.{◌≡◌, ℕ, false, Option, List, [], map}
 use Rattle.raft_log_model_laws.specs.Item.{Tagged}
 use Rattle.raft_log_model_laws.specs.Groups.{of_group}
@@ -24,17 +26,18 @@ use Rattle.raft_log_engine_laws.specs.EngineState.{LogDirectories, IsLaidOut, Ke
 use Rattle.raft_log_engine_laws.specs.Holding.{Represents, IsRecoverableAs}
 use Rattle.raft_log_engine_laws.specs.Settled.{HoldsSettled, SameTables}
 
--- what is known of a batch that counts by itself in Rewrite: it is no part of an atomic group
+-- the batch may be written to Rewrite, and counts by itself: it isn't empty, and no part of an atomic group
 pub record CountsAlone (b : Batch) : Type 0 where
   pub some : b.items ≡ [] → ⊥
   pub plain : marking_of_items b.items ≡ Unmarked
   pub says : SaysItself (signed_for b) b
   pub laid : IsLaidOut b
 
--- What is true after Rewrite failed to write a record, by the error:
--- - `Io`, `TryAgain`: the record was truncated away, and all that was written before is synced
--- - `NumberRange`, `Memory`: the record was left out, and the log is as it was
--- - `Failed`: the engine has failed and left its log on the disk; the record may be there
+-- What is true after an append to Rewrite failed, by the error. The log's contents are `m` in each case, with no batch
+-- pending:
+-- - `Io`, `TryAgain`: the record was truncated away, and nothing is pending in either queue
+-- - `NumberRange`, `Memory`: the record is not in the log
+-- - `Failed`: the engine has failed, and its log's files can be opened; they may have the record
 abbrev pub RewriteLeaves : LogDirectories → LogMap → EngineState → Error → Type 0
 RewriteLeaves home m t (errors.Io kind) = HoldsSettled home t m
 RewriteLeaves home m t (errors.TryAgain text) = HoldsSettled home t m
@@ -45,18 +48,18 @@ RewriteLeaves home m t _ = ⊥
 
 -- Tombstones.
 
--- the batch says the tombstones that the groups owe, each of them once and none left out
+-- the batch's items are the tombstones that the groups owe to Rewrite, each of them once
 pub record SaysOwed (b : Batch) (v : ℕ → Shown) : Type 0 where
   pub alone : CountsAlone b
   pub owed : (g : ℕ) → AreOwedAt (v g) (of_group g (tagged_items (λ e. e) b.items))
 
--- The owed tombstones were written to Rewrite: the log is the map with tables that owe none.
+-- After the owed tombstones were written to Rewrite, the log has the same contents, and the tables owe no tombstone.
 abbrev pub WrittenMarksKeepTheMap : Type 0
 WrittenMarksKeepTheMap = (home : LogDirectories) (e t : EngineState) (b : Batch) (block : FileBlockHandle) (m : LogMap)
     → Represents home e m [] → SaysOwed b e.tables → AppendsTo InRewrite (signed_for b) block e.pipes t.pipes
     → t.tables ≡ (λ g. unmarked (e.tables g)) → KeepsOrForgets e t → Represents home t m []
 
--- Rewrite failed to write the owed tombstones: the tables still owe them.
+-- If an append of the owed tombstones to Rewrite failed, the log has the same contents, and the tables still owe them.
 abbrev pub RefusedMarksKeepTheMap : Type 0
 RefusedMarksKeepTheMap = (home : LogDirectories) (e t : EngineState) (b : Batch) (m : LogMap) (error : Error)
     → Represents home e m [] → SaysOwed b e.tables → SameTables e t
@@ -64,29 +67,30 @@ RefusedMarksKeepTheMap = (home : LogDirectories) (e t : EngineState) (b : Batch)
 
 -- Copies.
 
--- the bytes in Rewrite at the places of the batch's entries are those that the batch says
+-- the bytes in Rewrite at the locations of the batch's entries are those that were added to the batch
 abbrev pub SaysAt : (Located → List ℕ) → FileBlockHandle → Batch → Type 0
 SaysAt at block b = map (renamed_tagged (λ p. at (in_queue false p))) (items_at block b)
     ≡ tagged_items (entry_bytes b.entries) b.items
 
--- The batch has copies of what the tables show of the map, and the gate lets them move. This holds wherever the batch
--- is written, and whatever bytes are anywhere else.
+-- The batch's items are copies of entries and values that the tables show, and the gate lets each of them move to
+-- Rewrite. This holds at each location to which the batch may be written.
 abbrev pub HasCopies : Option ℕ → Batch → (ℕ → Shown) → LogMap → Type 0
 HasCopies gate b v m = (block : FileBlockHandle) (at : Located → List ℕ) → AreMeant at v m → SaysAt at block b
     → (g : ℕ) → AreCopies at gate block.id.seq (v g) (of_group g (items_at block b))
 
--- what the tables show after the copies were written at this place
+-- what the tables show of group `g` after the batch of copies was written at `block` and applied
 abbrev pub moved_to : Option ℕ → FileBlockHandle → Batch → (ℕ → Shown) → ℕ → Shown
 moved_to gate block b v g = all_rewritten gate block.id.seq (v g) (of_group g (items_at block b))
 
--- Copies were written to Rewrite, and the tables applied them in the file of their place.
+-- After copies were written to Rewrite, and the tables applied them under the number of their file, the log has the
+-- same contents.
 abbrev pub WrittenCopiesKeepTheMap : Type 0
 WrittenCopiesKeepTheMap = (home : LogDirectories) (e t : EngineState) (gate : Option ℕ) (b : Batch) (block : FileBlockHandle)
     (m : LogMap) → Represents home e m [] → CountsAlone b → HasCopies gate b e.tables m
     → AppendsTo InRewrite (signed_for b) block e.pipes t.pipes → t.tables ≡ moved_to gate block b e.tables
     → KeepsOrForgets e t → Represents home t m []
 
--- Rewrite failed to write copies: the tables are unchanged.
+-- If an append of copies to Rewrite failed, the tables are unchanged, and the log has the same contents.
 abbrev pub RefusedCopiesKeepTheMap : Type 0
 RefusedCopiesKeepTheMap = (home : LogDirectories) (e t : EngineState) (gate : Option ℕ) (b : Batch) (m : LogMap)
     (error : Error) → Represents home e m [] → CountsAlone b → HasCopies gate b e.tables m → SameTables e t

@@ -1,4 +1,4 @@
--- A sync: what an engine shows after it, and what is true of it, whether it succeeds or fails.
+-- A sync of Append: the engine's state after it, and the contents of its log, whether the sync succeeds or fails.
 use Rattle.std.specs.Prelude.{◌≡◌, ◌⊎◌, ℕ, Bool, false, true, List, []}
 use Rattle.raft_log_model_laws.specs.Groups.{taken}
 use Rattle.raft_log_fs.specs.Causes.{Fails, IsLater}
@@ -8,13 +8,13 @@ use Rattle.raft_log_block_cache.specs.raft_log_dual_pipes.specs.Pipes.{LogRecord
 use Rattle.raft_log_engine_laws.specs.EngineState.{LogDirectories, LogMap, EngineState, has_failed}
 use Rattle.raft_log_engine_laws.specs.Holding.{Represents, IsRecoverableAs, RunsAs}
 
--- the engine hasn't failed, and its tables are unchanged
+-- the engine has not failed in `t`, and its tables are those of `s`
 pub record RunsOnSame (s t : EngineState) : Type 0 where
   pub alive : has_failed t ≡ false
   pub tables : t.tables ≡ s.tables
   pub counts : t.counts ≡ s.counts
 
--- Append was synced: all batches are in the map, and none is pending. The cached block stays.
+-- Append was synced: all pending batches are durable. The tables and the cached block are unchanged.
 pub record SyncsAppend (s t : EngineState) : Type 0 where
   pub lived : has_failed s ≡ false
   pub same : RunsOnSame s t
@@ -25,7 +25,8 @@ pub record SyncsAppend (s t : EngineState) : Type 0 where
   pub log : (home : LogDirectories) (m : LogMap) (pending : List LogRecordValue) → RunsAs home s.pipes m pending
       → RunsAs home t.pipes (taken m pending) []
 
--- a sync failed because a file call did: the engine has failed, and left its log on the disk with its pending batches
+-- A file system call failed in a sync, so the engine has failed. Its log's files can be opened, with the same contents
+-- and pending batches.
 pub record FailsToSyncAppend (s t : EngineState) : Type 0 where
   pub lived : has_failed s ≡ false
   pub failed : has_failed t ≡ true
@@ -33,7 +34,7 @@ pub record FailsToSyncAppend (s t : EngineState) : Type 0 where
   pub leaves : (home : LogDirectories) (m : LogMap) (pending : List LogRecordValue) → RunsAs home s.pipes m pending
       → Fails s.pipes.disk t.pipes.disk × IsRecoverableAs home t.pipes.disk m pending
 
--- The error of a failed sync is `Failed`: the engine had failed before, and nothing was done; or it has failed now.
+-- A sync failed with `Failed`. Either the engine had failed before, and nothing was done; or it failed in this sync.
 abbrev pub NotSynced : Error → EngineState → EngineState → Type 0
 NotSynced error s t = (error ≡ errors.Failed)
     × (((has_failed s ≡ true) × (t ≡ s)) ⊎ FailsToSyncAppend s t)

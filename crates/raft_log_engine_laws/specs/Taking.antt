@@ -1,4 +1,4 @@
--- The tables of all groups take a whole atomic group of copies of one of them.
+-- The tables apply a whole atomic group of copies that has items of one group only.
 use Rattle.std.specs.Prelude.{◌≡◌, ◌==◌, ℕ, true, false, List, [], ◌∷◌, ◌++◌, Option}
 use Rattle.raft_log_record_base.specs.declared.pipe_log.FileBlockHandle.{FileBlockHandle}
 use Rattle.raft_log_record_frames.specs.declared.status.AtomicGroupStatus.TheVariants.{End}
@@ -24,24 +24,24 @@ use Rattle.raft_log_engine_laws.specs.Whole.{IsWholeCopy, batches_of, filed_item
 use Rattle.raft_log_engine_laws.specs.Restating.{RestatesGroup, said_of_group}
 use Rattle.raft_log_engine_laws.specs.Ending.{ShowsWhole, files_of_group}
 
--- the tables changed only in that these parts moved
+-- the tables changed only by the moves of these parts' items to Rewrite
 abbrev pub MovedParts : Option ℕ → List WrittenPart → MemTables → MemTables → Type 0
 MovedParts gate ps old new = (g : ℕ) → shown_of new g ≡ parts_moved gate g ps (shown_of old g)
 
--- one more part moved
+-- if the parts `ps` moved, and then the tables applied one more part, all of these parts moved
 abbrev pub MovesOnePart : Type 0
 MovesOnePart = (gate : Option ℕ) (ps : List WrittenPart) (block : FileBlockHandle) (b : Batch)
     (old m new : MemTables) → MovedParts gate ps old m
     → TakesRewritten gate block.id.seq m new (items_at block b)
     → MovedParts gate (ps ++ record { block = block; batch = b } ∷ []) old new
 
--- the files of the atomic group are noted in the table of one group
+-- the files of an atomic group were noted in the table of `group`, and no other table changed
 pub record NotesFiles (group : ℕ) (files : GroupFiles) (old new : MemTables) : Type 0 where
   pub noted : replayed_of new group ≡ noted_in files (raw_of old group)
   pub others : (g : ℕ) → (group == g) ≡ false → replayed_of new g ≡ replayed_of old g
 
--- The tables show a whole group after these steps: all its parts moved, and then its files were noted. The parts have
--- items of one group alone, which has a table.
+-- All parts of an atomic group moved in the tables, and then its files were noted. Then the tables show the whole
+-- group. The parts have items of `group` only, and it has a table.
 abbrev pub TablesTakeWholeGroups : Type 0 → Type 0
 TablesTakeWholeGroups E = (at : Located → E) (gate : Option ℕ) (a : ℕ) (ps : List WrittenPart)
     (files : GroupFiles) (group : ℕ) (old m new : MemTables) → ((g : ℕ) → IsOrderly (shown_of old g))
@@ -51,9 +51,9 @@ TablesTakeWholeGroups E = (at : Located → E) (gate : Option ℕ) (a : ℕ) (ps
     → MovedParts gate ps old m → NotesFiles group files m new
     → ShowsWhole gate ps files (shown_of old) (shown_of new)
 
--- A purge ends the atomic group that rewrites one raft group. The record with the end was written; the tables took
--- all parts, and noted the files. The batches say what Rewrite has of that group, and nothing of others. Then the map
--- is kept.
+-- A purge ends the atomic group that restates one group. The record with the end was written; the tables moved the
+-- items of all parts, and noted the files. The batches say what Rewrite has of that group, and nothing of others. Then
+-- the log has the same contents.
 abbrev pub EndsOverTables : Type 0
 EndsOverTables = (home : LogDirectories) (v w : LogPipes) (old m new : MemTables) (cache after : BlockCache)
     (gate : Option ℕ) (o : UnendedGroup) (b : Batch) (block : FileBlockHandle) (map : LogMap) (group : ℕ)

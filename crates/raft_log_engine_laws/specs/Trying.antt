@@ -1,5 +1,5 @@
--- A write tries at most twice. If the first try had no space for the record, Append has rotated, and the record is
--- tried in the next file.
+-- A write tries to append its record at most twice. If the first try had no space, Append has rotated, and the second
+-- try appends to the next file.
 use Rattle.std.specs.Prelude.{◌≡◌, ◌⊎◌, ℕ, List}
 use Rattle.raft_log_record_base.specs.declared.errors.Error.{Error}
 use Rattle.raft_log_record_base.specs.declared.errors.Error.TheVariants as errors
@@ -12,27 +12,29 @@ use Rattle.raft_log_block_cache.specs.raft_log_dual_pipes.specs.Calls.{AppendsTo
 use Rattle.raft_log_block_cache.specs.raft_log_dual_pipes.specs.Numbers.{EndsNumbersAt}
 use Rattle.raft_log_block_cache.specs.raft_log_file_pipe.specs.Appending.{SaysTryAgain}
 
--- a record was tried, and there was no space for it
+-- an append to Append failed with `TryAgain`, for lack of space
 abbrev pub TriesInVain : (LogFileContext → List ℕ) → LogPipes → LogPipes → Type 0
 TriesInVain signed v w =
     (error : Error) × SaysTryAgain error × IsLater v.disk w.disk × FailsToAppendTo InAppend signed error v w
 
--- a record is written: at the first try, or at the second
+-- the record was appended at `block`: at the first try, or at the second after a first one without space
 abbrev pub WritesAt : (LogFileContext → List ℕ) → FileBlockHandle → LogPipes → LogPipes → Type 0
 WritesAt signed block v w = AppendsTo InAppend signed block v w
     ⊎ ((mid : LogPipes) × TriesInVain signed v mid × AppendsTo InAppend signed block mid w)
 
--- the pipes fail to write a record, for lack of a file number only after the last number
+-- An append to Append failed with `error`. This is `NumberRange` only if the queue had to rotate, and has the last
+-- file number that a name can have.
 abbrev pub RefusesRecord : (LogFileContext → List ℕ) → Error → LogPipes → LogPipes → Type 0
 RefusesRecord signed error v w =
     FailsToAppendTo InAppend signed error v w × EndsNumbersAt InAppend signed error v w
 
--- a record isn't written: the first try failed for another reason than space, or the second one failed
+-- The record wasn't written. Either the first try failed with an error other than `TryAgain`; or the first try had no
+-- space, and the second failed.
 abbrev pub RefusesAt : (LogFileContext → List ℕ) → Error → LogPipes → LogPipes → Type 0
 RefusesAt signed error v w = ((SaysTryAgain error → ⊥) × RefusesRecord signed error v w)
     ⊎ ((mid : LogPipes) × TriesInVain signed v mid × IsLater mid.disk w.disk
     × RefusesRecord signed error mid w)
 
--- a record was tried twice, and there was no space either time
+-- both tries to append the record failed with `TryAgain`, for lack of space
 abbrev pub TriesTwiceInVain : (LogFileContext → List ℕ) → LogPipes → LogPipes → Type 0
 TriesTwiceInVain signed v w = (mid : LogPipes) × TriesInVain signed v mid × TriesInVain signed mid w

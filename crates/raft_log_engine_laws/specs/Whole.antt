@@ -1,5 +1,6 @@
--- What a whole atomic group moves at its end: its parts' items. Several runs may be one copy, each starting at the
--- end of the one before, and each in the file of its record.
+-- What moves to Rewrite at the end of an atomic group: the items of all its parts. A run of entries may be split over
+-- several parts, each piece in the file of its part's record. The gate is the last file of Append from which a purge
+-- copies; without a gate, it copies only what is in Rewrite already.
 use Rattle.std.specs.Prelude.{◌≡◌, ℕ, ◌+◌, false, List, [], ◌∷◌, ◌++◌, length, map, Option}
 use Rattle.raft_log_model_laws.specs.Item.{Item}
 use Rattle.raft_log_model_laws.specs.Item.Item.{Run}
@@ -18,66 +19,67 @@ use Rattle.raft_log_engine_laws.specs.EngineState.{LogMap}
 use Rattle.raft_log_engine_laws.specs.Writing.{items_at}
 use Rattle.raft_log_engine_laws.specs.Parts.{FilesGoUp, SaysPart, WrittenPart}
 
--- an item of a record in this file of Rewrite
+-- an item of a record in file `file` of Rewrite
 pub record Filed : Type 0 where
   pub file : ℕ
   pub item : Item Place (List ℕ)
 
--- the items of a record in this file
+-- items of a record in file `n`, each with this file number
 abbrev pub filed_in : ℕ → List (Item Place (List ℕ)) → List Filed
 filed_in n [] = []
 filed_in n (x ∷ xs) = record { file = n; item = x } ∷ filed_in n xs
 
--- the items of a group in the parts
+-- the items of group `g` in all parts, each with the file number of its part's record
 abbrev pub filed_items : ℕ → List WrittenPart → List Filed
 filed_items g [] = []
 filed_items g (p ∷ ps) = filed_in p.block.id.seq (of_group g (items_at p.block p.batch)) ++ filed_items g ps
 
--- what a table shows of a group after its items moved, part after part
+-- what a table shows of group `g` after it applied the group's items of each part, one part after another
 abbrev pub parts_moved : Option ℕ → ℕ → List WrittenPart → Shown → Shown
 parts_moved gate g [] v = v
 parts_moved gate g (p ∷ ps) v =
     parts_moved gate g ps (all_rewritten gate p.block.id.seq v (of_group g (items_at p.block p.batch)))
 
--- what filed items say in Rewrite, if these are the bytes at each place
+-- the items with the bytes of each entry, where `at` gives the bytes at a location in Rewrite
 abbrev pub filed_copies : {E : Type 0} → (Located → E) → List Filed → List (Item E (List ℕ))
 filed_copies at [] = []
 filed_copies at (x ∷ xs) = renamed (λ p. at (in_queue false p)) x.item ∷ filed_copies at xs
 
--- the filed items as copies
+-- the items as moves of entries and values to their files of Rewrite
 abbrev pub filed_moves : List Filed → List Move
 filed_moves [] = []
 filed_moves (x ∷ xs) = moves_of x.file (x.item ∷ []) ++ filed_moves xs
 
--- the items are copies that the gate lets move, one after another
+-- each item is a copy of what the table shows after the earlier ones were applied, and the gate lets it move
 abbrev pub AreFiledCopies : {E : Type 0} → (Located → E) → Option ℕ → Shown → List Filed → Type 0
 AreFiledCopies at gate v [] = Unit {0}
 AreFiledCopies at gate v (x ∷ xs) =
     IsCopy at gate v x.item × AreFiledCopies at gate (rewritten_item gate x.file v x.item) xs
 
--- places of consecutive entries, in a record in this file
+-- the locations of consecutive entries of a group in one record, and the file of that record
 pub record RunPiece : Type 0 where
   pub file : ℕ
   pub places : List Place
 
--- a run in pieces, from an index on
+-- a run of entries from index `f` on, as one item for each piece
 abbrev pub in_pieces : ℕ → List RunPiece → List Filed
 in_pieces f [] = []
 in_pieces f (p ∷ ps) =
     record { file = p.file; item = Run f p.places } ∷ in_pieces (f + length p.places) ps
 
--- the places of all pieces
+-- the locations of the entries of all pieces
 abbrev pub all_places : List RunPiece → List Place
 all_places [] = []
 all_places (p ∷ ps) = p.places ++ all_places ps
 
--- the pieces as one run, if there are any
+-- a run of entries from index `f` on, as one item with the entries of all pieces; no item if there is no piece
 abbrev pub in_one : ℕ → List RunPiece → List Filed
 in_one f [] = []
 in_one f (p ∷ ps) = record { file = p.file; item = Run f (all_places (p ∷ ps)) } ∷ []
 
--- The items are a run in pieces, and others after it. No piece needs to reach the end of what is in Rewrite. With the
--- pieces as one run, the items are copies that the gate lets move.
+-- The items `xs` are a run of entries in pieces, and then other items. If the pieces are put together as one run, each
+-- item is a copy that the gate lets move. A single piece needn't reach the end of the entries in Rewrite, as a copy
+-- has to.
 pub record IsWholeCopy {E : Type 0} (at : Located → E) (gate : Option ℕ) (v : Shown) (xs : List Filed)
     : Type 0 where
   pub first : ℕ
@@ -86,32 +88,33 @@ pub record IsWholeCopy {E : Type 0} (at : Located → E) (gate : Option ℕ) (v 
   pub items : xs ≡ in_pieces first pieces ++ rest
   pub copies : AreFiledCopies at gate v (in_one first pieces ++ rest)
 
--- such items as copies
+-- the moves of these items, with the pieces put together as one run
 abbrev pub whole_moves : {E : Type 0} {at : Located → E} {gate : Option ℕ} {v : Shown} {xs : List Filed}
     → IsWholeCopy at gate v xs → List Move
 whole_moves w = filed_moves (in_one w.first w.pieces ++ w.rest)
 
--- Moved part after part, they are these copies. The copies may be made, and what the parts say joins to what they
--- say.
+-- Let the items of the parts be a whole copy. Applying them part after part gives the same tables as the moves with
+-- the pieces as one run. These moves are allowed. They give each index and key the same content as the parts' items.
 abbrev pub WholeGroupsAreMoved : Type 0 → Type 0
 WholeGroupsAreMoved E = (at : Located → E) (gate : Option ℕ) (v : Shown) (g : ℕ) (ps : List WrittenPart)
     → IsOrderly v → (w : IsWholeCopy at gate v (filed_items g ps))
     → (parts_moved gate g ps v ≡ all_moved v (whole_moves w)) × CanAllMove at v (whole_moves w)
     × IsJoined (filed_copies at (filed_items g ps)) (copies_of at v (whole_moves w))
 
--- After a move the file numbers along a group's entries don't fall, up to the parts' last file. Before it, they
--- didn't fall up to a file no later than the first part's.
+-- After the items of the parts moved, file numbers still don't fall as the index of a group's entries rises. Those in
+-- Rewrite are at most `n`, the last file of the parts. Before, they were at most `r`, a file no later than the first
+-- part's.
 abbrev pub MovedFilesRise : Type 0 → Type 0
 MovedFilesRise E = (at : Located → E) (gate : Option ℕ) (a r n : ℕ) (v : Shown) (g : ℕ)
     (ps : List WrittenPart) → IsOrderly v → FilesRise a r v → FilesGoUp r n ps
     → IsWholeCopy at gate v (filed_items g ps) → FilesRise a n (parts_moved gate g ps v)
 
--- the batches of parts
+-- the batch of each part
 abbrev pub batches_of : List WrittenPart → List Batch
 batches_of ps = map (λ p. p.batch) ps
 
--- The batches are a whole group of copies of what the tables show of the map, and the gate lets them move. This holds
--- wherever they are written, and whatever bytes are anywhere else.
+-- The batches are copies of what the tables show of the contents `m`. The gate lets them move at the end of an atomic
+-- group. This holds wherever the batches are written, and whatever bytes are at other locations.
 abbrev pub HasWhole : Option ℕ → List Batch → (ℕ → Shown) → LogMap → Type 0
 HasWhole gate bs v m = (ps : List WrittenPart) (at : Located → List ℕ) → batches_of ps ≡ bs → AreMeant at v m
     → Each (SaysPart at) ps → (g : ℕ) → IsWholeCopy at gate (v g) (filed_items g ps)

@@ -1,4 +1,4 @@
--- A write of a batch: what an engine shows after it, and what is true of it, whether it succeeds or fails.
+-- A write of a batch: the engine's state after it, and the contents of its log, whether the write succeeds or fails.
 use Rattle.std.specs.Prelude.{◌≡◌, ◌⊎◌, ◌^◌, ◌≤◌, ◌↔◌, IsTrue, ℕ, Bool, true, false, None, List, [], ◌∷◌, ◌++◌}
 use Rattle.raft_log_model_laws.specs.Item.{Tagged}
 use Rattle.raft_log_model_laws.specs.Groups.{of_group, taken}
@@ -23,12 +23,13 @@ use Rattle.raft_log_engine_laws.specs.Trying.{TriesTwiceInVain}
 use Rattle.raft_log_block_cache.specs.raft_log_file_pipe.specs.Appending.{SaysTryAgain}
 use Rattle.raft_log_engine_laws.specs.Holding.{EndsAt, Represents, IsRecoverableAs, RunsEnding}
 
--- the items of a batch that was written at this place, with the places of their entries
+-- the items of a batch that was written at `block`, each entry with its location there
 abbrev pub items_at : FileBlockHandle → Batch → List (Tagged Place (List ℕ))
 items_at block b = placed_items block b.items b.entries
 
--- A batch that isn't empty was written at this place. The tables applied it in the file of its place. It is pending
--- after the others; a rotation may have synced some first ones. With a sync none is pending.
+-- A batch that isn't empty was written at `block`, and the tables applied it under the number of its file. It is
+-- pending after the earlier batches, some of which a rotation may have synced. If a sync was asked for, all batches
+-- are durable.
 pub record Writes (b : Batch) (sync : Bool) (s t : EngineState) : Type 0 where
   pub block : FileBlockHandle
   pub some : b.items ≡ [] → ⊥
@@ -45,17 +46,21 @@ pub record Writes (b : Batch) (sync : Bool) (s t : EngineState) : Type 0 where
   pub synced : sync ≡ true → (home : LogDirectories) (m : LogMap) (pending : List LogRecordValue) → Represents home s m pending
       → Represents home t (taken m (pending ++ said_of b ∷ [])) []
 
--- An empty batch: nothing is written, and Append is synced if a sync was asked for.
+-- The batch is empty, so nothing is written. If a sync was asked for, Append is synced.
 abbrev pub WritesNothing : Bool → EngineState → EngineState → Type 0
 WritesNothing true s t = SyncsAppend s t
 WritesNothing false s t = (t ≡ s) × (has_failed s ≡ false)
 
--- A batch was written, and its record has so many bytes; an empty one has none.
+-- a batch was written, and its record has `len` bytes; an empty batch has no record, and `len` is 0
 abbrev pub WritesBytes : Batch → Bool → ℕ → EngineState → EngineState → Type 0
 WritesBytes b sync len s t = ((b.items ≡ []) × (len ≡ 0) × WritesNothing sync s t)
     ⊎ (IsReadyForEach len b.items b.entries × Writes b sync s t)
 
--- why tables that show this reject a batch, before anything is done
+-- The errors with which a write rejects a batch before anything is done:
+-- - `Hole`: its entries would leave a hole after those that the tables show
+-- - `Full`: its record would have 2 ^ 56 bytes or more
+-- - `InvalidArgument`: it was signed or written already, or its marks of an atomic group are broken
+-- - `Memory`: memory ran out
 abbrev pub IsUnfit : Batch → (ℕ → Shown) → Error → Type 0
 IsUnfit b v errors.Hole = MayFollowAll v (tagged_items (λ e. e) b.items) → ⊥
 IsUnfit b v errors.Full = 2 ^ 56 ≤ record_len b.items b.entries
@@ -63,11 +68,10 @@ IsUnfit b v (errors.InvalidArgument text) = IsWritable b.state → IsWellMarked 
 IsUnfit b v errors.Memory = Unit {0}
 IsUnfit b v _ = ⊥
 
--- What is true after the pipes failed to write the batch, by the error:
--- - `Io`, `TryAgain`: a file call failed, the record was truncated away, and all batches before it are synced
--- - `NumberRange`, `Memory`: the record was left out, and some first batches may be synced
--- - `Failed`: a file call failed, and the engine has failed; it left its log on the disk, with the batch or without
---   it
+-- What is true after an append of the batch failed, by the error:
+-- - `Io`, `TryAgain`: a file system call failed; the record was truncated away, and all earlier batches are durable
+-- - `NumberRange`, `Memory`: the record is not in the log; the first few pending batches may have been synced
+-- - `Failed`: a file system call failed, and so has the engine; its files can be opened, with the batch or without it
 abbrev pub Leaves : LogDirectories → Batch → LogMap → List LogRecordValue → EngineState → EngineState → Error → Type 0
 Leaves home b m pending s t (errors.Io kind) =
     Fails s.pipes.disk t.pipes.disk × Represents home t (taken m pending) []
@@ -79,8 +83,8 @@ Leaves home b m pending s t errors.Failed = Fails s.pipes.disk t.pipes.disk
     × (IsRecoverableAs home t.pipes.disk m pending ⊎ IsRecoverableAs home t.pipes.disk m (pending ++ said_of b ∷ []))
 Leaves home b m pending s t _ = ⊥
 
--- The pipes failed to write the batch. Unless the engine has failed, its tables are unchanged, and no block is
--- cached. `TryAgain` is returned only after two tries, `NumberRange` only if Append's last file has the last number.
+-- An append of the batch failed. Unless the engine has failed now, its tables are unchanged, and no block is cached.
+-- `TryAgain` is returned only after two tries, and `NumberRange` only if Append's active file has the last number.
 pub record PipesRefused (b : Batch) (error : Error) (s t : EngineState) : Type 0 where
   pub lived : has_failed s ≡ false
   pub tells : IsTrue (has_failed t) ↔ (error ≡ errors.Failed)
@@ -93,21 +97,21 @@ pub record PipesRefused (b : Batch) (error : Error) (s t : EngineState) : Type 0
   pub leaves : (home : LogDirectories) (m : LogMap) (pending : List LogRecordValue) → Represents home s m pending
       → Leaves home b m pending s t error
 
--- A batch wasn't written: it was rejected, or the engine had failed before, and nothing was done; or the pipes failed
--- to write it.
+-- The batch wasn't written. Either it was rejected, or the engine had failed before; then nothing was done. Or an
+-- append of it failed.
 abbrev pub NotWritten : Batch → Error → EngineState → EngineState → Type 0
 NotWritten b error s t = (IsUnfit b s.tables error × (t ≡ s))
     ⊎ ((error ≡ errors.Failed) × (has_failed s ≡ true) × (t ≡ s))
     ⊎ PipesRefused b error s t
 
--- What happens to a batch that is written: an empty one stays, another one is emptied.
+-- the batch after its write: an empty one is unchanged, and any other was emptied
 abbrev pub IsEmptied : Batch → Batch → Type 0
 IsEmptied old new = ((old.items ≡ []) × (new ≡ old)) ⊎ IsButBuffer (emptied old) new
 
--- a batch that wasn't written is unchanged, but its record may have been made
+-- the batch has the same items and entries, but its record may have been encoded
 abbrev pub IsBatchKept : Batch → Batch → Type 0
 IsBatchKept old new = new ≡ record old { state = new.state; buffer = new.buffer }
 
--- a batch that wasn't written is kept, or the engine failed and emptied it
+-- after a failed write the batch is kept, or the write failed with `Failed`, and the batch was emptied
 abbrev pub IsKeptUnlessFailed : Error → Batch → Batch → Type 0
 IsKeptUnlessFailed error old new = IsBatchKept old new ⊎ ((error ≡ errors.Failed) × IsButBuffer (emptied old) new)

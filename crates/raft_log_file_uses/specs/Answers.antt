@@ -1,11 +1,11 @@
--- What reading a directory returns.
+-- What a reader returns for the log files of a directory.
 use Rattle.std.specs.Prelude.{ℕ, List}
 use Rattle.raft_log_fs.specs.Disk.{Disk}
 use Rattle.raft_log_file_reader.specs.Files.{AreFilesOf}
 use Rattle.raft_log_file_reader.specs.Answers.{Answer, GivesFiles}
 use Rattle.raft_log_file_reader.specs.declared.log_file.LogFile.{LogFile}
 
--- these answers come from the log files of the directory
+-- `answers` is what reading the log files of this directory on the disk returns
 pub record GivesDirectory (directory : List ℕ) (d : Disk) (answers : List Answer) : Type 0 where
   pub files : List LogFile
   pub are : AreFilesOf directory d files

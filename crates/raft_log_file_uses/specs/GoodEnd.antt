@@ -1,4 +1,4 @@
--- The end of the good records of a log file.
+-- Where the good records of a log file end.
 use Rattle.std.specs.Prelude.{◌≡◌, ℕ, ◌-◌, List, Option, None, Some}
 use Rattle.raft_log_record_base.specs.declared.pipe_log.FileId.{FileId}
 use Rattle.raft_log_record_items.specs.declared.item.LogItem.{LogItem}
@@ -12,7 +12,7 @@ use Rattle.raft_log_file_reader.specs.Reader.{IsReading, file_of, end_of, size_i
 use Rattle.raft_log_file_reader.specs.declared.open_file.OpenFile.{OpenFile}
 use Rattle.raft_log_file_reader.specs.declared.reader.LogItemBatchFileReader.{LogItemBatchFileReader}
 
--- the batches of the file by this handle are read from the end of its header up to an offset
+-- `file` is open by this handle, and its batches follow one another from the end of its header up to offset `end`
 pub record HasReadTo (id : FileId) (handle : Handle) (d : Disk) (file : OpenFile) (end : ℕ) : Type 0 where
   pub is : file.id ≡ id
   pub reads_by : file.source.handle ≡ handle
@@ -21,13 +21,14 @@ pub record HasReadTo (id : FileId) (handle : Handle) (d : Disk) (file : OpenFile
   pub batches : List (List LogItem)
   pub has : HasBatches file (bytes_of file.source d) start batches end
 
--- the batches of the file by this handle are read up to an offset, and no batch follows it
+-- The file's batches follow one another from the end of its header up to offset `end`. After that the file ends, or
+-- its next record is broken.
 pub record EndsItsBatches (id : FileId) (handle : Handle) (d : Disk) (end : ℕ) : Type 0 where
   pub file : OpenFile
   pub read : HasReadTo id handle d file end
   pub ends : EndsBehind file (bytes_of file.source d) end
 
--- how far the reader has read
+-- the reader has this file open, and has read its batches from the end of the header up to the reader's offset
 pub record HasReadSoFar (id : FileId) (handle : Handle) (d : Disk)
     (reader : LogItemBatchFileReader) : Type 0 where
   pub reading : IsReading d reader

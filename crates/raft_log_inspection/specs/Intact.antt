@@ -1,4 +1,4 @@
--- A log's files without damage and gaps, and what an inspection of them finds.
+-- Log files without damage and without gaps in their numbers, and what an inspection of a log finds.
 use Rattle.std.specs.Prelude.{◌≡◌, ◌≤◌, ◌⊎◌, ◌==◌, ℕ, Bool, true, Option, Some, None, List, [], All, drop, unwrap_or}
 use Rattle.std.specs.List.{AllZip}
 use Rattle.std.specs.List.Sorted.{IsPermutation}
@@ -19,12 +19,12 @@ use Rattle.raft_log_recovery_read.specs.Batches.{TakesBatches, said}
 use Rattle.raft_log_recovery_read.specs.Reading.{FileReading, ReadsBytes}
 use Rattle.raft_log_inspection.specs.declared.inspecting.QueueInspection.{QueueInspection}
 
--- the kind of a queue's files
+-- the kind of file that a queue has
 abbrev pub kind_of : LogQueue → FileKind
 kind_of queues.Append = kinds.Append
 kind_of queues.Rewrite = kinds.Rewrite
 
--- which file of the log it is
+-- the identity of the file in the log: its queue and number
 abbrev pub id_of : LogQueue → FoundFile → FileId
 id_of queue file = record { queue = queue; seq = file.seq }
 
@@ -32,14 +32,14 @@ id_of queue file = record { queue = queue; seq = file.seq }
 abbrev pub AreZeros : List ℕ → Type 0
 AreZeros bytes = All (λ byte. byte ≡ 0) bytes
 
--- Nothing is wrong with a file whose last whole record ends here: the file ends there too. A queue's last file may
--- have only zeros after it, as a log grows it ahead; without a header it may have only zeros.
+-- Nothing is wrong with a file whose last whole record ends at `end`: the file ends there too. A queue's last file may
+-- have zeros after it, as the log preallocates it. If it has no header, it may have zeros only.
 abbrev pub IsUndamaged : Bool → List ℕ → Option ℕ → Option Error → Type 0
 IsUndamaged last content end fault =
     (fault ≡ None) ⊎ ((last ≡ true) × AreZeros (drop (unwrap_or end 0) content))
 
--- A file of a queue whose last file has the number `newest`. Its bytes read as a header and these batches, and
--- nothing is wrong after the last one. Each batch is a whole record, with its entry block.
+-- The file is intact: its bytes have a header and then these batches, and nothing is wrong after the last one. Each
+-- record is whole, with its entry block. `newest` is the number of the queue's last file.
 pub record IsIntactFile (queue : LogQueue) (directories : List (List ℕ)) (d : Disk) (newest : ℕ) (file : FoundFile)
     (batches : List Batch) : Type 0 where
   pub node : ℕ
@@ -49,8 +49,8 @@ pub record IsIntactFile (queue : LogQueue) (directories : List (List ℕ)) (d : 
   pub undamaged : IsUndamaged (file.seq == newest) (bytes_in (d.files node)) read.end read.fault
   pub holds : batches ≡ said (id_of queue file) read.batches
 
--- The numbers of a queue's log files in these directories are consecutive, and none of the files is damaged. These
--- are their batches, file after file.
+-- The numbers of the queue's files in these directories are consecutive, and all files are intact. They have these
+-- batches, file after file.
 pub record IsIntactQueue (queue : LogQueue) (directories : List (List ℕ)) (d : Disk) (batches : List Batch)
     : Type 0 where
   pub found : List FoundFile
@@ -64,12 +64,12 @@ pub record IsIntactQueue (queue : LogQueue) (directories : List (List ℕ)) (d :
   pub intact : AllZip (IsIntactFile queue directories d newest) files segments
   pub joined : batches ≡ all_batches segments
 
--- nothing wrong was found
+-- the inspection found no gap in the file numbers and no damage
 abbrev pub IsClean : QueueInspection → Type 0
 IsClean inspection = (inspection.gaps.items ≡ []) × (inspection.damages.items ≡ [])
 
--- A machine was handed the records of a queue's files. If nothing wrong was found, the queue is intact, and these
--- are its records.
+-- The records of a queue's files were passed to a machine. If the inspection found nothing wrong, the queue is intact,
+-- and these were its records.
 pub record InspectsQueue {M : Type 0} (reads : List Batch → M → Type 0) (queue : LogQueue)
     (directories : List (List ℕ)) (d : Disk) (old new : M) (inspection : QueueInspection) : Type 0 where
   pub batches : List Batch

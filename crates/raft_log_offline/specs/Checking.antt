@@ -1,4 +1,4 @@
--- What a check of a log returns, and what it leaves.
+-- A check of a log without opening it: it finds the groups whose entries leave out indexes.
 use Rattle.std.specs.Prelude.{◌≡◌, ℕ, true, List, length}
 use Rattle.std.specs.declared.io.ErrorKind.TheVariants.{Other}
 use Rattle.raft_log_record_base.specs.declared.errors.Error.{Error}
@@ -26,7 +26,7 @@ use Rattle.raft_log_offline.specs.Findings.{Lists, finding_of}
 use Rattle.raft_log_offline.specs.Kept.{KeepsRuns, IsOutOfMemory}
 use Rattle.raft_log_offline.specs.declared.checker.ConsistencyChecker.{ConsistencyChecker}
 
--- the files of a queue have these batches, file after file, and this is to be done with each
+-- the files of a queue have these batches, file after file, and `endings` says how the recovery treats each file
 pub record HoldAll (queue : LogQueue) (mode : RecoveryMode) (files : List File) (d : Disk)
     (batches : List Batch) (endings : List FileEnding) : Type 0 where
   pub segments : List (List Batch)
@@ -34,8 +34,8 @@ pub record HoldAll (queue : LogQueue) (mode : RecoveryMode) (files : List File) 
   pub all : length segments ≡ length files
   pub joined : batches ≡ all_batches segments
 
--- The log's files were found, and have these batches of both queues. Then the damaged ones were truncated, Append's
--- first.
+-- The log's files were found, and have the batches `append` and `rewrite`. Then the damaged files were truncated,
+-- those of Append first.
 pub record ReadsLogFiles (config : Config) (append rewrite : List Batch) (old new : Disk) : Type 0 where
   pub found : DualPipesBuilder
   pub scanned : Disk
@@ -49,14 +49,14 @@ pub record ReadsLogFiles (config : Config) (append rewrite : List Batch) (old ne
   pub append_cut : CutsEach (append_files found) append_endings scanned between
   pub rewrite_cut : CutsEach (rewrite_files found) rewrite_endings between new
 
--- The log's files were read, and the list has just the findings of their records.
+-- The log's files were read, and `findings` has exactly the findings for their records.
 pub record ChecksLog (config : Config) (findings : List (ℕ × ℕ)) (old new : Disk) : Type 0 where
   pub append : List Batch
   pub rewrite : List Batch
   pub reads : ReadsLogFiles config append rewrite old new
   pub lists : Lists (finding_of append rewrite) findings
 
--- The log's files were read, and each checker keeps the runs of its queue's records.
+-- The log's files were read, and each checker has what it keeps of the runs of entries in its queue's records.
 pub record ReadsRuns (config : Config) (append rewrite : ConsistencyChecker) (old new : Disk) : Type 0 where
   pub append_batches : List Batch
   pub rewrite_batches : List Batch
@@ -64,12 +64,12 @@ pub record ReadsRuns (config : Config) (append rewrite : ConsistencyChecker) (ol
   pub append_kept : KeepsRuns Append append_batches append
   pub rewrite_kept : KeepsRuns Rewrite rewrite_batches rewrite
 
--- Why a log wasn't checked, and the disk then:
+-- Why a check of a log fails, and the disk after it:
 -- - the file system had stopped, which is reported before all else
 -- - the settings have a fault
--- - the log's files weren't found
--- - a queue wasn't read, or not truncated
--- - memory ran out for the list
+-- - finding the log's files failed
+-- - reading a queue failed, or truncating its damaged files
+-- - memory ran out for the list of findings
 pub data FailsToCheck (config : Config) (error : Error) (old new : Disk) : Type 0 where
   ended : old.stopped ≡ true → error ≡ errors.Io Other → new ≡ old → FailsToCheck config error old new
   unsound : IsRefusedFor (settings_of config) error → new ≡ old → FailsToCheck config error old new

@@ -1,4 +1,4 @@
--- Files are copied, and nothing that was there changes.
+-- A file is copied, and no file that was there changes.
 use Rattle.std.specs.Prelude.{◌≡◌, ℕ, ◌<◌, ◌^◌, ◌⊎◌, Some, true, List, ◌∷◌, ◌++◌, Contains}
 use Rattle.std.specs.declared.io.ErrorKind.TheVariants.{AlreadyExists}
 use Rattle.raft_log_record_base.specs.declared.errors.Error.{Error}
@@ -9,8 +9,8 @@ use Rattle.raft_log_fs.specs.Causes.{Fails, IsLater}
 use Rattle.raft_log_recovery_scan.specs.Names.{built_name}
 use Rattle.raft_log_offline.specs.declared.source_file.SourceFile.{SourceFile}
 
--- Nothing that was there changed: each name and each file is as it was, with what is synced of it and what isn't.
--- Only the target may be a directory now, and only these paths may have got a file.
+-- No name and no file that was there changed: each has the same bytes, synced or not. Only `target` may be a directory
+-- now that was none. Only paths for which `own` holds may name a file now that named none.
 pub record AddsOnly (target : List ℕ) (own : List ℕ → Type 0) (old new : Disk) : Type 0 where
   pub directories : (path : List ℕ) → (path ≡ target → ⊥) → new.directories path ≡ old.directories path
   pub there : (path : List ℕ) → old.directories path ≡ true → new.directories path ≡ true
@@ -20,7 +20,7 @@ pub record AddsOnly (target : List ℕ) (own : List ℕ → Type 0) (old new : D
   pub unreadable : new.unreadable ≡ old.unreadable
   pub later : IsLater old new
 
--- the file under a path has the bytes that the source's file had, all of them synced
+-- the path `to` names a file on `new` with the bytes that the file `source` had on `old`, all of them synced
 pub record HasCopy (source : ℕ) (to : List ℕ) (old new : Disk) : Type 0 where
   pub file : File
   pub is : old.files source ≡ Some file
@@ -28,28 +28,28 @@ pub record HasCopy (source : ℕ) (to : List ℕ) (old new : Disk) : Type 0 wher
   pub named : new.names to ≡ Some copy
   pub stands : new.files copy ≡ Some (at_rest file.content)
 
--- the path of a file's copy
+-- the path of the copy of a file in the directory `target`
 abbrev pub copy_path : List ℕ → SourceFile → List ℕ
 copy_path target file = target ++ 47 ∷ built_name file.kind file.seq
 
--- the file is there, and its number has a name
+-- the file is on the disk, and its number is small enough for a name
 pub record IsSourceThere (d : Disk) (file : SourceFile) : Type 0 where
   pub content : File
   pub is : d.files file.handle.file ≡ Some content
   pub small : file.seq < 10 ^ 16
 
--- some place of one of these files is unreadable
+-- one of these files has an unreadable byte
 abbrev pub HasUnreadable : List SourceFile → Disk → Type 0
 HasUnreadable files d = (file : SourceFile) × Contains files file
     × ((place : ℕ) × (d.unreadable file.handle.file place ≡ true))
 
--- something else has the path of a copy
+-- a file or directory already has the path of one of the copies
 abbrev pub IsInTheWay : List ℕ → List SourceFile → Disk → Type 0
 IsInTheWay target files d =
     (file : SourceFile) × Contains files file × IsTaken (copy_path target file) d
 
--- Why a file isn't copied: a failure or a stop, an unreadable place, something else under a copy's path, or lack of
--- memory.
+-- Why copying one of the files fails. `Io`: a file system call failed, a byte can't be read, or something already has
+-- the path of a copy. `Memory`: memory ran out.
 abbrev pub IsCopyRefusal : List ℕ → List SourceFile → Error → Disk → Disk → Type 0
 IsCopyRefusal target files (errors.Io kind) old new =
     Fails old new ⊎ (HasUnreadable files old ⊎ ((kind ≡ AlreadyExists) × IsInTheWay target files old))

@@ -1,4 +1,4 @@
--- What a check of the log in a directory returns, and what it leaves.
+-- A check of the log in one directory, with default settings.
 use Rattle.std.specs.Prelude.{◌≡◌, ℕ, List, ◌++◌, codes}
 use Rattle.std.specs.String.{string_bytes}
 use Rattle.raft_log_record_base.specs.declared.errors.Error.{Error}
@@ -11,7 +11,7 @@ use Rattle.raft_log_recovery_scan.specs.Directories.{IsFreePath}
 use Rattle.raft_log_offline.specs.Checking.{ChecksLog, FailsToCheck}
 use Rattle.raft_log_recovery_scan.specs.Opened.{FailsToLook}
 
--- the usual settings of a log in the directory with this path, under which all damage is tolerated
+-- the default settings of a log in this directory, but with the recovery mode that tolerates all damage
 abbrev pub checked_settings : List ℕ → Settings
 checked_settings path = record default_settings { dir = path; recovery_mode = TolerateAnyCorruption }
 
@@ -19,25 +19,26 @@ checked_settings path = record default_settings { dir = path; recovery_mode = To
 abbrev pub HasPath : List ℕ → Disk → Type 0
 HasPath path d = IsFreePath path d → ⊥
 
--- the message for a path that nothing has
+-- the message of the error if no file and no directory has the path
 abbrev pub told_absent : List ℕ → List ℕ
 told_absent path = codes "No such directory: " ++ path
 
--- nothing has the path; `Memory` if there was none for the message
+-- the error if no file and no directory has the path: `InvalidArgument` with this message, or `Memory` if it could not
+-- be allocated
 abbrev pub TellsAbsence : List ℕ → Error → Type 0
 TellsAbsence path (errors.InvalidArgument text) = string_bytes text ≡ told_absent path
 TellsAbsence path errors.Memory = Unit {0}
 TellsAbsence path _ = ⊥
 
--- the log in the directory with this path, which was there, was checked with these settings
+-- something has this path, and the log there was checked with these settings
 pub record ChecksDirectory (path : List ℕ) (findings : List (ℕ × ℕ)) (old new : Disk) : Type 0 where
   pub there : HasPath path old
   pub config : Config
   pub usual : settings_of config ≡ checked_settings path
   pub checks : ChecksLog config findings old new
 
--- Why a log wasn't checked. Nothing has the path, which the message has; it isn't known, or memory ran out for the
--- settings: then nothing is done. Or the check of the log failed.
+-- Why a check of the log in this directory fails. If nothing has the path, or that can't be found out, nothing is
+-- done. Else the check itself failed.
 pub data FailsToCheckDirectory (path : List ℕ) (error : Error) (old new : Disk) : Type 0 where
   absent : IsFreePath path old → TellsAbsence path error → new ≡ old → FailsToCheckDirectory path error old new
   unknown : FailsToLook old error → new ≡ old → FailsToCheckDirectory path error old new

@@ -1,4 +1,4 @@
--- What a dump of a log's files returns.
+-- A dump of the items in a log's files, through a reader.
 use Rattle.std.specs.Prelude.{◌≡◌, ℕ, ◌⊎◌, false, None, List, codes}
 use Rattle.std.specs.String.{string_bytes}
 use Rattle.raft_log_record_base.specs.declared.errors.Error.{Error}
@@ -9,20 +9,20 @@ use Rattle.raft_log_file_reader.specs.Files.{IsOtherFile, told}
 use Rattle.raft_log_file_reader.specs.ItemReader.{ReadsFileAt, ReadsFilesIn}
 use Rattle.raft_log_file_reader.specs.declared.item_reader.LogItemReader.{LogItemReader}
 
--- the reader returns what is in the log files of the directory with this path, or in the log file with it
+-- the reader returns the items of the log files in the directory `path`, or of the one log file that has this path
 abbrev pub Dumps : {F : Type 0} → (F → Disk) → F → List ℕ → LogItemReader F → Type 0
 Dumps disk file_system path reader =
     ReadsFilesIn disk file_system path reader ⊎ ReadsFileAt disk file_system path reader
 
--- neither a directory nor a file has the path, which the message has
+-- neither a directory nor a file has the path, and the message has it
 abbrev pub LacksBoth : List ℕ → Disk → List ℕ → Type 0
 LacksBoth path d text = (text ≡ told (codes "No such file or directory") path) × (d.names path ≡ None)
     × (d.directories path ≡ false)
 
--- Why nothing is dumped:
--- - the file system has stopped
--- - it runs, and nothing has the path, or a file without a log file's name
--- - memory ran out
+-- Why a dump of this path fails:
+-- - `Io`: the file system has stopped
+-- - `InvalidArgument`: nothing has the path, or it is that of a file without a log file's name
+-- - `Memory`: memory ran out
 abbrev pub IsNoDump : List ℕ → Disk → Error → Type 0
 IsNoDump path d (errors.InvalidArgument text) =
     (d.stopped ≡ false) × (LacksBoth path d (string_bytes text) ⊎ IsOtherFile path d (string_bytes text))

@@ -1,4 +1,4 @@
--- A log that no engine has open is copied into a directory.
+-- A fork: the files of a log that no engine has open are copied to another directory.
 use Rattle.std.specs.Prelude.{◌≡◌, ℕ, ◌⊎◌, true, false, None, List, [], ◌∷◌, ◌++◌, codes, map, Contains}
 use Rattle.std.specs.String.{string_bytes}
 use Rattle.raft_log_record_base.specs.declared.errors.Error.{Error}
@@ -18,15 +18,15 @@ use Rattle.raft_log_offline.specs.declared.source_file.SourceFile.{SourceFile}
 
 -- Which logs are copied, and where.
 
--- the path is that of the directory, or of something in it, at any depth
+-- the path is that of the directory, or of something in it at any depth
 abbrev pub LiesWithin : List ℕ → List ℕ → Type 0
 LiesWithin directory path = (path ≡ directory) ⊎ ((rest : List ℕ) × (path ≡ directory ++ 47 ∷ rest))
 
--- the path is that of one of these directories, or of something in one
+-- the path is that of one of these directories, or of something in one of them
 abbrev pub LiesInOne : List (List ℕ) → List ℕ → Type 0
 LiesInOne directories path = (directory : List ℕ) × Contains directories directory × LiesWithin directory path
 
--- a directory is there, and has a file under the name of a log file, or of a reserved one
+-- the directory exists and has a file with the name of a log file or of a reserved file
 pub record HoldsLogFile (directory : List ℕ) (d : Disk) : Type 0 where
   pub home : d.directories directory ≡ true
   pub name : List ℕ
@@ -34,12 +34,13 @@ pub record HoldsLogFile (directory : List ℕ) (d : Disk) : Type 0 where
   pub plain : IsPlain name
   pub there : d.names (directory ++ 47 ∷ name) ≡ None → ⊥
 
--- the settings allow a copy: no file is recycled, and only last files are truncated
+-- the settings allow a fork: recycling is off, and the recovery mode doesn't tolerate all damage
 pub record MayBeCopied (s : Settings) : Type 0 where
   pub recycle : s.enable_log_recycle ≡ false
   pub mode : s.recovery_mode ≡ TolerateAnyCorruption → ⊥
 
--- What forbids a copy, and its message: the first reason that applies.
+-- Why a fork to `target` is not allowed, and the message of its error. If there are several reasons, it is the first
+-- of these.
 pub data Forbids (s : Settings) (target : List ℕ) (d : Disk) (text : List ℕ) : Type 0 where
   recycles : s.enable_log_recycle ≡ true → text ≡ codes "enable_log_recycle should be false"
       → Forbids s target d text
@@ -50,35 +51,34 @@ pub data Forbids (s : Settings) (target : List ℕ) (d : Disk) (text : List ℕ)
   holds : MayBeCopied s → (LiesInOne (directories_of s) target → ⊥) → HoldsLogFile target d
       → text ≡ codes "the target holds log files" → Forbids s target d text
 
--- nothing forbids a copy
+-- no such reason forbids a fork to `target`
 pub record IsFree (s : Settings) (target : List ℕ) (d : Disk) : Type 0 where
   pub settings : MayBeCopied s
   pub outside : LiesInOne (directories_of s) target → ⊥
   pub empty : HoldsLogFile target d → ⊥
 
--- nothing forbids a copy, and the settings are sound
+-- no such reason forbids a fork to `target`, and the settings have no fault
 abbrev pub AllowsFork : Settings → List ℕ → Disk → Type 0
 AllowsFork s target d = IsFree s target d × HasNoFault s
 
 -- What is copied.
 
--- the path of one of the copies
+-- the path is that of the copy of one of these files
 abbrev pub IsCopyPath : List ℕ → List SourceFile → List ℕ → Type 0
 IsCopyPath target files path = (file : SourceFile) × Contains files file × (path ≡ copy_path target file)
 
--- each of these files has its copy in the target
+-- each of these files has its copy in `target`
 abbrev pub HaveCopies : List ℕ → List SourceFile → Disk → Disk → Type 0
 HaveCopies target files old new =
     (file : SourceFile) → Contains files file → HasCopy file.handle.file (copy_path target file) old new
 
--- these files have copies, and nothing else changed
+-- each of these files has its copy in `target`, and nothing else changed
 pub record CopiesAll (target : List ℕ) (files : List SourceFile) (old new : Disk) : Type 0 where
   pub adds : AddsOnly target (IsCopyPath target files) old new
   pub copies : HaveCopies target files old new
 
--- Why not all of these files were copied, and the disk then. The first of them have their copies, the next one may
--- have one that was begun, and nothing else changed. The error is that of a call for the next one, after those
--- copies.
+-- Copying the files failed at one of them. Those before it have their copies, it may have an incomplete one, and
+-- nothing else changed. The error is that of a call for this file.
 pub record FailsToCopyAll (target : List ℕ) (files : List SourceFile) (error : Error) (old new : Disk)
     : Type 0 where
   pub copied : List SourceFile
@@ -94,8 +94,8 @@ pub record FailsToCopyAll (target : List ℕ) (files : List SourceFile) (error :
 
 -- The whole.
 
--- A fork: the target is there, in it a copy of each of the log's files, one a number, and nothing else changed. These
--- are the paths of the copies, in the files' order.
+-- The directory `target` exists. For each number in each queue it has a copy of one of the log's files with that
+-- number. Nothing else changed. `copied` has the paths of the copies, in the order of the files.
 pub record Forks (s : Settings) (target : List ℕ) (copied : List (List ℕ)) (old new : Disk) : Type 0 where
   pub allowed : AllowsFork s target old
   pub files : List SourceFile
@@ -104,12 +104,12 @@ pub record Forks (s : Settings) (target : List ℕ) (copied : List (List ℕ)) (
   pub copies : CopiesAll target files old new
   pub paths : copied ≡ map (copy_path target) files
 
--- why nothing was begun:
--- - something forbids a copy
--- - the settings are unsound
--- - a directory of the log isn't listed, or a name in it is misnamed
--- - the file system has stopped
--- - memory ran out
+-- Why a fork is rejected before anything is done:
+-- - `InvalidArgument`: something forbids it
+-- - `Other`: the settings have a fault
+-- - `Io`: the file system has stopped, or listing a directory of the log fails
+-- - `Corruption`: a file in a directory of the log is misnamed
+-- - `Memory`: memory ran out
 abbrev pub IsForkRefusal : Settings → List ℕ → Disk → Error → Type 0
 IsForkRefusal s target d (errors.InvalidArgument text) = Forbids s target d (string_bytes text)
 IsForkRefusal s target d (errors.Other why) = IsFree s target d × IsRefusedFor s (errors.Other why)
@@ -120,13 +120,15 @@ IsForkRefusal s target d (errors.Corruption text) =
 IsForkRefusal s target d errors.Memory = Unit {0}
 IsForkRefusal s target d _ = ⊥
 
--- why the target isn't there, and the disk then: it couldn't be made, or memory ran out
+-- Why making the directory `target` fails. `Io`: the file system failed to make it. `Memory`: memory ran out, and
+-- nothing changed.
 abbrev pub FailsToMakeTarget : List ℕ → Error → Disk → Disk → Type 0
 FailsToMakeTarget target (errors.Io kind) old new = FailsToMakeDirectory target kind old new
 FailsToMakeTarget target errors.Memory old new = new ≡ old
 FailsToMakeTarget target _ old new = ⊥
 
--- Why there is no fork, and the disk then: nothing was begun; the target wasn't made; or not all files were copied.
+-- Why a fork fails, and the disk after it: it was rejected, and nothing changed; making the directory failed; or
+-- copying the files failed.
 pub data FailsToFork (s : Settings) (target : List ℕ) (error : Error) (old new : Disk) : Type 0 where
   refused : IsForkRefusal s target old error → new ≡ old → FailsToFork s target error old new
   homeless : AllowsFork s target old → FailsToMakeTarget target error old new

@@ -1,4 +1,5 @@
--- What a checker keeps of the runs of each group.
+-- What a checker keeps of each group: the ends of its runs of entries, and its finding, the index after which the
+-- first indexes are missing.
 use Rattle.std.specs.BTreeMap.{get}
 use Rattle.std.specs.Option.{option_or}
 use Rattle.std.specs.Ordering.{nat_cmp}
@@ -12,12 +13,12 @@ use Rattle.raft_log_offline.specs.Runs.{Run, finding, run_of_item, runs_in, runs
 use Rattle.raft_log_offline.specs.declared.group_runs.GroupRuns.{GroupRuns}
 use Rattle.raft_log_offline.specs.declared.checker.ConsistencyChecker.{ConsistencyChecker}
 
--- where the last of these runs ends, which follow one
+-- the last index of the last of these runs; `run` is the first of them
 abbrev pub last_end : Run → List Run → ℕ
 last_end run [] = run.last
 last_end run (next ∷ runs) = last_end next runs
 
--- what is kept of a group's runs, if there are any: where the first begins, where the last ends, and the finding
+-- what is kept of a group's runs, if there are any: the first index, the last one, and the finding
 abbrev pub kept : List Run → Option GroupRuns
 kept [] = None
 kept (run ∷ runs) = Some (record {
@@ -26,11 +27,11 @@ kept (run ∷ runs) = Some (record {
   hole_after = finding (run ∷ runs);
 })
 
--- where the earlier runs end, if the later ones start past that + 1
+-- the last index of the earlier runs, if the later ones begin past the next index
 abbrev pub hole_between : GroupRuns → GroupRuns → Option ℕ
 hole_between earlier later = if nat_lt (earlier.last + 1) later.first then Some earlier.last else None
 
--- what is kept of runs and of later ones: the earlier finding takes precedence
+-- what is kept of earlier and then later runs; a finding in the earlier ones is kept first
 abbrev pub followed : GroupRuns → GroupRuns → GroupRuns
 followed earlier later = record {
   first = earlier.first;
@@ -38,40 +39,40 @@ followed earlier later = record {
   hole_after = option_or earlier.hole_after (option_or (hole_between earlier later) later.hole_after);
 }
 
--- what is kept of runs and of later ones, if there may be none of either
+-- what is kept of earlier and then later runs, if there may be none of either
 abbrev pub both_kept : Option GroupRuns → Option GroupRuns → Option GroupRuns
 both_kept None later = later
 both_kept (Some earlier) None = Some earlier
 both_kept (Some earlier) (Some later) = Some (followed earlier later)
 
--- what a checker keeps of a group
+-- what the checker keeps of a group
 abbrev pub kept_of : ConsistencyChecker → ℕ → Option GroupRuns
 kept_of checker group = get nat_cmp checker.groups group
 
--- the checker keeps, for each group, its runs in these batches, of whichever queue these are
+-- for each group, the checker keeps the ends and the finding of its runs in these batches; the queue doesn't matter
 abbrev pub KeepsRuns : LogQueue → List Batch → ConsistencyChecker → Type 0
 KeepsRuns queue batches checker = (group : ℕ) → kept_of checker group ≡ kept (runs_of group batches)
 
--- runs of a group were added after those that were kept of it
+-- later runs were added to what the checker keeps of this group; the other groups are unchanged
 pub record FollowsIn (old new : ConsistencyChecker) (group : ℕ) (later : GroupRuns) : Type 0 where
   pub both : kept_of new group ≡ both_kept (kept_of old group) (Some later)
   pub others : (other : ℕ) → (group == other) ≡ false → kept_of new other ≡ kept_of old other
 
--- what one checker keeps of each group was added after what the other did
+-- what the checker `later` keeps of each group was added to what `old` keeps
 abbrev pub FollowsAll : ConsistencyChecker → ConsistencyChecker → ConsistencyChecker → Type 0
 FollowsAll old later new =
     (group : ℕ) → kept_of new group ≡ both_kept (kept_of old group) (kept_of later group)
 
--- batches are declined only for lack of memory
+-- batches are rejected only with `Memory`
 abbrev pub IsOutOfMemory : LogQueue → List Batch → Error → Type 0
 IsOutOfMemory queue batches error = error ≡ errors.Memory
 
--- the run of an item, if it has any, was added after what was kept of its group
+-- the run of this item, if it has any, was added to what the checker keeps of its group
 abbrev pub TakesItem : LogItem → ConsistencyChecker → ConsistencyChecker → Type 0
 TakesItem item old new =
     (group : ℕ) → kept_of new group ≡ both_kept (kept_of old group) (kept (run_of_item group item))
 
--- the runs of a batch were added after those that were kept of each group
+-- the runs of these items were added to what the checker keeps of each group
 abbrev pub TakesRuns : List LogItem → ConsistencyChecker → ConsistencyChecker → Type 0
 TakesRuns items old new =
     (group : ℕ) (before : List Run) → kept_of old group ≡ kept before

@@ -1,4 +1,4 @@
--- Which files of a log are copied: all of both queues, one a number.
+-- The files that a fork copies: all of both queues; if several files have one number, only one of them.
 use Rattle.std.specs.Prelude.{◌≡◌, ℕ, ◌+◌, ◌<◌, ◌^◌, ◌⊎◌, true, Some, List, [], ◌∷◌, ◌++◌, Contains, length, slice_index_or, nat_eq, if◌then◌else◌}
 use Rattle.std.specs.List.{AllZip}
 use Rattle.raft_log_record_base.specs.declared.errors.Error.{Error}
@@ -14,13 +14,14 @@ use Rattle.raft_log_recovery_scan.specs.declared.scanning.found.FoundFile.{Found
 use Rattle.raft_log_offline.specs.Copies.{IsSourceThere}
 use Rattle.raft_log_offline.specs.declared.source_file.SourceFile.{SourceFile}
 
--- the first is in an earlier directory than the second, or in the same one, where a name without a sign comes first
+-- `a` is in an earlier directory than `b`. Or they are in the same one, and if the name of `a` has a sign, so has that
+-- of `b`.
 abbrev pub IsNoLater : FoundFile → FoundFile → Type 0
 IsNoLater a b = (a.path_id < b.path_id)
     ⊎ ((a.path_id ≡ b.path_id) × (a.signed ≡ true → b.signed ≡ true))
 
--- One of these files has the number, and no other one of this number is in a later directory. If two are in its
--- directory, it is the one whose name has a sign.
+-- `file` is the one of these files that counts for its number: the one in the last directory. If two there have its
+-- number, it is the one whose name has a sign.
 pub record IsLastOf (found : List FoundFile) (file : FoundFile) : Type 0 where
   pub there : Contains found file
   pub last : (other : FoundFile) → Contains found other → other.seq ≡ file.seq → IsNoLater other file
@@ -31,28 +32,28 @@ AreRising [] = Unit {0}
 AreRising (file ∷ files) =
     ((other : FoundFile) → Contains files other → file.seq < other.seq) × AreRising files
 
--- one of these files for each number, in the order of the numbers: the last of those that have it
+-- `chosen` has one of these files for each number, sorted by number: the one that counts
 pub record IsOneEach (found chosen : List FoundFile) : Type 0 where
   pub are : (file : FoundFile) → Contains chosen file → IsLastOf found file
   pub all : (file : FoundFile) → IsLastOf found file → Contains chosen file
   pub rising : AreRising chosen
 
--- no file follows this place, or one of another number
+-- the file at position `at` is the last one, or the next one has another number
 abbrev pub IsNextAnother : List FoundFile → ℕ → Type 0
 IsNextAnother files at = (at + 1 ≡ length files)
     ⊎ ((d : FoundFile) → (slice_index_or files at d).seq ≡ (slice_index_or files (at + 1) d).seq → ⊥)
 
--- a file, unless the next one has its number
+-- the list with just this file, or empty if the first of `files` has the same number
 abbrev pub unless_again : FoundFile → List FoundFile → List FoundFile
 unless_again file [] = file ∷ []
 unless_again file (next ∷ files) = if nat_eq file.seq next.seq then [] else file ∷ []
 
--- the last file of each number, among files in the order of their numbers
+-- the last file of each number, among files sorted by number
 abbrev pub lasts : List FoundFile → List FoundFile
 lasts [] = []
 lasts (file ∷ files) = unless_again file files ++ lasts files
 
--- the file that was found, open
+-- `file` is the file that was found, open
 pub record IsSource (kind : FileKind) (directories : List (List ℕ)) (d : Disk) (found : FoundFile)
     (file : SourceFile) : Type 0 where
   pub queue : file.kind ≡ kind
@@ -60,7 +61,7 @@ pub record IsSource (kind : FileKind) (directories : List (List ℕ)) (d : Disk)
   pub small : found.seq < 10 ^ 16
   pub is : d.names (found_path kind directories found) ≡ Some file.handle.file
 
--- the files of a kind in these directories, one a number, open
+-- `files` are the files of this kind in these directories, one for each number, open
 pub record AreSourcesOf (kind : FileKind) (directories : List (List ℕ)) (d : Disk) (files : List SourceFile)
     : Type 0 where
   pub found : List FoundFile
@@ -69,7 +70,7 @@ pub record AreSourcesOf (kind : FileKind) (directories : List (List ℕ)) (d : D
   pub each : IsOneEach found chosen
   pub opened : AllZip (IsSource kind directories d) chosen files
 
--- the log's files that are copied, those of Rewrite first
+-- the files of the log that are copied, those of Rewrite first
 pub record AreSources (directories : List (List ℕ)) (d : Disk) (files : List SourceFile) : Type 0 where
   pub rewrite : List SourceFile
   pub append : List SourceFile
@@ -77,20 +78,20 @@ pub record AreSources (directories : List (List ℕ)) (d : Disk) (files : List S
   pub of_append : AreSourcesOf Append directories d append
   pub both : files ≡ rewrite ++ append
 
--- an open file as one that is copied
+-- an open file, as one that is to be copied
 abbrev pub source_of : FileKind → File → SourceFile
 source_of kind file = record { kind = kind; seq = file.seq; handle = file.handle }
 
--- each of these files is there
+-- each of these files is on the disk, and its number is small enough for a name
 abbrev pub AllThere : Disk → List SourceFile → Type 0
 AllThere d files = (file : SourceFile) → Contains files file → IsSourceThere d file
 
--- no two of them have one name
+-- no two of these files have the same name in a copy of the log
 abbrev pub AreApart : List SourceFile → Type 0
 AreApart [] = Unit {0}
 AreApart (file ∷ files) = ((other : SourceFile) → Contains files other
     → built_name file.kind file.seq ≡ built_name other.kind other.seq → ⊥) × AreApart files
 
--- why the files aren't found: a directory wasn't listed, or its files weren't found or opened
+-- why finding the files fails: listing a directory fails, or finding or opening its files does
 abbrev pub IsSourceRefusal : List (List ℕ) → Disk → Error → Type 0
 IsSourceRefusal directories d error = FailsToListAll directories d error ⊎ FailsToFindFiles directories d error

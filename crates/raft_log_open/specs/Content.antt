@@ -1,4 +1,4 @@
--- What a log file holds without the padding between its records.
+-- The bytes of a log file without the padding between its records, which a file with an alignment has.
 use Rattle.std.specs.Prelude.{◌≡◌, ℕ, ◌⊎◌, Bool, List, [], ◌∷◌, ◌++◌, take, drop}
 use Rattle.raft_log_record_base.specs.Fault.{Fault}
 use Rattle.raft_log_record_base.specs.declared.pipe_log.FileId.{FileId}
@@ -13,46 +13,47 @@ use Rattle.raft_log_recovery_read.specs.Reading.{FileReading, ReadsBytes}
 
 -- Which files are written anew.
 
--- The file reads as one with an alignment. A last file with an alignment and no whole record doesn't: its header reads
--- as a torn one.
+-- The file has an alignment. A last file with an alignment and no whole record doesn't count: its header is taken for
+-- a torn one.
 abbrev pub IsPadded : Bool → FileId → List ℕ → Type 0
 IsPadded last id content =
     (read : FileReading) × ReadsBytes last id content read × (IsUnaligned read.format → ⊥)
 
--- the file reads as one without an alignment, or as one without a header
+-- the file has no alignment, or no header
 abbrev pub IsUnpadded : Bool → FileId → List ℕ → Type 0
 IsUnpadded last id content = (read : FileReading) × ReadsBytes last id content read × IsUnaligned read.format
 
 -- What is written.
 
--- the next record after an offset: its bytes, and the offset where it ends
+-- `bytes` are those of the next record after `offset`, which ends at `end`
 pub record HasBytes (file : OpenFile) (content : List ℕ) (offset : ℕ) (bytes : List ℕ) (end : ℕ) : Type 0 where
   pub items : List LogItem
   pub batch : HasBatch file content offset items end
   pub are : bytes ≡ take batch.len (drop batch.at content)
 
--- consecutive records after an offset: the bytes of each, and the offset where the last one ends
+-- consecutive records after `offset`: the bytes of each, and the offset `end` where the last one ends
 abbrev pub HasAllBytes : OpenFile → List ℕ → ℕ → List (List ℕ) → ℕ → Type 0
 HasAllBytes file content offset [] end = end ≡ offset
 HasAllBytes file content offset (bytes ∷ more) end =
     (next : ℕ) × HasBytes file content offset bytes next × HasAllBytes file content next more end
 
--- the concatenation of the records
+-- the bytes of all records, one after another
 abbrev pub joined : List (List ℕ) → List ℕ
 joined [] = []
 joined (bytes ∷ more) = bytes ++ joined more
 
--- What follows the last record: nothing if only padding is left. If a record is broken, all bytes from there on,
--- unchanged.
+-- What follows the last record at `end`: nothing if only padding is left. If the next record is broken, it is all
+-- bytes from `end` on, unchanged.
 abbrev pub IsRest : OpenFile → List ℕ → ℕ → List ℕ → Type 0
 IsRest file content end rest = (HasNoMore file content end × (rest ≡ []))
     ⊎ ((fault : Fault) × IsBroken file content end fault × (rest ≡ drop end content))
 
--- the format, with alignment 0
+-- the same format version, with alignment 0
 abbrev pub plain_format : LogFileFormat → LogFileFormat
 plain_format format = record { version = format.version; alignment = 0 }
 
--- The file's records from an offset on, concatenated, and what follows the last one.
+-- `bytes` are the file's records from `offset` on, one after another without padding, and then what follows the last
+-- one.
 pub record AreJoined (file : OpenFile) (content : List ℕ) (offset : ℕ) (bytes : List ℕ) : Type 0 where
   pub records : List (List ℕ)
   pub end : ℕ
@@ -61,8 +62,8 @@ pub record AreJoined (file : OpenFile) (content : List ℕ) (offset : ℕ) (byte
   pub left : IsRest file content end rest
   pub both : bytes ≡ joined records ++ rest
 
--- The file's bytes without padding: a header with the same version and no alignment, the records byte for byte without
--- gaps, and what follows the last one.
+-- `new` are the file's bytes without padding: a header with the same version and no alignment, the records byte for
+-- byte without gaps, and what follows the last one.
 pub record IsWithoutPadding (id : FileId) (content new : List ℕ) : Type 0 where
   pub file : OpenFile
   pub is : file.id ≡ id

@@ -1,4 +1,4 @@
--- Finding a log's files without padding: unchanged, or after the padding was removed.
+-- An open finds a log's files. If one of them has an alignment, it first writes the files without padding.
 use Rattle.std.specs.Prelude.{◌≡◌, List, String}
 use Rattle.std.specs.declared.alloc.Global.{Global}
 use Rattle.raft_log_record_base.specs.declared.errors.Error.{Error}
@@ -18,7 +18,7 @@ use Rattle.raft_log_recovery.specs.Unaligned.{AreUnaligned}
 use Rattle.raft_log_recovery.specs.declared.builder.DualPipesBuilder.{DualPipesBuilder}
 use Rattle.raft_log_open.specs.Unpadding.{FailsToUnpad, Unpads}
 
--- The files that a builder found were read on the disk, and one of them has an alignment. There may be padding between
+-- The files that a builder found were read on the disk. One of them has an alignment, so there may be padding between
 -- its records.
 pub record HasPadding (b : DualPipesBuilder) (d : Disk) : Type 0 where
   pub append : MemTableRecoverContext
@@ -29,20 +29,20 @@ pub record HasPadding (b : DualPipesBuilder) (d : Disk) : Type 0 where
   pub rewrite_read : HasReadFiles HasReadBatches (rewrite_config b) (rewrite_files b) d rewrite rewrite_endings
   pub aligned : AreUnaligned append_endings × AreUnaligned rewrite_endings → ⊥
 
--- the log of these settings was found, its files were read, and one of them has an alignment; nothing was truncated
+-- the log's files were found and read, and one of them has an alignment; nothing was truncated
 pub record FindsPadding (config : Config) (b : DualPipesBuilder) (old new : Disk) : Type 0 where
   pub finds : FindsLog config b old new
   pub has : HasPadding b new
 
--- the padding was removed from the files of a builder's log, and then its directories were scanned again
+-- the files that have padding were written without it, and then the log's directories were scanned again
 pub record FindsAnew (was b : DualPipesBuilder) (old new : Disk) : Type 0 where
   pub written : List FileId
   pub unpadded : Disk
   pub unpads : Unpads (directories_of (settings_of was.config)) written old unpadded
   pub scans : ScansLog was b unpadded new
 
--- the padding was removed from the files of a builder's log; then these contexts read its queues, and damaged files
--- were truncated
+-- The files that have padding were written without it, and found again. Then the queues were read into these contexts,
+-- and damaged files were truncated.
 pub record ReadsAnew (was : DualPipesBuilder) (append rewrite : MemTableRecoverContext) (b : DualPipesBuilder)
     (old new : Disk) : Type 0 where
   pub found : DualPipesBuilder
@@ -50,21 +50,21 @@ pub record ReadsAnew (was : DualPipesBuilder) (append rewrite : MemTableRecoverC
   pub anew : FindsAnew was found old scanned
   pub recovers : RecoversLog HasReadBatches append rewrite found b scanned new
 
--- The files of the log of these settings were found: with the log unchanged, or after the padding was removed if one of
--- them had an alignment.
+-- The log's files were found as they are. Or one of them had an alignment: then those with padding were written
+-- without it, and the files were found again.
 pub data FindsUnpadded (config : Config) (b : DualPipesBuilder) (old new : Disk) : Type 0 where
   as_it_stood : FindsLog config b old new → FindsUnpadded config b old new
   once_unpadded : (was : DualPipesBuilder) (padded : Disk) → FindsPadding config was old padded
       → FindsAnew was b padded new → FindsUnpadded config b old new
 
--- the error isn't the one for a file with an alignment
+-- the error isn't `InvalidArgument`, which a recovery returns if a file has an alignment
 abbrev pub IsNoPadding : Error → Type 0
 IsNoPadding error = (text : String Global) → error ≡ errors.InvalidArgument text → ⊥
 
--- Why reading a builder's log without its padding fails:
--- - `still_padded`: not all of the padding was removed.
--- - `unfound`: the padding was removed, and finding the files again failed.
--- - `unread`: the files were found again, and reading or truncating a queue failed.
+-- Why reading a log without its padding fails:
+-- - `still_padded`: writing the files without padding failed.
+-- - `unfound`: that succeeded, and finding the files again failed.
+-- - `unread`: the files were found again, and reading a queue or truncating its damaged files failed.
 pub data FailsToReadAnew (was : DualPipesBuilder) (error : Error) (old new : Disk) : Type 0 where
   still_padded : FailsToUnpad (directories_of (settings_of was.config)) error old new
       → FailsToReadAnew was error old new

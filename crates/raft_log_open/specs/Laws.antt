@@ -1,4 +1,4 @@
--- What an open reads of the bytes that are written without padding.
+-- An open reads the same from a file's bytes without padding as from the file with padding.
 use Rattle.std.specs.Prelude.{◌≡◌, ℕ, Bool, Some, List, drop, take, is_some}
 use Rattle.std.specs.List.{AllZip}
 use Rattle.std.specs.String.{string_bytes}
@@ -20,8 +20,8 @@ use Rattle.raft_log_open.specs.declared.placed_file.PlacedFile.{PlacedFile}
 
 -- The records.
 
--- The new bytes begin with a header of the old version and no alignment. The records of the old bytes follow, byte for
--- byte. After the last record, the new bytes end if the old ones do; else a broken record follows.
+-- The bytes `new` have a header of the same version without alignment, and then the records of `content`, byte for
+-- byte. After the last record, `new` ends if `content` does; else a broken record follows.
 pub record KeepsRecords (id : FileId) (content new : List ℕ) (old : IsWithoutPadding id content new) : Type 0 where
   pub file : OpenFile
   pub is : file.id ≡ id
@@ -34,18 +34,19 @@ pub record KeepsRecords (id : FileId) (content new : List ℕ) (old : IsWithoutP
   pub breaks : (fault : Fault) → IsBroken old.file content old.are.end fault
       → (other : Fault) × IsBroken file new end other
 
--- Bytes without padding have exactly the records of the file.
+-- A file's bytes without padding have exactly the records of the file.
 abbrev pub RecordsReadTheSame : Type 0
 RecordsReadTheSame =
     (id : FileId) (content new : List ℕ) (old : IsWithoutPadding id content new) → KeepsRecords id content new old
 
 -- What an open reads.
 
--- the bytes of a block
+-- the bytes of a file at the location of this block
 abbrev pub placed_bytes : FileBlockHandle → List ℕ → List ℕ
 placed_bytes block content = take block.len (drop block.offset content)
 
--- the same items, with the same bytes in the block of their entries, at another offset of the file
+-- `others` are the same items as `items`, with their entry block at another offset of the same file, and the same
+-- bytes in it
 pub record AreMoved (content new : List ℕ) (items others : List LogItem) : Type 0 where
   pub plain : List LogItem
   pub from : FileBlockHandle
@@ -56,16 +57,16 @@ pub record AreMoved (content new : List ℕ) (items others : List LogItem) : Typ
   pub same_len : to.len ≡ from.len
   pub same : placed_bytes to new ≡ placed_bytes from content
 
--- The file reads as before, but without an alignment and with other offsets: the same batches in the same order. There
--- is a fault after them exactly if there was one.
+-- What is read is the same as before, without an alignment and with other offsets: the same batches in the same order.
+-- There is a fault after them exactly if there was one.
 pub record ReadsMoved (content new : List ℕ) (old read : FileReading) : Type 0 where
   pub plain : read.format ≡ plain_format old.format
   pub batches : AllZip (AreMoved content new) old.batches read.batches
   pub header : (end : ℕ) × (read.end ≡ Some end)
   pub damage : is_some read.fault ≡ is_some old.fault
 
--- Reading the file with padding and reading its bytes without padding give the same result, except for the places of
--- the entries.
+-- Reading a file with padding, and reading its bytes without padding, give the same result, except for the locations
+-- of the entries.
 abbrev pub FilesReadTheSame : Type 0
 FilesReadTheSame = (last : Bool) (id : FileId) (content new : List ℕ) (old read : FileReading)
     → IsPadded last id content → IsWithoutPadding id content new → ReadsBytes last id content old
@@ -73,8 +74,8 @@ FilesReadTheSame = (last : Bool) (id : FileId) (content new : List ℕ) (old rea
 
 -- On the disk.
 
--- After a step that wrote a file anew, reading its path gives the same result as before, except for the places of the
--- entries.
+-- After a file was written without padding, reading it gives the same result as before, except for the locations of
+-- the entries.
 abbrev pub WrittenFilesReadTheSame : Type 0
 WrittenFilesReadTheSame =
     (file : PlacedFile) (d new : Disk) (handle : Handle) (old read : FileReading) (writes : WritesAnew file d new)

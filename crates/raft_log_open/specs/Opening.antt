@@ -1,4 +1,4 @@
--- What opening a log leaves if it succeeds and if it fails.
+-- What an open of a log does to the disk and returns, whether it succeeds or fails.
 use Rattle.std.specs.Prelude.{◌≡◌, ℕ, true, List}
 use Rattle.std.specs.declared.io.ErrorKind.TheVariants.{Other}
 use Rattle.raft_log_record_base.specs.declared.errors.Error.{Error}
@@ -20,9 +20,9 @@ use Rattle.raft_log_recovery.specs.Finding.{FindsLog, IsBegun}
 use Rattle.raft_log_open.specs.Finding.{FailsToReadAnew, FindsPadding, IsNoPadding}
 use Rattle.raft_log_open.specs.Reading.{ReadsLog, ReadsQueues}
 
--- The log of these settings was opened. Files with padding were written anew, and both queues were read into these
--- tables. All recovered files were synced before the pipes opened over them. The state of a file system is its disk,
--- and what it may return for a directory's space.
+-- The log was opened. Files with padding were written without it, and both queues were read into these tables. Then
+-- all files were synced, and the pipes were opened over them. `disk` gives the disk of a file system's state, and
+-- `tells` the free space that it may return for a directory.
 pub record OpensDirectory {F : Type 0} (disk : F → Disk) (tells : F → List ℕ → ℕ → Type 0) (config : Config)
     (old : F) (v : LogPipes) (tables : MemTables) : Type 0 where
   pub builder : DualPipesBuilder
@@ -34,11 +34,11 @@ pub record OpensDirectory {F : Type 0} (disk : F → Disk) (tells : F → List �
 -- - `ended`: the file system had stopped; this comes before all other reasons.
 -- - `unsound`: its settings have a fault.
 -- - `unfound`: its files weren't found.
--- - `unread`: a queue wasn't read or not truncated; the error isn't the one for an alignment.
+-- - `unread`: reading a queue or truncating its damaged files failed; the error isn't the one for an alignment.
 -- - `unread_anew`: one of its files has an alignment, and reading the log without its padding failed.
 -- - `unmerged`: out of memory for the tables.
--- - `unreadied`: readying the files that are kept for use failed.
--- - `unfinished`: not all files were synced, or a pipe wasn't opened.
+-- - `unreadied`: readying the reserved files, which are kept for recycling, failed.
+-- - `unfinished`: the sync of a file failed, or opening a pipe did.
 pub data FailsToOpenDirectory {F : Type 0} (disk : F → Disk) (tells : F → List ℕ → ℕ → Type 0)
     (config : Config) (error : Error) (old new : F) : Type 0 where
   ended : (disk old).stopped ≡ true → error ≡ errors.Io Other → disk new ≡ disk old

@@ -1,4 +1,4 @@
--- Reading a log file for its contents without padding.
+-- A log file is read for its bytes without padding.
 use Rattle.std.specs.Prelude.{◌≡◌, ℕ, ◌<◌, ◌++◌, List, Some}
 use Rattle.raft_log_record_base.specs.Fault.{Fault}
 use Rattle.raft_log_record_items.specs.declared.item.LogItem.{LogItem}
@@ -13,20 +13,20 @@ use Rattle.raft_log_open.specs.Content.{AreJoined, IsPadded, IsUnpadded, IsWitho
 use Rattle.raft_log_open.specs.declared.content.Next.{Next}
 use Rattle.raft_log_open.specs.declared.content.Next.TheVariants as nexts
 
--- the file's bytes on the disk
+-- the bytes of the file on the disk
 abbrev pub content_of : ListedFile → Disk → List ℕ
 content_of file d = bytes_in (d.files file.handle.file)
 
--- the file's bytes stay unchanged: it has no padding
+-- the file has no padding, so it is not written anew
 abbrev pub NeedsNothing : Disk → ListedFile → Type 0
 NeedsNothing d file = IsUnpadded file.is_last file.id (content_of file d)
 
--- the file has padding, and these are its bytes without
+-- the file has padding, and these are its bytes without it
 pub record NeedsBytes (d : Disk) (file : ListedFile) (bytes : List ℕ) : Type 0 where
   pub padded : IsPadded file.is_last file.id (content_of file d)
   pub without : IsWithoutPadding file.id (content_of file d) bytes
 
--- a record was read, which begins at this offset
+-- the reader read the next record, which begins at offset `start`
 pub record ReadsNext (file : OpenFile) (content : List ℕ) (old new : LogItemBatchFileReader) (start : ℕ)
     : Type 0 where
   pub items : List LogItem
@@ -34,20 +34,20 @@ pub record ReadsNext (file : OpenFile) (content : List ℕ) (old new : LogItemBa
   pub begins : start ≡ batch.at
   pub further : end_of old < end_of new
 
--- What follows what was read: a record, which was read; nothing more; or a broken record, and nothing was read.
+-- what follows the reader's offset: a record, which it read; nothing more; or a broken record, which it didn't read
 abbrev pub FindsNext : OpenFile → List ℕ → LogItemBatchFileReader → LogItemBatchFileReader → Next → Type 0
 FindsNext file content old new (nexts.Record start) = ReadsNext file content old new start
 FindsNext file content old new nexts.End = HasNoMore file content (end_of old)
 FindsNext file content old new nexts.Broken =
     (fault : Fault) × IsBroken file content (end_of old) fault × (end_of new ≡ end_of old)
 
--- the reader has a file open with these bytes
+-- the reader has a file open, and `content` are its bytes
 pub record HasOpen (d : Disk) (reader : LogItemBatchFileReader) (content : List ℕ) : Type 0 where
   pub file : OpenFile
   pub opened : file_of reader ≡ Some file
   pub bytes : content ≡ bytes_of file.source d
 
--- the records after what was read were appended to these bytes, with what follows the last one
+-- the file's records from `offset` on were appended to `old`, without padding, and then what follows the last one
 pub record Joins (file : OpenFile) (content : List ℕ) (offset : ℕ) (old new : List ℕ) : Type 0 where
   pub bytes : List ℕ
   pub are : AreJoined file content offset bytes

@@ -1,4 +1,4 @@
--- Replacing a file with new bytes under its name.
+-- A file is replaced: its new bytes are written to a temporary file, which is then renamed to its path.
 use Rattle.std.specs.Prelude.{◌≡◌, ℕ, ◌⊎◌, Some, None, List}
 use Rattle.std.specs.declared.io.ErrorKind.{ErrorKind}
 use Rattle.raft_log_fs.specs.Disk.{Disk, at_rest}
@@ -11,17 +11,17 @@ use Rattle.raft_log_fs.specs.declared.handle.Handle.{Handle}
 abbrev pub IsAtRest : List ℕ → List ℕ → Disk → Type 0
 IsAtRest path bytes d = HasNamed path (λ file. file ≡ at_rest bytes) d
 
--- the path names the same unchanged file as before, or none as before
+-- the path names the same file as before, unchanged; or none, as before
 pub record StaysAt (path : List ℕ) (old new : Disk) : Type 0 where
   pub named : new.names path ≡ old.names path
   pub file : (id : ℕ) → old.names path ≡ Some id → new.files id ≡ old.files id
 
--- the path names a file with these bytes, all of them synced, and nothing else changed
+-- the path names a new file with these bytes, all of them synced, and nothing else changed
 pub record MakesFile (path bytes : List ℕ) (old new : Disk) : Type 0 where
   pub made : IsAtRest path bytes new
   pub others : TouchesOnlyNames (λ other. other ≡ path) old new
 
--- which call failed when a file was made: the creation, the write of its bytes, or the sync after it
+-- which call failed when a file was made: its creation, the write of its bytes, or the sync after it
 pub data UnmadeBy (path bytes : List ℕ) (kind : ErrorKind) (old new : Disk) : Type 0 where
   not_created : FailsToCreate path kind old new → UnmadeBy path bytes kind old new
   not_written : (handle : Handle) (begun : Disk) → Creates path handle.file old begun
@@ -29,28 +29,28 @@ pub data UnmadeBy (path bytes : List ℕ) (kind : ErrorKind) (old new : Disk) : 
   not_synced : (handle : Handle) (begun full : Disk) → Creates path handle.file old begun
       → Writes handle 0 bytes begun full → FailsToSync handle kind full new → UnmadeBy path bytes kind old new
 
--- why making a file fails; the file may have been begun, and nothing else changed
+-- making a file failed at one of its calls; the file may be incomplete, and nothing else changed
 pub record FailsToMake (path bytes : List ℕ) (kind : ErrorKind) (old new : Disk) : Type 0 where
   pub others : TouchesOnlyNames (λ other. other ≡ path) old new
   pub told : UnmadeBy path bytes kind old new
 
--- one of two paths
+-- the path is one of these two
 abbrev pub IsEither : List ℕ → List ℕ → List ℕ → Type 0
 IsEither a b path = (path ≡ a) ⊎ (path ≡ b)
 
--- the path names a file with these bytes, all of them synced; the temporary path is free, and nothing else changed
+-- `path` names a file with these bytes, all of them synced. The temporary path is free, and nothing else changed.
 pub record Replaces (temporary path bytes : List ℕ) (old new : Disk) : Type 0 where
   pub anew : IsAtRest path bytes new
   pub free : new.names temporary ≡ None
   pub others : TouchesOnlyNames (IsEither temporary path) old new
 
--- which call failed when a file was replaced: one that makes the new file, or the rename
+-- which call failed when a file was replaced: one that makes the temporary file, or the rename
 pub data UnreplacedBy (temporary path bytes : List ℕ) (kind : ErrorKind) (old new : Disk) : Type 0 where
   unmade : UnmadeBy temporary bytes kind old new → UnreplacedBy temporary path bytes kind old new
   unnamed : (made : Disk) → MakesFile temporary bytes old made → FailsToRename temporary path kind made new
       → UnreplacedBy temporary path bytes kind old new
 
--- Why replacing a file fails. The path names the old file unchanged, or the whole new one. Nothing else changed except
+-- Why replacing a file fails. `path` names the old file unchanged, or the whole new one. Nothing else changed, except
 -- under the temporary path.
 pub record FailsToReplace (temporary path bytes : List ℕ) (kind : ErrorKind) (old new : Disk) : Type 0 where
   pub whole : StaysAt path old new ⊎ IsAtRest path bytes new

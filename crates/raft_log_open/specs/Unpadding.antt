@@ -1,4 +1,4 @@
--- What a call leaves that removes the padding from a log.
+-- Writing the files of a log without padding: each file that has some is replaced.
 use Rattle.std.specs.Prelude.{◌≡◌, ℕ, ◌⊎◌, true, Option, None, Some, List, [], ◌∷◌, ◌++◌, Contains}
 use Rattle.std.specs.String.{string_bytes}
 use Rattle.std.specs.declared.io.ErrorKind.{ErrorKind}
@@ -22,12 +22,12 @@ use Rattle.raft_log_open.specs.declared.placed_file.PlacedFile.{PlacedFile}
 
 -- Looking.
 
--- the file with a path, open for reading; none if no file has the path
+-- the file that has this path, open for reading, or none if no file has it
 abbrev pub FindsAt : List ℕ → Disk → Option Handle → Type 0
 FindsAt path d None = d.names path ≡ None
 FindsAt path d (Some handle) = IsOpened path ReadOnly handle d
 
--- why it isn't known whether a file has the path: the file system has stopped, or is out of memory
+-- why opening the file at this path fails: the file system has stopped, or is out of memory
 abbrev pub FailsToLookAt : List ℕ → Disk → Error → Type 0
 FailsToLookAt path d (errors.Io kind) = IsNotOpened path d kind
 FailsToLookAt path d errors.Memory = IsNotOpened path d OutOfMemory
@@ -35,17 +35,18 @@ FailsToLookAt path d _ = ⊥
 
 -- Clearing.
 
--- a directory has no file under the temporary path: there was none, or it was deleted
+-- the directory has no temporary file: it had none, or that was deleted
 abbrev pub ClearsOne : List ℕ → Disk → Disk → Type 0
 ClearsOne directory old new = ((old.names (temporary_in directory) ≡ None) × (new ≡ old))
     ⊎ Deletes (temporary_in directory) old new
 
--- the directories were cleared in order
+-- each of these directories was cleared of a temporary file, in order
 abbrev pub ClearsAll : List (List ℕ) → Disk → Disk → Type 0
 ClearsAll [] old new = new ≡ old
 ClearsAll (directory ∷ more) old new = (mid : Disk) × ClearsOne directory old mid × ClearsAll more mid new
 
--- why a directory wasn't cleared
+-- why clearing a directory of a temporary file fails: memory ran out, the file could not be looked up, or its deletion
+-- failed
 pub data FailsToClearOne (directory : List ℕ) (error : Error) (old new : Disk) : Type 0 where
   short : error ≡ errors.Memory → new ≡ old → FailsToClearOne directory error old new
   unknown : FailsToLookAt (temporary_in directory) old error → new ≡ old
@@ -53,7 +54,7 @@ pub data FailsToClearOne (directory : List ℕ) (error : Error) (old new : Disk)
   undeleted : (kind : ErrorKind) → error ≡ errors.Io kind
       → FailsToDelete (temporary_in directory) kind old new → FailsToClearOne directory error old new
 
--- the directories before one were cleared, and clearing that one failed for this reason
+-- clearing one of the directories failed; those before it were cleared
 pub record FailsToClearAll (directories : List (List ℕ)) (error : Error) (old new : Disk) : Type 0 where
   pub before : List (List ℕ)
   pub directory : List ℕ
@@ -65,21 +66,21 @@ pub record FailsToClearAll (directories : List (List ℕ)) (error : Error) (old 
 
 -- One file.
 
--- a file's path isn't the temporary one
+-- the file's path is not that of its temporary file
 abbrev pub IsApart : PlacedFile → Type 0
 IsApart file = string_bytes file.path ≡ string_bytes file.temporary → ⊥
 
--- the file, as it is read
+-- the file with this handle, as it is read
 abbrev pub listed_as : PlacedFile → Handle → ListedFile
 listed_as file handle = record { id = file.id; handle = handle; is_last = file.is_last }
 
--- a file stays unchanged: its path has no file, or it has no padding
+-- the file isn't written: no file has its path, or it has no padding
 pub data LeavesAlone (file : PlacedFile) (old new : Disk) : Type 0 where
   absent : old.names (string_bytes file.path) ≡ None → new ≡ old → LeavesAlone file old new
   plain : (handle : Handle) → IsOpened (string_bytes file.path) ReadOnly handle old
       → NeedsNothing old (listed_as file handle) → new ≡ old → LeavesAlone file old new
 
--- a file has padding, and was replaced with its bytes without padding
+-- the file has padding, and was replaced with one that has its bytes without padding
 pub record WritesAnew (file : PlacedFile) (old new : Disk) : Type 0 where
   pub handle : Handle
   pub opened : IsOpened (string_bytes file.path) ReadOnly handle old
@@ -87,8 +88,8 @@ pub record WritesAnew (file : PlacedFile) (old new : Disk) : Type 0 where
   pub needs : NeedsBytes old (listed_as file handle) bytes
   pub replaces : Replaces (string_bytes file.temporary) (string_bytes file.path) bytes old new
 
--- Why unpadding a file fails, and what is on the disk then. If it wasn't looked at or read, nothing changed. If it has
--- padding and wasn't replaced, its path has the old file unchanged, or the whole new one.
+-- Why writing a file without padding fails, and the disk after it. If it wasn't opened or read, nothing changed. If it
+-- has padding and wasn't replaced, its path has the old file unchanged, or the whole new one.
 pub data FailsToUnpadOne (file : PlacedFile) (error : Error) (old new : Disk) : Type 0 where
   unopened : FailsToLookAt (string_bytes file.path) old error → new ≡ old → FailsToUnpadOne file error old new
   unread : (handle : Handle) → IsOpened (string_bytes file.path) ReadOnly handle old
@@ -101,18 +102,19 @@ pub data FailsToUnpadOne (file : PlacedFile) (error : Error) (old new : Disk) : 
 
 -- All files.
 
--- no path is a temporary one
+-- no file's path is that of its temporary file
 abbrev pub AreApart : List PlacedFile → Type 0
 AreApart files = (file : PlacedFile) → Contains files file → IsApart file
 
--- the files were written anew or left alone, in order; `written` has those that were written anew
+-- the files were written without padding or left alone, in order; `written` lists those that were written
 abbrev pub UnpadsAll : List PlacedFile → List FileId → Disk → Disk → Type 0
 UnpadsAll [] written old new = (written ≡ []) × (new ≡ old)
 UnpadsAll (file ∷ files) written old new = (mid : Disk)
     × ((LeavesAlone file old mid × UnpadsAll files written mid new)
     ⊎ ((more : List FileId) × (written ≡ file.id ∷ more) × WritesAnew file old mid × UnpadsAll files more mid new))
 
--- The files before one were done, and that one failed; or it was written anew, and there was no memory to list it.
+-- Writing one of the files without padding failed, after those before it were done. Or it was written, and memory ran
+-- out for listing it.
 pub record FailsToUnpadAll (files : List PlacedFile) (error : Error) (old new : Disk) : Type 0 where
   pub before : List PlacedFile
   pub file : PlacedFile
@@ -125,7 +127,8 @@ pub record FailsToUnpadAll (files : List PlacedFile) (error : Error) (old new : 
 
 -- The whole log.
 
--- The log's files were found, what an earlier call left was deleted, and the files that have padding were written anew.
+-- The log's files were found, temporary files of an earlier call were deleted, and the files that have padding were
+-- written without it.
 pub record Unpads (directories : List (List ℕ)) (written : List FileId) (old new : Disk) : Type 0 where
   pub files : List PlacedFile
   pub are : AreLogFiles directories old files
@@ -133,12 +136,12 @@ pub record Unpads (directories : List (List ℕ)) (written : List FileId) (old n
   pub clears : ClearsAll directories old cleared
   pub unpads : UnpadsAll files written cleared new
 
--- Why unpadding a log fails, and what is on the disk then:
+-- Why writing the files of a log without padding fails, and the disk after it:
 -- - `ended`: the file system had stopped; this comes before all other reasons. Nothing changed.
 -- - `unbegun`: out of memory; nothing changed.
--- - `unfound`: its files weren't found; nothing changed.
--- - `uncleared`: what an earlier call left wasn't deleted.
--- - `cut_short`: not all files were done.
+-- - `unfound`: finding the log's files failed; nothing changed.
+-- - `uncleared`: deleting the temporary files of an earlier call failed.
+-- - `cut_short`: one of the files wasn't done.
 pub data FailsToUnpad (directories : List (List ℕ)) (error : Error) (old new : Disk) : Type 0 where
   ended : old.stopped ≡ true → error ≡ errors.Io Other → new ≡ old → FailsToUnpad directories error old new
   unbegun : error ≡ errors.Memory → new ≡ old → FailsToUnpad directories error old new

@@ -1,4 +1,5 @@
--- Append is rewritten up to a file, and the files up to it go.
+-- A rewrite of Append: all that groups have there, up to a file, is copied to Rewrite, and then the files leave
+-- Append's live range.
 use Rattle.std.specs.Prelude.{◌≡◌, ◌⊎◌, ◌↔◌, ◌<◌, ◌==◌, IsTrue, ℕ, suc, min, max, Bool, true, false, List, [], Option, Some, None, MatchBool}
 use Rattle.std.specs.List.{list_any}
 use Rattle.raft_log_model_laws.specs.Groups.{taken}
@@ -26,21 +27,21 @@ use Rattle.raft_log_purge_copy.specs.Syncing.{CountsEach}
 
 -- The gate.
 
--- the requested file, but none after the last; the last one if none was requested
+-- the requested file, but at most `last`; `last` if none was requested
 abbrev pub up_to : Option ℕ → ℕ → ℕ
 up_to None last = last
 up_to (Some w) last = min w last
 
--- up to which file Append is rewritten
+-- the gate: the last file of Append that is rewritten
 abbrev pub gate_of : Option ℕ → LogPipes → ℕ
 gate_of watermark v = up_to watermark (last_of InAppend v)
 
--- Append is past the gate: it rotates if the gate is its active file; else nothing is done
+-- Append's active file is after the gate. If the gate was the active file, Append rotated; else nothing was done.
 abbrev pub GoesOnPast : ℕ → LogPipes → LogPipes → Type 0
 GoesOnPast gate v w = ((gate ≡ last_of InAppend v) × RotatesQueue InAppend v w)
     ⊎ ((gate < last_of InAppend v) × (w ≡ v))
 
--- the gate was chosen, and Append is past it
+-- the gate was chosen, and Append's active file is after it
 pub record PassesGate (watermark : Option ℕ) (gate : ℕ) (v w : LogPipes) : Type 0 where
   pub is : gate ≡ gate_of watermark v
   pub goes : GoesOnPast gate v w
@@ -49,13 +50,13 @@ pub record PassesGate (watermark : Option ℕ) (gate : ℕ) (v w : LogPipes) : T
 
 -- All groups.
 
--- the tables show nothing in Append up to the gate
+-- the tables show nothing in files of Append up to the gate
 abbrev pub AreRewrittenTo : ℕ → EngineState → Type 0
 AreRewrittenTo gate s = (g : ℕ) → IsRewrittenTo gate (s.tables g)
 
--- Each group that passes the test was rewritten up to the gate. Rewrite was synced at the end, and before whenever
--- that was due by the bytes of all these groups. If the log's map was held with nothing pending and no tombstone
--- owed, the log is settled with that map.
+-- Each group that passes the test was rewritten up to the gate. Rewrite was synced at the end, and before whenever the
+-- count of unsynced bytes over all these groups required it. If no tombstone was owed and no batch pending, the log
+-- has the same contents, and nothing is pending in either queue.
 pub record RewritesSynced (test : ℕ → Bool) (gate : ℕ) (s t : EngineState) : Type 0 where
   pub copied : EngineState
   pub copies : Rewrites test gate s copied
@@ -67,23 +68,23 @@ pub record RewritesSynced (test : ℕ → Bool) (gate : ℕ) (s t : EngineState)
   pub stays : StaysInFile s.pipes t.pipes
   pub settles : OweNothing s.tables → (home : LogDirectories) (m : LogMap) → Represents home s m [] → HoldsSettled home t m
 
--- each of these groups was rewritten up to the gate, and Rewrite was synced
+-- each of these groups was rewritten up to the gate, and then Rewrite was synced
 abbrev pub RewritesThese : List ℕ → ℕ → EngineState → EngineState → Type 0
 RewritesThese groups gate s t = RewritesSynced (λ g. list_any (λ k. k == g) groups) gate s t
 
--- all groups were rewritten up to the gate, and Rewrite was synced
+-- all groups were rewritten up to the gate, and then Rewrite was synced
 abbrev pub RewritesAll : ℕ → EngineState → EngineState → Type 0
 RewritesAll gate s t = RewritesSynced (λ g. true) gate s t
 
 -- Append's files.
 
--- the first file of Append's live range after the files up to the gate are gone, and those with nothing in use; never
--- earlier than before
+-- The first file of Append's live range after the purge: after the gate, and no earlier than `least` or than before.
 abbrev pub beginning : ℕ → ℕ → LogPipes → ℕ
 beginning gate least v = max (first_at InAppend v) (max (suc gate) least)
 
--- Append lost its files up to the gate, and all others below the least in use. If the files up to the gate had
--- nothing in use and no tombstone is owed, a settled log stays settled, with its map.
+-- If nothing was pending, Append's live range begins after the gate now. It may begin later, up to the lowest file in
+-- which a group has an entry or value. The log then keeps its contents, if the groups had nothing up to the gate, and
+-- no tombstone is owed.
 pub record LosesTo (gate : ℕ) (m : MemTables) (s t : EngineState) : Type 0 where
   pub least : ℕ
   pub is : IsLeastOf Append (last_of InAppend s.pipes) m least
@@ -103,27 +104,27 @@ pub record LosesTo (gate : ℕ) (m : MemTables) (s t : EngineState) : Type 0 whe
 abbrev pub HasOneFile : LogPipes → Type 0
 HasOneFile v = first_at InAppend v ≡ last_of InAppend v
 
--- a call is to end after this step
+-- whether the caller asked the rewrite to end after this step; without a request it goes through all steps
 abbrev pub ends_after : ℕ → Option ℕ → Bool
 ends_after step None = false
 ends_after step (Some n) = n == step
 
--- all groups were rewritten, and then files went
+-- all groups were rewritten up to the gate, and then files left Append's live range
 abbrev pub RewritesAndLoses : ℕ → MemTables → EngineState → EngineState → Type 0
 RewritesAndLoses gate m s t = (mid : EngineState) × RewritesAll gate s mid × LosesTo gate m mid t
 
--- what is done after the tombstones:
--- - nothing, if the call is to end with them
+-- What is done after the owed tombstones were written:
+-- - nothing, if the rewrite is to end after this step 1
 -- - else all groups are rewritten
--- - then files go, unless the call is to end with the groups
+-- - then files leave Append's live range, unless the rewrite is to end after step 2
 abbrev pub GoesOnBehindMarks : Option ℕ → ℕ → MemTables → EngineState → EngineState → Type 0
 GoesOnBehindMarks exit gate m s t = MatchBool (ends_after 1 exit) (t ≡ s)
     (MatchBool (ends_after 2 exit) (RewritesAll gate s t) (RewritesAndLoses gate m s t))
 
--- Append was rewritten. It was synced, it rotated if its active file was the gate, and the owed tombstones were
--- written. Then all groups were rewritten and files went, as far as the call was to go. The map is kept, nothing is
--- pending, and no tombstone is owed. Without a watermark and a step to end with, one file is left in Append's live
--- range.
+-- Append was rewritten. It was synced, rotated if its active file was the gate, and the owed tombstones were written.
+-- Then all groups were rewritten and files left the live range, as far as the steps were requested. The log has the
+-- same contents, nothing is pending, and no tombstone is owed. If no watermark and no last step was requested, Append
+-- has one file left.
 pub record RewritesAppend (watermark exit : Option ℕ) (m : MemTables) (s t : EngineState) : Type 0 where
   pub synced : LogPipes
   pub syncs : SyncsQueue InAppend s.pipes synced
@@ -143,13 +144,15 @@ pub record RewritesAppend (watermark exit : Option ℕ) (m : MemTables) (s t : E
 
 -- Failures.
 
--- a purge failed: the map is kept, with nothing pending; or the engine has failed, and left its log on the disk
+-- A step failed. If no tombstone was owed and nothing pending, the log has the same contents. If the engine has
+-- failed, its files can be opened with them.
 abbrev pub StaysOrIsLeftSettled : Error → EngineState → EngineState → Type 0
 StaysOrIsLeftSettled error s t = OweNothing s.tables → (home : LogDirectories) (m : LogMap) → HoldsSettled home s m
     → Represents home t m [] ⊎ ((error ≡ errors.Failed) × IsRecoverableAs home t.pipes.disk m [])
 
--- Append's files below the gate don't go. If it is rewritten up to there, the map is kept with nothing pending, or
--- the failed engine left its log on the disk. The reason is known if the gate is below Append's last file.
+-- Append's files up to the gate failed to leave the live range. If groups had nothing in them, no tombstone was owed
+-- and nothing pending, the log has the same contents. If the engine has failed, its files can be opened with them. The
+-- reason for the error is known if the gate is before Append's active file.
 pub record FailsToLoseTo (gate : ℕ) (error : Error) (s t : EngineState) : Type 0 where
   pub tells : has_failed s ≡ false → IsTrue (has_failed t) ↔ (error ≡ errors.Failed)
   pub later : IsLater s.pipes.disk t.pipes.disk
@@ -157,8 +160,9 @@ pub record FailsToLoseTo (gate : ℕ) (error : Error) (s t : EngineState) : Type
   pub cause : gate < last_of InAppend s.pipes → (home : LogDirectories) (log : LogMap) → HoldsSettled home s log
       → HasFileReason error s t
 
--- What is done after the tombstones failed. The map is kept with nothing pending, or the failed engine left its log
--- on the disk. The reason is known if the gate is below Append's last file, and no tombstone is owed.
+-- A step after the owed tombstones failed. If no tombstone was owed and nothing pending, the log has the same
+-- contents. If the engine has failed, its files can be opened with them. The reason for the error is known if also the
+-- gate is before Append's active file.
 pub record StopsGoingOn (gate : ℕ) (error : Error) (s t : EngineState) : Type 0 where
   pub tells : has_failed s ≡ false → IsTrue (has_failed t) ↔ (error ≡ errors.Failed)
   pub later : IsLater s.pipes.disk t.pipes.disk
@@ -166,9 +170,10 @@ pub record StopsGoingOn (gate : ℕ) (error : Error) (s t : EngineState) : Type 
   pub cause : gate < last_of InAppend s.pipes → OweNothing s.tables → (home : LogDirectories) (log : LogMap)
       → HoldsSettled home s log → HasReason home log error s t
 
--- The whole failed, and why:
--- - the map is kept, with nothing pending
--- - or the engine has failed, and left its log on the disk, with the batches in the map or still pending
+-- A rewrite of Append failed, and the error says why:
+-- - the log has the same contents, with no batch pending
+-- - or the engine has failed, and its files can be opened, with the batches that were pending now durable or still
+--   pending
 pub record FailsToRewriteAppend (error : Error) (s t : EngineState) : Type 0 where
   pub tells : has_failed s ≡ false → IsTrue (has_failed t) ↔ (error ≡ errors.Failed)
   pub later : IsLater s.pipes.disk t.pipes.disk

@@ -1,4 +1,4 @@
--- Purges that count what is live in Rewrite before them, and after them.
+-- Purges that update the counts of Rewrite with what is live there, before and after.
 use Rattle.std.specs.Prelude.{◌≡◌, ◌↔◌, IsTrue, ℕ, Bool, List, Option}
 use Rattle.raft_log_memtables.specs.declared.mem_tables.MemTables.{MemTables}
 use Rattle.raft_log_dual_pipes.specs.Pipes.{LogPipes}
@@ -10,8 +10,8 @@ use Rattle.raft_log_purge.specs.Counting.{CountsIf, CountsStanding}
 use Rattle.raft_log_purge.specs.ExpiredFiles.{KeepsCounts, PurgesExpired, StopsAtRewrite}
 use Rattle.raft_log_purge.specs.declared.expired_files.PurgeCounts.{PurgeCounts}
 
--- Expired files were purged, and just these groups are returned. If a queue is past its threshold, what is live in
--- Rewrite was counted before and after; else nothing was. The rules use the first count to know what is garbage.
+-- Expired files were purged, and `groups` are returned. If a queue was past its threshold, what is live in Rewrite was
+-- counted before the purge and after it; else it wasn't. The rules for garbage use the counts from before the purge.
 pub record PurgesAndCounts (hold_back : LogPipes → Option ℕ → Type 0) (thresholds : Thresholds)
     (before after : MemTables) (old new : PurgeCounts) (groups : List ℕ) (s t : EngineState) : Type 0 where
   pub past : Bool
@@ -22,7 +22,8 @@ pub record PurgesAndCounts (hold_back : LogPipes → Option ℕ → Type 0) (thr
   pub purges : PurgesExpired hold_back thresholds before after counted purged groups s t
   pub second : CountsIf past after purged new
 
--- what is counted if that failed
+-- The counts after a purge of expired files failed. They were updated before it if a queue was past its threshold;
+-- then the step that failed decides which are kept.
 pub record CountsIfPast (thresholds : Thresholds) (before : MemTables) (old new : PurgeCounts) (s t : EngineState)
     : Type 0 where
   pub past : Bool
@@ -31,14 +32,15 @@ pub record CountsIfPast (thresholds : Thresholds) (before : MemTables) (old new 
   pub first : CountsIf past before old counted
   pub kept : KeepsCounts thresholds before counted new s t
 
--- Rewrite was rewritten: what was live there was counted before, and then the garbage was taken off the counts.
+-- Rewrite was rewritten: the counts were updated before with what was live there, and then the garbage was subtracted.
 pub record CountsAndResets (before : MemTables) (old new : PurgeCounts) : Type 0 where
   pub counted : PurgeCounts
   pub first : CountsStanding before old counted
   pub stats : new.stats ≡ reset_counts counted.stats
   pub rounds : new.rounds ≡ old.rounds
 
--- what is counted if Rewrite wasn't rewritten
+-- the counts after a rewrite of Rewrite failed: they were updated before it, and then the step that failed decides
+-- which are kept
 pub record CountsAndKeeps (before : MemTables) (old new : PurgeCounts) (s t : EngineState) : Type 0 where
   pub counted : PurgeCounts
   pub first : CountsStanding before old counted

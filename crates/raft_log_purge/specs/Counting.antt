@@ -1,4 +1,5 @@
--- What is counted of Rewrite from one purge to the next.
+-- What a purge counts of Rewrite, for the next purge: how many entries and values were written there, and how many of
+-- these are garbage.
 use Rattle.std.specs.Prelude.{◌≡◌, ◌-◌, ℕ, Bool, true, false}
 use Rattle.raft_log_record_base.specs.declared.pipe_log.LogQueue.TheVariants.{Rewrite}
 use Rattle.raft_log_memtable.specs.declared.global_stats.GlobalStats.{GlobalStats}
@@ -7,12 +8,12 @@ use Rattle.raft_log_memtables.specs.Walking.{Stand}
 use Rattle.raft_log_memtables.specs.declared.mem_tables.MemTables.{MemTables}
 use Rattle.raft_log_purge.specs.declared.expired_files.PurgeCounts.{PurgeCounts}
 
--- the counts if so much is live in Rewrite: what is live and wasn't counted was written; what was counted and isn't
--- live is garbage
+-- The counts if `n` entries and values are live in Rewrite. If more are live than was counted, the difference was
+-- written; if fewer, the difference is garbage.
 abbrev pub counted : ℕ → GlobalStats → GlobalStats
 counted n s = deleted Rewrite (live Rewrite s - n) (added Rewrite (n - live Rewrite s) s)
 
--- the counts were brought to what is live in Rewrite
+-- the counts were updated with the number of entries and values that are live in Rewrite by the tables `m`
 pub record CountsStanding (m : MemTables) (old new : PurgeCounts) : Type 0 where
   pub standing : ℕ
   pub stands : Stand m standing
@@ -20,12 +21,13 @@ pub record CountsStanding (m : MemTables) (old new : PurgeCounts) : Type 0 where
   pub rounds : new.rounds ≡ old.rounds
   pub number : new.number ≡ old.number
 
--- the counts were brought to what is live in Rewrite, if that was wanted; else they are unchanged
+-- if the flag is true, the counts were updated with what is live in Rewrite; else they are unchanged
 abbrev pub CountsIf : Bool → MemTables → PurgeCounts → PurgeCounts → Type 0
 CountsIf true m old new = CountsStanding m old new
 CountsIf false m old new = new ≡ old
 
--- the counts were brought to what was live in Rewrite before something was written, and to what is live after it
+-- the counts were updated with what was live in Rewrite before something was written there, and then with what was
+-- live after it
 pub record CountsTwice (before after : MemTables) (old new : PurgeCounts) : Type 0 where
   pub between : PurgeCounts
   pub first : CountsStanding before old between

@@ -1,4 +1,4 @@
--- What a purge does with Append if its files are past their threshold.
+-- A purge of Append, if its files are together larger than the threshold.
 use Rattle.std.specs.Prelude.{◌≡◌, ◌⊎◌, ◌↔◌, IsTrue, ℕ, max, Bool, true, false, List, [], Option, Some, None}
 use Rattle.raft_log_fs.specs.Causes.{IsLater}
 use Rattle.raft_log_record_base.specs.declared.errors.Error.{Error}
@@ -27,13 +27,13 @@ use Rattle.raft_log_purge.specs.Append.{RewritesSynced, StaysOrIsLeftSettled, up
 
 -- The groups.
 
--- one more round was counted: for each group whether it was asked again
+-- each group's count of purges in a row that asked for it was updated by one more purge
 abbrev pub CountsRound : Watermarks → MemTables → Rounds → Rounds → Type 0
 CountsRound marks m old new =
     (g : ℕ) → count_of new g ≡ round_behind (asks_at marks m g) (count_of old g)
 
--- the groups were picked by the rules, from the tables and the rounds before, and the tombstones are those that were
--- owed
+-- the groups were picked by the rules, from the tables and the counts before, and `picked` has the tombstones that
+-- were owed
 pub record PicksGroups (marks : Watermarks) (restated : Bool) (m : MemTables) (old : Rounds)
     (picked : PickedGroups) : Type 0 where
   pub answered : ListsGroups (answers_at (Some marks) restated m) picked.answered.items
@@ -43,8 +43,9 @@ pub record PicksGroups (marks : Watermarks) (restated : Bool) (m : MemTables) (o
 
 -- Append's files.
 
--- Append lost its files below the least of three: the first pinned file, its last file, and the least in use. It
--- begins there, but never earlier than before. If no tombstone is owed, a settled log stays settled, with its map.
+-- If nothing was pending, Append's live range begins at `least` now, or where it began if that is later. `least` is
+-- the lowest of three: the first pinned file, the active file, and the first file in which a group has an entry or
+-- value. The log then keeps its contents, if no tombstone is owed.
 pub record LosesBelow (held : Option ℕ) (m : MemTables) (s t : EngineState) : Type 0 where
   pub least : ℕ
   pub is : IsLeastOf Append (up_to held (last_of InAppend s.pipes)) m least
@@ -57,17 +58,17 @@ pub record LosesBelow (held : Option ℕ) (m : MemTables) (s t : EngineState) : 
   pub keeps : OweNothing s.tables → (home : LogDirectories) (log : LogMap) → HoldsSettled home s log
       → HoldsSettled home t log
 
--- Append's files didn't go, and why. If no tombstone is owed and the log was settled, the map is kept with nothing
--- pending, or the failed engine left its log on the disk.
+-- Append's files failed to leave the live range, and the error says why. If no tombstone was owed and nothing pending,
+-- the log has the same contents. If the engine has failed, its files can be opened with them.
 pub record FailsToLoseBelow (error : Error) (s t : EngineState) : Type 0 where
   pub tells : has_failed s ≡ false → IsTrue (has_failed t) ↔ (error ≡ errors.Failed)
   pub later : IsLater s.pipes.disk t.pipes.disk
   pub remains : StaysOrIsLeftSettled error s t
   pub cause : (home : LogDirectories) (log : LogMap) → HoldsSettled home s log → HasFileReason error s t
 
--- The groups that pass the test were rewritten, and then files went. The owed tombstones were written before, and
--- Rewrite was synced between. Nothing of these groups is left in Append up to the gate, and no tombstone is owed. If
--- the log's map was held with nothing pending, the log is settled with that map.
+-- The owed tombstones were written. Then the groups that pass the test were rewritten up to the gate, Rewrite was
+-- synced, and files left Append's live range. These groups have nothing in Append up to the gate, and no tombstone is
+-- owed. If no batch was pending, the log has the same contents, and nothing is pending in either queue.
 pub record RewritesPicked (test : ℕ → Bool) (gate : ℕ) (held : Option ℕ) (m : MemTables) (s t : EngineState)
     : Type 0 where
   pub carried : EngineState
@@ -83,8 +84,8 @@ pub record RewritesPicked (test : ℕ → Bool) (gate : ℕ) (held : Option ℕ)
 
 -- The whole.
 
--- Append was purged. Just these groups are returned, and one more round was counted for those that are asked to be
--- compacted. The groups that the rules pick were rewritten before files went. The rules use the tables before the
+-- Append was purged, and `groups` are returned. Each group's count of purges in a row that asked for it was updated.
+-- The groups that the rules pick were rewritten before files left the live range. The rules use the tables before the
 -- purge.
 pub record PurgesAppend (held : Option ℕ) (restated : Bool) (before after : MemTables) (old new : Rounds)
     (groups : List ℕ) (s t : EngineState) : Type 0 where
@@ -93,22 +94,22 @@ pub record PurgesAppend (held : Option ℕ) (restated : Bool) (before after : Me
   pub rewrites : RewritesPicked (rewrites_at (watermarks_of s.pipes) (count_of old) before)
       (watermarks_of s.pipes).rewrite held after s t
 
--- Append was left alone: no group is asked to be compacted, and no round counted
+-- nothing was done to Append: no group is asked to be compacted, and the counts are unchanged
 pub record LeavesAppend (restated : Bool) (before : MemTables) (old new : Rounds) (groups : List ℕ)
     (s t : EngineState) : Type 0 where
   pub answered : ListsGroups (answers_at None restated before) groups
   pub rounds : new ≡ old
   pub same : t ≡ s
 
--- Append was purged exactly if it is past its threshold
+-- Append was purged if it is past its threshold; else nothing was done to it
 abbrev pub PurgesIfPast : Thresholds → Option ℕ → Bool → MemTables → MemTables → Rounds → Rounds → List ℕ
     → EngineState → EngineState → Type 0
 PurgesIfPast thresholds held restated before after old new groups s t =
     (TakesAppend thresholds s.pipes × PurgesAppend held restated before after old new groups s t)
     ⊎ ((TakesAppend thresholds s.pipes → ⊥) × LeavesAppend restated before old new groups s t)
 
--- Append's purge failed, and why. If the log's map was held with nothing pending, it still is; or the engine has
--- failed, and left its log on the disk.
+-- A purge of Append failed, and the error says why. If no batch was pending, the log has the same contents, or the
+-- engine has failed and its files can be opened with them.
 pub record FailsToPurgeAppend (error : Error) (s t : EngineState) : Type 0 where
   pub tells : has_failed s ≡ false → IsTrue (has_failed t) ↔ (error ≡ errors.Failed)
   pub later : IsLater s.pipes.disk t.pipes.disk

@@ -1,4 +1,4 @@
--- What a purge does with both queues if their files are past their thresholds.
+-- A purge of both queues: each is collected if its files are together larger than its threshold.
 use Rattle.std.specs.Prelude.{◌≡◌, ◌⊎◌, ℕ, Bool, true, false, List, [], Option}
 use Rattle.raft_log_model_laws.specs.Groups.{taken}
 use Rattle.raft_log_fs.specs.Causes.{IsLater}
@@ -20,8 +20,8 @@ use Rattle.raft_log_purge.specs.Append.{FailsToRewriteAppend}
 use Rattle.raft_log_purge.specs.Expired.{PurgesIfPast}
 use Rattle.raft_log_purge.specs.Garbage.{CountsRefused}
 
--- Rewrite was rewritten exactly if it is past its threshold and enough of it is garbage; else nothing is done. The
--- tables are those before and after.
+-- Rewrite was rewritten exactly if it is past its threshold, and enough of it is garbage; the flag says whether it
+-- was. `before` and `after` are the tables before and after.
 abbrev pub RewritesIfPast : Thresholds → GlobalStats → GlobalStats → MemTables → MemTables → Bool → EngineState
     → EngineState → Type 0
 RewritesIfPast thresholds old new before after true s t =
@@ -29,8 +29,8 @@ RewritesIfPast thresholds old new before after true s t =
 RewritesIfPast thresholds old new before after false s t =
     (TakesRewrite thresholds old s.pipes → ⊥) × (after ≡ before) × (t ≡ s) × (new ≡ old)
 
--- Append was synced, and Rewrite rewritten, whatever its size is. The map is kept, and nothing is pending in either
--- queue.
+-- Append was synced, and then Rewrite was rewritten, whatever its size. The log has the same contents, and nothing is
+-- pending in either queue.
 pub record SyncsAndRewrites (m : MemTables) (s t : EngineState) : Type 0 where
   pub synced : LogPipes
   pub syncs : SyncsQueue InAppend s.pipes synced
@@ -40,9 +40,9 @@ pub record SyncsAndRewrites (m : MemTables) (s t : EngineState) : Type 0 where
   pub settles : (home : LogDirectories) (log : LogMap) (pending : List LogRecordValue) → Represents home s log pending
       → HoldsSettled home t (taken log pending)
 
--- Expired files were purged, and just these groups are returned. Append was synced; Rewrite was rewritten if that was
--- due; then Append was purged if that was due, except for files that were pinned then. The map is kept, and nothing
--- is pending.
+-- Expired files were purged, and `groups` are returned. Append was synced, Rewrite was rewritten if that was due, and
+-- then Append was purged if that was due. Files that were pinned at that time stay. The log has the same contents, and
+-- no batch is pending.
 pub record PurgesExpired (hold_back : LogPipes → Option ℕ → Type 0) (thresholds : Thresholds)
     (before after : MemTables) (old new : PurgeCounts) (groups : List ℕ) (s t : EngineState) : Type 0 where
   pub synced : LogPipes
@@ -62,22 +62,23 @@ pub record PurgesExpired (hold_back : LogPipes → Option ℕ → Type 0) (thres
   pub holds : (home : LogDirectories) (log : LogMap) (pending : List LogRecordValue) → Represents home s log pending
       → Represents home t (taken log pending) []
 
--- Either failed, and why:
--- - the map is kept, with nothing pending
--- - or the engine has failed, and left its log on the disk, with the batches in the map or still pending
+-- A purge of expired files, or a rewrite of Rewrite, failed, and the error says why:
+-- - the log has the same contents, with no batch pending
+-- - or the engine has failed, and its files can be opened, with the batches that were pending now durable or still
+--   pending
 abbrev pub FailsToPurgeExpired : Error → EngineState → EngineState → Type 0
 FailsToPurgeExpired error s t = FailsToRewriteAppend error s t
 
 -- What is counted if it failed.
 
--- what is counted of Rewrite if Append wasn't synced, or was, and then Rewrite's rewrite failed: `before` are the
--- tables before that
+-- The counts of Rewrite after the sync of Append failed, or after it succeeded and the rewrite of Rewrite failed.
+-- `before` are the tables before the rewrite.
 abbrev pub StopsAtRewrite : MemTables → GlobalStats → GlobalStats → EngineState → EngineState → Type 0
 StopsAtRewrite before old new s t = ((t.tables ≡ s.tables) × (new ≡ old))
     ⊎ ((synced : LogPipes) × SyncsQueue InAppend s.pipes synced
     × CountsRefused before old new (record s { pipes = synced }) t)
 
--- what is counted of Rewrite if Append's purge failed: Rewrite was rewritten before, if that was due
+-- the counts of Rewrite after the purge of Append failed: Rewrite was rewritten before, if that was due
 pub record StopsAtAppend (thresholds : Thresholds) (before : MemTables) (old new : GlobalStats) (s : EngineState)
     : Type 0 where
   pub synced : LogPipes
@@ -89,7 +90,8 @@ pub record StopsAtAppend (thresholds : Thresholds) (before : MemTables) (old new
   pub rewrites : RewritesIfPast thresholds old new before between restated
       (record s { pipes = synced }) (shows pipes between cache)
 
--- what is counted if a purge failed: no round; and of Rewrite by the step that failed
+-- The counts after a purge failed: those of purges that asked for a group are unchanged, and those of Rewrite depend
+-- on the step that failed.
 pub record KeepsCounts (thresholds : Thresholds) (before : MemTables) (old new : PurgeCounts) (s t : EngineState)
     : Type 0 where
   pub rounds : new.rounds ≡ old.rounds

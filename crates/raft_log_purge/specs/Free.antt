@@ -1,4 +1,4 @@
--- Files that nobody pins.
+-- Files of Append that no listener pins.
 use Rattle.std.specs.Prelude.{ℕ, List, Option, None}
 use Rattle.raft_log_memtables.specs.declared.mem_tables.MemTables.{MemTables}
 use Rattle.raft_log_dual_pipes.specs.HoldingBack.{NothingIsHeldBack}
@@ -10,8 +10,8 @@ use Rattle.raft_log_purge.specs.declared.expired_files.PurgeCounts.{PurgeCounts}
 use Rattle.raft_log_purge.specs.Expired.{LosesBelow}
 use Rattle.raft_log_purge.specs.ExpiredFiles.{PurgesExpired}
 
--- if nothing is pinned, an Append past its threshold loses all files below the least of its last file and the least
--- in use
+-- Let no file be pinned, and Append be past its threshold. Then its files below the active one leave the live range,
+-- up to the first file in which a group has an entry or value.
 abbrev pub FreeFilesGo : (LogPipes → Option ℕ → Type 0) → Type 0
 FreeFilesGo hold_back = NothingIsHeldBack hold_back → (thresholds : Thresholds) (before after : MemTables)
     (old new : PurgeCounts) (groups : List ℕ) (s t : EngineState)

@@ -1,4 +1,5 @@
--- What is counted of Rewrite if its rewrite failed: old copies of what was written again are garbage.
+-- The counts of Rewrite after a rewrite of it failed: what was restated before the failure has an old copy, which is
+-- garbage.
 use Rattle.std.specs.Prelude.{◌≡◌, ◌⊎◌, ◌<◌, ◌≤◌, ℕ, List, [], ◌∷◌, Option, Some, None}
 use Rattle.raft_log_record_base.specs.declared.pipe_log.LogQueue.TheVariants.{Rewrite}
 use Rattle.raft_log_machine_laws.specs.Calls.Which.{InRewrite}
@@ -16,28 +17,29 @@ use Rattle.raft_log_purge_copy.specs.raft_log_engine_laws.specs.EngineState.{Eng
 use Rattle.raft_log_purge_copy.specs.Restated.{last_file}
 use Rattle.raft_log_purge.specs.RewriteQueue.{RestatesAll, reset_counts}
 
--- how many entries and values of a group count: all live ones if its least file of Rewrite is past `file`, else none
+-- How many of a group's live entries and values in Rewrite count as restated. All of them, if `least`, its lowest file
+-- of Rewrite, is after `file`; else none.
 abbrev pub CountsFrom : ℕ → Option ℕ → Shown → ℕ → Type 0
 CountsFrom file None v n = n ≡ 0
 CountsFrom file (Some least) v n = ((file < least) × StandIn v n) ⊎ ((least ≤ file) × (n ≡ 0))
 
--- so many live entries and values of a group are in Rewrite, all of them past a file; 0 if not all are
+-- `n` live entries and values of the group are in Rewrite, all in files after `file`; `n` is 0 if not all are
 abbrev pub StandsPast : ℕ → Shown → ℕ → Type 0
 StandsPast file v n = (least : Option ℕ) × IsMinFile Rewrite v least × CountsFrom file least v n
 
--- the sum over all these groups, or the greatest number of 64 bits if it is more
+-- `n` is the sum of these numbers over all the groups, at most 2 ^ 64 - 1
 abbrev pub CountsPast : ℕ → (ℕ → Shown) → List ℕ → ℕ → Type 0
 CountsPast file v [] n = n ≡ 0
 CountsPast file v (g ∷ gs) n =
     (one rest : ℕ) × StandsPast file (v g) one × CountsPast file v gs rest × (n ≡ plus one rest)
 
--- what these groups have live past a file was counted as written to Rewrite again, and as much was counted as garbage
+-- what these groups have live in Rewrite after `file` was counted as written once more, and the same number as garbage
 pub record CountsGarbage (file : ℕ) (v : ℕ → Shown) (groups : List ℕ) (old new : GlobalStats) : Type 0 where
   pub count : ℕ
   pub past : CountsPast file v groups count
   pub stats : new ≡ deleted Rewrite count (added Rewrite count old)
 
--- all groups were restated, and Rewrite was synced: the garbage was taken off the counts
+-- Rewrite rotated, all groups were restated, and it was synced: the garbage was subtracted from the counts
 pub record ResetsCounts (old new : GlobalStats) (s t : EngineState) : Type 0 where
   pub turned : LogPipes
   pub turns : RotatesQueue InRewrite s.pipes turned
@@ -46,10 +48,10 @@ pub record ResetsCounts (old new : GlobalStats) (s t : EngineState) : Type 0 whe
   pub tables : t.tables ≡ restated.tables
   pub stats : new ≡ reset_counts old
 
--- What is counted after a rewrite of Rewrite failed, if the groups had these tables before:
--- - nothing, and the tables are unchanged
--- - what was restated, which is live past the former last file
--- - all groups were restated, and the garbage is taken off the counts
+-- The counts after a rewrite of Rewrite failed, where `before` are the tables before it:
+-- - unchanged, and so are the tables
+-- - with what was restated so far: what is live after the file that was active at the start
+-- - with the garbage subtracted, as all groups were restated
 abbrev pub CountsRefused : MemTables → GlobalStats → GlobalStats → EngineState → EngineState → Type 0
 CountsRefused before old new s t = ((t.tables ≡ s.tables) × (new ≡ old))
     ⊎ (((groups : List ℕ) × ListsGroups (has_table before) groups

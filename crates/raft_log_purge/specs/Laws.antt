@@ -1,4 +1,4 @@
--- When nothing fails with `Full`.
+-- Conditions under which no write and no purge fails with `Full`: no record would be too long.
 use Rattle.std.specs.Prelude.{◌≡◌, ◌≢◌, ◌<◌, ◌≤◌, ◌^◌, ◌++◌, ◌+◌, ℕ, Bool, false, List, [], ◌∷◌, length, None}
 use Rattle.raft_log_model_laws.specs.Item.Item.{Put}
 use Rattle.raft_log_model_laws.specs.Item.Record.{Plain}
@@ -19,42 +19,44 @@ use Rattle.raft_log_purge_copy.specs.Rewriting.{OweNothing}
 use Rattle.raft_log_purge.specs.Lengths.{AreKnown, AreModest, AreShortRuns, HasLog, pairs_bound, puts_of}
 use Rattle.raft_log_purge.specs.Marks.{CameOf}
 
--- An engine with a log never fails with `Full` for a batch whose bound is below 2 ^ 56.
+-- A write of a batch whose record has less than 2 ^ 56 bytes by its bound never fails with `Full`.
 abbrev pub BoundedBatchesAreNotFull : Type 0
 BoundedBatchesAreNotFull = (b : Batch) (error : Error) (s t : EngineState) → HasLog s → batch_bound b < 2 ^ 56
     → NotWritten b error s t → error ≢ errors.Full
 
--- If a log's groups are modest, no record of what one group has is too long.
+-- If the groups of a log's contents are modest in size, as `AreModest` says, no record of what one group has is too
+-- long.
 abbrev pub ModestLogsMakeRecords : Type 0
 ModestLogsMakeRecords = (m : LogMap) → AreModest m → HasLongGroup m → ⊥
 
--- A log's groups are modest if the known pairs of each take less than 2 ^ 54 bytes together.
+-- The groups of a log's contents are modest in size, if their keys are known. The known keys and values of each must
+-- take less than 2 ^ 54 bytes together.
 abbrev pub KnownLogsAreModest : Type 0
 KnownLogsAreModest = (m : LogMap) (known : ℕ → List (List ℕ × List ℕ)) → AreKnown m known
     → ((g : ℕ) → pairs_bound (known g) < 2 ^ 54) → AreModest m
 
--- An empty log has no known pairs, and a batch whose runs are short adds those that it puts.
+-- An empty log has no known keys. A batch whose runs of entries are short adds the keys and values that it puts.
 pub record KnownPairsGrow : Type 0 where
   pub none : AreKnown (λ g s. None) (λ g. [])
   pub more : (m : LogMap) (known : ℕ → List (List ℕ × List ℕ)) (said : LogRecordValue) → AreKnown m known
       → ((g : ℕ) → AreShortRuns (appended g (said ∷ [])))
       → AreKnown (taken m (said ∷ [])) (λ g. known g ++ puts_of (appended g (said ∷ [])))
 
--- A log with one value and nothing else has modest groups, if the value and its key have less than 2 ^ 53 bytes.
+-- A log with a single value has modest groups, if the value and its key have less than 2 ^ 53 bytes together.
 abbrev pub OneValueIsModest : Type 0
 OneValueIsModest = (g : ℕ) (k value : List ℕ) → length k + length value < 2 ^ 53
     → AreModest (taken (λ h s. None) (Plain (record { group = g; item = Put k value } ∷ []) ∷ []))
 
--- The record of the owed tombstones takes at most the bound of a record of the items that they came from.
+-- The record of the owed tombstones is, by its bound, no longer than the record of the items from which they came.
 abbrev pub MarksTakeNoMore : Type 0
 MarksTakeNoMore = (items : List LogItem) (v : ℕ → Shown) (b : Batch) → CameOf items v → SaysMarks v b
     → batch_bound b ≤ record_bound items []
 
--- Which items the owed tombstones came from:
+-- Items from which the owed tombstones came:
 -- - none, if no tombstone is owed
 -- - a batch that is written adds its own items
 -- - a batch that isn't written adds none, unless the engine fails
--- - a call after which no more is owed, as a purge, adds none
+-- - a call after which no more tombstones are owed, such as a purge, adds none
 pub record MarksComeOfBatches : Type 0 where
   pub none : (v : ℕ → Shown) → OweNothing v → CameOf [] v
   pub written : (items : List LogItem) (b : Batch) (sync : Bool) (s t : EngineState) → CameOf items s.tables
@@ -64,8 +66,8 @@ pub record MarksComeOfBatches : Type 0 where
   pub purged : (items : List LogItem) (v w : ℕ → Shown) → CameOf items v → OweNoMore v w → CameOf items w
 
 -- A purge never fails with `Full` if:
--- - the log's groups are modest
--- - the tombstones owed before it came from items whose record has fewer than 2 ^ 56 bytes by its bound
+-- - the groups of the log's contents are modest in size
+-- - the tombstones owed before it came from items whose record has less than 2 ^ 56 bytes by its bound
 abbrev pub ModestLogsArePurged : Type 0
 ModestLogsArePurged = (home : LogDirectories) (m : LogMap) (items : List LogItem) (error : Error) (s t : EngineState)
     → AreModest m → CameOf items s.tables → record_bound items [] < 2 ^ 56

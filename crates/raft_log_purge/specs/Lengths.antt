@@ -1,4 +1,4 @@
--- What a caller knows of an engine's log, so that no record of it is too long.
+-- Bounds on the contents of an engine's log, such that no record of them is too long.
 use Rattle.std.specs.Prelude.{◌≡◌, ◌<◌, ◌≤◌, ◌+◌, ◌^◌, ℕ, List, [], ◌∷◌, Some, length, slice_get, sum_by}
 use Rattle.std.specs.Cmp.Lexicographic.{slice_cmp}
 use Rattle.std.specs.List.{Contains}
@@ -15,43 +15,43 @@ use Rattle.raft_log_engine_laws.specs.EngineState.{LogDirectories, LogMap, Engin
 use Rattle.raft_log_engine_laws.specs.Holding.{Represents}
 use Rattle.raft_log_purge_copy.specs.Lengths.{AreValuesIn}
 
--- the engine's log is some map with some batches pending after it
+-- the engine's log has some contents, and some pending batches after these
 abbrev pub HasLog : EngineState → Type 0
 HasLog s = (home : LogDirectories) × (m : LogMap) × (pending : List LogRecordValue) × Represents home s m pending
 
--- the most bytes that keys and their values take in a record: their own, and 32 for each pair
+-- an upper bound of the bytes that keys and values take in a record: their own, and 32 for each pair
 abbrev pub pairs_bound : List (List ℕ × List ℕ) → ℕ
 pairs_bound pairs = sum_by (λ e. 32 + length e.0 + length e.1) pairs
 
--- The groups of a map are modest. No entry has an index of 2 ^ 52 or above, or more bytes than a batch may have. Any
--- keys of one group, none of them twice, take less than 2 ^ 54 bytes with their values.
+-- The groups of the contents `m` are modest in size. No entry has an index of 2 ^ 52 or above, or more bytes than a
+-- batch may have. The keys of each group, with their values, take less than 2 ^ 54 bytes together.
 pub record AreModest (m : LogMap) : Type 0 where
   pub entries : (g i : ℕ) (bytes : List ℕ) → m g (Index i) ≡ Some (Entry bytes)
       → (i < 2 ^ 52) × (length bytes ≤ max_entries_len)
   pub values : (g : ℕ) (pairs : List (List ℕ × List ℕ)) → AreValuesIn m g pairs
       → IsStrictlySortedBy (slice_cmp nat_cmp) (keys_of pairs) → pairs_bound pairs < 2 ^ 54
 
--- The pairs of each group are known:
--- - no entry of the map has an index of 2 ^ 52 or above, or more bytes than a batch may have
--- - all values of a group are among its pairs
+-- `known` has all keys of each group in the contents `m`, with their values:
+-- - no entry has an index of 2 ^ 52 or above, or more bytes than a batch may have
+-- - each value of a group is in the group's list, perhaps with others
 pub record AreKnown (m : LogMap) (known : ℕ → List (List ℕ × List ℕ)) : Type 0 where
   pub entries : (g i : ℕ) (bytes : List ℕ) → m g (Index i) ≡ Some (Entry bytes)
       → (i < 2 ^ 52) × (length bytes ≤ max_entries_len)
   pub values : (g : ℕ) (k value : List ℕ) → m g (Key k) ≡ Some (Value value) → Contains (known g) (k, value)
 
--- the pairs that these items of a group put
+-- the keys and values that these items put
 abbrev pub puts_of : List (Item (List ℕ) (List ℕ)) → List (List ℕ × List ℕ)
 puts_of [] = []
 puts_of (Put k value ∷ xs) = (k, value) ∷ puts_of xs
 puts_of (_ ∷ xs) = puts_of xs
 
--- if the item is a run, it ends at 2 ^ 52 or below, and no entry has more bytes than a batch may have
+-- If the item is a run of entries, it ends at index 2 ^ 52 or below. No entry has more bytes than a batch may have.
 abbrev pub IsShortRun : Item (List ℕ) (List ℕ) → Type 0
 IsShortRun (Run f es) = (f + length es ≤ 2 ^ 52)
     × ((i : ℕ) (bytes : List ℕ) → slice_get es i ≡ Some bytes → length bytes ≤ max_entries_len)
 IsShortRun _ = Unit {0}
 
--- each run among the items is such a run
+-- each run of entries among the items is short in this sense
 abbrev pub AreShortRuns : List (Item (List ℕ) (List ℕ)) → Type 0
 AreShortRuns [] = Unit {0}
 AreShortRuns (x ∷ xs) = IsShortRun x × AreShortRuns xs

@@ -1,4 +1,4 @@
--- What a caller knows of the tombstones that a log owes to Rewrite, so that their record isn't too long.
+-- From which items of earlier batches the owed tombstones came. This bounds the length of their record.
 use Rattle.std.specs.Prelude.{◌≡◌, ℕ, true, List}
 use Rattle.std.specs.List.{Contains}
 use Rattle.raft_log_model_laws.specs.Item.{Item}
@@ -9,14 +9,14 @@ use Rattle.raft_log_record_items.specs.declared.item.LogItem.{LogItem}
 use Rattle.raft_log_record_frames.specs.Meaning.{tagged_items}
 use Rattle.raft_log_memtable_index.specs.Shown.{Shown}
 
--- what these items say of a group
+-- what these items say of group `g`
 abbrev pub said_in : List LogItem → ℕ → List (Item EntryIndex (List ℕ))
 said_in items g = of_group g (tagged_items (λ e. e) items)
 
--- The owed tombstones came from these items. They have, in the group that owes it:
+-- The owed tombstones came from these items. Of the group that owes it, the items have:
 -- - a Clean for each owed Clean
--- - a Compact of some index for each owed Compact
--- - the deletion of each key whose deletion is owed
+-- - a Compact, of some index, for each owed Compact
+-- - a deletion of each key whose deletion is owed
 pub record CameOf (items : List LogItem) (v : ℕ → Shown) : Type 0 where
   pub cleans : (g : ℕ) → (v g).cleaned ≡ true → Contains (said_in items g) Clean
   pub compacts : (g : ℕ) → (v g).compacted ≡ true → (index : ℕ) × Contains (said_in items g) (Compact index)

@@ -1,4 +1,4 @@
--- Rewrite is rewritten: what is live there is written again, and its old files go.
+-- A rewrite of Rewrite: what is live there is written to new records, and the old files leave its live range.
 use Rattle.std.specs.Prelude.{◌≡◌, ◌↔◌, ◌+◌, ◌-◌, ◌<◌, IsTrue, ℕ, max, Bool, true, false, []}
 use Rattle.raft_log_fs.specs.Causes.{IsLater}
 use Rattle.raft_log_record_base.specs.declared.errors.Error.{Error}
@@ -19,12 +19,12 @@ use Rattle.raft_log_purge_copy.specs.Stale.{written_file}
 use Rattle.raft_log_purge_copy.specs.Syncing.{CountsEach}
 use Rattle.raft_log_purge_copy.specs.Restated.{IsRestatedFrom, Restates, StaysOrIsLeft, last_file}
 
--- every group
+-- a test that every group passes
 abbrev pub every : ℕ → Bool
 every g = true
 
--- All groups were restated, and Rewrite was synced: during this whenever it was due by the bytes of all of them, and
--- at the end. If the log's map was held with nothing pending, the log is settled with that map.
+-- All groups were restated, and Rewrite was synced at the end, and before whenever the count of unsynced bytes
+-- required it. If no batch was pending, the log has the same contents, and nothing is pending in either queue.
 pub record RestatesAll (s t : EngineState) : Type 0 where
   pub restated : EngineState
   pub restates : Restates every s restated
@@ -39,9 +39,10 @@ pub record RestatesAll (s t : EngineState) : Type 0 where
 abbrev pub first_file : EngineState → ℕ
 first_file s = (pipe_at InRewrite (files_of s.pipes)).first_seq
 
--- Rewrite was rewritten. It rotated; all groups were restated, and it was synced. Then the files below the least in
--- use left its live range, which begins at that one or as before, past the former last file. All that each group has
--- in Rewrite is after that file. The map is kept, and nothing is pending in either queue.
+-- Rewrite was rewritten. It rotated, all groups were restated, and it was synced. Then the files below the lowest in
+-- which a group has an entry or value left its live range. If no batch was pending, the log has the same contents, and
+-- nothing is pending in either queue. In that case the live range begins after the file that was active at the start.
+-- All that each group has in Rewrite is after that file too.
 pub record RewritesRewrite (m : MemTables) (s t : EngineState) : Type 0 where
   pub turned : LogPipes
   pub turns : RotatesQueue InRewrite s.pipes turned
@@ -60,8 +61,8 @@ pub record RewritesRewrite (m : MemTables) (s t : EngineState) : Type 0 where
       → IsRestatedFrom (last_file s + 1) (s.tables g) (t.tables g)
   pub settles : (home : LogDirectories) (log : LogMap) → Represents home s log [] → HoldsSettled home t log
 
--- A rewrite of Rewrite failed, and why. The map is kept, with nothing pending; or the engine has failed, and left its
--- log on the disk.
+-- A rewrite of Rewrite failed, and the error says why. If no batch was pending, the log has the same contents, or the
+-- engine has failed and its files can be opened with them.
 pub record FailsToRewriteRewrite (error : Error) (s t : EngineState) : Type 0 where
   pub counts : t.counts ≡ s.counts
   pub tells : has_failed s ≡ false → IsTrue (has_failed t) ↔ (error ≡ errors.Failed)
@@ -69,7 +70,8 @@ pub record FailsToRewriteRewrite (error : Error) (s t : EngineState) : Type 0 wh
   pub remains : StaysOrIsLeft error s t
   pub cause : GivesReason error s t
 
--- the garbage in Rewrite is taken off the counts
+-- The counts after Rewrite was rewritten: the garbage there is subtracted from what was written, and is 0 from then
+-- on.
 abbrev pub reset_counts : GlobalStats → GlobalStats
 reset_counts s = record s {
   rewrite_entries = s.rewrite_entries - s.deleted_rewrite_entries;

@@ -1,4 +1,4 @@
--- Copies are written to Rewrite, and the tables then have the copied items there.
+-- Copies of entries and values are written to Rewrite, and the tables then have these there.
 use Rattle.std.specs.Prelude.{◌≡◌, ◌⊎◌, ◌↔◌, IsTrue, ℕ, Option, [], false}
 use Rattle.raft_log_fs.specs.Causes.{IsLater}
 use Rattle.raft_log_record_base.specs.declared.errors.Error.{Error}
@@ -14,8 +14,9 @@ use Rattle.raft_log_purge_copy.specs.Parts.{Remains, StaysInFile}
 use Rattle.raft_log_purge_copy.specs.Reasons.{HasReason}
 use Rattle.raft_log_purge_copy.specs.Refusals.{IsOverlong}
 
--- A batch that isn't empty was written to Rewrite, and the tables applied it in the file of its place. The map stays
--- held with nothing pending, if the batch has copies of it, and is no part of an atomic group.
+-- A batch that isn't empty was written to Rewrite at `block`, and the tables applied it under the number of its file.
+-- The log has the same contents, if no batch was pending, the items are copies, and they are no part of an atomic
+-- group.
 pub record MovesCopies (gate : Option ℕ) (b : Batch) (s t : EngineState) : Type 0 where
   pub block : FileBlockHandle
   pub alive : has_failed t ≡ false
@@ -31,9 +32,11 @@ pub record MovesCopies (gate : Option ℕ) (b : Batch) (s t : EngineState) : Typ
 abbrev pub WritesCopies : Option ℕ → Batch → EngineState → EngineState → Type 0
 WritesCopies gate b s t = ((b.items ≡ []) × (t ≡ s)) ⊎ (((b.items ≡ []) → ⊥) × MovesCopies gate b s t)
 
--- A batch of copies wasn't written: the tables are unchanged. If it is no part of an atomic group:
--- - if it has copies, the map is kept with nothing pending, or the engine has failed and left its log on the disk
--- - its record is too long, or the reason is one of any part
+-- A batch of copies wasn't written, and the tables are unchanged. If it is no part of an atomic group, and no batch
+-- was pending:
+-- - its record would be too long, or the error has a reason that any part may have
+-- - if its items are copies, the log has the same contents, or the engine has failed and its files can be opened with
+--   them
 pub record FailsToCopy (gate : Option ℕ) (b : Batch) (error : Error) (s t : EngineState) : Type 0 where
   pub same : t ≡ record s { pipes = t.pipes }
   pub tells : has_failed s ≡ false → IsTrue (has_failed t) ↔ (error ≡ errors.Failed)

@@ -1,4 +1,4 @@
--- Entries of Append are copied to Rewrite.
+-- Entries of Append are copied to Rewrite, one batch at a time.
 use Rattle.std.specs.Prelude.{◌≡◌, ◌+◌, ℕ, min, List, [], ◌∷◌, Option, Some, length, take, drop}
 use Rattle.raft_log_record_items.specs.declared.entry.EntryIndex.{EntryIndex}
 use Rattle.raft_log_model_laws.specs.Meaning.Slot.{Index}
@@ -14,33 +14,33 @@ use Rattle.raft_log_engine_laws.specs.raft_log_memtable.specs.Reads.{entries_fro
 use Rattle.raft_log_engine_laws.specs.EngineState.{LogMap}
 use Rattle.raft_log_record_items.specs.declared.raw_message.RawMessage.{RawMessage}
 
--- the most bytes of entries in a record that is written to Rewrite, unless it has a single longer entry
+-- the most bytes of entries in one record that a purge writes to Rewrite, unless a single entry is longer
 abbrev pub max_piece : ℕ
 max_piece = 131072
 
--- how many of these places are copied at once: those before the first one past the gate, at most one batch's, which
--- is at least one
+-- How many of the entries at these locations are copied in one batch: those before the first one in a file past the
+-- gate, but no more than one record may have. Any record may have one entry, however long.
 abbrev pub copied_count : ℕ → List Place → ℕ
 copied_count gate ps = min (sized (Some max_piece) ps) (passing gate ps)
 
--- the places of the group's first entries in Append that are copied at once
+-- the locations of the group's entries in Append that the next batch copies
 abbrev pub next_places : ℕ → Shown → List Place
 next_places gate v = take (copied_count gate (drop v.rewritten v.places)) (drop v.rewritten v.places)
 
--- the entries are these
+-- `es` are the entries that the next batch copies
 abbrev pub AreNext : ℕ → Shown → List EntryIndex → Type 0
 AreNext gate v es = es ≡ entries_from v v.rewritten (next_places gate v)
 
--- how an entry's bytes are read
+-- how an entry's bytes are read: as raw bytes, without parsing
 abbrev pub as_bytes : List ℕ → Option RawMessage
 as_bytes bytes = Some (record { bytes = bytes })
 
--- these are the bytes of a group's entries in the map, from an index on
+-- group `g` has entries with these bytes in the contents `m`, one after another from index `i` on
 abbrev pub AreEntryBytes : LogMap → ℕ → ℕ → List (List ℕ) → Type 0
 AreEntryBytes m g i [] = Unit {0}
 AreEntryBytes m g i (x ∷ xs) = (m g (Index i) ≡ Some (Entry x)) × AreEntryBytes m g (i + 1) xs
 
--- the batch is being filled, and has one run: a group's entries with these indexes and bytes
+-- The batch is being filled, and has one run of entries of group `g`, with these indexes and bytes.
 pub record IsRunBatch (g : ℕ) (indexes : List ℕ) (bytes : List (List ℕ)) (b : Batch) : Type 0 where
   pub state : b.state ≡ Filling
   pub items : b.items ≡ entries_items g 0 indexes bytes

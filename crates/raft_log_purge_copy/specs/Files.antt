@@ -1,4 +1,4 @@
--- Files that are no longer needed leave a queue.
+-- Files that are no longer needed leave a queue's live range, and are deleted or kept for recycling.
 use Rattle.std.specs.Prelude.{◌≡◌, ◌↔◌, ◌⊎◌, ◌-◌, IsTrue, ℕ, max, None, false, []}
 use Rattle.raft_log_fs.specs.Causes.{IsLater}
 use Rattle.raft_log_record_base.specs.declared.errors.Error.{Error}
@@ -18,13 +18,14 @@ use Rattle.raft_log_engine_laws.specs.Holding.{IsRecoverableAs}
 use Rattle.raft_log_engine_laws.specs.Settled.{HoldsSettled}
 use Rattle.raft_log_purge_copy.specs.Reasons.{HasFileReason}
 
--- what the tables must show before files of a queue go: for Append, that no tombstone is owed
+-- what the tables must show before files leave the live range of a queue: for Append, that no tombstone is owed
 abbrev pub MayLoseFiles : Which → (ℕ → Shown) → Type 0
 MayLoseFiles InAppend v = (g : ℕ) → OwesNothing (whereabouts (v g))
 MayLoseFiles InRewrite v = Unit {0}
 
--- The files of a queue below the least one in use, and below the limit, have left its live range. It begins at that
--- one, but never earlier than before. A settled log stays settled, with its map. No block is cached.
+-- Files left the queue's live range, and no block is cached. If nothing was pending, the range begins at `least` now,
+-- or where it began if that is later. `least` is the lowest file in which any group has an entry or value, or `limit`
+-- if that is lower. The log then keeps its contents, for Append only if no tombstone is owed.
 pub record LosesFiles (queue : LogQueue) (limit : ℕ) (m : MemTables) (count : ℕ) (s t : EngineState) : Type 0 where
   pub least : ℕ
   pub is : IsLeastOf queue limit m least
@@ -38,19 +39,20 @@ pub record LosesFiles (queue : LogQueue) (limit : ℕ) (m : MemTables) (count : 
   pub keeps : (home : LogDirectories) (log : LogMap) → HoldsSettled home s log
       → MayLoseFiles (which_of queue) s.tables → HoldsSettled home t log
 
--- what is true if files don't go: the log is settled with its map; or the engine has failed, and left it on the disk
+-- After the files failed to leave the live range: if the error is `Failed`, the engine has failed, and its files can
+-- be opened with the contents `m`. Else the log has these contents. Nothing is pending in either case.
 abbrev pub RemainsSettled : LogDirectories → LogMap → EngineState → Error → Type 0
 RemainsSettled home m t errors.Failed = IsRecoverableAs home t.pipes.disk m []
 RemainsSettled home m t _ = HoldsSettled home t m
 
--- the limit is not in the queue's live range: only then is the error of another kind
+-- if the error is `Other`, `limit` is not a file number in the queue's live range; no other error has this reason
 abbrev pub IsNoLimit : LogQueue → ℕ → Error → EngineState → Type 0
 IsNoLimit queue limit (errors.Other fault) s =
     IsInSpan limit (pipe_at (which_of queue) (files_of s.pipes)) → ⊥
 IsNoLimit queue limit _ s = ⊥
 
--- Files of a queue below a limit don't go, and why. A settled log stays settled, with its map; or the engine has
--- failed, and left it on the disk.
+-- The files below `limit` failed to leave the queue's live range, and the error says why. A log with nothing pending
+-- keeps its contents; if the engine has failed, its files can be opened with them.
 pub record FailsToLoseFiles (queue : LogQueue) (limit : ℕ) (error : Error) (s t : EngineState) : Type 0 where
   pub tells : has_failed s ≡ false → IsTrue (has_failed t) ↔ (error ≡ errors.Failed)
   pub later : IsLater s.pipes.disk t.pipes.disk

@@ -1,4 +1,4 @@
--- The parts of an atomic group that restates a group.
+-- The parts of an atomic group in which a group is restated.
 use Rattle.std.specs.Prelude.{◌≡◌, ◌+◌, ◌<◌, ◌≤◌, ℕ, false, List, [], ◌∷◌, ◌++◌, length}
 use Rattle.raft_log_fs.specs.Causes.{IsLater}
 use Rattle.raft_log_record_items.specs.declared.item.LogItem.{LogItem}
@@ -18,14 +18,14 @@ use Rattle.raft_log_purge_copy.specs.declared.parts.RestatedPart.{RestatedPart}
 use Rattle.raft_log_purge_copy.specs.Pieces.{IsPiece}
 use Rattle.raft_log_purge_copy.specs.Restated.{last_file}
 
--- the parts say these entries of a group, piece by piece, from an index on; no piece is empty
+-- each part has one piece of the entries of group `g`, from index `f` on, and no piece is empty
 abbrev pub SayPieces : ℕ → ℕ → List (List (List ℕ)) → List WrittenPart → Type 0
 SayPieces g f [] [] = Unit {0}
 SayPieces g f (es ∷ more) (p ∷ ps) =
     (0 < length es) × IsPiece g f es [] p.batch × SayPieces g (f + length es) more ps
 SayPieces g f pieces ps = ⊥
 
--- what is kept of the parts: the place of each, and its items there
+-- for each written part, what is kept in memory: its location, and its items with the locations of their entries
 abbrev pub ArePartsKept : List RestatedPart → List WrittenPart → Type 0
 ArePartsKept [] [] = Unit {0}
 ArePartsKept (x ∷ xs) (p ∷ ps) =
@@ -33,12 +33,13 @@ ArePartsKept (x ∷ xs) (p ∷ ps) =
     × ArePartsKept xs ps
 ArePartsKept xs ps = ⊥
 
--- the items of all parts
+-- the items of all parts, in order
 abbrev pub items_of_all : List RestatedPart → List LogItem
 items_of_all [] = []
 items_of_all (x ∷ xs) = x.items.items ++ items_of_all xs
 
--- the batch is being filled as this part of the atomic group: its items are a group's entries, its keys, and the mark
+-- The batch is being filled as a part of atomic group `number`. Its items are a piece of the entries of group `g`,
+-- keys with their values, and the group's mark.
 pub record IsMarkedPiece (g f number : ℕ) (status : AtomicGroupStatus) (bytes : List (List ℕ))
     (pairs : List (List ℕ × List ℕ)) (b : Batch) : Type 0 where
   pub state : b.state ≡ Filling
@@ -47,8 +48,8 @@ pub record IsMarkedPiece (g f number : ℕ) (status : AtomicGroupStatus) (bytes 
   pub part : marking_of_items b.items ≡ Part number status
   pub some : b.items ≡ [] → ⊥
 
--- An atomic group is open, and its parts say the first `done` rewritten entries of a group. Nothing of it counts yet,
--- and the tables are unchanged.
+-- An atomic group is open, and its parts have the first `done` of the entries that group `g` has in Rewrite. None of
+-- its parts counts yet, and the tables are unchanged.
 pub record HasParts (g number done : ℕ) (parts : List RestatedPart) (s t : EngineState) : Type 0 where
   pub group : UnendedGroup
   pub numbered : group.number ≡ number

@@ -1,4 +1,4 @@
--- Groups are rewritten: all that they have in Append in files up to the gate is copied to Rewrite.
+-- Groups are rewritten: all that they have in Append, in files up to the gate, is copied to Rewrite.
 use Rattle.std.specs.Prelude.{◌≡◌, ◌↔◌, ◌+◌, ◌==◌, IsTrue, ℕ, Bool, true, false, List, drop}
 use Rattle.std.specs.List.{list_any}
 use Rattle.raft_log_fs.specs.Causes.{IsLater}
@@ -14,15 +14,15 @@ use Rattle.raft_log_purge_copy.specs.Moving.{IsPartlyRewritten, IsRewrittenTo}
 use Rattle.raft_log_purge_copy.specs.Reasons.{GivesReason}
 use Rattle.raft_log_purge_copy.specs.Rewriting.{OweNothing, StaysHeld, StaysOrIsLeft}
 
--- A part of what each group that passes the test had in Append, in files up to the gate, is in Rewrite now. Other
--- groups are unchanged.
+-- For each group that passes the test, some of what it had in Append, in files up to the gate, is in Rewrite now.
+-- Other groups are unchanged.
 pub record RewritesPart (test : ℕ → Bool) (gate : ℕ) (s t : EngineState) : Type 0 where
   pub parts : (g : ℕ) → IsPartlyRewritten gate (s.tables g) (t.tables g)
   pub others : (g : ℕ) → test g ≡ false → t.tables g ≡ s.tables g
   pub counts : t.counts ≡ s.counts
   pub later : IsLater s.pipes.disk t.pipes.disk
 
--- each group that passes the test was rewritten, whole: nothing of it is left in Append up to the gate
+-- each group that passes the test was rewritten: it has nothing in files of Append up to the gate
 pub record Rewrites (test : ℕ → Bool) (gate : ℕ) (s t : EngineState) : Type 0 where
   pub part : RewritesPart test gate s t
   pub whole : (g : ℕ) → test g ≡ true → IsRewrittenTo gate (t.tables g)
@@ -30,14 +30,14 @@ pub record Rewrites (test : ℕ → Bool) (gate : ℕ) (s t : EngineState) : Typ
   pub stays : StaysInFile s.pipes t.pipes
   pub holds : StaysHeld s t
 
--- rewriting failed, with a part done; and why, if no tombstone is owed
+-- Rewriting the groups failed after a part of it. If no tombstone is owed, the error says why.
 pub record StopsRewriting (test : ℕ → Bool) (gate : ℕ) (error : Error) (s t : EngineState) : Type 0 where
   pub part : RewritesPart test gate s t
   pub tells : has_failed s ≡ false → IsTrue (has_failed t) ↔ (error ≡ errors.Failed)
   pub remains : StaysOrIsLeft error s t
   pub cause : OweNothing s.tables → GivesReason error s t
 
--- all entries of a group in Append, in files up to the gate, were copied
+-- all entries that the group has in Append, in files up to the gate, were copied to Rewrite
 pub record RewritesEntries (group gate : ℕ) (s t : EngineState) : Type 0 where
   pub part : RewritesPart (λ g. group == g) gate s t
   pub none : passing gate (drop (t.tables group).rewritten (t.tables group).places) ≡ 0
@@ -45,11 +45,11 @@ pub record RewritesEntries (group gate : ℕ) (s t : EngineState) : Type 0 where
   pub stays : StaysInFile s.pipes t.pipes
   pub holds : StaysHeld s t
 
--- one group was rewritten
+-- this one group was rewritten
 abbrev pub RewritesGroup : ℕ → ℕ → EngineState → EngineState → Type 0
 RewritesGroup group gate s t = Rewrites (λ g. group == g) gate s t
 
--- rewriting one group failed, with a part done
+-- rewriting this one group failed after a part of it
 abbrev pub StopsAtGroup : ℕ → ℕ → Error → EngineState → EngineState → Type 0
 StopsAtGroup group gate error s t = StopsRewriting (λ g. group == g) gate error s t
 
@@ -57,14 +57,14 @@ StopsAtGroup group gate error s t = StopsRewriting (λ g. group == g) gate error
 abbrev pub RewritesGroups : List ℕ → ℕ → EngineState → EngineState → Type 0
 RewritesGroups groups gate s t = Rewrites (λ g. list_any (λ k. k == g) groups) gate s t
 
--- rewriting these groups failed, with a part done
+-- rewriting these groups failed after a part of it
 abbrev pub StopsAtGroups : List ℕ → ℕ → Error → EngineState → EngineState → Type 0
 StopsAtGroups groups gate error s t = StopsRewriting (λ g. list_any (λ k. k == g) groups) gate error s t
 
--- No entry and no value in use is in Append up to a file, and Append may begin after it, if:
--- - all groups were rewritten up to the file
+-- The tables show no entry or value in files of Append up to the gate, so Append may begin after the gate, if:
+-- - all groups were rewritten up to the gate
 -- - no tombstone is owed
--- - no entry of a queue is in an earlier file than the first one there
+-- - in each queue, no entry of a group is in an earlier file than the group's first one there
 abbrev pub RewrittenGroupsArePast : Type 0
 RewrittenGroupsArePast = (gate : ℕ) (v : ℕ → Shown) → ((g : ℕ) → IsRewrittenTo gate (v g))
     → ((g : ℕ) → FrontIsLeast (v g)) → OweNothing v

@@ -1,4 +1,4 @@
--- A group's values in Append are copied to Rewrite.
+-- Values that a group has in Append are copied to Rewrite.
 use Rattle.std.specs.Prelude.{◌≡◌, ◌↔◌, IsTrue, ℕ, false, List, [], Some, map}
 use Rattle.raft_log_fs.specs.Causes.{IsLater}
 use Rattle.raft_log_record_base.specs.declared.errors.Error.{Error}
@@ -14,15 +14,15 @@ use Rattle.raft_log_purge_copy.specs.Moving.{MovesKeys}
 use Rattle.raft_log_purge_copy.specs.Reasons.{GivesReason}
 use Rattle.raft_log_purge_copy.specs.Rewriting.{StaysHeld, StaysOrIsLeft}
 
--- the batch is being filled, gives the group's keys these values, and is no part of an atomic group
+-- the batch is being filled, puts these values of the group's keys, and has no mark of an atomic group
 pub record IsKeysBatch (g : ℕ) (pairs : List (List ℕ × List ℕ)) (b : Batch) : Type 0 where
   pub state : b.state ≡ Filling
   pub none : b.entries ≡ []
   pub items : b.items ≡ map (λ e. put_item g e.0 e.1) pairs
   pub plain : AreNoMarks b.items
 
--- All values that the group has in Append in files up to the gate were copied as one record, and are in Rewrite.
--- Nothing else changed in the tables. If there are no such values, nothing was written.
+-- All values that the group has in Append, in files up to the gate, were copied to Rewrite in one record. Nothing else
+-- changed in the tables. If there are none, nothing was written.
 pub record CopiesKeys (group gate : ℕ) (s t : EngineState) : Type 0 where
   pub pairs : List (List ℕ × List ℕ)
   pub all : ListsAll (appended_values gate (s.tables group)) pairs
@@ -35,7 +35,7 @@ pub record CopiesKeys (group gate : ℕ) (s t : EngineState) : Type 0 where
   pub later : IsLater s.pipes.disk t.pipes.disk
   pub holds : StaysHeld s t
 
--- the group's values weren't copied, and why: the tables are unchanged
+-- the group's values weren't copied, and the tables are unchanged; the error says why
 pub record FailsToCopyKeys (error : Error) (s t : EngineState) : Type 0 where
   pub same : t ≡ record s { pipes = t.pipes }
   pub tells : has_failed s ≡ false → IsTrue (has_failed t) ↔ (error ≡ errors.Failed)

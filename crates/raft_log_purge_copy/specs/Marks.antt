@@ -1,4 +1,4 @@
--- Tombstones that are owed to Rewrite are written there.
+-- The owed tombstones are written to Rewrite.
 use Rattle.std.specs.Prelude.{◌≡◌, ℕ, Bool, false, List, []}
 use Rattle.raft_log_fs.specs.Causes.{IsLater}
 use Rattle.raft_log_record_base.specs.declared.errors.Error.{Error}
@@ -15,11 +15,12 @@ use Rattle.raft_log_engine_laws.specs.Holding.{Represents}
 use Rattle.raft_log_engine_laws.specs.Settled.{HoldsSettled}
 use Rattle.raft_log_purge_copy.specs.Parts.{PartIsRefused, StaysInFile}
 
--- an engine with these pipes, tables that show this, these groups that count, and this block
+-- the state of an engine with these pipes, what its tables show, which groups count, and its cached block
 abbrev pub showing : LogPipes → (ℕ → Shown) → (ℕ → Bool) → BlockCache → EngineState
 showing v tables counts cache = record { tables = tables; counts = counts; pipes = v; cache = cache }
 
--- The tombstones are in Rewrite: if the log's map was held with nothing pending, it is with tables that owe none.
+-- The tombstones that these tables owe were written to Rewrite. If the log had the contents `m` with nothing pending,
+-- it has them with tables that owe none.
 pub record WritesMarks (tables : ℕ → Shown) (v w : LogPipes) : Type 0 where
   pub alive : is_failed v ≡ false → is_failed w ≡ false
   pub later : IsLater v.disk w.disk
@@ -28,17 +29,17 @@ pub record WritesMarks (tables : ℕ → Shown) (v w : LogPipes) : Type 0 where
       → Represents home (showing v tables counts cache) m []
       → Represents home (showing w (λ g. unmarked (tables g)) counts cache) m []
 
--- the tombstones of tables that owe just these are in Rewrite
+-- if `items` are the tombstones that the tables owe, they were written to Rewrite
 abbrev pub WritesItems : List LogItem → LogPipes → LogPipes → Type 0
 WritesItems items v w = (m : MemTables) → AreOwed m items → WritesMarks (shown_of m) v w
 
--- the tombstones of tables that owe just these weren't written
+-- if `items` are the tombstones that the tables owe, writing them to Rewrite failed
 abbrev pub ItemsAreRefused : List LogItem → Error → LogPipes → LogPipes → Type 0
 ItemsAreRefused items error v w = (m : MemTables) → AreOwed m items → (cache : BlockCache)
     → PartIsRefused error (shows v m cache) (shows w m cache)
 
--- The tombstones are in Rewrite, synced, and no group owes one any more. The map is kept, and nothing of the log is
--- pending.
+-- The owed tombstones were written to Rewrite and synced, and no group owes one any more. If no batch was pending, the
+-- log has the same contents, and nothing is pending in either queue.
 pub record CarriesMarks (s t : EngineState) : Type 0 where
   pub alive : has_failed t ≡ false
   pub tables : t.tables ≡ (λ g. unmarked (s.tables g))

@@ -1,4 +1,4 @@
--- What a table shows of a group while what it has in Append is copied to Rewrite.
+-- What a table shows of a group while its entries and values in Append are copied to Rewrite.
 use Rattle.std.specs.Prelude.{◌≡◌, ◌+◌, ◌<◌, ◌≤◌, ◌⊎◌, ◌==◌, ℕ, true, false, List, Option, Some, None, if◌then◌else◌, length, take, drop}
 use Rattle.raft_log_extents.specs.declared.place.Place.{Place}
 use Rattle.raft_log_extents.specs.Counts.{passing}
@@ -6,45 +6,45 @@ use Rattle.raft_log_memtable_index.specs.Shown.{KeyValue, Shown}
 use Rattle.raft_log_memtable_index.specs.Bridge.{moved_run}
 use Rattle.raft_log_memtable_index.specs.Listing.{is_asked}
 
--- a value in Append, in a file up to the gate, moves to this file of Rewrite; any other stays
+-- the value of a key: one in Append, in a file up to the gate, moves to file `n` of Rewrite; any other is unchanged
 abbrev pub copied_value : ℕ → ℕ → Option KeyValue → Option KeyValue
 copied_value gate n None = None
 copied_value gate n (Some h) =
     if is_asked (Some gate) h then Some (record { bytes = h.bytes; appended = false; file = n }) else Some h
 
--- all values of a group in Append, in files up to the gate, move to this file of Rewrite; the others stay
+-- all values that the group has in Append, in files up to the gate, move to file `n` of Rewrite; the others are
+-- unchanged
 abbrev pub with_copied_values : ℕ → ℕ → Shown → Shown
 with_copied_values gate n v = record v { held = λ k. copied_value gate n (v.held k) }
 
--- the group's first `count` entries in Append are in Rewrite now, wherever they were written; nothing else of it
--- changed, and no other group
+-- the first `count` entries that the group had in Append are in Rewrite now, and nothing else changed in any group
 pub record Advances (group count : ℕ) (v w : ℕ → Shown) : Type 0 where
   pub others : (g : ℕ) → (group == g) ≡ false → w g ≡ v g
   pub places : List Place
   pub many : length places ≡ count
   pub moved : w group ≡ moved_run (v group) ((v group).first + (v group).rewritten) places
 
--- the group's values in Append, in files up to the gate, moved to a file of Rewrite; nothing else changed, in no
--- group
+-- The values that the group had in Append, in files up to the gate, moved to one file of Rewrite. Nothing else changed
+-- in any group.
 pub record MovesKeys (group gate : ℕ) (v w : ℕ → Shown) : Type 0 where
   pub others : (g : ℕ) → (group == g) ≡ false → w g ≡ v g
   pub file : ℕ
   pub moved : w group ≡ with_copied_values gate file (v group)
 
--- Nothing of the group is left in Append in files up to the gate. Its first entry there, if it has one, is in a later
+-- The group has nothing in files of Append up to the gate. Its first entry in Append, if it has one, is in a later
 -- file, and so is each value there.
 pub record IsRewrittenTo (gate : ℕ) (v : Shown) : Type 0 where
   pub entries : passing gate (drop v.rewritten v.places) ≡ 0
   pub values : (k : List ℕ) (h : KeyValue) → v.held k ≡ Some h → h.appended ≡ true → gate < h.file
 
--- the value stayed in its place; or it was in Append, in a file up to the gate, and is in Rewrite now
+-- the value is unchanged; or it was in Append, in a file up to the gate, and is in Rewrite now
 abbrev pub ValueMayMove : ℕ → Option KeyValue → Option KeyValue → Type 0
 ValueMayMove gate old new =
     (new ≡ old) ⊎ ((h : KeyValue) × (old ≡ Some h) × (is_asked (Some gate) h ≡ true)
     × ((n : ℕ) × (new ≡ Some (record { bytes = h.bytes; appended = false; file = n }))))
 
--- Some first entries and some values that the group had in Append, in files up to the gate, are in Rewrite now. All
--- else is unchanged, and the group owes the same tombstones.
+-- Some of the group's first entries in Append and some of its values there, in files up to the gate, are in Rewrite
+-- now. All else is unchanged, and so are the tombstones that the group owes.
 pub record IsPartlyRewritten (gate : ℕ) (v w : Shown) : Type 0 where
   pub first : w.first ≡ v.first
   pub all : length w.places ≡ length v.places

@@ -1,4 +1,4 @@
--- The owed tombstones as a batch, and calls that add none.
+-- The owed tombstones as a batch, and calls after which no more tombstones are owed.
 use Rattle.std.specs.Prelude.{◌≡◌, ℕ, true, false, List, [], ◌∷◌, ◌++◌}
 use Rattle.raft_log_record_items.specs.declared.entry.EntryIndex.{EntryIndex}
 use Rattle.raft_log_record_items.specs.declared.item.LogItem.{LogItem}
@@ -18,13 +18,13 @@ abbrev pub AreNoMarks : List LogItem → Type 0
 AreNoMarks [] = Unit {0}
 AreNoMarks (x ∷ xs) = (has_mark_key x ≡ false) × AreNoMarks xs
 
--- the batch is being filled, and says what these items say
+-- the batch is being filled, and its items say the same as `items`
 pub record SaysSame (items : List LogItem) (b : Batch) : Type 0 where
   pub state : b.state ≡ Filling
   pub plain : AreNoMarks b.items
   pub said : tagged_items {E = EntryIndex} (λ e. e) b.items ≡ tagged_items (λ e. e) items
 
--- one item was added that says what this one says
+-- one item was added to the batch, which says the same as `x`
 pub record AddsSame (old new : Batch) (x : LogItem) : Type 0 where
   pub added : LogItem
   pub items : new.items ≡ old.items ++ added ∷ []
@@ -34,30 +34,32 @@ pub record AddsSame (old new : Batch) (x : LogItem) : Type 0 where
   pub none : has_mark_key x ≡ false
   pub same : tagged {E = EntryIndex} (λ e. e) added ≡ tagged (λ e. e) x
 
--- the batch is being filled, has no entries, is no part of an atomic group, and says the tombstones that the groups
--- owe
+-- The batch is being filled, and has the tombstones that the groups owe, each of them once. It has no entries and no
+-- mark of an atomic group.
 pub record SaysMarks (v : ℕ → Shown) (b : Batch) : Type 0 where
   pub state : b.state ≡ Filling
   pub none : b.entries ≡ []
   pub plain : AreNoMarks b.items
   pub owed : (g : ℕ) → AreOwedAt (v g) (of_group g (tagged_items (λ e. e) b.items))
 
--- the group owes the same tombstones: the Clean, the Compact of the same index, and the same deletions
+-- the group owes the same tombstones in `w` as in `v`: the Clean, the Compact with its index, and the same deletions
 pub record OwesSame (v w : Shown) : Type 0 where
   pub cleaned : w.cleaned ≡ v.cleaned
   pub compact : owed_compact w ≡ owed_compact v
   pub deleted : w.deleted ≡ v.deleted
 
--- the group owes no tombstone that it didn't owe: no Clean, no Compact, and the deletion of no key
+-- the group owes no tombstone in `w` that it didn't owe in `v`: no Clean, no Compact, no deletion of a key; the
+-- Compact's index may differ
 pub record OwesNoMore (v w : Shown) : Type 0 where
   pub cleaned : w.cleaned ≡ true → v.cleaned ≡ true
   pub compacted : w.compacted ≡ true → v.compacted ≡ true
   pub deleted : (k : List ℕ) → w.deleted k ≡ true → v.deleted k ≡ true
 
--- this is true of each group
+-- no group owes a tombstone in the second tables that it didn't owe in the first
 abbrev pub OweNoMore : (ℕ → Shown) → (ℕ → Shown) → Type 0
 OweNoMore v w = (g : ℕ) → OwesNoMore (v g) (w g)
 
--- no tombstone is owed that wasn't: if all that were owed before are owed in `v`, all that are owed now are too
+-- The call added no owed tombstone: if `v` owes all that the tables owed before it, `v` owes all that they owe after
+-- it.
 abbrev pub AddsNoMarks : MemTables → MemTables → Type 0
 AddsNoMarks old new = (v : ℕ → Shown) → OweNoMore v (shown_of old) → OweNoMore v (shown_of new)

@@ -1,4 +1,4 @@
--- Room in the tables for entries that are to move to Rewrite.
+-- Room that the tables reserved for entries that are to move to Rewrite, so that applying a written record can't fail.
 use Rattle.std.specs.Prelude.{◌≡◌, ◌⊎◌, ◌++◌, ℕ, true, false, List, [], ◌∷◌, OnErr, Result}
 use Rattle.raft_log_record_items.specs.declared.entry.EntryIndex.{EntryIndex}
 use Rattle.raft_log_record_items.specs.declared.item.LogItem.{LogItem}
@@ -11,24 +11,24 @@ use Rattle.raft_log_memtables.specs.Rewriting.{entries_of}
 use Rattle.raft_log_purge_copy.specs.declared.parts.RestatedPart.{RestatedPart}
 use Rattle.raft_log_purge_copy.specs.GroupParts.{items_of_all}
 
--- No group is promised room for entries that are to move: what was promised for copies was used, or taken back.
+-- no table has room reserved for entries that are to move; what was reserved for copies was used, or released
 abbrev pub PromisesNoMoves : MemTables → Type 0
 PromisesNoMoves m = (g : ℕ) → (promise_of m g).moves ≡ 0
 
--- a call leaves no such promise, whether it succeeds or fails, unless it fails and the pipes have failed
+-- if no room was reserved for moves before the call, none is after it, unless the call failed and so have the pipes
 abbrev pub LeavesNoMoves : {A E : Type 0} → Result A E → LogPipes → MemTables → MemTables → Type 0
 LeavesNoMoves result w old new = OnErr result (is_failed w ≡ false) → PromisesNoMoves old → PromisesNoMoves new
 
--- each of the parts has an item of the group
+-- each of the parts has an item of group `g`
 abbrev pub AllMention : ℕ → List RestatedPart → Type 0
 AllMention g [] = Unit {0}
 AllMention g (x ∷ xs) = (mentions g x.items.items ≡ true) × AllMention g xs
 
--- the group has an item in each of the parts, and among these; or it has no entries in any of them
+-- group `g` has an item in each of the parts and among `items`; or it has no entries in any of them
 abbrev pub IsInAllOrNone : ℕ → List RestatedPart → List LogItem → Type 0
 IsInAllOrNone g parts items = (AllMention g parts × (mentions g items ≡ true))
     ⊎ (entries_of g (tagged_items {E = EntryIndex} (λ e. e) (items_of_all parts ++ items)) ≡ 0)
 
--- this is true of each group, for the parts that restate one group, followed by these items
+-- the parts and `items` restate one group: each group has items in all of them, or has no entries in any
 abbrev pub AreOfOne : List RestatedPart → List LogItem → Type 0
 AreOfOne parts items = (g : ℕ) → IsInAllOrNone g parts items

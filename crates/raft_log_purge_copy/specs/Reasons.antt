@@ -1,4 +1,4 @@
--- Why a part of a purge fails, by its error.
+-- Why a part of a purge fails. A comment that says *the error says why* means one of these reasons.
 use Rattle.std.specs.Prelude.{◌≡◌, ◌⊎◌, ℕ, false, List, [], Some}
 use Rattle.raft_log_model_laws.specs.Meaning.Slot.{Key}
 use Rattle.raft_log_model_laws.specs.Meaning.Content.{Value}
@@ -19,23 +19,24 @@ use Rattle.raft_log_engine_laws.specs.Fetching.{IsUntold}
 use Rattle.raft_log_purge_copy.specs.Entries.{as_bytes}
 use Rattle.raft_log_purge_copy.specs.Lengths.{HasLongGroup, OwesTooMuch}
 
--- one of the queues is at the last number that a file's name can have
+-- one of the queues has the last number that a file name can have
 abbrev pub EndsItsNumbers : LogPipes → Type 0
 EndsItsNumbers v = (which : Which) × HasLastNumber which v
 
--- the engine's log is this map, and the bytes of an entry that its tables show aren't read
+-- the engine's log has the contents `m`, and reading an entry that its tables show fails with `error`
 abbrev pub IsOneUnread : LogDirectories → LogMap → EngineState → Error → Type 0
 IsOneUnread home m t error =
     Represents home t m [] × (g : ℕ) × (i : ℕ) × IsUntold as_bytes g i t m error
 
--- the key of marks has a value in the group of marks, which would be a mark of an atomic group if it were written
+-- In the contents `m`, the key of marks has a value in group 0. If that were written, it would be a mark of an atomic
+-- group.
 abbrev pub HasMarkValue : LogMap → Type 0
 HasMarkValue m = (value : List ℕ) × (m 0 (Key mark_key) ≡ Some (Value value))
 
--- Rewrite failed to write a batch's record with this error, and nothing was done since. Its pipe gives the error by
--- its file calls.
--- - `Io`, `TryAgain`: the write failed, and what it left was truncated and synced
--- - `Io`: the file system's error kind, any but lack of space
+-- An append of a batch's record to Rewrite failed with `error`, and was the last step. The error comes from the pipe's
+-- file system calls:
+-- - `Io`, `TryAgain`: the write failed, and what it had written was truncated, and the rest synced
+-- - `Io`: the error kind of the file system, any but lack of space
 -- - `TryAgain`: lack of space, and the pipe rotated
 pub record RecordIsRefused (error : Error) (s t : EngineState) : Type 0 where
   pub before : LogPipes
@@ -44,15 +45,15 @@ pub record RecordIsRefused (error : Error) (s t : EngineState) : Type 0 where
   pub alive : is_failed before ≡ false
   pub call : PipeFailsToAppend InRewrite (signed_for batch) error before t.pipes
 
--- a file call failed, and so a record wasn't written
+-- a file system call failed, and so a record wasn't written
 abbrev pub FailsAtARecord : Error → EngineState → EngineState → Type 0
 FailsAtARecord error s t = Fails s.pipes.disk t.pipes.disk × RecordIsRefused error s t
 
--- Why a part failed, if the engine's log is this map:
--- - `Io`: a record wasn't written, or an entry isn't read
+-- Why a part of a purge failed, if the log's contents are `m`:
+-- - `Io`: a record wasn't written, or an entry can't be read
 -- - `TryAgain`: a record wasn't written
--- - `Failed`: a file call failed
--- - `NumberRange`: a queue is at its last number
+-- - `Failed`: a file system call failed
+-- - `NumberRange`: a queue has the last number that a file name can have
 -- - `Full`: a record of what one group has would be too long
 -- - `InvalidArgument`: a value would be a mark of an atomic group
 -- - `Memory`: memory ran out
@@ -68,24 +69,24 @@ HasReason home m (errors.InvalidArgument text) s t = HasMarkValue m
 HasReason home m errors.Memory s t = Unit {0}
 HasReason home m _ s t = ⊥
 
--- the error has its reason, if the log's map was held with nothing pending
+-- if the log had the contents `m` with nothing pending, `error` has one of the reasons in `HasReason`
 abbrev pub GivesReason : Error → EngineState → EngineState → Type 0
 GivesReason error s t = (home : LogDirectories) (m : LogMap) → Represents home s m [] → HasReason home m error s t
 
--- Why a purge that writes the owed tombstones failed: for a reason of any part; or the record of these tombstones
--- would be too long.
+-- Why a purge that writes the owed tombstones failed: for a reason that any part may have, or because the record of
+-- these tombstones would be too long.
 abbrev pub HasPurgeReason : LogDirectories → LogMap → Error → EngineState → EngineState → Type 0
 HasPurgeReason home m error s t = HasReason home m error s t ⊎ ((error ≡ errors.Full) × OwesTooMuch s.tables)
 
--- Why a queue doesn't rotate, or files don't go: a file call failed, there is no next number, or memory ran out. This
--- makes no record, and reads none.
+-- Why a queue doesn't rotate, or its files don't leave the live range. `Failed`: a file system call failed.
+-- `NumberRange`: a queue has the last file number. `Memory`: memory ran out.
 abbrev pub HasFileReason : Error → EngineState → EngineState → Type 0
 HasFileReason errors.Failed s t = Fails s.pipes.disk t.pipes.disk
 HasFileReason errors.NumberRange s t = EndsItsNumbers t.pipes
 HasFileReason errors.Memory s t = Unit {0}
 HasFileReason _ s t = ⊥
 
--- A reason of a later part is one of the whole: what came before takes no cause away.
+-- The reason why a later part failed is also one of the whole purge: the earlier steps don't remove the cause.
 abbrev pub LaterReasonsAreReasons : Type 0
 LaterReasonsAreReasons = (home : LogDirectories) (m : LogMap) (error : Error) (s t u : EngineState)
     → IsLater s.pipes.disk t.pipes.disk → HasReason home m error t u → HasReason home m error s u

@@ -1,4 +1,4 @@
--- A record is written to Rewrite, after a sync if one is due.
+-- A batch's record is written to Rewrite, after a sync if one is due.
 use Rattle.std.specs.Prelude.{◌≡◌, ◌⊎◌, ◌↔◌, IsTrue, false, List}
 use Rattle.raft_log_fs.specs.Causes.{IsLater}
 use Rattle.raft_log_record_base.specs.declared.errors.Error.{Error}
@@ -17,7 +17,8 @@ use Rattle.raft_log_engine_laws.specs.EngineState.{IsLaidOut}
 use Rattle.raft_log_purge_copy.specs.Refusals.{IsUnrecorded}
 use Rattle.raft_log_purge_copy.specs.Syncing.{MaySync}
 
--- The batch's record was written to Rewrite, perhaps after a sync: these are its items there.
+-- The batch's record was written to Rewrite at `block`, perhaps after a sync. `items` are the batch's items with the
+-- locations of their entries there.
 pub record WritesToRewrite (b : Batch) (block : FileBlockHandle) (items : List LogItem) (v w : LogPipes)
     : Type 0 where
   pub synced : LogPipes
@@ -29,7 +30,7 @@ pub record WritesToRewrite (b : Batch) (block : FileBlockHandle) (items : List L
   pub alive : is_failed w ≡ false
   pub later : IsLater v.disk w.disk
 
--- Rewrite failed to write the record, perhaps after a sync
+-- an append of the batch's record to Rewrite failed, perhaps after a sync
 pub record RefusesRecord (b : Batch) (error : Error) (v w : LogPipes) : Type 0 where
   pub synced : LogPipes
   pub syncs : MaySync v synced
@@ -40,16 +41,16 @@ pub record RefusesRecord (b : Batch) (error : Error) (v w : LogPipes) : Type 0 w
   pub told : PipeFailsToAppend InRewrite (signed_for b) error synced w
   pub before : IsLater v.disk synced.disk
 
--- why a batch's record wasn't written:
--- - it can't be made: it would be too long, or memory ran out
--- - the sync failed
+-- Why the batch's record wasn't written:
+-- - it can't be encoded: it would be too long, or memory ran out
+-- - the sync before the write failed
 -- - the write failed
 abbrev pub IsUnwritten : Batch → Error → LogPipes → LogPipes → Type 0
 IsUnwritten b error v w = (IsUnrecorded b error × (w ≡ v))
     ⊎ (((error ≡ errors.Failed) × FailsToSyncQueue InRewrite v w)
     ⊎ RefusesRecord b error v w)
 
--- a batch's record wasn't written: the pipes have failed now exactly if the error is `Failed`
+-- the batch's record wasn't written; the pipes have failed now exactly if the error is `Failed`
 pub record FailsToWriteRecord (b : Batch) (error : Error) (v w : LogPipes) : Type 0 where
   pub why : IsUnwritten b error v w
   pub tells : is_failed v ≡ false → IsTrue (is_failed w) ↔ (error ≡ errors.Failed)

@@ -1,4 +1,4 @@
--- Groups are restated: all that they have in Rewrite is written there again.
+-- Groups are restated: all that they have in Rewrite is written to new records of Rewrite.
 use Rattle.std.specs.Prelude.{◌≡◌, ◌⊎◌, ◌↔◌, ◌<◌, ◌≤◌, ◌==◌, IsTrue, ℕ, Bool, true, false, List, [], ◌∷◌, Option, Some, None, take}
 use Rattle.std.specs.List.{list_any}
 use Rattle.raft_log_fs.specs.Causes.{IsLater}
@@ -15,19 +15,20 @@ use Rattle.raft_log_purge_copy.specs.Owed.{OwesSame}
 use Rattle.raft_log_purge_copy.specs.Reasons.{GivesReason}
 use Rattle.raft_log_purge_copy.specs.Stale.{written_file}
 
--- the places are in files from that one on
+-- each of these locations is in file `n` or a later one
 abbrev pub LieFrom : ℕ → List Place → Type 0
 LieFrom n [] = Unit {0}
 LieFrom n (p ∷ ps) = (n ≤ p.file) × LieFrom n ps
 
--- the noted files of atomic groups begin no earlier than that file
+-- the files noted for atomic groups, if any, begin at file `n` or later
 abbrev pub IsNotedFrom : ℕ → Option GroupFiles → Type 0
 IsNotedFrom n None = Unit {0}
 IsNotedFrom n (Some files) = n ≤ files.from
 
--- All that the group has in Rewrite is in files from this one on: its entries and its values.
--- - The noted files begin no earlier than before, or than this file.
--- - If they began past an earlier file, or ended at or before it, they still do.
+-- From `v` to `w` the group was restated: all entries and values that it has in Rewrite are in file `n` and later
+-- ones.
+-- - The files noted for atomic groups begin no earlier than the lower of `n` and where they began before.
+-- - If they began past a file below `n`, or ended at or before it, they still do.
 -- - The group owes the same tombstones.
 pub record IsRestatedFrom (n : ℕ) (v w : Shown) : Type 0 where
   pub entries : LieFrom n (take w.rewritten w.places)
@@ -36,21 +37,22 @@ pub record IsRestatedFrom (n : ℕ) (v w : Shown) : Type 0 where
   pub past : (k : ℕ) → k < n → ArePast k v.noted → ArePast k w.noted
   pub owes : OwesSame v w
 
--- the active file of Rewrite
+-- the number of Rewrite's active file
 abbrev pub last_file : EngineState → ℕ
 last_file s = written_file Rewrite s.pipes
 
--- if the log's map was held with nothing pending, it still is
+-- if the log had the contents `m` with nothing pending, it still has them
 abbrev pub StaysHeld : EngineState → EngineState → Type 0
 StaysHeld s t = (home : LogDirectories) (m : LogMap) → Represents home s m [] → Represents home t m []
 
--- if the log's map was held with nothing pending, it still is; or the engine has failed, and left its log on the disk
+-- Let the log have the contents `m`, with nothing pending. It still has them; or the engine has failed, and its files
+-- can be opened with them.
 abbrev pub StaysOrIsLeft : Error → EngineState → EngineState → Type 0
 StaysOrIsLeft error s t = (home : LogDirectories) (m : LogMap) → Represents home s m []
     → Represents home t m [] ⊎ ((error ≡ errors.Failed) × IsRecoverableAs home t.pipes.disk m [])
 
--- Each group that passes the test was restated: all that it has in Rewrite is in the file active at the start, or in
--- later ones. Other groups are unchanged.
+-- Each group that passes the test was restated: all that it has in Rewrite is in the file that was active at the
+-- start, or in later ones. Other groups are unchanged.
 pub record Restates (test : ℕ → Bool) (s t : EngineState) : Type 0 where
   pub others : (g : ℕ) → test g ≡ false → t.tables g ≡ s.tables g
   pub counts : t.counts ≡ s.counts
@@ -61,11 +63,11 @@ pub record Restates (test : ℕ → Bool) (s t : EngineState) : Type 0 where
   pub from : (home : LogDirectories) (m : LogMap) → Represents home s m [] → (g : ℕ) → test g ≡ true
       → IsRestatedFrom (last_file s) (s.tables g) (t.tables g)
 
--- one group was restated
+-- this one group was restated
 abbrev pub RestatesOne : ℕ → EngineState → EngineState → Type 0
 RestatesOne group s t = Restates (λ g. group == g) s t
 
--- Groups weren't restated, and why: the tables are unchanged.
+-- Restating failed, and the tables are unchanged. The error says why.
 pub record FailsToRestate (error : Error) (s t : EngineState) : Type 0 where
   pub same : t ≡ record s { pipes = t.pipes; cache = t.cache }
   pub tells : has_failed s ≡ false → IsTrue (has_failed t) ↔ (error ≡ errors.Failed)
@@ -77,7 +79,7 @@ pub record FailsToRestate (error : Error) (s t : EngineState) : Type 0 where
 abbrev pub RestatesEach : List ℕ → EngineState → EngineState → Type 0
 RestatesEach groups s t = Restates (λ g. list_any (λ k. k == g) groups) s t
 
--- not all of these groups were restated, and why
+-- Not all of these groups were restated, and other groups are unchanged. The error says why.
 pub record StopsRestating (groups : List ℕ) (error : Error) (s t : EngineState) : Type 0 where
   pub others : (g : ℕ) → list_any (λ k. k == g) groups ≡ false → t.tables g ≡ s.tables g
   pub counts : t.counts ≡ s.counts

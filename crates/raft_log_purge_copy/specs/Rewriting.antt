@@ -1,4 +1,4 @@
--- A group's entries in Append are copied, as many at once as a batch may have.
+-- Entries that a group has in Append are copied to Rewrite, batch after batch.
 use Rattle.std.specs.Prelude.{◌≡◌, ◌⊎◌, ◌↔◌, IsTrue, ℕ, Bool, true, false, List, [], Some, length}
 use Rattle.raft_log_fs.specs.Causes.{IsLater}
 use Rattle.raft_log_record_base.specs.declared.errors.Error.{Error}
@@ -15,22 +15,22 @@ use Rattle.raft_log_purge_copy.specs.Entries.{AreNext, IsRunBatch}
 use Rattle.raft_log_purge_copy.specs.Moving.{Advances}
 use Rattle.raft_log_purge_copy.specs.Reasons.{GivesReason}
 
--- no group owes a tombstone
+-- no group owes a tombstone to Rewrite
 abbrev pub OweNothing : (ℕ → Shown) → Type 0
 OweNothing v = (g : ℕ) → OwesNothing (whereabouts (v g))
 
--- if the log's map was held with nothing pending and no tombstone owed, it still is held
+-- if the log had the contents `m` with nothing pending and no tombstone owed, it still has them
 abbrev pub StaysHeld : EngineState → EngineState → Type 0
 StaysHeld s t = OweNothing s.tables → (home : LogDirectories) (m : LogMap) → Represents home s m [] → Represents home t m []
 
--- if the log's map was held with nothing pending and no tombstone owed, it still is; or the failed engine left its
--- log on the disk
+-- Let the log have the contents `m`, with nothing pending and no tombstone owed. It still has them; or the engine has
+-- failed, and its files can be opened with them.
 abbrev pub StaysOrIsLeft : Error → EngineState → EngineState → Type 0
 StaysOrIsLeft error s t = OweNothing s.tables → (home : LogDirectories) (m : LogMap) → Represents home s m []
     → Represents home t m [] ⊎ ((error ≡ errors.Failed) × IsRecoverableAs home t.pipes.disk m [])
 
--- The group's first entries in Append, at least one and all in files up to the gate, were copied, and are in Rewrite
--- now. Nothing else changed in the tables.
+-- The first entries that the group has in Append, at least one and all in files up to the gate, were copied to
+-- Rewrite. Nothing else changed in the tables.
 pub record CopiesEntries (group gate : ℕ) (s t : EngineState) : Type 0 where
   pub entries : List EntryIndex
   pub next : AreNext gate (s.tables group) entries
@@ -42,13 +42,13 @@ pub record CopiesEntries (group gate : ℕ) (s t : EngineState) : Type 0 where
   pub advances : Advances group (length entries) s.tables t.tables
   pub holds : StaysHeld s t
 
--- the group's first entries in Append, all in files up to the gate, were copied; or there were none, and nothing was
--- done
+-- the first entries that the group has in Append, in files up to the gate, were copied; or there were none, and
+-- nothing was done
 abbrev pub CopiesIfAny : ℕ → ℕ → Bool → EngineState → EngineState → Type 0
 CopiesIfAny group gate true s t = CopiesEntries group gate s t
 CopiesIfAny group gate false s t = (t ≡ s) × AreNext gate (s.tables group) []
 
--- The group's entries weren't copied, and why: the tables are unchanged.
+-- The group's entries weren't copied, and the tables are unchanged. The error says why.
 pub record FailsToCopyEntries (error : Error) (s t : EngineState) : Type 0 where
   pub same : t ≡ record s { pipes = t.pipes; cache = t.cache }
   pub tells : has_failed s ≡ false → IsTrue (has_failed t) ↔ (error ≡ errors.Failed)

@@ -1,4 +1,5 @@
--- Both queues lose all files that have nothing in use.
+-- A purge of all stale files: each queue rotates. Then all its files below the lowest in which a group has an entry or
+-- value leave its live range.
 use Rattle.std.specs.Prelude.{◌≡◌, ◌↔◌, ◌⊎◌, IsTrue, ℕ, List, false}
 use Rattle.raft_log_model_laws.specs.Groups.{taken}
 use Rattle.raft_log_fs.specs.Causes.{IsLater}
@@ -19,11 +20,12 @@ use Rattle.raft_log_purge_copy.specs.Marks.{CarriesMarks}
 use Rattle.raft_log_purge_copy.specs.Files.{LosesFiles, MayLoseFiles}
 use Rattle.raft_log_purge_copy.specs.Reasons.{HasFileReason, HasPurgeReason}
 
--- the number of a queue's active file
+-- the number of the active file of a queue
 abbrev pub written_file : LogQueue → LogPipes → ℕ
 written_file queue v = (pipe_at (which_of queue) (files_of v)).active.seq
 
--- A queue rotated, and then lost the files before that aren't in use. A settled log stays settled, with its map.
+-- The queue rotated. Then the files before the new active one left its live range, up to the lowest in which any group
+-- has an entry or value. A log with nothing pending keeps its contents, for Append only if no tombstone is owed.
 pub record TurnsAndLoses (queue : LogQueue) (m : MemTables) (count : ℕ) (s t : EngineState) : Type 0 where
   pub turned : LogPipes
   pub turns : RotatesQueue (which_of queue) s.pipes turned
@@ -33,8 +35,8 @@ pub record TurnsAndLoses (queue : LogQueue) (m : MemTables) (count : ℕ) (s t :
   pub keeps : (home : LogDirectories) (log : LogMap) → HoldsSettled home s log
       → MayLoseFiles (which_of queue) s.tables → HoldsSettled home t log
 
--- A queue didn't rotate and lose files, and why. The log keeps its map; or the engine has failed, and left it on the
--- disk.
+-- The queue's rotation failed, or its files failed to leave the live range; the error says why. A log with nothing
+-- pending keeps its contents; if the engine has failed, its files can be opened with them.
 pub record FailsToTurn (queue : LogQueue) (error : Error) (s t : EngineState) : Type 0 where
   pub tells : has_failed s ≡ false → IsTrue (has_failed t) ↔ (error ≡ errors.Failed)
   pub later : IsLater s.pipes.disk t.pipes.disk
@@ -42,8 +44,9 @@ pub record FailsToTurn (queue : LogQueue) (error : Error) (s t : EngineState) : 
       → MayLoseFiles (which_of queue) s.tables → Remains home log t error
   pub cause : (home : LogDirectories) (log : LogMap) → HoldsSettled home s log → HasFileReason error s t
 
--- All stale files are purged. Append was synced, then the owed tombstones were written. Then each queue rotated and
--- lost the files before that aren't in use, Rewrite first. The map is kept, and nothing is pending.
+-- All stale files were purged. Append was synced, and the owed tombstones were written to Rewrite. Then each queue,
+-- Rewrite first, rotated and lost the files below the lowest in which a group has an entry or value. The log has the
+-- same contents, and nothing is pending in either queue.
 pub record PurgesAllStale (m : MemTables) (s t : EngineState) : Type 0 where
   pub synced : LogPipes
   pub syncs : SyncsQueue InAppend s.pipes synced
@@ -59,8 +62,8 @@ pub record PurgesAllStale (m : MemTables) (s t : EngineState) : Type 0 where
   pub settles : (home : LogDirectories) (log : LogMap) (pending : List LogRecordValue) → Represents home s log pending
       → HoldsSettled home t (taken log pending)
 
--- A purge of all stale files failed, and why. The map is kept; or the engine has failed, and left its log on the
--- disk, with the batches in the map or still pending.
+-- A purge of all stale files failed, and the error says why. The log has the same contents. If the engine has failed,
+-- its files can be opened, with the batches that were pending now durable or still pending.
 pub record FailsToPurgeAll (error : Error) (s t : EngineState) : Type 0 where
   pub tells : has_failed s ≡ false → IsTrue (has_failed t) ↔ (error ≡ errors.Failed)
   pub later : IsLater s.pipes.disk t.pipes.disk

@@ -1,4 +1,4 @@
--- What each call does to the parts of an atomic group.
+-- The steps by which a group's entries and keys in Rewrite are restated as an atomic group.
 use Rattle.std.specs.Prelude.{◌≡◌, ◌+◌, ◌<◌, ℕ, List, [], ◌∷◌, length, take, drop}
 use Rattle.raft_log_record_base.specs.declared.errors.Error.{Error}
 use Rattle.raft_log_record_items.specs.declared.entry.EntryIndex.{EntryIndex}
@@ -18,39 +18,40 @@ use Rattle.raft_log_purge_copy.specs.Lengths.{AreOnePiece}
 use Rattle.raft_log_purge_copy.specs.Pieces.{MakeOnePiece}
 use Rattle.raft_log_purge_copy.specs.Restated.{FailsToRestate}
 
--- An atomic group was begun with a part that says the first `count` rewritten entries of a group, whatever the
--- tables.
+-- An atomic group was begun with one part, which has the first `count` of the entries that group `g` has in Rewrite.
+-- This holds for all tables in which these entries are `es`.
 abbrev pub BeginsParts : ℕ → ℕ → List EntryIndex → ℕ → RestatedPart → LogPipes → BlockCache → LogPipes
     → BlockCache → Type 0
 BeginsParts g number es count part v old w new = (m : MemTables)
     → es ≡ rewritten_entries ((shows v m old).tables g)
     → HasParts g number count (part ∷ []) (shows v m old) (shows w m new)
 
--- an atomic group wasn't begun for a group's rewritten entries, if the first `count` make one record: the group isn't
--- restated
+-- No atomic group was begun for the entries that group `g` has in Rewrite, so the group isn't restated. The first
+-- `count` of them must fit in one record.
 abbrev pub FailsToBeginGroup : ℕ → List EntryIndex → ℕ → Error → LogPipes → BlockCache → LogPipes → BlockCache
     → Type 0
 FailsToBeginGroup g es count error v old w new = (m : MemTables)
     → es ≡ rewritten_entries ((shows v m old).tables g) → MakeOnePiece (take count es)
     → FailsToRestate error (shows v m old) (shows w m new)
 
--- the atomic group was open with parts that cover `before` entries; it is now open with parts that cover `after`
+-- The atomic group was open with parts that have the first `before` of the entries `es`. It is open now with parts
+-- that have the first `after` of them.
 abbrev pub GoesOnInGroup : ℕ → ℕ → List EntryIndex → ℕ → ℕ → List RestatedPart → List RestatedPart → LogPipes
     → BlockCache → LogPipes → BlockCache → Type 0
 GoesOnInGroup g number es before after old_parts new_parts v old w new = (m : MemTables) (s : EngineState)
     → es ≡ rewritten_entries (s.tables g) → HasParts g number before old_parts s (shows v m old)
     → HasParts g number after new_parts s (shows w m new)
 
--- the atomic group that was open with these parts isn't continued, and is given up
+-- the atomic group that was open with these parts isn't continued, so it is given up, and group `g` isn't restated
 abbrev pub GivesUp : ℕ → ℕ → List EntryIndex → ℕ → List RestatedPart → Error → LogPipes → BlockCache → LogPipes
     → BlockCache → Type 0
 GivesUp g number es before parts error v old w new = (m : MemTables) (s : EngineState)
     → es ≡ rewritten_entries (s.tables g) → HasParts g number before parts s (shows v m old)
     → FailsToRestate error s (shows w m new)
 
--- the atomic group that was open with these parts isn't ended, and is given up, if:
--- - the entries that are left make one record
--- - these are the keys that the group has in Rewrite
+-- the atomic group that was open with these parts isn't ended, so it is given up, and group `g` isn't restated, if:
+-- - the remaining entries fit in one record
+-- - `pairs` are the keys that group `g` has in Rewrite, with their values
 abbrev pub GivesUpLast : ℕ → ℕ → List EntryIndex → ℕ → List RestatedPart → List (List ℕ × List ℕ) → Error
     → LogPipes → BlockCache → BlockCache → Type 0
 GivesUpLast g number es done parts pairs error v old new = (m : MemTables) (s : EngineState)
@@ -58,8 +59,8 @@ GivesUpLast g number es done parts pairs error v old new = (m : MemTables) (s : 
     → ListsAll (rewritten_values (s.tables g)) pairs → HasParts g number done parts s (shows v m old)
     → FailsToRestate error s (shows v m new)
 
--- The batch ends an atomic group. It says a group's rewritten entries from there on, at least one, and all its
--- rewritten keys with their values.
+-- The batch may end atomic group `number`. It has the remaining entries that group `g` has in Rewrite after the first
+-- `done`, at least one. It also has all keys that the group has there, with their values.
 pub record IsLastPart (g number done : ℕ) (pairs : List (List ℕ × List ℕ)) (b : Batch) (s : EngineState) : Type 0 where
   pub bytes : List (List ℕ)
   pub is : IsMarkedPiece g ((s.tables g).first + done) number End bytes pairs b
@@ -69,7 +70,7 @@ pub record IsLastPart (g number done : ℕ) (pairs : List (List ℕ × List ℕ)
   pub says : (home : LogDirectories) (m : LogMap) → Represents home s m []
       → AreEntryBytes m g ((s.tables g).first + done) bytes
 
--- a batch was made that ends an atomic group; the group is still open with these parts
+-- a batch was made that may end the atomic group, which is still open with the same parts
 abbrev pub MakesLast : ℕ → ℕ → List EntryIndex → ℕ → List RestatedPart → List (List ℕ × List ℕ) → Batch
     → LogPipes → BlockCache → BlockCache → Type 0
 MakesLast g number es done parts pairs b v old new = (m : MemTables) (s : EngineState)

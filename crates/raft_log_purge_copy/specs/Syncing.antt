@@ -1,4 +1,4 @@
--- Rewrite is synced when that is due.
+-- How often a purge syncs Rewrite while it writes records there.
 use Rattle.std.specs.Prelude.{◌≡◌, ◌+◌, ◌-◌, ◌^◌, ◌<◌, ◌≤◌, ◌⊎◌, ℕ, List, [], ◌∷◌, false, if◌then◌else◌, min, nat_lt}
 use Rattle.raft_log_machine_laws.specs.Calls.Which.{InRewrite}
 use Rattle.raft_log_record_base.specs.declared.pipe_log.FileBlockHandle.{FileBlockHandle}
@@ -12,48 +12,50 @@ use Rattle.raft_log_purge_copy.specs.Lengths.{HasOnePiece}
 abbrev pub MaySync : LogPipes → LogPipes → Type 0
 MaySync v w = (w ≡ v) ⊎ SyncsQueue InRewrite v w
 
--- pipes that hadn't failed still haven't
+-- if the pipes hadn't failed in `v`, they haven't in `w`
 abbrev pub StaysAlive : LogPipes → LogPipes → Type 0
 StaysAlive v w = is_failed v ≡ false → is_failed w ≡ false
 
--- after so many bytes of unsynced records, Rewrite is synced before the next record is written
+-- after this many bytes of unsynced records, Rewrite is synced before the next record is written
 abbrev pub max_unsynced : ℕ
 max_unsynced = 524288
 
--- If so many bytes or more were written to Rewrite since its last sync, it was synced, and none is unsynced now. Else
--- nothing was done.
+-- If 512 KiB or more were written to Rewrite since its last sync, it was synced, and the count is 0. Else nothing was
+-- done.
 abbrev pub SyncsIfDue : ℕ → ℕ → LogPipes → LogPipes → Type 0
 SyncsIfDue old new v w = ((old < max_unsynced) × (new ≡ old) × (w ≡ v))
     ⊎ ((max_unsynced ≤ old) × (new ≡ 0) × SyncsQueue InRewrite v w)
 
--- how many bytes of Rewrite are unsynced after a sync that is due
+-- how many bytes of Rewrite are unsynced after a sync if one was due
 abbrev pub left_unsynced : ℕ → ℕ
 left_unsynced old = if nat_lt old max_unsynced then old else 0
 
--- how many bytes of Rewrite are unsynced after the record of a batch, added to those left
+-- `new` is the count of unsynced bytes after the batch's record was written. Before, it was `old`, and Rewrite was
+-- synced if that was due.
 abbrev pub CountsRecord : Batch → ℕ → ℕ → Type 0
 CountsRecord b old new = (len : ℕ) × IsReadyForEach len b.items b.entries
     × (new ≡ min (left_unsynced old + len) (2 ^ 64 - 1))
 
--- Rewrite has the record of a batch
+-- the batch's record was written to Rewrite
 abbrev pub TakesRecord : Batch → LogPipes → LogPipes → Type 0
 TakesRecord b v w = (block : FileBlockHandle) × AppendsTo InRewrite (signed_for b) block v w
 
--- One record was written to Rewrite. Before it, Rewrite was synced exactly if that was due by the count of bytes
--- since the last sync. After it, its bytes count too.
+-- One record was written to Rewrite. Before it, Rewrite was synced exactly if that was due by the count of unsynced
+-- bytes. Then the record's bytes were added to the count.
 pub record WritesOne (b : Batch) (old new : ℕ) (v w : LogPipes) : Type 0 where
   pub synced : LogPipes
   pub syncs : SyncsIfDue old (left_unsynced old) v synced
   pub took : TakesRecord b synced w
   pub counted : CountsRecord b old new
 
--- copies were written to Rewrite as one record, if there are any, and then count
+-- a batch of copies was written to Rewrite as one record and its bytes were counted; or the batch is empty, and
+-- nothing was done
 abbrev pub CountsCopies : Batch → ℕ → ℕ → LogPipes → LogPipes → Type 0
 CountsCopies b old new v w = ((b.items ≡ []) × (new ≡ old) × (w ≡ v))
     ⊎ ((b.items ≡ [] → ⊥) × WritesOne b old new v w)
 
 -- The records of these batches were written to Rewrite, one after another. Each has at most 131,072 bytes of entries,
--- or a single entry. Each continues the count of the one before.
+-- or a single entry. Each continues the count of unsynced bytes.
 abbrev pub WritesInTurn : List Batch → ℕ → ℕ → LogPipes → LogPipes → Type 0
 WritesInTurn [] old new v w = (new ≡ old) × (w ≡ v)
 WritesInTurn (b ∷ bs) old new v w =
@@ -64,6 +66,6 @@ WritesInTurn (b ∷ bs) old new v w =
 abbrev pub HandsCountOn : ℕ → ℕ → LogPipes → LogPipes → Type 0
 HandsCountOn old new v w = (bs : List Batch) × WritesInTurn bs old new v w
 
--- records were written to Rewrite, one after another, and the count starts at 0
+-- records were written to Rewrite, one after another, and the count of unsynced bytes started at 0
 abbrev pub CountsEach : LogPipes → LogPipes → Type 0
 CountsEach v w = (count : ℕ) × HandsCountOn 0 count v w

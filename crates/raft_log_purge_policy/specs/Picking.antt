@@ -1,4 +1,5 @@
--- The groups that a purge of Append picks, and in how many purges in a row each was asked to be compacted.
+-- Which groups a purge of Append picks: those that the caller is asked to compact, and those that the purge rewrites
+-- itself.
 use Rattle.std.specs.Prelude.{◌≡◌, ℕ, Bool, false, ◌&&◌, ◌||◌, nat_lt, List, Option, Some, None, unwrap_or}
 use Rattle.std.specs.BTreeMap.{get}
 use Rattle.std.specs.List.{filter}
@@ -12,53 +13,54 @@ use Rattle.raft_log_purge_policy.specs.declared.watermarks.Watermarks.{Watermark
 use Rattle.raft_log_purge_policy.specs.declared.rounds.Rounds.{Rounds}
 use Rattle.raft_log_purge_policy.specs.Rules.{asks, rewrites}
 
--- in how many purges in a row a group was asked
+-- in how many purges in a row the caller was asked to compact group `g`
 abbrev pub count_of : Rounds → ℕ → ℕ
 count_of rounds g = unwrap_or (get nat_cmp rounds.counts g) 0
 
--- a group with this table, if it has one, is asked to be compacted
+-- whether the caller is asked to compact the group with this table; not if it has no table
 abbrev pub asks_in : Watermarks → Option Raw → Bool
 asks_in marks None = false
 asks_in marks (Some t) = asks marks t
 
--- a group with this table, if it has one, is rewritten, if it was asked in so many purges in a row before
+-- whether the group with this table is rewritten, if `rounds` purges in a row asked for it before; not if it has no
+-- table
 abbrev pub rewrites_in : Watermarks → ℕ → Option Raw → Bool
 rewrites_in marks rounds None = false
 rewrites_in marks rounds (Some t) = rewrites marks rounds t
 
--- a group is asked to be compacted
+-- whether the caller is asked to compact group `g`
 abbrev pub asks_at : Watermarks → MemTables → ℕ → Bool
 asks_at marks m g = asks_in marks (raw_of m g)
 
--- a group is rewritten
+-- whether group `g` is rewritten; `counts` says in how many purges in a row each group was asked for before
 abbrev pub rewrites_at : Watermarks → (ℕ → ℕ) → MemTables → ℕ → Bool
 rewrites_at marks counts m g = rewrites_in marks (counts g) (raw_of m g)
 
--- a group with this table is asked to be compacted, if Append is purged up to watermarks
+-- whether the caller is asked to compact the group with this table; not if there are no watermarks, as Append isn't
+-- purged
 abbrev pub asks_by : Option Watermarks → Raw → Bool
 asks_by None t = false
 asks_by (Some marks) t = asks marks t
 
--- a group with this table, if it has one, is returned to the purge's caller, if:
--- - it is asked to be compacted
--- - or Rewrite was rewritten, and it has more than 32 entries there
+-- Whether the group with this table is returned to the purge's caller. It is if the caller is asked to compact it, or
+-- if Rewrite was rewritten and the group has more than 32 entries there.
 abbrev pub answers_in : Option Watermarks → Bool → Option Raw → Bool
 answers_in marks restated None = false
 answers_in marks restated (Some t) = asks_by marks t || (restated && nat_lt 32 (shown t).rewritten)
 
--- a group is returned to the purge's caller
+-- whether group `g` is returned to the purge's caller
 abbrev pub answers_at : Option Watermarks → Bool → MemTables → ℕ → Bool
 answers_at marks restated m g = answers_in marks restated (raw_of m g)
 
--- these are the groups that a purge of Append picks up to these watermarks, by how many purges in a row asked each
--- before
+-- `picked` lists the groups that a purge of Append up to these watermarks picks. `counts` says in how many purges in a
+-- row each group was asked for before; `restated` says whether Rewrite was rewritten.
 pub record ListsPicked (marks : Watermarks) (counts : ℕ → ℕ) (restated : Bool) (m : MemTables) (picked : GroupLists)
     : Type 0 where
   pub asked : ListsGroups (asks_at marks m) picked.asked.items
   pub rewritten : ListsGroups (rewrites_at marks counts m) picked.rewritten.items
   pub answered : ListsGroups (answers_at (Some marks) restated m) picked.answered.items
 
--- these of the groups are picked, in their order
+-- `picked` lists those of `groups` that the purge picks, in the order of `groups`
 pub record PicksOf (marks : Watermarks) (counts : ℕ → ℕ) (restated : Bool) (m : MemTables) (groups : List ℕ)
     (picked : GroupLists) : Type 0 where
   pub asked : picked.asked.items ≡ filter (asks_at marks m) groups

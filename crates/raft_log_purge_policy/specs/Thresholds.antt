@@ -1,8 +1,8 @@
--- The sizes from which on a purge collects a queue.
+-- The sizes of the queues above which a purge collects garbage.
 use Rattle.raft_log_file_settings.specs.Settings.{Settings}
 use Rattle.raft_log_purge_policy.specs.declared.thresholds.Thresholds.{Thresholds}
 
--- the thresholds in these settings
+-- the thresholds that these settings have
 abbrev pub thresholds_of : Settings → Thresholds
 thresholds_of s = record {
   append = s.purge_threshold;

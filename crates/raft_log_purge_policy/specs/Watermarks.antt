@@ -1,4 +1,4 @@
--- Which queues a purge collects, and how far.
+-- Which queues a purge collects, and up to which file.
 use Rattle.std.specs.Prelude.{◌≡◌, ◌⊎◌, ℕ, ◌*◌, ◌-◌, ◌<◌, min, Some}
 use Rattle.raft_log_machine_laws.specs.Calls.{Which}
 use Rattle.raft_log_machine_laws.specs.Calls.Which.{InAppend, InRewrite}
@@ -10,35 +10,36 @@ use Rattle.raft_log_purge_policy.specs.declared.thresholds.Thresholds.{Threshold
 use Rattle.raft_log_purge_policy.specs.declared.watermarks.Watermarks.{Watermarks}
 use Rattle.raft_log_dual_pipes.specs.LastFile.{last_of}
 
--- the number of the first file in a queue's live range
+-- the number of the first file in the live range of a queue
 abbrev pub first_at : Which → LogPipes → ℕ
 first_at which v = (pipe_at which (files_of v)).first_seq
 
--- the file after so many thousandths of Append's live range, at most the last but one
+-- the file after `thousandths` thousandths of Append's live range, but at most the last file before the active one
 abbrev pub watermark : ℕ → LogPipes → ℕ
 watermark thousandths v = min (seq_at InAppend v thousandths 1000) (last_of InAppend v - 1)
 
--- up to which files of Append a purge goes
+-- the watermarks of a purge of Append: files up to 70 percent of its live range are rewritten, and those below 20
+-- percent are old
 abbrev pub watermarks_of : LogPipes → Watermarks
 watermarks_of v = record { rewrite = watermark 700 v; compact = watermark 200 v }
 
--- a queue has more than one file, and together they are larger than this
+-- the live range of a queue has more than one file, and its files are together larger than `threshold`
 abbrev pub IsQueuePast : Which → ℕ → LogPipes → Type 0
 IsQueuePast which threshold v = (first_at which v < last_of which v) × (threshold < size_at which v)
 
--- more than so many thousandths of what was written to Rewrite are garbage
+-- more than `ratio` thousandths of the entries and values that were written to Rewrite are no longer live
 abbrev pub IsGarbage : ℕ → GlobalStats → Type 0
 IsGarbage ratio stats = stats.rewrite_entries * ratio < stats.deleted_rewrite_entries * 1000
 
--- a purge collects Append
+-- a purge collects Append, as that is past its threshold
 abbrev pub TakesAppend : Thresholds → LogPipes → Type 0
 TakesAppend t v = IsQueuePast InAppend t.append v
 
--- a purge may have something to do: a queue is past its threshold
+-- Append is past its threshold, or Rewrite past its own, so a purge may have something to do
 abbrev pub IsAnyPast : Thresholds → LogPipes → Type 0
 IsAnyPast t v = TakesAppend t v ⊎ ((threshold : ℕ) × (t.rewrite ≡ Some threshold) × IsQueuePast InRewrite threshold v)
 
--- a purge rewrites Rewrite
+-- a purge rewrites Rewrite: the settings have a threshold for it, it is past that, and enough of it is garbage
 abbrev pub TakesRewrite : Thresholds → GlobalStats → LogPipes → Type 0
 TakesRewrite t stats v = (threshold : ℕ) × (t.rewrite ≡ Some threshold)
     × IsQueuePast InRewrite threshold v × IsGarbage t.garbage_ratio stats

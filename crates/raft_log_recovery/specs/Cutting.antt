@@ -1,4 +1,4 @@
--- Files are truncated after what was read of them.
+-- Damaged files are truncated after the last good record that was read of them.
 use Rattle.std.specs.Prelude.{◌≡◌, ℕ, Bool, true, false, List, [], ◌∷◌, take, slice_index_or, unwrap_or}
 use Rattle.std.specs.declared.io.ErrorKind.{ErrorKind}
 use Rattle.raft_log_fs.specs.Disk.{Disk}
@@ -6,29 +6,29 @@ use Rattle.raft_log_active_file.specs.TakingUp.{TrimMakes, Trims}
 use Rattle.raft_log_active_file.specs.declared.format.File.{File}
 use Rattle.raft_log_recovery_read.specs.declared.file_ending.FileEnding.{FileEnding}
 
--- a file that is damaged is truncated after its last good record, or to nothing without a header, and synced
+-- if the file is damaged, it was truncated after its last good record, or to size 0 if it has no header, and synced
 abbrev pub CutsIf : Bool → File → FileEnding → Disk → Disk → Type 0
 CutsIf true file ending old new = Trims file.handle (unwrap_or ending.end 0) old new
 CutsIf false file ending old new = new ≡ old
 
--- the same, by whether the file's ending says damage
+-- if `ending` says that the file is damaged, it was truncated and synced in this way
 abbrev pub CutsOne : File → FileEnding → Disk → Disk → Type 0
 CutsOne file ending old new = CutsIf ending.is_damaged file ending old new
 
--- a damaged file wasn't truncated, or not synced then
+-- the file is damaged, and its truncation failed, or the sync after it
 pub record FailsToCutOne (file : File) (ending : FileEnding) (kind : ErrorKind) (old new : Disk)
     : Type 0 where
   pub damaged : ending.is_damaged ≡ true
   pub makes : TrimMakes file.handle (unwrap_or ending.end 0) kind old new
 
--- each of these files that has damage is truncated so and synced, in order
+-- each damaged file was truncated and synced in this way, in order; `endings` says which are damaged
 abbrev pub CutsEach : List File → List FileEnding → Disk → Disk → Type 0
 CutsEach [] endings old new = new ≡ old
 CutsEach (file ∷ files) [] old new = new ≡ old
 CutsEach (file ∷ files) (ending ∷ endings) old new =
     (mid : Disk) × CutsOne file ending old mid × CutsEach files endings mid new
 
--- the file in some place wasn't truncated; those before it are
+-- truncating the file at position `at` failed, after those before it were truncated
 pub record FailsToCutEach (files : List File) (endings : List FileEnding) (kind : ErrorKind)
     (old new : Disk) : Type 0 where
   pub at : ℕ

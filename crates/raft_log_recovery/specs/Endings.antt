@@ -1,15 +1,15 @@
--- The files of a queue, with the result of reading each.
+-- What a recovery takes from the result of reading each file of a queue.
 use Rattle.std.specs.Prelude.{ℕ, Option, None, List, [], ◌∷◌}
 use Rattle.raft_log_active_file.specs.declared.format.File.{File}
 use Rattle.raft_log_recovery_read.specs.declared.file_ending.FileEnding.{FileEnding}
 
--- each file, in the format that was read of it
+-- each file, with the format that was read from its header
 abbrev pub as_read : List FileEnding → List File → List File
 as_read [] files = files
 as_read (ending ∷ endings) [] = []
 as_read (ending ∷ endings) (file ∷ files) = record file { format = ending.format } ∷ as_read endings files
 
--- how far the last file was read, if there is one
+-- the offset up to which the last file was read, if there is a file and it has a header
 abbrev pub end_of_last : List FileEnding → Option ℕ
 end_of_last [] = None
 end_of_last (ending ∷ []) = ending.end

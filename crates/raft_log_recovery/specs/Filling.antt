@@ -7,17 +7,17 @@ use Rattle.raft_log_fs.specs.Disk.{Disk}
 use Rattle.raft_log_fs.specs.Exits.{FailsToWrite, Writes}
 use Rattle.raft_log_fs.specs.declared.handle.Handle.{Handle}
 
--- these bytes were written so many times, one after another from the file's start
+-- `bytes` was written as often as the third argument says, one after another from the file's start
 abbrev pub WritesPieces : Handle → List ℕ → ℕ → Disk → Disk → Type 0
 WritesPieces handle bytes zero old new = new ≡ old
 WritesPieces handle bytes (suc count) old new = (mid : Disk) × WritesPieces handle bytes count old mid
     × Writes handle (count * length bytes) bytes mid new
 
--- these bytes were written one after another until the file reached a size
+-- `bytes` was written again and again, one after another, until the file had at least `size` bytes
 abbrev pub FillsFile : Handle → List ℕ → ℕ → Disk → Disk → Type 0
 FillsFile handle bytes size old new = WritesPieces handle bytes (div_ceil size (length bytes)) old new
 
--- one of the writes that fill a file failed; those before it are done
+-- one of these writes failed; those before it succeeded
 pub record FailsToFill (handle : Handle) (bytes : List ℕ) (size : ℕ) (kind : ErrorKind) (old new : Disk)
     : Type 0 where
   pub count : ℕ
@@ -26,12 +26,12 @@ pub record FailsToFill (handle : Handle) (bytes : List ℕ) (size : ℕ) (kind :
   pub written : WritesPieces handle bytes count old between
   pub fails : FailsToWrite handle (count * length bytes) bytes kind between new
 
--- there was no space for what was to be written
+-- the error kind is `StorageFull`
 abbrev pub HasNoSpace : ErrorKind → Type 0
 HasNoSpace StorageFull = Unit {0}
 HasNoSpace _ = ⊥
 
--- the file was filled, or a write failed before; and whether it failed for lack of space
+-- the file was filled, or a write failed before that; `full` says whether one failed for lack of space
 abbrev pub FillsOrNot : Handle → List ℕ → ℕ → Bool → Disk → Disk → Type 0
 FillsOrNot handle bytes size full old new = (FillsFile handle bytes size old new × (full ≡ false))
     ⊎ ((kind : ErrorKind) × FailsToFill handle bytes size kind old new × (IsTrue full ↔ HasNoSpace kind))

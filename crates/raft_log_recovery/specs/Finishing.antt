@@ -1,4 +1,4 @@
--- What opening the pipes of a recovered log leaves, whether it succeeds or fails.
+-- The last step of an open: the files of a recovered log are synced, and its pipes are opened over them.
 use Rattle.std.specs.Prelude.{◌≡◌, ℕ, List, [], length, codes}
 use Rattle.std.specs.String.{string_bytes}
 use Rattle.std.specs.declared.io.ErrorKind.{ErrorKind}
@@ -21,13 +21,13 @@ use Rattle.raft_log_recovery.specs.Syncing.{FailsToSyncEach, SyncsEach}
 use Rattle.raft_log_recovery.specs.declared.builder.DualPipesBuilder.{DualPipesBuilder}
 use Rattle.raft_log_recovery.specs.declared.recovered_queue.RecoveredQueue.{RecoveredQueue}
 
--- how many files the pipe of a queue may have before a purge deletes some; Rewrite keeps none for recycling
+-- how many files the pipe of a queue may have, including those kept for recycling; Rewrite keeps none for recycling
 abbrev pub capacity_of : LogQueue → Config → ℕ
 capacity_of Append config = recycle_capacity (settings_of config)
 capacity_of Rewrite config = 0
 
--- The pipe that the settings want for a queue: in the log's directories, with new files in their format and of their
--- size.
+-- The pipe is in the log's directories. Its new files get the format and size that the settings want, and it keeps as
+-- many files as they want for this queue.
 pub record IsWantedAs (queue : LogQueue) (config : Config) (pipe : FoundPipe) : Type 0 where
   pub lies : IsFoundAs queue (paths_of config) pipe
   pub version : pipe.settings.new_files.format.version ≡ config.format_version
@@ -35,9 +35,9 @@ pub record IsWantedAs (queue : LogQueue) (config : Config) (pipe : FoundPipe) : 
   pub size : pipe.settings.new_files.target_size ≡ config.target_file_size.0
   pub capacity : pipe.settings.capacity ≡ capacity_of queue config
 
--- A queue as it was recovered, for its pipe:
--- - each file in the format that was read of it
--- - how far the last one was read
+-- The pipe of a queue gets what was recovered of the queue:
+-- - each file, in the format that was read from its header
+-- - the offset up to which the last file was read
 -- - the files that are kept for recycling
 pub record IsPipeRecovered (queue : LogQueue) (config : Config) (read : RecoveredQueue) (kept : List File)
     (pipe : FoundPipe) : Type 0 where
@@ -46,12 +46,12 @@ pub record IsPipeRecovered (queue : LogQueue) (config : Config) (read : Recovere
   pub end : pipe.found.end ≡ end_of_last read.endings.items
   pub spares : pipe.found.recycled.items ≡ kept
 
--- each file of both queues has a result
+-- the builder has a result for each file of both queues
 pub record IsAllRead (b : DualPipesBuilder) : Type 0 where
   pub append : length b.append.endings.items ≡ length (append_files b)
   pub rewrite : length b.rewrite.endings.items ≡ length (rewrite_files b)
 
--- the files of both queues were synced, Append's first, and after them those that are kept for recycling
+-- the files of both queues were synced, those of Append first, and then those that are kept for recycling
 pub record SyncsLog (b : DualPipesBuilder) (old new : Disk) : Type 0 where
   pub between : Disk
   pub behind : Disk
@@ -59,7 +59,7 @@ pub record SyncsLog (b : DualPipesBuilder) (old new : Disk) : Type 0 where
   pub rewrite : SyncsEach (rewrite_files b) between behind
   pub reserved : SyncsEach b.reserved.items behind new
 
--- a file of the log wasn't synced; those before it are
+-- the sync of one of these files failed; those before it were synced
 pub data FailsToSyncLog (b : DualPipesBuilder) (kind : ErrorKind) (old new : Disk) : Type 0 where
   append_unsynced : FailsToSyncEach (append_files b) kind old new → FailsToSyncLog b kind old new
   rewrite_unsynced : (between : Disk) → SyncsEach (append_files b) old between
@@ -68,7 +68,7 @@ pub data FailsToSyncLog (b : DualPipesBuilder) (kind : ErrorKind) (old new : Dis
       → SyncsEach (rewrite_files b) between behind → FailsToSyncEach b.reserved.items kind behind new
       → FailsToSyncLog b kind old new
 
--- A log was opened over its files as they were recovered: all of them were synced, and then its pipes opened.
+-- A log was opened over its recovered files: all of them were synced, and then its pipes were opened.
 pub record OpensRecovered (b : DualPipesBuilder) (old : Disk) (v : LogPipes) : Type 0 where
   pub read : IsAllRead b
   pub synced : Disk
@@ -79,24 +79,25 @@ pub record OpensRecovered (b : DualPipesBuilder) (old : Disk) (v : LogPipes) : T
   pub rewrite_is : IsPipeRecovered Rewrite b.config b.rewrite [] rewrite
   pub opens : OpensLog append rewrite synced v
 
--- the message if files weren't recovered
+-- the message of the error if the log's files weren't recovered before
 abbrev pub told_unread : List ℕ
 told_unread = codes "the log's files weren't recovered"
 
--- files weren't recovered; `Memory` if there was none for the message
+-- the error if files weren't recovered before: `InvalidArgument` with this message, or `Memory` if it could not be
+-- allocated
 abbrev pub TellsUnread : Error → Type 0
 TellsUnread (errors.InvalidArgument text) = string_bytes text ≡ told_unread
 TellsUnread errors.Memory = Unit {0}
 TellsUnread _ = ⊥
 
--- why nothing was done: not all files were recovered, or memory ran out
+-- The errors if nothing was done. `InvalidArgument`: not all files were recovered before. `Memory`: memory ran out.
 abbrev pub IsUnready : DualPipesBuilder → Error → Type 0
 IsUnready b (errors.InvalidArgument text) = (IsAllRead b → ⊥) × (string_bytes text ≡ told_unread)
 IsUnready b errors.Memory = Unit {0}
 IsUnready b _ = ⊥
 
--- Why a log wasn't opened: nothing was done; a file wasn't synced, and those before it are; or all are, and a
--- pipe wasn't opened.
+-- Why opening a log over its recovered files fails: nothing was done; or the sync of a file failed, after those before
+-- it; or all were synced, and opening a pipe failed.
 pub data FailsToOpenRecovered (b : DualPipesBuilder) (error : Error) (old new : Disk) : Type 0 where
   unready : IsUnready b error → new ≡ old → FailsToOpenRecovered b error old new
   unsynced : (kind : ErrorKind) → error ≡ errors.Io kind → IsAllRead b → FailsToSyncLog b kind old new

@@ -1,4 +1,5 @@
--- What reading a log without opening it leaves, whether it succeeds or fails: its files may have an alignment.
+-- Reading a log without opening it, as a check of it does. Unlike an open, this reads files that have an alignment,
+-- with padding between records.
 use Rattle.std.specs.Prelude.{◌≡◌, List}
 use Rattle.std.specs.declared.io.ErrorKind.{ErrorKind}
 use Rattle.raft_log_record_base.specs.declared.errors.Error.{Error}
@@ -12,13 +13,13 @@ use Rattle.raft_log_recovery.specs.Cutting.{CutsEach, FailsToCutEach}
 use Rattle.raft_log_recovery.specs.Recovering.{append_config, append_files, rewrite_config, rewrite_files}
 use Rattle.raft_log_recovery.specs.declared.builder.DualPipesBuilder.{DualPipesBuilder}
 
--- the machines have read both queues from the disk, with these results for their files
+-- one machine has read all files of Append, and another all of Rewrite; the endings are the results for the files
 pub record HasReadQueues {M : Type 0} (reads : LogQueue → List Batch → M → Type 0) (b : DualPipesBuilder)
     (d : Disk) (append rewrite : M) (append_endings rewrite_endings : List FileEnding) : Type 0 where
   pub append_read : HasReadFiles reads (append_config b) (append_files b) d append append_endings
   pub rewrite_read : HasReadFiles reads (rewrite_config b) (rewrite_files b) d rewrite rewrite_endings
 
--- why the queues weren't both read: Append wasn't, or it was, and Rewrite wasn't
+-- why reading both queues fails: reading Append failed; or that succeeded, and reading Rewrite failed
 pub data QueuesAreUnread {M : Type 0} (reads : LogQueue → List Batch → M → Type 0)
     (declines : LogQueue → List Batch → Error → Type 0) (b : DualPipesBuilder) (d : Disk) (error : Error)
     : Type 0 where
@@ -29,14 +30,14 @@ pub data QueuesAreUnread {M : Type 0} (reads : LogQueue → List Batch → M →
       → FilesAreUnread declines (rewrite_config b) (rewrite_files b) d error
       → QueuesAreUnread reads declines b d error
 
--- the damaged files of both queues were truncated, Append's first
+-- the damaged files of both queues were truncated, those of Append first
 pub record CutsBoth (b : DualPipesBuilder) (append_endings rewrite_endings : List FileEnding)
     (old new : Disk) : Type 0 where
   pub between : Disk
   pub append_cut : CutsEach (append_files b) append_endings old between
   pub rewrite_cut : CutsEach (rewrite_files b) rewrite_endings between new
 
--- a damaged file wasn't truncated: one of Append's; or one of Rewrite's, after those of Append were
+-- truncating a damaged file failed: one of Append; or one of Rewrite, after those of Append
 pub data FailsToCutBoth (b : DualPipesBuilder) (append_endings rewrite_endings : List FileEnding)
     (kind : ErrorKind) (old new : Disk) : Type 0 where
   append : FailsToCutEach (append_files b) append_endings kind old new
@@ -53,7 +54,7 @@ pub record ReadsLog {M : Type 0} (reads : LogQueue → List Batch → M → Type
   pub read : HasReadQueues reads b old append rewrite append_endings rewrite_endings
   pub cut : CutsBoth b append_endings rewrite_endings old new
 
--- why the log wasn't read: a queue wasn't, and then nothing is truncated; or a damaged file wasn't truncated
+-- why reading the log fails: reading a queue failed, and nothing was truncated; or truncating a damaged file failed
 pub data FailsToReadLog {M : Type 0} (reads : LogQueue → List Batch → M → Type 0)
     (declines : LogQueue → List Batch → Error → Type 0) (b : DualPipesBuilder) (error : Error)
     (old new : Disk) : Type 0 where

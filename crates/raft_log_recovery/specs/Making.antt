@@ -1,5 +1,5 @@
--- Reserved files are made, and filled with zeros. A file system's state is given by its disk, and by what it may
--- return for a directory's space.
+-- Reserved files are made and filled with zeros. `disk` gives the disk of a file system's state, and `tells` the free
+-- space that it may return for a directory.
 use Rattle.std.specs.Prelude.{◌≡◌, ◌+◌, ◌<◌, ◌≤◌, ◌^◌, ℕ, suc, Bool, true, false, ◌||◌, List, [], ◌∷◌, length}
 use Rattle.raft_log_record_base.specs.declared.errors.Error.{Error}
 use Rattle.raft_log_record_base.specs.declared.errors.Error.TheVariants as errors
@@ -13,14 +13,16 @@ use Rattle.raft_log_active_file.specs.declared.format.File.{File}
 use Rattle.raft_log_file_pipe.specs.Placing.{IsChosen}
 use Rattle.raft_log_recovery.specs.Filling.{FillsOrNot}
 
--- How many files were made if one failed: fewer than requested; or perhaps all, if memory ran out for the list.
+-- how many files were made before one failed: fewer than `count`; if memory ran out, perhaps all, as their list needs
+-- memory too
 abbrev pub AreFewer : Error → ℕ → ℕ → Type 0
 AreFewer errors.Memory made count = made ≤ count
 AreFewer _ made count = made < count
 
 module _ {F : Type 0} (disk : F → Disk) (tells : F → List ℕ → ℕ → Type 0) where
-  -- A file was made under the reserved name of a number, in the first directory that had room for it before. It was
-  -- filled with zeros up to a size, as far as writes succeeded; and whether there was no space.
+  -- A file was made under the reserved name of number `seq`, in the first directory that had room for it, else in the
+  -- main one. It was filled with zeros up to `size`, as far as writes succeeded. `full` says whether one failed for
+  -- lack of space.
   pub record Makes (paths : FilePaths) (bytes : List ℕ) (size seq : ℕ) (file : File) (full : Bool)
       (old new : F) : Type 0 where
     pub number : file.seq ≡ seq
@@ -33,7 +35,8 @@ module _ {F : Type 0} (disk : F → Disk) (tells : F → List ℕ → ℕ → Ty
     pub creates : Creates (path_of paths file) file.handle.file (disk old) created
     pub fills : FillsOrNot file.handle bytes size full created (disk new)
 
-  -- Why a file wasn't made: memory ran out, its number has no name, or its creation failed in that directory.
+  -- Why making a file fails. `Memory`: memory ran out. `NumberRange`: its number has no name. `Io`: its creation
+  -- failed.
   abbrev pub FailsToMake : FilePaths → ℕ → ℕ → Error → F → F → Type 0
   FailsToMake paths size seq errors.Memory old new = disk new ≡ disk old
   FailsToMake paths size seq errors.NumberRange old new = (10 ^ 16 ≤ seq) × (disk new ≡ disk old)
@@ -42,14 +45,14 @@ module _ {F : Type 0} (disk : F → Disk) (tells : F → List ℕ → ℕ → Ty
       × FailsToCreate (paths.reserved directory seq) kind (disk old) (disk new))
   FailsToMake paths size seq _ old new = ⊥
 
-  -- These files were made, with the numbers from one on; and whether there was no space for one of them.
+  -- these files were made, with rising numbers from `seq` on; `full` says whether a write failed for lack of space
   abbrev pub MakesEach : FilePaths → List ℕ → ℕ → ℕ → List File → Bool → F → F → Type 0
   MakesEach paths bytes size seq [] full old new = (full ≡ false) × (new ≡ old)
   MakesEach paths bytes size seq (file ∷ files) full old new = (one : Bool) × (others : Bool) × (mid : F)
       × Makes paths bytes size seq file one old mid
       × MakesEach paths bytes size (suc seq) files others mid new × (full ≡ one || others)
 
-  -- one of so many files wasn't made; those before it were
+  -- making one of `count` files failed; those before it were made
   pub record FailsToMakeEach (paths : FilePaths) (bytes : List ℕ) (size seq count : ℕ) (error : Error)
       (old new : F) : Type 0 where
     pub made : List File

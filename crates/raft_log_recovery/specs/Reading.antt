@@ -1,4 +1,4 @@
--- What workers that read the files of a queue return.
+-- What worker threads that read the files of a queue return.
 use Rattle.std.specs.Prelude.{List, length}
 use Rattle.raft_log_record_base.specs.declared.errors.Error.{Error}
 use Rattle.raft_log_record_base.specs.declared.pipe_log.LogQueue.{LogQueue}
@@ -10,16 +10,16 @@ use Rattle.raft_log_replay.specs.Segments.{HasReadSegments, IsRefusedIn, read_by
 use Rattle.raft_log_recovery_read.specs.Segments.{BeginsFile, HoldsFile, RefusesFile}
 use Rattle.raft_log_recovery_read.specs.declared.file_ending.FileEnding.{FileEnding}
 
--- The machine has read the batches of all files, in order, however many workers read them; without a worker, of none.
--- These are the results for the files.
+-- The machine has read the batches of all files of a queue, in order, however many workers read them. Without a worker
+-- no file is read. `endings` has the result for each file.
 abbrev pub HasReadFiles : {M : Type 0} → (LogQueue → List Batch → M → Type 0) → RecoveryConfig → List File
     → Disk → M → List FileEnding → Type 0
 HasReadFiles reads config files d machine endings =
     HasReadSegments (HoldsFile config.mode config.queue files d) (reads config.queue) 0
     (read_by config.concurrency (length files)) machine endings
 
--- Why not all files were read: one of them can't be, or its damage isn't tolerated; the machine declines their
--- batches; or memory ran out.
+-- Why reading the files of a queue fails: one of them can't be read, its damage isn't tolerated, the machine rejects
+-- their batches, or memory ran out.
 abbrev pub FilesAreUnread : (LogQueue → List Batch → Error → Type 0) → RecoveryConfig → List File → Disk → Error
     → Type 0
 FilesAreUnread declines config files d error = IsRefusedIn (HoldsFile config.mode config.queue files d)

@@ -1,4 +1,4 @@
--- What a recovery of both queues leaves, whether it succeeds or fails.
+-- The recovery of both queues: their files are read by worker threads, and damaged ones are truncated.
 use Rattle.std.specs.Prelude.{◌≡◌, ◌+◌, ℕ, min, length, List}
 use Rattle.std.specs.declared.io.ErrorKind.{ErrorKind}
 use Rattle.raft_log_record_base.specs.declared.errors.Error.{Error}
@@ -18,7 +18,7 @@ use Rattle.raft_log_recovery.specs.Cutting.{CutsEach, FailsToCutEach}
 use Rattle.raft_log_recovery.specs.Unaligned.{AreUnaligned, TellsAligned}
 use Rattle.raft_log_recovery.specs.declared.builder.DualPipesBuilder.{DualPipesBuilder}
 
--- how a queue's files are recovered by these settings, with so many workers
+-- how the files of a queue are recovered with the settings in `config`, by `workers` worker threads
 abbrev pub recovery_of : Config → LogQueue → ℕ → RecoveryConfig
 recovery_of config queue workers = record {
   queue = queue;
@@ -27,30 +27,31 @@ recovery_of config queue workers = record {
   read_block_size = (settings_of config).recovery_read_block_size;
 }
 
--- the files of Append that were found
+-- the files of Append that the builder found
 abbrev pub append_files : DualPipesBuilder → List File
 append_files b = b.append.files.items
 
--- the files of Rewrite that were found
+-- the files of Rewrite that the builder found
 abbrev pub rewrite_files : DualPipesBuilder → List File
 rewrite_files b = b.rewrite.files.items
 
--- how many workers there are for both
+-- how many worker threads read both queues together: as many as the settings allow, at most one for each file
 abbrev pub all_workers : DualPipesBuilder → ℕ
 all_workers b = min (settings_of b.config).recovery_threads
     (length (append_files b) + length (rewrite_files b))
 
--- how the files of Append are read, by their share of the workers
+-- how the files of Append are read, by its share of the worker threads
 abbrev pub append_config : DualPipesBuilder → RecoveryConfig
 append_config b = recovery_of b.config Append
     (append_share (all_workers b) (length (append_files b)) (length (rewrite_files b)))
 
--- how the files of Rewrite are read, by their share of the workers
+-- how the files of Rewrite are read, by its share of the worker threads
 abbrev pub rewrite_config : DualPipesBuilder → RecoveryConfig
 rewrite_config b = recovery_of b.config Rewrite
     (rewrite_share (all_workers b) (length (append_files b)) (length (rewrite_files b)))
 
--- The machines have read both queues from the disk, with these results for their files. No file has an alignment.
+-- One machine has read all files of Append, and another all of Rewrite; the endings are the results for the files. No
+-- file has an alignment.
 pub record HasReadBoth {M : Type 0} (reads : LogQueue → List Batch → M → Type 0) (b : DualPipesBuilder)
     (d : Disk) (append rewrite : M) (append_endings rewrite_endings : List FileEnding) : Type 0 where
   pub append_read : HasReadFiles reads (append_config b) (append_files b) d append append_endings
@@ -58,7 +59,7 @@ pub record HasReadBoth {M : Type 0} (reads : LogQueue → List Batch → M → T
   pub append_unaligned : AreUnaligned append_endings
   pub rewrite_unaligned : AreUnaligned rewrite_endings
 
--- both queues were read, and then their damaged files were truncated, Append's first
+-- both queues were read, and then their damaged files were truncated, those of Append first
 pub record RecoversLog {M : Type 0} (reads : LogQueue → List Batch → M → Type 0) (append rewrite : M)
     (b after : DualPipesBuilder) (old new : Disk) : Type 0 where
   pub read : HasReadBoth reads b old append rewrite after.append.endings.items after.rewrite.endings.items
@@ -68,10 +69,10 @@ pub record RecoversLog {M : Type 0} (reads : LogQueue → List Batch → M → T
   pub same : (after.config ≡ b.config) × (after.append.files ≡ b.append.files)
       × (after.rewrite.files ≡ b.rewrite.files) × (after.reserved ≡ b.reserved)
 
--- Why the queues weren't recovered:
--- - a queue wasn't read, and nothing is truncated
--- - one of the files that were read has an alignment, and nothing is truncated
--- - a damaged file wasn't truncated
+-- Why recovering the queues fails:
+-- - reading a queue failed, and nothing was truncated
+-- - one of the files has an alignment, and nothing was truncated
+-- - truncating a damaged file failed
 pub data FailsToRecoverLog {M : Type 0} (reads : LogQueue → List Batch → M → Type 0)
     (declines : LogQueue → List Batch → Error → Type 0) (b : DualPipesBuilder) (error : Error)
     (old new : Disk) : Type 0 where

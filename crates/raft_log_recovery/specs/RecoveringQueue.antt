@@ -1,4 +1,4 @@
--- What a recovery of one queue leaves, whether it succeeds or fails.
+-- The recovery of one queue: its files are read, and damaged ones are truncated.
 use Rattle.std.specs.Prelude.{◌≡◌, List}
 use Rattle.std.specs.declared.io.ErrorKind.{ErrorKind}
 use Rattle.raft_log_record_base.specs.declared.errors.Error.{Error}
@@ -15,7 +15,7 @@ use Rattle.raft_log_recovery.specs.Unaligned.{AreUnaligned, TellsAligned}
 use Rattle.raft_log_recovery.specs.declared.builder.DualPipesBuilder.{DualPipesBuilder}
 use Rattle.raft_log_recovery.specs.declared.recovered_queue.RecoveredQueue.{RecoveredQueue}
 
--- The machine has read the queue from the disk, and none of its files has an alignment. Then its damaged files were
+-- The machine has read all files of the queue, and none of them has an alignment. Then the damaged ones were
 -- truncated.
 pub record RecoversFiles {M : Type 0} (reads : LogQueue → List Batch → M → Type 0) (config : RecoveryConfig)
     (machine : M) (q after : RecoveredQueue) (old new : Disk) : Type 0 where
@@ -24,10 +24,10 @@ pub record RecoversFiles {M : Type 0} (reads : LogQueue → List Batch → M →
   pub cut : CutsEach q.files.items after.endings.items old new
   pub same : after.files ≡ q.files
 
--- Why a queue wasn't recovered:
--- - it wasn't read, and nothing is truncated
--- - one of the files has an alignment, and nothing is truncated
--- - a damaged file wasn't truncated
+-- Why recovering a queue fails:
+-- - reading it failed, and nothing was truncated
+-- - one of the files has an alignment, and nothing was truncated
+-- - truncating a damaged file failed
 pub data FailsToRecoverFiles {M : Type 0} (reads : LogQueue → List Batch → M → Type 0)
     (declines : LogQueue → List Batch → Error → Type 0) (config : RecoveryConfig) (q : RecoveredQueue)
     (error : Error) (old new : Disk) : Type 0 where
@@ -43,12 +43,12 @@ pub data FailsToRecoverFiles {M : Type 0} (reads : LogQueue → List Batch → M
       → FailsToCutEach q.files.items endings kind old new
       → FailsToRecoverFiles reads declines config q error old new
 
--- the files of a queue
+-- the files of a queue that the builder found, with their results
 abbrev pub queue_files : LogQueue → DualPipesBuilder → RecoveredQueue
 queue_files Append b = b.append
 queue_files Rewrite b = b.rewrite
 
--- only what the builder has of one queue changed
+-- only what the builder has of this queue changed
 abbrev pub OtherQueueIsKept : LogQueue → DualPipesBuilder → DualPipesBuilder → Type 0
 OtherQueueIsKept Append b after = after ≡ record b { append = after.append }
 OtherQueueIsKept Rewrite b after = after ≡ record b { rewrite = after.rewrite }

@@ -1,4 +1,5 @@
--- The reserved files of a log, as an open prepares them.
+-- The reserved files of a log: files of zeros that are kept for recycling, under names of their own. An open makes
+-- those that the settings want.
 use Rattle.std.specs.Prelude.{◌≡◌, ◌-◌, ◌⊎◌, ℕ, min, List, [], length}
 use Rattle.raft_log_record_base.specs.declared.errors.Error.{Error}
 use Rattle.raft_log_record_base.specs.declared.errors.Error.TheVariants as errors
@@ -12,25 +13,28 @@ use Rattle.raft_log_recovery.specs.Directories.{paths_of}
 use Rattle.raft_log_recovery.specs.Recovering.{append_files}
 use Rattle.raft_log_recovery.specs.declared.builder.DualPipesBuilder.{DualPipesBuilder}
 
--- how many reserved files the settings want in addition to those of Append
+-- how many reserved files the settings want: the prefill limit, or fewer, so that they and Append's files are within
+-- the limit for recycling
 abbrev pub wanted_files : DualPipesBuilder → ℕ
 wanted_files b = min (prefill_capacity (settings_of b.config))
     (recycle_capacity (settings_of b.config) - length (append_files b))
 
--- there are as many of them as are wanted, or none if there was no space; the other files of the log are as found
+-- There are as many reserved files as are wanted, or none if there was no space for one. The builder's other files are
+-- as before.
 pub record ReadiesLog {F : Type 0} (disk : F → Disk) (tells : F → List ℕ → ℕ → Type 0)
     (b after : DualPipesBuilder) (old new : F) : Type 0 where
   pub readies : Readies disk tells (log_paths Append (paths_of b.config)) b.config.target_file_size.0
       (wanted_files b) b.reserved.items after.reserved.items old new
   pub same : (after.config ≡ b.config) × (after.append ≡ b.append) × (after.rewrite ≡ b.rewrite)
 
--- why there aren't: memory ran out, and nothing was done; or one wasn't made, or had no name to be deleted by
+-- Why readying the reserved files fails: memory ran out, and nothing was done; or one could not be made, or one that
+-- was to be deleted had no name.
 abbrev pub FailsToReadyLog : {F : Type 0} → (F → Disk) → (F → List ℕ → ℕ → Type 0) → DualPipesBuilder → Error
     → F → F → Type 0
 FailsToReadyLog disk tells b error old new = ((error ≡ errors.Memory) × (disk new ≡ disk old))
     ⊎ FailsToReady disk tells (log_paths Append (paths_of b.config)) b.config.target_file_size.0
     (wanted_files b) b.reserved.items error old new
 
--- what a builder has of them after a failure: what it had, if nothing was done; else none
+-- the reserved files that the builder has after a failure: those from before, if nothing was done; else none
 abbrev pub LeavesReserved : DualPipesBuilder → DualPipesBuilder → Disk → Disk → Type 0
 LeavesReserved b after old new = ((after ≡ b) × (new ≡ old)) ⊎ (after.reserved.items ≡ [])

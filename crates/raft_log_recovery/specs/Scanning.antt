@@ -1,4 +1,4 @@
--- What a builder has after the directories of its log were scanned.
+-- The builder of a log scans the log's directories for files.
 use Rattle.std.specs.Prelude.{◌≡◌, []}
 use Rattle.raft_log_record_base.specs.declared.errors.Error.{Error}
 use Rattle.raft_log_record_base.specs.declared.errors.Error.TheVariants as errors
@@ -9,7 +9,7 @@ use Rattle.raft_log_recovery_scan.specs.declared.scanning.ScannedFiles.{ScannedF
 use Rattle.raft_log_recovery.specs.Directories.{paths_of}
 use Rattle.raft_log_recovery.specs.declared.builder.DualPipesBuilder.{DualPipesBuilder}
 
--- the builder has the files that were found, and none of them was read
+-- the builder has the files that were found, and none of them was read yet
 pub record HasFound (b : DualPipesBuilder) (found : ScannedFiles) : Type 0 where
   pub append : b.append.files ≡ found.append
   pub rewrite : b.rewrite.files ≡ found.rewrite
@@ -17,8 +17,8 @@ pub record HasFound (b : DualPipesBuilder) (found : ScannedFiles) : Type 0 where
   pub append_unread : b.append.endings.items ≡ []
   pub rewrite_unread : b.rewrite.endings.items ≡ []
 
--- The directories are there, and their files were found. Then what the file system kept beside older files was
--- deleted, as far as the deletions succeeded. No file changed.
+-- The directories are there, and the builder has their files. Then the metadata that the file system keeps for older
+-- files was deleted, as far as deletions succeeded. No file changed.
 pub record ScansLog (b after : DualPipesBuilder) (old new : Disk) : Type 0 where
   pub found : ScannedFiles
   pub scanned : Disk
@@ -27,7 +27,7 @@ pub record ScansLog (b after : DualPipesBuilder) (old new : Disk) : Type 0 where
   pub has : HasFound after found
   pub same : after.config ≡ b.config
 
--- Why the directories weren't scanned: memory ran out, and nothing was done; the scan itself failed; or memory ran
+-- Why a builder's scan fails: memory ran out, and nothing was done; the scan of the directories failed; or memory ran
 -- out after it. No file changed.
 pub data FailsToScanLog (b : DualPipesBuilder) (error : Error) (old new : Disk) : Type 0 where
   unready : error ≡ errors.Memory → new ≡ old → FailsToScanLog b error old new

@@ -5,13 +5,13 @@ use Rattle.raft_log_fs.specs.Disk.{Disk}
 use Rattle.raft_log_fs.specs.Exits.{FailsToSync, Syncs}
 use Rattle.raft_log_active_file.specs.declared.format.File.{File}
 
--- each of these files was synced
+-- each of these files was synced, in order
 abbrev pub SyncsEach : List File → Disk → Disk → Type 0
 SyncsEach [] old new = new ≡ old
 SyncsEach (file ∷ files) old new =
     (mid : Disk) × Syncs file.handle old mid × SyncsEach files mid new
 
--- one of these files wasn't synced; those before it are
+-- the sync of one of these files failed; those before it were synced
 pub record FailsToSyncEach (files : List File) (kind : ErrorKind) (old new : Disk) : Type 0 where
   pub before : List File
   pub file : File

@@ -1,20 +1,20 @@
--- Files with an alignment, which the log's pipes don't support.
+-- Files with an alignment: with padding between records, which the log's pipes don't support.
 use Rattle.std.specs.Prelude.{◌≡◌, ℕ, List, [], ◌∷◌, codes}
 use Rattle.std.specs.String.{string_bytes}
 use Rattle.raft_log_record_base.specs.declared.errors.Error.{Error}
 use Rattle.raft_log_record_base.specs.declared.errors.Error.TheVariants as errors
 use Rattle.raft_log_recovery_read.specs.declared.file_ending.FileEnding.{FileEnding}
 
--- none of the files has an alignment
+-- none of these files has an alignment
 abbrev pub AreUnaligned : List FileEnding → Type 0
 AreUnaligned [] = Unit {0}
 AreUnaligned (ending ∷ endings) = (ending.format.alignment ≡ 0) × AreUnaligned endings
 
--- the message if a file has an alignment
+-- the message of the error if a file has an alignment
 abbrev pub told_aligned : List ℕ
 told_aligned = codes "a file of the log has an alignment, which this log doesn't take"
 
--- a file has an alignment; `Memory` if there was none for the message
+-- the error if a file has an alignment: `InvalidArgument` with this message, or `Memory` if it could not be allocated
 abbrev pub TellsAligned : Error → Type 0
 TellsAligned (errors.InvalidArgument text) = string_bytes text ≡ told_aligned
 TellsAligned errors.Memory = Unit {0}

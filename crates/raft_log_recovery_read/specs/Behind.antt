@@ -1,4 +1,4 @@
--- What was read after the header of a file and passed to a machine, and a reader at work on it.
+-- What a reader reads of a file after its header, and passes to a replay machine.
 use Rattle.std.specs.Prelude.{◌≡◌, ◌↔◌, ℕ, ◌-◌, Bool, true, IsTrue, Option, Some, None, List, [], ◌∷◌, ◌++◌}
 use Rattle.raft_log_record_base.specs.Fault.{Fault}
 use Rattle.raft_log_record_base.specs.declared.errors.Error.{Error}
@@ -17,10 +17,10 @@ use Rattle.raft_log_recovery_read.specs.Records.{ReadsBehind}
 use Rattle.raft_log_recovery_read.specs.declared.behind.Behind.{Behind}
 use Rattle.raft_log_recovery_read.specs.declared.behind.LastRecord.{LastRecord}
 
--- What was read after an offset of the file, which is the last one of its queue or not:
--- - batches, which a machine was handed
--- - where the last one ends, and what is wrong there
--- - for a last file, whether there are none
+-- What was read of the file from `offset` on; `last` says whether it is its queue's last file:
+-- - batches, which were passed to a machine
+-- - the offset where the last one ends, and what is wrong there
+-- - for a last file, whether there are no batches
 pub record WasReadBehind {M : Type 0} (last : Bool) (reads : List Batch → M → Type 0)
     (declines : List Batch → Error → Type 0) (id : FileId) (old new : M) (d : Disk) (file : OpenFile) (offset : ℕ)
     (behind : Behind) : Type 0 where
@@ -35,7 +35,8 @@ pub record WasReadBehind {M : Type 0} (last : Bool) (reads : List Batch → M �
 abbrev pub HasFileOpen : LogItemBatchFileReader → Type 0
 HasFileOpen reader = (file : OpenFile) × (file_of reader ≡ Some file)
 
--- the reader continued in the file that it had open, from this offset
+-- The reader still has the same file open, and has read on. `Has` holds for what it read, from the offset of `old` to
+-- its own.
 pub record IsAtWork (Has : OpenFile → List ℕ → ℕ → ℕ → Type 0) (d : Disk)
     (old reader : LogItemBatchFileReader) : Type 0 where
   pub reading : IsReading d reader
@@ -44,20 +45,20 @@ pub record IsAtWork (Has : OpenFile → List ℕ → ℕ → ℕ → Type 0) (d 
   pub opened : file_of reader ≡ Some file
   pub has : Has file (bytes_of file.source d) (end_of old) (end_of reader)
 
--- the batches, followed by the noted one
+-- the batches, and after them the record that the reader remembers, if there is one
 abbrev pub with_noted : List (List LogItem) → Option LastRecord → List (List LogItem)
 with_noted before None = before
 with_noted before (Some last) = before ++ last.items.items ∷ []
 
--- These batches follow one another. After them comes the noted one, with its place, its block and its items, up to an
--- end. If none is noted, there are no batches.
+-- The batches `before` follow one another from `offset` on. After them comes the record that the reader remembers,
+-- with its location, its entry block and its items, up to `end`. If it remembers none, there are no batches.
 abbrev pub StandsAtLast :
     OpenFile → List ℕ → ℕ → List (List LogItem) → Option LastRecord → ℕ → Type 0
 StandsAtLast file content offset before None end = (before ≡ []) × (end ≡ offset)
 StandsAtLast file content offset before (Some last) end = HasBatches file content offset before last.start
     × HasBatch file content last.start last.items.items end × HasBlock file content last.start last.block
 
--- the noted block is inside the file
+-- the entry block of the record that the reader remembers is inside the file
 abbrev pub LiesInside : Option LastRecord → LogItemBatchFileReader → Type 0
 LiesInside None reader = Unit {0}
 LiesInside (Some last) reader = IsInsideFile last.block reader

@@ -1,4 +1,4 @@
--- What was found of a log file whose records a machine was handed.
+-- What a recovery found of a log file whose records it passed to a replay machine.
 use Rattle.std.specs.Prelude.{◌≡◌, List}
 use Rattle.raft_log_record_base.specs.declared.errors.Error.{Error}
 use Rattle.raft_log_record_base.specs.declared.pipe_log.FileId.{FileId}
@@ -7,7 +7,8 @@ use Rattle.raft_log_recovery_read.specs.Batches.{HasTaken, said}
 use Rattle.raft_log_recovery_read.specs.Reading.{FileReading}
 use Rattle.raft_log_recovery_read.specs.declared.found_file.FoundFile.{FoundFile}
 
--- this was found of a file that reads as that, and a machine was handed its records
+-- `found` has the format, end and fault of the file, as `reading` has them. The file's batches were passed to a
+-- machine, which went from `old` to `new`.
 pub record WasHanded {M : Type 0} (reads : List Batch → M → Type 0) (declines : List Batch → Error → Type 0)
     (id : FileId) (old new : M) (reading : FileReading) (found : FoundFile) : Type 0 where
   pub format : found.format ≡ reading.format

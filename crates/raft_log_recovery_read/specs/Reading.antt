@@ -1,4 +1,4 @@
--- What the bytes of a log file that was found read as.
+-- What the bytes of a log file contain, as a recovery reads them.
 use Rattle.std.specs.Prelude.{◌≡◌, ℕ, ◌⊎◌, Bool, true, Option, Some, None, List, [], length, take, Result, Err, IsTrue, codes}
 use Rattle.raft_log_record_base.specs.Fault.{Fault}
 use Rattle.raft_log_record_base.specs.Fault.Fault.{corrupt}
@@ -19,7 +19,7 @@ use Rattle.raft_log_file_reader.specs.declared.open_file.OpenFile.{OpenFile}
 use Rattle.raft_log_recovery_read.specs.Faults.{TellsIfAny}
 use Rattle.raft_log_recovery_read.specs.Records.{ReadsBehind}
 
--- what a log file reads as, from its start to its end, or to what is wrong with it
+-- what a log file contains, from its start to its end, or to the first damage
 pub record FileReading : Type 0 where
   -- the header's format; the format of a file without a header, if it has none
   pub format : LogFileFormat
@@ -30,21 +30,22 @@ pub record FileReading : Type 0 where
   -- what is wrong after that, or with the header, as an error
   pub fault : Option Error
 
--- What reads as a header is a torn one: it has an alignment, which no pipe writes, and no whole record follows. It is
--- in the last file of a queue: a power failure may have torn its write.
+-- The header counts as torn: a power failure may have torn its write. The file is the last of its queue, its header
+-- has an alignment, which no pipe writes, and no whole record follows.
 abbrev pub IsTornHeader : Bool → LogFileFormat → List (List LogItem) → Type 0
 IsTornHeader last format batches = (last ≡ true) × (IsUnaligned format → ⊥) × (batches ≡ [])
 
--- the same, if it is known whether no record follows the header
+-- the header counts as torn; `bare` says whether no whole record follows it
 abbrev pub HasTornHeader : Bool → LogFileFormat → Bool → Type 0
 HasTornHeader last format bare = (last ≡ true) × (IsUnaligned format → ⊥) × IsTrue bare
 
--- the message for such a header
+-- the message of the error for a torn header
 abbrev pub torn_header : List ℕ
 torn_header = codes "log file header has an alignment, and no record after it"
 
--- What the bytes of a file read as, which is the last one of its queue or not. If they don't begin with a header, or
--- with a torn one, they read as nothing, and that is the fault. Else they read as what follows the header.
+-- What the bytes of a file contain; `last` says whether it is its queue's last file. If they don't begin with a
+-- header, or with a torn one, they contain nothing, and that is the fault. Else they contain the header's format and
+-- the batches after it.
 pub data ReadsBytes (last : Bool) (id : FileId) (content : List ℕ) (read : FileReading) : Type 0 where
   headless : (fault : Fault) → header_at (take 69 content) ≡ Err fault
       → TellsIfAny read.fault (Some fault) → read.batches ≡ [] → read.end ≡ None
@@ -62,12 +63,12 @@ pub data ReadsBytes (last : Bool) (id : FileId) (content : List ℕ) (read : Fil
       → TellsIfAny read.fault fault → read.end ≡ Some end → read.format ≡ file.format
       → ReadsBytes last id content read
 
--- what is read of the file by this handle, from its bytes on the disk
+-- `read` is what the bytes on disk `d` of the file with this handle contain
 abbrev pub ReadsFileAs : Bool → FileId → Handle → Disk → FileReading → Type 0
 ReadsFileAs last id handle d read = ReadsBytes last id (bytes_in (d.files handle.file)) read
 
--- why a file isn't read: its size can't be read, or some of its bytes can't; or memory ran out. Damaged bytes are no
--- such reason.
+-- Why reading a file fails. `Io`: its size or some of its bytes can't be read. `Memory`: memory ran out. Damaged bytes
+-- are not a reason.
 abbrev pub FailsToRead : Handle → Disk → Error → Type 0
 FailsToRead handle d (errors.Io kind) = IsNotMeasured handle d kind
     ⊎ IsUnread handle 0 (length (bytes_in (d.files handle.file))) d kind

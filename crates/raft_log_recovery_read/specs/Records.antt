@@ -1,5 +1,6 @@
--- The records in a log file's bytes, with their entry blocks. In a file before a queue's last one only the frames are
--- read, and the last record: all were durable before the next file began.
+-- The records in a log file's bytes, with their entry blocks. In a file before the queue's last one, only the frames
+-- and the last record are read: all records were synced before the next file began. A frame is a record whose entry
+-- block isn't checked.
 use Rattle.std.specs.Prelude.{◌≡◌, ℕ, ◌<◌, ◌⊎◌, Bool, true, false, Option, Some, None, List, [], ◌∷◌, ◌++◌, length, drop, Result, Err, IsOk}
 use Rattle.raft_log_record_base.specs.Files.{signature_of}
 use Rattle.raft_log_record_base.specs.Fault.{Fault}
@@ -9,43 +10,42 @@ use Rattle.raft_log_file_reader.specs.Batches.{GoesOnAt, HasBatch, HasBatches, H
 use Rattle.raft_log_file_reader.specs.Laws.{EndsBehind}
 use Rattle.raft_log_file_reader.specs.declared.open_file.OpenFile.{OpenFile}
 
--- a whole record follows an offset: a frame, and its entry block
+-- a whole record follows `offset`: its frame, and its entry block with a right checksum
 pub record IsWhole (file : OpenFile) (content : List ℕ) (offset : ℕ) : Type 0 where
   pub at : ℕ
   pub goes_on : GoesOnAt file.format.alignment content offset at
   pub record_there : IsOk (record_at (signature_of (context_of file)) (drop at content))
 
--- bytes follow an offset, and this is what is wrong with the record there: with its frame, or with its entry block
+-- bytes follow `offset`, and `fault` is what is wrong with the record there: with its frame, or with its entry block
 pub record IsRecordTorn (file : OpenFile) (content : List ℕ) (offset : ℕ) (fault : Fault) : Type 0 where
   pub at : ℕ
   pub goes_on : GoesOnAt file.format.alignment content offset at
   pub inside : at < length content
   pub wrong : record_at (signature_of (context_of file)) (drop at content) ≡ Err fault
 
--- the next batch after an offset has these items and ends at the other offset, and its record is whole
+-- the next batch after `offset` has these items and ends at `end`, and its record is whole, including its entry block
 pub record HasRecord (file : OpenFile) (content : List ℕ) (offset : ℕ) (items : List LogItem) (end : ℕ)
     : Type 0 where
   pub batch : HasBatch file content offset items end
   pub whole : IsWhole file content offset
 
--- these records follow one another after an offset, and the last one ends at the other offset
+-- these batches follow one another from `offset` to `end`, and the record of each is whole
 abbrev pub HasRecords : OpenFile → List ℕ → ℕ → List (List LogItem) → ℕ → Type 0
 HasRecords file content offset [] end = end ≡ offset
 HasRecords file content offset (items ∷ more) end =
     (next : ℕ) × HasRecord file content offset items next × HasRecords file content next more end
 
--- The last file of a queue: each of its records is whole. It has no more after them, or this is what is wrong with
--- the next one.
+-- no record follows `end`; or `fault` is what is wrong with the next one: with its frame, or with its entry block
 abbrev pub StopsWhole : OpenFile → List ℕ → ℕ → Option Fault → Type 0
 StopsWhole file content end None = HasNoMore file content end
 StopsWhole file content end (Some fault) = IsRecordTorn file content end fault
 
--- the file has no more batches after an offset, or this is what is wrong with the next one
+-- no batch follows `end`, or `fault` is what is wrong with the frame of the next one
 abbrev pub StopsGood : OpenFile → List ℕ → ℕ → Option Fault → Type 0
 StopsGood file content end None = HasNoMore file content end
 StopsGood file content end (Some fault) = IsBroken file content end fault
 
--- these batches follow one another, and the last one's record is whole
+-- these batches follow one another from `offset` to `end`, there is at least one, and the last one's record is whole
 pub record EndsWhole (file : OpenFile) (content : List ℕ) (offset : ℕ) (batches : List (List LogItem))
     (end : ℕ) : Type 0 where
   pub before : List (List LogItem)
@@ -55,8 +55,8 @@ pub record EndsWhole (file : OpenFile) (content : List ℕ) (offset : ℕ) (batc
   pub first : HasBatches file content offset before between
   pub record_last : HasRecord file content between last end
 
--- What is read after an offset of a file before the last. It is the batches up to the end or to a broken frame, if
--- the last one's record is whole. If the last one's record is torn, it is those before it.
+-- What is read of a file before the last one, from `offset` on. It is the batches up to the file's end or to a broken
+-- frame, if the record of the last batch is whole. If that record's entry block is torn, it is the batches before it.
 pub data ReadsEarlier (file : OpenFile) (content : List ℕ) (offset : ℕ) (batches : List (List LogItem))
     (end : ℕ) (fault : Option Fault) : Type 0 where
   none : batches ≡ [] → end ≡ offset → StopsGood file content end fault
@@ -67,12 +67,12 @@ pub data ReadsEarlier (file : OpenFile) (content : List ℕ) (offset : ℕ) (bat
       → HasBatch file content end items next → EndsBehind file content next
       → IsRecordTorn file content end f → fault ≡ Some f → ReadsEarlier file content offset batches end fault
 
--- what is read after an offset of the last file: its records, up to the end or to a torn one
+-- what is read of a last file, from `offset` on: its whole records, up to the file's end or to a torn record
 abbrev pub ReadsLastFile : OpenFile → List ℕ → ℕ → List (List LogItem) → ℕ → Option Fault → Type 0
 ReadsLastFile file content offset batches end fault =
     HasRecords file content offset batches end × StopsWhole file content end fault
 
--- what is read after an offset of a file, which is the last one of its queue, or not
+-- what is read of a file from an offset on; the flag says whether it is its queue's last file
 abbrev pub ReadsBehind :
     Bool → OpenFile → List ℕ → ℕ → List (List LogItem) → ℕ → Option Fault → Type 0
 ReadsBehind true = ReadsLastFile

@@ -1,4 +1,4 @@
--- The files of a queue that were found, as segments: what each contains, and why it isn't read.
+-- The files of a queue that were found: the batches that each contains, and why reading one fails.
 use Rattle.std.specs.Prelude.{◌≡◌, ℕ, ◌-◌, ◌<◌, Bool, List, ◌++◌, length, slice_index_or, ◌==◌, is_some}
 use Rattle.raft_log_record_base.specs.declared.errors.Error.{Error}
 use Rattle.raft_log_record_base.specs.declared.pipe_log.FileId.{FileId}
@@ -14,28 +14,28 @@ use Rattle.raft_log_recovery_read.specs.Handed.{WasHanded}
 use Rattle.raft_log_recovery_read.specs.declared.found_file.FoundFile.{FoundFile}
 use Rattle.raft_log_recovery_read.specs.declared.file_ending.FileEnding.{FileEnding}
 
--- whether the file in this place is the last one
+-- whether the file at position `index` is the last one
 abbrev pub is_at_end : List File → ℕ → Bool
 is_at_end files index = length files - index == 1
 
--- which file of the log it is
+-- the identity of the file in the log: its queue and number
 abbrev pub id_of : LogQueue → File → FileId
 id_of queue file = record { queue = queue; seq = file.seq }
 
--- the file is the one in this place of its queue, and reads as this
+-- `file` is at position `index` of its queue's files, and `read` is what it contains; its damage is tolerated
 pub record ReadsAt (mode : RecoveryMode) (queue : LogQueue) (files : List File) (d : Disk) (index : ℕ)
     (file : File) (read : FileReading) : Type 0 where
   pub inside : index < length files
   pub is : (other : File) → file ≡ slice_index_or files index other
   pub reads : ReadsFound mode (is_at_end files index) (id_of queue file) file.handle d read
 
--- what a recovery does with a file that reads as this
+-- how a recovery treats a file with this content: its format, where it ends, and whether it is damaged there
 pub record EndsAs (read : FileReading) (ending : FileEnding) : Type 0 where
   pub format : ending.format ≡ read.format
   pub end : ending.end ≡ read.end
   pub damaged : ending.is_damaged ≡ is_some read.fault
 
--- the file in this place has these batches, and this is to be done with it
+-- the file at position `index` contains these batches, and `ending` says how the recovery treats it
 pub record HoldsFile (mode : RecoveryMode) (queue : LogQueue) (files : List File) (d : Disk) (index : ℕ)
     (batches : List Batch) (ending : FileEnding) : Type 0 where
   pub file : File
@@ -44,7 +44,7 @@ pub record HoldsFile (mode : RecoveryMode) (queue : LogQueue) (files : List File
   pub holds : batches ≡ said (id_of queue file) read.batches
   pub ends : EndsAs read ending
 
--- the file in this place begins with these batches
+-- the first batches that the file at position `index` contains are these
 pub record BeginsFile (mode : RecoveryMode) (queue : LogQueue) (files : List File) (d : Disk) (index : ℕ)
     (batches : List Batch) : Type 0 where
   pub file : File
@@ -53,7 +53,7 @@ pub record BeginsFile (mode : RecoveryMode) (queue : LogQueue) (files : List Fil
   pub rest : List Batch
   pub begins : said (id_of queue file) read.batches ≡ batches ++ rest
 
--- why the file in this place isn't read: it can't be, or its damage isn't tolerated
+-- reading the file at position `index` fails with `error`: it can't be read, or its damage isn't tolerated
 pub record RefusesFile (mode : RecoveryMode) (queue : LogQueue) (files : List File) (d : Disk) (index : ℕ)
     (error : Error) : Type 0 where
   pub file : File
@@ -61,7 +61,7 @@ pub record RefusesFile (mode : RecoveryMode) (queue : LogQueue) (files : List Fi
   pub is : (other : File) → file ≡ slice_index_or files index other
   pub refused : FailsToReadFound mode (is_at_end files index) (id_of queue file) file.handle d error
 
--- this was found of the file in this place, and a machine was handed its records
+-- `found` is what was found of the file at position `index`, whose records were passed to a machine
 pub record IsSegment {M : Type 0} (mode : RecoveryMode) (queue : LogQueue) (files : List File) (d : Disk)
     (index : ℕ) (takes : List Batch → M → Type 0) (declines : List Batch → Error → Type 0) (old new : M)
     (found : FoundFile) : Type 0 where

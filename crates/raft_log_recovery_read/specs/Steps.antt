@@ -1,4 +1,4 @@
--- One more record of a file that a reader has open.
+-- A reader reads one more record of a file.
 use Rattle.std.specs.Prelude.{◌≡◌, ℕ, ◌-◌, ◌<◌, Option, Some, None, List}
 use Rattle.raft_log_record_base.specs.Fault.{Fault}
 use Rattle.raft_log_record_base.specs.declared.errors.Error.{Error}
@@ -14,13 +14,13 @@ use Rattle.raft_log_recovery_read.specs.Records.{HasRecord, IsRecordTorn, IsWhol
 use Rattle.raft_log_recovery_read.specs.declared.steps.Next.{Next}
 use Rattle.raft_log_recovery_read.specs.declared.steps.Next.TheVariants as nexts
 
--- a reader is at the same offset as another one, in the same file
+-- the reader `new` has the same file open as `old`, and is at the same offset
 pub record StandsAs (d : Disk) (old new : LogItemBatchFileReader) : Type 0 where
   pub reading : IsReading d new
   pub file : file_of new ≡ file_of old
   pub end : end_of new ≡ end_of old
 
--- the reader took a batch after what it had read, with its entry block, and what it took has these items
+-- the reader read the next batch, with these items, and knows the location of its entry block
 pub record TakesBatchOf (d : Disk) (file : OpenFile) (old new : LogItemBatchFileReader) (items : List LogItem)
     : Type 0 where
   pub batch : HasBatch file (bytes_of file.source d) (end_of old) items (end_of new)
@@ -28,8 +28,8 @@ pub record TakesBatchOf (d : Disk) (file : OpenFile) (old new : LogItemBatchFile
   pub inside : IsInsideFile (last_block new) new
   pub further : end_of old < end_of new
 
--- What follows what was read: a batch, which was taken; nothing more; or a broken frame with this fault, and nothing
--- was taken.
+-- What follows the reader's offset: a batch, which it read; nothing more; or a broken frame with this fault. In the
+-- last two cases it is at the same offset.
 abbrev pub TakesNextBatch : Disk → OpenFile → LogItemBatchFileReader → LogItemBatchFileReader → Next → Type 0
 TakesNextBatch d file old new (nexts.Batch items) = TakesBatchOf d file old new items.items
 TakesNextBatch d file old new nexts.End =
@@ -37,13 +37,13 @@ TakesNextBatch d file old new nexts.End =
 TakesNextBatch d file old new (nexts.Fault error) = (f : Fault) × TellsFault error f
     × IsBroken file (bytes_of file.source d) (end_of old) f × (end_of new ≡ end_of old)
 
--- what is wrong with the record after an offset, whose frame is good, if anything is
+-- The frame after `offset` is good. The record is whole, or the error describes what is wrong with its entry block.
 abbrev pub ChecksBlock : OpenFile → List ℕ → ℕ → Option Error → Type 0
 ChecksBlock file content offset None = IsWhole file content offset
 ChecksBlock file content offset (Some error) =
     (f : Fault) × TellsFault error f × IsRecordTorn file content offset f
 
--- a whole record was taken after what was read; nothing more follows; or this is what is wrong with it
+-- what follows the reader's offset: a whole record, which it read; nothing more; or a torn record, with this fault
 abbrev pub TakesWholeRecord : Disk → OpenFile → LogItemBatchFileReader → LogItemBatchFileReader → Next → Type 0
 TakesWholeRecord d file old new (nexts.Batch items) =
     HasRecord file (bytes_of file.source d) (end_of old) items.items (end_of new)

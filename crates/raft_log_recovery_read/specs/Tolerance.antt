@@ -1,4 +1,4 @@
--- Which damage of a log file is tolerated.
+-- Which damage of a log file each recovery mode tolerates.
 use Rattle.std.specs.Prelude.{◌≡◌, ◌⊎◌, Bool, true, false, Option, Some, None}
 use Rattle.raft_log_record_base.specs.declared.errors.Error.{Error}
 use Rattle.raft_log_record_base.specs.declared.pipe_log.FileId.{FileId}
@@ -8,23 +8,23 @@ use Rattle.raft_log_file_settings.specs.declared.recovery_mode.RecoveryMode.{Rec
 use Rattle.raft_log_file_settings.specs.declared.recovery_mode.RecoveryMode.TheVariants.{AbsoluteConsistency, TolerateTailCorruption, TolerateAnyCorruption}
 use Rattle.raft_log_recovery_read.specs.Reading.{FailsToRead, FileReading, ReadsFileAs}
 
--- whether damage is tolerated in a file, which is the last one of its queue or not
+-- whether this recovery mode tolerates damage in a file; `last` says whether it is its queue's last file
 abbrev pub tolerates : RecoveryMode → Bool → Bool
 tolerates AbsoluteConsistency last = false
 tolerates TolerateTailCorruption last = last
 tolerates TolerateAnyCorruption last = true
 
--- the file isn't damaged, or that is tolerated
+-- the file isn't damaged, or this recovery mode tolerates it
 abbrev pub IsTolerated : RecoveryMode → Bool → Option Error → Type 0
 IsTolerated mode last fault = (fault ≡ None) ⊎ (tolerates mode last ≡ true)
 
--- the file reads as this, and its damage is tolerated
+-- `read` is what the file contains, and its damage, if any, is tolerated
 pub record ReadsFound (mode : RecoveryMode) (last : Bool) (id : FileId) (handle : Handle) (d : Disk)
     (read : FileReading) : Type 0 where
   pub reads : ReadsFileAs last id handle d read
   pub tolerated : IsTolerated mode last read.fault
 
--- the file has this damage, and it isn't tolerated
+-- the file is damaged as `error` says, and this recovery mode doesn't tolerate that
 pub record IsDamaged (mode : RecoveryMode) (last : Bool) (id : FileId) (handle : Handle) (d : Disk)
     (error : Error) : Type 0 where
   pub read : FileReading
@@ -32,7 +32,7 @@ pub record IsDamaged (mode : RecoveryMode) (last : Bool) (id : FileId) (handle :
   pub told : read.fault ≡ Some error
   pub strict : tolerates mode last ≡ false
 
--- why a file isn't read: it can't be, or memory ran out; or it is damaged, and that isn't tolerated
+-- why a recovery fails to read a file: it can't be read, memory ran out, or it is damaged and that isn't tolerated
 abbrev pub FailsToReadFound : RecoveryMode → Bool → FileId → Handle → Disk → Error → Type 0
 FailsToReadFound mode last id handle d error =
     FailsToRead handle d error ⊎ IsDamaged mode last id handle d error

@@ -1,15 +1,15 @@
--- How the two queues share workers.
+-- How many of the worker threads of a recovery read each queue.
 use Rattle.std.specs.Prelude.{ℕ, suc, zero, ◌+◌, ◌-◌, ◌*◌, ◌/◌, max}
 
--- How many of these workers Append gets. If both queues have files, it is a share by the number of its files, at
--- least one; else all.
+-- How many of `all` workers read Append, where `append` and `rewrite` are the numbers of files. If both queues have
+-- files, it is Append's share of the files, but at least one worker; else all.
 abbrev pub append_share : ℕ → ℕ → ℕ → ℕ
 append_share all zero rewrite = all
 append_share all (suc append) zero = all
 append_share all (suc append) (suc rewrite) = max 1 (all * suc append / (suc append + suc rewrite))
 
--- How many of these workers Rewrite gets: those that Append leaves, at least one, if both queues have files; else
--- all.
+-- How many of `all` workers read Rewrite. If both queues have files, it is those that don't read Append, but at least
+-- one; else all.
 abbrev pub rewrite_share : ℕ → ℕ → ℕ → ℕ
 rewrite_share all zero rewrite = all
 rewrite_share all (suc append) zero = all

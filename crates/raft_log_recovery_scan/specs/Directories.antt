@@ -1,4 +1,4 @@
--- The log's directories: making them, and listing them.
+-- Making the directories of a log, and listing the files in them.
 use Rattle.std.specs.Prelude.{◌≡◌, ℕ, ◌⊎◌, Bool, Some, None, true, false, List, ◌∷◌, ◌++◌, codes, Contains}
 use Rattle.std.specs.declared.io.ErrorKind.{ErrorKind}
 use Rattle.std.specs.declared.io.ErrorKind.TheVariants.{OutOfMemory}
@@ -12,28 +12,29 @@ use Rattle.raft_log_fs.specs.Exits.{FailsToMakeDirectory}
 
 -- Making them.
 
--- nothing has the path
+-- no file and no directory has the path
 abbrev pub IsFreePath : List ℕ → Disk → Type 0
 IsFreePath path d = (d.names path ≡ None) × (d.directories path ≡ false)
 
--- a directory is there, or it was made
+-- the directory was there, and nothing changed; or it was made
 abbrev pub MakesIfAbsent : List ℕ → Disk → Disk → Type 0
 MakesIfAbsent path old new = ((old.directories path ≡ true) × (new ≡ old)) ⊎ MakesDirectory path old new
 
--- the message for a path that isn't a directory's
+-- the message of the error if the path is that of a file
 abbrev pub told_no_directory : List ℕ → List ℕ
 told_no_directory path = codes "Not directory: " ++ path
 
--- The error for a path that isn't a directory's: its message has the path; or memory ran out.
+-- The error if the path is that of a file: `Other`, with a message that has the path, or `Memory` if the message could
+-- not be allocated.
 abbrev pub TellsNoDirectory : List ℕ → Error → Type 0
 TellsNoDirectory path (errors.Other why) = HasMessage (Some (told_no_directory path)) why.value
 TellsNoDirectory path errors.Memory = Unit {0}
 TellsNoDirectory path _ = ⊥
 
--- Why a directory isn't there, and the disk then:
--- - a file has its path, which the message has
--- - it wasn't made, or the file system had stopped
--- - memory ran out
+-- Why a call that makes a directory, unless it is there, fails, and the disk after it:
+-- - `Other`: a file has the path, which is in the message; nothing changed
+-- - `Io`: the file system failed to make it, or had stopped
+-- - `Memory`: memory ran out; nothing changed
 abbrev pub FailsToHave : List ℕ → Error → Disk → Disk → Type 0
 FailsToHave path (errors.Other why) old new = (old.stopped ≡ false) × (old.names path ≡ None → ⊥)
     × HasMessage (Some (told_no_directory path)) why.value × (new ≡ old)
@@ -42,13 +43,13 @@ FailsToHave path (errors.Io kind) old new =
 FailsToHave path errors.Memory old new = (old.stopped ≡ false) × (new ≡ old)
 FailsToHave path _ old new = ⊥
 
--- these directories are there, and nothing else changed
+-- all these directories are there, other directories are as before, and nothing else changed
 pub record HasDirectories (directories : List (List ℕ)) (old new : Disk) : Type 0 where
   pub there : (path : List ℕ) → Contains directories path → new.directories path ≡ true
   pub others : (path : List ℕ) → (Contains directories path → ⊥) → new.directories path ≡ old.directories path
   pub rest : new ≡ record old { directories = new.directories }
 
--- the directories before one are there, and why that one isn't
+-- all directories before `path` in the list are there, and making that one failed
 pub record FailsToHaveAll (directories : List (List ℕ)) (error : Error) (old new : Disk) : Type 0 where
   pub before : List (List ℕ)
   pub path : List ℕ
@@ -60,19 +61,20 @@ pub record FailsToHaveAll (directories : List (List ℕ)) (error : Error) (old n
 
 -- Reading them.
 
--- why the file system failed a call that changes nothing: memory ran out, or another cause
+-- The errors for a call that changes nothing, and that the file system failed with `kind`. `Io` has this kind, which
+-- isn't `OutOfMemory` unless the file system has stopped. `Memory` is returned only if it hasn't stopped.
 abbrev pub TellsRefusal : Bool → ErrorKind → Error → Type 0
 TellsRefusal stopped kind (errors.Io told) = (told ≡ kind) × ((stopped ≡ true) ⊎ (kind ≡ OutOfMemory → ⊥))
 TellsRefusal stopped kind errors.Memory = stopped ≡ false
 TellsRefusal stopped kind _ = ⊥
 
--- why a directory wasn't listed: the file system has stopped; or it runs, and there is no such directory, or memory
--- ran out
+-- Why listing a directory fails. `Io`: the file system has stopped, or there is no such directory. `Memory`: memory
+-- ran out.
 abbrev pub FailsToList : List ℕ → Disk → Error → Type 0
 FailsToList path d (errors.Io kind) = IsAfterStop d kind ⊎ ((d.stopped ≡ false) × WrongListing path d kind)
 FailsToList path d errors.Memory = d.stopped ≡ false
 FailsToList path d _ = ⊥
 
--- why one of these directories wasn't listed
+-- listing one of these directories fails with `error`
 abbrev pub FailsToListAll : List (List ℕ) → Disk → Error → Type 0
 FailsToListAll directories d error = (path : List ℕ) × Contains directories path × FailsToList path d error

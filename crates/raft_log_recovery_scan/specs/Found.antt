@@ -1,4 +1,4 @@
--- Which files of a log its directories have.
+-- The files of a log that its directories have, by their names.
 use Rattle.std.specs.Prelude.{◌≡◌, ℕ, ◌<◌, ◌⊎◌, None, List, [], ◌∷◌, ◌++◌, suc, length, slice_index_or, Contains}
 use Rattle.std.specs.String.{string_bytes}
 use Rattle.raft_log_record_base.specs.declared.errors.Error.{Error}
@@ -11,32 +11,35 @@ use Rattle.raft_log_recovery_scan.specs.declared.scanning.found.FoundFile.{Found
 
 -- Among names.
 
--- The files among those with these names in a directory, in the order of the names; none is misnamed.
+-- `files` are the log files of this kind among `names`, in the order of the names. `place` is the position of their
+-- directory in the settings. No name is misnamed: with a number and more text before its suffix.
 abbrev pub AreAmong : FileKind → ℕ → List (List ℕ) → List FoundFile → Type 0
 AreAmong kind place [] files = files ≡ []
 AreAmong kind place (name ∷ names) files = (IsOther kind name × AreAmong kind place names files)
     ⊎ ((file : FoundFile) × (more : List FoundFile) × IsNameOf kind file.signed file.seq name
     × (file.path_id ≡ place) × (files ≡ file ∷ more) × AreAmong kind place names more)
 
--- The files among those with these names in several directories, from this place on, in the order of the
--- names; none is misnamed.
+-- `files` are the log files of this kind among the names in several directories, in the order of the names. `place` is
+-- the position of the first directory in the settings. No name is misnamed.
 abbrev pub AreAmongAll : FileKind → ℕ → List (List (List ℕ)) → List FoundFile → Type 0
 AreAmongAll kind place [] files = files ≡ []
 AreAmongAll kind place (names ∷ listings) files = (first : List FoundFile) × (more : List FoundFile)
     × AreAmong kind place names first × AreAmongAll kind (suc place) listings more × (files ≡ first ++ more)
 
--- the message names a misnamed file, one of these names
+-- the message says that one of these names is misnamed, and has that name
 abbrev pub TellsOneOf : FileKind → List (List ℕ) → List ℕ → Type 0
 TellsOneOf kind names text =
     (name : List ℕ) × Contains names name × IsMisnamed kind name × (text ≡ told_misnamed name)
 
--- why the files of a directory weren't found: a name is misnamed, or memory ran out
+-- The errors of finding the log files among a directory's names: `Corruption` with the name if one is misnamed, or
+-- `Memory`.
 abbrev pub FailsAmong : FileKind → List (List ℕ) → Error → Type 0
 FailsAmong kind names (errors.Corruption text) = TellsOneOf kind names (string_bytes text)
 FailsAmong kind names errors.Memory = Unit {0}
 FailsAmong kind names _ = ⊥
 
--- why the files of several directories weren't found: a name in one of them is misnamed, or memory ran out
+-- The errors of finding the log files among the names in several directories: `Corruption` with the name if one is
+-- misnamed, or `Memory`.
 abbrev pub FailsAmongAll : FileKind → List (List (List ℕ)) → Error → Type 0
 FailsAmongAll kind listings (errors.Corruption text) =
     (names : List (List ℕ)) × Contains listings names × TellsOneOf kind names (string_bytes text)
@@ -45,30 +48,32 @@ FailsAmongAll kind listings _ = ⊥
 
 -- On a disk.
 
--- the path of a file in these directories
+-- the path of a file that was found: its directory, and its name there
 abbrev pub found_path : FileKind → List (List ℕ) → FoundFile → List ℕ
 found_path kind directories file =
     slice_index_or directories file.path_id [] ++ 47 ∷ name_of kind file.signed file.seq
 
--- the file is in one of these directories, under the name of its number, with a sign or without one
+-- The file is in one of these directories. Its name is the one that this kind of file has for its number, with a plus
+-- sign or without one.
 pub record FileLiesIn (kind : FileKind) (directories : List (List ℕ)) (d : Disk) (file : FoundFile) : Type 0 where
   pub listed : file.path_id < length directories
   pub small : file.seq < name_limit file.signed
   pub there : d.names (found_path kind directories file) ≡ None → ⊥
 
--- a directory has a file under this name
+-- one of these directories has a file with this name
 pub record HasName (directories : List (List ℕ)) (d : Disk) (name : List ℕ) : Type 0 where
   pub directory : List ℕ
   pub listed : Contains directories directory
   pub plain : IsPlain name
   pub there : d.names (directory ++ 47 ∷ name) ≡ None → ⊥
 
--- no element of the list comes twice
+-- no element of the list occurs twice
 abbrev pub AreDistinct : {X : Type 0} → List X → Type 0
 AreDistinct [] = Unit {0}
 AreDistinct (x ∷ xs) = (Contains xs x → ⊥) × AreDistinct xs
 
--- exactly the files of this kind in these directories, each once; no name in them is misnamed
+-- `files` are exactly the files of this kind in these directories, each once, and no name in the directories is
+-- misnamed
 pub record AreFilesIn (kind : FileKind) (directories : List (List ℕ)) (d : Disk) (files : List FoundFile)
     : Type 0 where
   pub found : (file : FoundFile) → Contains files file → FileLiesIn kind directories d file

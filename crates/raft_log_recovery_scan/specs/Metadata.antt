@@ -1,9 +1,9 @@
--- What deleting a file system's notes on files leaves.
+-- The disk after a recovery deleted the metadata that a file system keeps for files.
 use Rattle.std.specs.Prelude.{◌≡◌}
 use Rattle.raft_log_fs.specs.Disk.{Disk}
 use Rattle.raft_log_fs.specs.Causes.{IsLater}
 
--- no file and no name changed; calls may have failed
+-- no file and no name changed; file system calls may have failed
 pub record ChangesNoFile (old new : Disk) : Type 0 where
   pub rest : new ≡ record old { stopped = new.stopped; failures = new.failures; kinds = new.kinds }
   pub later : IsLater old new

@@ -1,4 +1,4 @@
--- Files that were found are opened.
+-- Opening the files that were found.
 use Rattle.std.specs.Prelude.{◌≡◌, ℕ, ◌⊎◌, Bool, true, false, List, [], ◌∷◌, ◌++◌, length}
 use Rattle.std.specs.List.{AllZip}
 use Rattle.raft_log_record_base.specs.declared.errors.Error.{Error}
@@ -18,12 +18,12 @@ use Rattle.raft_log_recovery_scan.specs.declared.file_kind.FileKind.{FileKind}
 use Rattle.raft_log_recovery_scan.specs.declared.file_kind.FileKind.TheVariants.{Reserved}
 use Rattle.raft_log_recovery_scan.specs.declared.scanning.found.FoundFile.{FoundFile}
 
--- whether files of this kind have reserved names
+-- whether files of this kind are reserved: kept for recycling under names of their own
 abbrev pub is_reserved : FileKind → Bool
 is_reserved Reserved = true
 is_reserved _ = false
 
--- The file that was found, open: the handle is of the file with that path. Its format isn't read yet: it is that of a
+-- `file` is the file that was found, open with this permission. Its header isn't read yet, so its format is that of a
 -- file without a header.
 pub record IsOpenFile (kind : FileKind) (directories : List (List ℕ)) (d : Disk) (permission : Permission)
     (found : FoundFile) (file : File) : Type 0 where
@@ -33,7 +33,7 @@ pub record IsOpenFile (kind : FileKind) (directories : List (List ℕ)) (d : Dis
   pub format : file.format ≡ record { version = V1; alignment = 0 }
   pub opened : IsOpened (found_path kind directories found) permission file.handle d
 
--- each of these is open
+-- each file that was found is open, with this permission
 abbrev pub AreOpen : FileKind → List (List ℕ) → Disk → Permission → List FoundFile → List File → Type 0
 AreOpen kind directories d permission found files =
     AllZip (IsOpenFile kind directories d permission) found files
@@ -43,7 +43,8 @@ abbrev pub permission_before : RecoveryMode → Permission
 permission_before TolerateAnyCorruption = ReadWrite
 permission_before _ = ReadOnly
 
--- the last of these is open for writing, and those before it as the mode requires
+-- The files of a queue are open, and there is at least one: the last one for writing, and those before with the
+-- permission that the recovery mode requires.
 pub record IsOpenBehind (kind : FileKind) (directories : List (List ℕ)) (d : Disk) (mode : RecoveryMode)
     (found : List FoundFile) (files : List File) : Type 0 where
   pub before : List FoundFile
@@ -55,13 +56,14 @@ pub record IsOpenBehind (kind : FileKind) (directories : List (List ℕ)) (d : D
   pub earlier : AreOpen kind directories d (permission_before mode) before opened
   pub writable : IsOpenFile kind directories d ReadWrite last active
 
--- the files of a queue are open, if there are some
+-- the files of a queue are open, as the recovery mode requires; or there are none
 abbrev pub IsOpenQueue :
     FileKind → List (List ℕ) → Disk → RecoveryMode → List FoundFile → List File → Type 0
 IsOpenQueue kind directories d mode found files =
     ((found ≡ []) × (files ≡ [])) ⊎ IsOpenBehind kind directories d mode found files
 
--- why it isn't known what has a path, or the file there wasn't opened: the file system has stopped, or memory ran out
+-- The errors with which looking up a path, or opening the file there, can fail: `Io` after the file system has
+-- stopped, or `Memory`.
 abbrev pub FailsToLook : Disk → Error → Type 0
 FailsToLook d (errors.Io kind) = IsAfterStop d kind
 FailsToLook d errors.Memory = Unit {0}

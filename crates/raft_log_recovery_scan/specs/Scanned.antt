@@ -1,4 +1,4 @@
--- What a scan of the log's directories returns.
+-- What a scan of a log's directories returns: the files of each queue that are kept, open.
 use Rattle.std.specs.Prelude.{◌≡◌, ℕ, ◌⊎◌, List}
 use Rattle.std.specs.String.{string_bytes}
 use Rattle.raft_log_record_base.specs.declared.errors.Error.{Error}
@@ -18,60 +18,61 @@ use Rattle.raft_log_recovery_scan.specs.declared.file_kind.FileKind.TheVariants.
 use Rattle.raft_log_recovery_scan.specs.declared.scanning.found.FoundFile.{FoundFile}
 use Rattle.raft_log_recovery_scan.specs.declared.scanning.ScannedFiles.{ScannedFiles}
 
--- the files of a kind that are kept, among those with these names
+-- `kept` are the files of this kind after the last break in the numbers, among the names in these listings
 pub record IsRunAmong (kind : FileKind) (listings : List (List (List ℕ))) (kept : List FoundFile)
     : Type 0 where
   pub found : List FoundFile
   pub among : AreAmongAll kind 0 listings found
   pub run : IsRunOf found kept
 
--- the files of a kind that are kept, among exactly those in these directories
+-- `kept` are the files of this kind after the last break in the numbers, among all those in these directories
 pub record IsRunIn (kind : FileKind) (directories : List (List ℕ)) (d : Disk) (kept : List FoundFile)
     : Type 0 where
   pub found : List FoundFile
   pub all : AreFilesIn kind directories d found
   pub run : IsRunOf found kept
 
--- the files of a queue that are kept, open
+-- `files` are the files of a queue after the last break in the numbers, open as the recovery mode requires
 pub record IsQueueIn (kind : FileKind) (directories : List (List ℕ)) (d : Disk) (mode : RecoveryMode)
     (files : List File) : Type 0 where
   pub kept : List FoundFile
   pub run : IsRunIn kind directories d kept
   pub opened : IsOpenQueue kind directories d mode kept files
 
--- the reserved files that are kept, open to be read
+-- `files` are the files kept for recycling after the last break in the numbers, open for reading
 pub record IsReserveIn (directories : List (List ℕ)) (d : Disk) (files : List File) : Type 0 where
   pub kept : List FoundFile
   pub run : IsRunIn Reserved directories d kept
   pub opened : AreOpen Reserved directories d ReadOnly kept files
 
--- the files of both queues, and the reserved ones
+-- the scan has the files of both queues, and those kept for recycling
 pub record IsScanned (directories : List (List ℕ)) (d : Disk) (mode : RecoveryMode)
     (scanned : ScannedFiles) : Type 0 where
   pub append : IsQueueIn Append directories d mode scanned.append.items
   pub rewrite : IsQueueIn Rewrite directories d mode scanned.rewrite.items
   pub reserved : IsReserveIn directories d scanned.reserved.items
 
--- the message names a misnamed file in these directories
+-- the message says that a file in these directories is misnamed, and has its name
 abbrev pub TellsMisnamedIn : List (List ℕ) → Disk → List ℕ → Type 0
 TellsMisnamedIn directories d text = (kind : FileKind) × (name : List ℕ) × HasName directories d name
     × IsMisnamed kind name × (text ≡ told_misnamed name)
 
--- why files that are there weren't found and opened: the file system has stopped, one is misnamed, or memory ran out
+-- Why finding and opening the files fails. `Io`: the file system has stopped. `Corruption`: a file is misnamed.
+-- `Memory`: memory ran out.
 abbrev pub FailsToFindFiles : List (List ℕ) → Disk → Error → Type 0
 FailsToFindFiles directories d (errors.Io kind) = IsAfterStop d kind
 FailsToFindFiles directories d (errors.Corruption text) = TellsMisnamedIn directories d (string_bytes text)
 FailsToFindFiles directories d errors.Memory = Unit {0}
 FailsToFindFiles directories d _ = ⊥
 
--- the directories are there, and nothing else changed; and their files
+-- the directories are there, nothing else changed, and `scanned` has their files
 pub record Scans (directories : List (List ℕ)) (mode : RecoveryMode) (scanned : ScannedFiles)
     (old new : Disk) : Type 0 where
   pub made : HasDirectories directories old new
   pub is : IsScanned directories new mode scanned
 
--- why a scan fails: a directory isn't there; or they are, and their files aren't found or opened; nothing else
--- changed
+-- Why a scan fails: a directory couldn't be made; or all are there, and finding or opening their files failed. Nothing
+-- else changed.
 abbrev pub FailsToScan : List (List ℕ) → Error → Disk → Disk → Type 0
 FailsToScan directories error old new = FailsToHaveAll directories error old new
     ⊎ (HasDirectories directories old new × FailsToFindFiles directories new error)

@@ -1,4 +1,4 @@
--- What an engine's other calls promise for its log, and what they do to the voters.
+-- What an engine's other calls, a purge, a close and an open, do to the contents of its log, and so to the voters.
 use Rattle.std.specs.Prelude.{◌≡◌, ◌⊎◌, ℕ, List, [], take}
 use Rattle.raft_log_fs.specs.Disk.{Disk}
 use Rattle.raft_log_model_laws.specs.Groups.{taken}
@@ -12,40 +12,42 @@ use Rattle.raft_voter_durability_laws.specs.Standing.{IsLeftAmong, IsLeftWith, K
 
 -- What the engine promises.
 
--- a purge succeeded: the map stays, with the pending batches in it
+-- a purge succeeded: the log has the same contents after its pending batches, which are durable now
 abbrev pub KeepsMap : EngineState → EngineState → Type 0
 KeepsMap s t = (home : LogDirectories) (m : LogMap) (pending : List LogRecordValue) → Represents home s m pending
     → Represents home t (taken m pending) []
 
--- a purge failed:
--- - the map stays, with the pending batches in it
--- - or the engine has failed, and left its log on the disk, with the batches in the map or still pending
+-- A purge failed:
+-- - the log has the same contents after its pending batches, which are durable now
+-- - or the engine has failed, and the log's files can be opened, with these batches durable or still pending
 abbrev pub KeepsOrLeavesMap : Error → EngineState → EngineState → Type 0
 KeepsOrLeavesMap error s t = (home : LogDirectories) (m : LogMap) (pending : List LogRecordValue) → Represents home s m pending
     → Represents home t (taken m pending) []
     ⊎ ((error ≡ errors.Failed) × (IsRecoverableAs home t.pipes.disk (taken m pending) []
     ⊎ IsRecoverableAs home t.pipes.disk m pending))
 
--- the engine is gone, closed or dropped: its log is left on this disk as it was
+-- engine `s` was closed or dropped: its log's files on disk `d` can be opened, with the same contents and pending
+-- batches
 abbrev pub LeavesLog : EngineState → Disk → Type 0
 LeavesLog s d = (home : LogDirectories) (m : LogMap) (pending : List LogRecordValue) → Represents home s m pending
     → IsRecoverableAs home d m pending
 
--- a log that was left on one disk is left on the other, as it was
+-- if the log's files on disk `d` could be opened, those on disk `e` can be, with the same contents and pending batches
 abbrev pub LeavesLeft : LogDirectories → Disk → Disk → Type 0
 LeavesLeft home d e = (m : LogMap) (pending : List LogRecordValue) → IsRecoverableAs home d m pending
     → IsRecoverableAs home e m pending
 
 -- What happens to the voters.
 
--- a purge failed: the engine keeps the voters; or it has failed, and left exactly them on the disk
+-- After a failed purge, the engine's log stores the voters of `V`. Or the engine has failed, and its log's files can
+-- be opened with just these voters.
 abbrev pub KeepsOrLeaves : LogDirectories → Error → EngineState → World → Type 0
 KeepsOrLeaves home error t V =
     Keeps home t V ⊎ ((error ≡ errors.Failed) × IsLeftWith home t.pipes.disk V)
 
--- An open that finds so many first batches finds voters that pass the test, in the directories of the log or of a
--- fork. If it succeeds, the engine keeps these voters. If it fails, it leaves a log whose crash images have voters
--- that pass.
+-- An open that keeps the first `k` pending batches finds voters for which `P` holds, in the directories of the log or
+-- of a fork. If it succeeds, the engine's log stores these voters. If it fails, its files can be opened, and whatever
+-- a crash keeps of them has voters for which `P` holds.
 pub record OpensAmong (home : LogDirectories) (d : Disk) (P : World → Type 0) (left : IsLeftAmong home d P) (k : ℕ)
     : Type 0 where
   pub world : World

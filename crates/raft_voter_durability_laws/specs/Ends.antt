@@ -1,4 +1,4 @@
--- A round: how far it went, and each of its ends.
+-- A round in progress, and the ways in which it ends.
 use Rattle.std.specs.Prelude.{◌≡◌, ℕ, Bool, false, true, List, [], ◌++◌}
 use Rattle.raft_log_fs.specs.Causes.{Fails, IsLater}
 use Rattle.raft_log_model_laws.specs.Groups.{taken}
@@ -14,8 +14,9 @@ use Rattle.raft_voter_records.specs.Among.{MeansAmong}
 use Rattle.raft_voter_durability_laws.specs.Standing.{AreOutlines, IsLeftAmong, Keeps}
 use Rattle.raft_voter_durability_laws.specs.Rounds.{AreTold, IsPassed, IsPassedOrOneMore, took}
 
--- A round went so far, with these replies. What it wrote leads to the voters after the requests taken, through the
--- voters after each first part of them. The replies are theirs. If it wrote nothing, nothing was added to the log.
+-- A round got as far as these replies. Its records so far lead from the voters at its start to the voters after the
+-- requests taken. If only the first few of these records are kept, they lead to the voters after the first few
+-- requests taken. The replies are those of the voters. If the round wrote nothing, the log has no new record.
 pub record Went (qs : List (ℕ × Request)) (told : List Reply) (wrote : Bool) (s t : EngineState) (os us : ℕ → State)
     : Type 0 where
   pub said : List LogRecordValue
@@ -31,8 +32,8 @@ pub record Went (qs : List (ℕ × Request)) (told : List Reply) (wrote : Bool) 
   pub tells : (home : LogDirectories) (m : LogMap) (W : World) → Represents home s m [] → Means m W → AreOutlines os W
       → AreTold W qs told
 
--- A round ended with replies: the engine runs on and keeps the voters after what was taken. These are their outlines,
--- and the replies are theirs.
+-- A round ended with replies. The engine runs on, and its log stores the voters after the requests taken, with nothing
+-- pending. The outlines are theirs, and so are the replies.
 pub record Answered (home : LogDirectories) (V : World) (qs : List (ℕ × Request)) (told : List Reply) (s t : EngineState)
     (us : ℕ → State) : Type 0 where
   pub alive : has_failed t ≡ false
@@ -41,8 +42,9 @@ pub record Answered (home : LogDirectories) (V : World) (qs : List (ℕ × Reque
   pub outlines : AreOutlines us (after V (took qs told))
   pub tells : AreTold V qs told
 
--- A round was given up at a request at which the engine failed. The replies so far are the voters'. The log that is
--- left means voters after some first requests, perhaps with that one.
+-- The engine failed at a request of the round, after these replies, which are the voters'. The log's files can be
+-- opened. They store the voters after the first few requests taken, perhaps with the request at which the engine
+-- failed.
 pub record GaveUp (home : LogDirectories) (V : World) (qs : List (ℕ × Request)) (told : List Reply) (s t : EngineState)
     : Type 0 where
   pub failed : has_failed t ≡ true
@@ -50,7 +52,8 @@ pub record GaveUp (home : LogDirectories) (V : World) (qs : List (ℕ × Request
   pub tells : AreTold V qs told
   pub left : IsLeftAmong home t.pipes.disk (IsPassedOrOneMore V qs told)
 
--- A round's sync failed: the log that is left means voters after some first requests.
+-- The sync at the end of a round failed. The log's files can be opened, and store the voters after the first few
+-- requests taken.
 pub record Unsynced (home : LogDirectories) (V : World) (qs : List (ℕ × Request)) (told : List Reply) (s t : EngineState)
     : Type 0 where
   pub failed : has_failed t ≡ true

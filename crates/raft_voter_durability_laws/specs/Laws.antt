@@ -1,4 +1,5 @@
--- What follows from the definitions: each exit of an engine's calls as a step of its voters, and laws on rounds.
+-- What follows from the definitions: how each result of an engine's calls changes the voters that its log stores, and
+-- laws on rounds.
 use Rattle.std.specs.Prelude.{◌≡◌, ◌⊎◌, ◌≤◌, ◌<◌, ◌^◌, ◌||◌, ℕ, Bool, true, false, None, IsTrue, List, [], ◌∷◌, ◌++◌, length, map, slice_get, Option, Some}
 use Rattle.raft_log_fs.specs.Disk.{Disk}
 use Rattle.raft_log_machine_laws.specs.Fresh.{nothing_stands}
@@ -34,34 +35,36 @@ use Rattle.raft_voter_durability_laws.specs.Calls.{KeepsMap, KeepsOrLeaves, Keep
 
 -- One request.
 
--- the outline is that of a voter without entries' bytes: itself
+-- `o` is an outline: it has no data of entries
 abbrev pub IsBare : State → Type 0
 IsBare o = without_bytes o ≡ o
 
--- A request that leaves its voter unchanged is served by the outline: nothing was written.
+-- A request that doesn't change its voter is served without a record, if the reply follows from the outline.
 abbrev pub ToldRequestsAreServed : Type 0
 ToldRequestsAreServed = (q : ℕ × Request) (a : Reply) (s : EngineState) (os : ℕ → State) → has_failed s ≡ false
     → IsBare (os q.0) → IsReplyOfEach (os q.0) q.1 (answers.Told a) → LeavesEach (os q.0) q.1
     → Served q a false s s os os
 
--- A request is served if its change was written, and the outline of its group made the step.
+-- A request that changes its voter is served, if the record of the change was written. The outline of its group must
+-- have made the same step.
 abbrev pub WrittenRequestsAreServed : Type 0
 WrittenRequestsAreServed = (q : ℕ × Request) (a : Reply) (c : Change) (b : Batch) (len : ℕ) (s t : EngineState)
     (os us : ℕ → State) → IsBare (os q.0) → IsReplyOfEach (os q.0) q.1 (answers.Told a)
     → ChangesEach (os q.0) q.1 c → SaysChange q.0 q.1 c b → StepsOutlines q os us
     → WritesBytes b false len s t → Served q a true s t os us
 
--- A request for entries is served if they were read.
+-- A request for entries is served, if the entries were read.
 abbrev pub ReadRequestsAreServed : Type 0
 ReadRequestsAreServed = (q : ℕ × Request) (from to : ℕ) (es : List VoterEntry) (s t : EngineState) (os : ℕ → State)
     → IsReplyOfEach (os q.0) q.1 (answers.Entries from to) → LeavesEach (os q.0) q.1
     → ReadsEntries q.0 from to s t os es → Served q (replies.Entries es) false s t os os
 
--- An engine shows no entry of a group that doesn't count.
+-- An engine's tables show no entry of a group that doesn't count.
 abbrev pub EnginesAreCounted : Type 0
 EnginesAreCounted = (v : LogPipes) (tables : MemTables) (cache : BlockCache) → IsCounted (shows v tables cache)
 
--- Fetched entries are read, if messages are raw bytes, and each parses as an entry at its index.
+-- Entries that a fetch returned are those of the group's voter, if messages are raw bytes, and each parses as an entry
+-- at its index.
 abbrev pub FetchedEntriesAreRead : Type 0 → Type 0
 FetchedEntriesAreRead M = (text : M → List ℕ) (reading : List ℕ → Option M) (q : ℕ × Request)
     (from to count : ℕ) (s t : EngineState) (os : ℕ → State) (messages : List M) (es : List VoterEntry)
@@ -69,33 +72,34 @@ FetchedEntriesAreRead M = (text : M → List ℕ) (reading : List ℕ → Option
     → FetchesTo reading q.0 from to None s t [] messages count → AreReadAs from (map text messages) es
     → ReadsEntries q.0 from to s t os es
 
--- Entries that weren't fetched aren't read, for one of these reasons.
+-- If a fetch of the requested entries failed, they weren't read, for a reason in `WasTurnedDown`.
 abbrev pub UnfetchedEntriesAreUnread : Type 0 → Type 0
 UnfetchedEntriesAreUnread M = (text : M → List ℕ) (reading : List ℕ → Option M) (q : ℕ × Request)
     (from to : ℕ) (error : Error) (s t : EngineState) (os : ℕ → State) → IsRaw text reading
     → IsReplyOfEach (os q.0) q.1 (answers.Entries from to) → FailsToFetch reading q.0 from to s t error
     → ReadsNone q error s t os
 
--- If a request's record wasn't written, the request is turned down, or the engine failed at it.
+-- If a request's record wasn't written, either the request is turned down, or the engine failed at it.
 abbrev pub UnwrittenRequests : Type 0
 UnwrittenRequests = (q : ℕ × Request) (c : Change) (b : Batch) (error : Error) (s t : EngineState) (os : ℕ → State)
     → has_failed s ≡ false → ChangesEach (os q.0) q.1 c → SaysChange q.0 q.1 c b
     → record_len b.items b.entries < 2 ^ 56 → NotWritten b error s t
     → TurnedDown q error s t os ⊎ ((error ≡ errors.Failed) × Broke q s t os)
 
--- If memory ran out before anything was done, the request is turned down.
+-- If memory ran out before anything was done for a request, it is turned down with `Memory`.
 abbrev pub UnmadeRequestsAreTurnedDown : Type 0
 UnmadeRequestsAreTurnedDown = (q : ℕ × Request) (s : EngineState) (os : ℕ → State) → has_failed s ≡ false
     → TurnedDown q errors.Memory s s os
 
--- A request for entries is turned down if they weren't read.
+-- A request for entries is turned down, if they weren't read.
 abbrev pub UnreadRequestsAreTurnedDown : Type 0
 UnreadRequestsAreTurnedDown = (q : ℕ × Request) (error : Error) (s t : EngineState) (os : ℕ → State)
     → ReadsNone q error s t os → TurnedDown q error s t os
 
 -- Rounds.
 
--- A round begins, and continues with a request that was served, or with one that was turned down.
+-- A round begins without replies. It gets one more reply with a request that was served, or with one that was turned
+-- down, whose reply is `Refused`.
 pub record RoundsGoOn : Type 0 where
   pub begins : (qs : List (ℕ × Request)) (s : EngineState) (os : ℕ → State) → has_failed s ≡ false
       → Went qs [] false s s os os
@@ -109,8 +113,8 @@ pub record RoundsGoOn : Type 0 where
       → Went qs (told ++ replies.Refused ∷ []) wrote s u os us
 
 -- A round ends in one of these ways:
--- - nothing was written, and no sync is needed
--- - its sync succeeds
+-- - nothing was written, no sync is needed, and the replies are returned
+-- - its sync succeeds, and the replies are returned
 -- - the engine fails at a request
 -- - its sync fails
 pub record RoundsEnd : Type 0 where
@@ -130,18 +134,19 @@ pub record RoundsEnd : Type 0 where
 
 -- Replies and refused places.
 
--- the refused places of a round, which its replies show, determine the voters' replies and what was taken
+-- The positions at which a round's replies are `Refused` determine all its replies and the requests that were taken.
 pub record RepliesTellPlaces (V : World) (qs : List (ℕ × Request)) (told : List Reply) : Type 0 where
   pub rising : IsTrue (are_rising 0 (length qs) (refused_from 0 told))
   pub told_is : told ≡ replies_from 0 (refused_from 0 told) V qs
   pub taken_is : took qs told ≡ taken_from 0 (length qs) (refused_from 0 told) qs
 
--- if all requests of a round got the voters' replies, its refused places determine the replies and what was taken
+-- Let each request of a round have a reply, and let those that aren't `Refused` be the voters'. Then the refused
+-- positions determine the replies and the requests taken.
 abbrev pub ToldRoundsAreAnswered : Type 0
 ToldRoundsAreAnswered = (V : World) (qs : List (ℕ × Request)) (told : List Reply) → AreTold V qs told
     → length told ≡ length qs → RepliesTellPlaces V qs told
 
--- The voters that a cut-off round passed took its requests below one place, except those at refused places.
+-- The voters after a round was cut off took its requests below one position, except those at refused positions.
 abbrev pub PassedVotersTookFirst : Type 0
 PassedVotersTookFirst = (V : World) (qs : List (ℕ × Request)) (told : List Reply) → AreTold V qs told
     → (X : World) → IsPassedOrOneMore V qs told X → TakesFirst V qs (refused_from 0 told) X
@@ -154,11 +159,13 @@ pub record PurgesKeepVoters : Type 0 where
   pub refused : (home : LogDirectories) (V : World) (error : Error) (s t : EngineState) → Keeps home s V
       → KeepsOrLeavesMap error s t → KeepsOrLeaves home error t V
 
--- An engine that is dropped, as by a crash, leaves its log on its disk.
+-- If an engine is dropped, as by a crash, its log's files on the disk can be opened, with the same contents and
+-- pending batches.
 abbrev pub EnginesLeaveLogs : Type 0
 EnginesLeaveLogs = (s : EngineState) → LeavesLog s s.pipes.disk
 
--- An engine that is closed or dropped leaves its voters on the disk. A fork leaves what was left as it was.
+-- After an engine was closed or dropped, its log's files can be opened with the same voters. A fork keeps the voters
+-- that a log's files may have.
 pub record VotersAreLeft : Type 0 where
   pub gone : (home : LogDirectories) (V : World) (s : EngineState) (d : Disk) → Keeps home s V → LeavesLog s d
       → IsLeftWith home d V
@@ -166,14 +173,14 @@ pub record VotersAreLeft : Type 0 where
       → IsLeftAmong home d (TakesFirst V qs refused) → LeavesLeft home d e
       → IsLeftAmong home e (TakesFirst V qs refused)
 
--- An empty log means fresh voters. An engine that is opened for the first time has them, and such an open leaves them
--- if it fails.
+-- An empty log stores fresh voters, for which nothing was ever written. If a first open succeeds, the engine's log
+-- stores them; if it fails, the log's files can be opened with them.
 pub record FreshLogsHaveFreshVoters : Type 0 where
   pub answered : (home : LogDirectories) (e : EngineState) → Represents home e nothing_stands [] → Keeps home e fresh_world
   pub refused : (home : LogDirectories) (d : Disk) → IsRecoverableAs home d nothing_stands [] → IsLeftWith home d fresh_world
 
--- A round that was cut off leaves voters that took its requests below one place. Any other call leaves those before
--- it.
+-- After a round was cut off, the log's files store voters that took its requests below one position, except refused
+-- ones. After any other call they store the voters from before it.
 pub record LeftBehindRounds : Type 0 where
   pub gave_up : (home : LogDirectories) (V : World) (qs : List (ℕ × Request)) (told : List Reply) (s t : EngineState)
       → GaveUp home V qs told s t
@@ -184,7 +191,8 @@ pub record LeftBehindRounds : Type 0 where
   pub alone : (home : LogDirectories) (V : World) (d : Disk) → IsLeftWith home d V
       → IsLeftAmong home d (TakesFirst V [] [])
 
--- An open in place, after a crash or of a fork finds voters that a stop may leave, and so do all opens after it.
+-- An open finds voters that the log's files may have, and so do all opens after it. The open may be in place, over
+-- files that no crash has touched, or after a crash, or of a fork.
 abbrev pub OpensFindVoters : Type 0
 OpensFindVoters = (home : LogDirectories) (d : Disk) (V : World) (qs : List (ℕ × Request)) (refused : List ℕ)
     (left : IsLeftAmong home d (TakesFirst V qs refused)) (k : ℕ) → k ≤ length left.pending

@@ -1,4 +1,4 @@
--- Entries that a request asks for are read through an engine, or aren't.
+-- Reads of the entries that a request asks for, through an engine.
 use Rattle.std.specs.Prelude.{◌≡◌, ℕ, false, List, length, Option, Some}
 use Rattle.raft_log_model_laws.specs.Groups.{taken}
 use Rattle.raft_log_record_base.specs.declared.errors.Error.{Error}
@@ -15,22 +15,23 @@ use Rattle.raft_voter_records.specs.Voters.{Means}
 use Rattle.raft_voter_durability_laws.specs.Standing.{AreOutlines}
 use Rattle.raft_voter_durability_laws.specs.Requests.{WasTurnedDown}
 
--- messages are raw bytes: any bytes parse as a message, whose text is these bytes
+-- messages are raw bytes: any bytes parse as a message, and the text of that message is the same bytes
 abbrev pub IsRaw : {M : Type 0} → (M → List ℕ) → (List ℕ → Option M) → Type 0
 IsRaw {M} text reading = (bytes : List ℕ) → (x : M) × (reading bytes ≡ Some x) × (text x ≡ bytes)
 
--- tables show no entry of a group that doesn't count
+-- the tables show no entry of a group that doesn't count: one without an item after its last Clean
 abbrev pub IsCounted : EngineState → Type 0
 IsCounted s = (g : ℕ) → s.counts g ≡ false → length (s.tables g).places ≡ 0
 
--- Entries were read: those of the group's voter from one index on, below another. Only the cached block changed.
+-- The entries of the group's voter from index `from` on, below `to`, were read. At most the cached block changed.
 pub record ReadsEntries (g from to : ℕ) (s t : EngineState) (os : ℕ → State) (es : List VoterEntry) : Type 0 where
   pub alive : has_failed s ≡ false
   pub stays : StaysButBlock s t
   pub exact : (home : LogDirectories) (m : LogMap) (pending : List LogRecordValue) (W : World) → Represents home s m pending
       → Means (taken m pending) W → AreOutlines os W → es ≡ entries_between (W g) from to
 
--- Entries weren't read, for one of these reasons. Only the cached block changed.
+-- The entries that request `q` asks for weren't read, for one of the reasons in `WasTurnedDown`. At most the cached
+-- block changed.
 pub record ReadsNone (q : ℕ × Request) (error : Error) (s t : EngineState) (os : ℕ → State) : Type 0 where
   pub alive : has_failed s ≡ false
   pub stays : StaysButBlock s t

@@ -1,4 +1,5 @@
--- A request at one place of a round, at each exit: what it does to an engine's log, and to the outlines.
+-- How serving one request of a round ends, and what it does to the engine's log and to the outlines. A group's outline
+-- is its voter without the data of its entries.
 use Rattle.std.specs.Prelude.{◌≡◌, ◌⊎◌, ◌≤◌, ◌<◌, ℕ, Bool, true, false, ◌==◌, List, [], ◌++◌, length, Some}
 use Rattle.raft_log_fs.specs.Causes.{Fails, IsLater}
 use Rattle.raft_log_model_laws.specs.Groups.{taken}
@@ -30,18 +31,18 @@ use Rattle.raft_voter_records.specs.Voters.{Means}
 use Rattle.raft_voter_records.specs.MeaningChanges.{decided_items, record_in}
 use Rattle.raft_voter_durability_laws.specs.Standing.{AreOutlines}
 
--- a batch says the change that was decided for a group's request, and may be written
+-- the batch has the items of the change that was decided for request `q` of group `g`, and may be written
 pub record SaysChange (g : ℕ) (q : Request) (c : Change) (b : Batch) : Type 0 where
   pub says : record_of (entry_bytes b.entries) b.items ≡ Some (record_in g (decided_items c q))
   pub writable : IsWritable b.state
 
--- the request changed the outline of its group as it decided, and no other
+-- the outline of the request's group is now that of its voter after the request; the other outlines are unchanged
 pub record StepsOutlines (q : ℕ × Request) (os us : ℕ → State) : Type 0 where
   pub own : OutlineBecomes (os q.0) q.1 (us q.0)
   pub others : (g : ℕ) → (g == q.0) ≡ false → us g ≡ os g
 
--- A request was served: at most one record was written. The voters after it are those after the request, and the
--- reply is their own. Only a request out of range gets the reply `Refused`.
+-- A request was served, and at most one record was written for it. The log stores the voters after the request, the
+-- outlines are theirs, and the reply is the voter's own. It is `Refused` only if the request is out of range.
 pub record Served (q : ℕ × Request) (a : Reply) (wrote : Bool) (s t : EngineState) (os us : ℕ → State) : Type 0 where
   pub said : List LogRecordValue
   pub short : length said ≤ 1
@@ -57,8 +58,8 @@ pub record Served (q : ℕ × Request) (a : Reply) (wrote : Bool) (s t : EngineS
   pub refuses : is_refused a ≡ true → in_range q.1 ≡ false
 
 -- Why a request's record wasn't written, though the engine hasn't failed:
--- - `Io`, `TryAgain`: a file call failed
--- - `NumberRange`: Append's last file has the last number
+-- - `Io`, `TryAgain`: a file system call failed
+-- - `NumberRange`: Append's active file has the last number that a file name can have
 -- - `Memory`: memory ran out
 -- No other error occurs.
 abbrev pub IsUnwrittenFor : Error → EngineState → EngineState → Type 0
@@ -68,8 +69,8 @@ IsUnwrittenFor errors.NumberRange s t = HasLastNumber InAppend t.pipes
 IsUnwrittenFor errors.Memory s t = Unit {0}
 IsUnwrittenFor _ s t = ⊥
 
--- Why a group's entries between two indexes weren't read, though the tables show them: the file of one isn't read, or
--- memory ran out. None is reported as damaged.
+-- Why entries of a group from index `from` on, below `to`, weren't read, though the tables show them: the file of one
+-- can't be read, or memory ran out. None is reported as damaged.
 pub record WereUnread (g from to : ℕ) (s : EngineState) (error : Error) : Type 0 where
   pub index : ℕ
   pub entry : EntryIndex
@@ -86,7 +87,8 @@ pub data WasTurnedDown (q : ℕ × Request) (error : Error) (s t : EngineState) 
   unread : (from to : ℕ) → q.1 ≡ Read from to → WereUnread q.0 from to s error → WasTurnedDown q error s t
   no_memory : error ≡ errors.Memory → WasTurnedDown q error s t
 
--- A request was turned down: the voters and their outlines are unchanged, and this is why.
+-- A request was turned down. The log's contents stay, but some pending batches may be durable now; the voters and
+-- their outlines are unchanged. The reason is given if the log stores voters with these outlines.
 pub record TurnedDown (q : ℕ × Request) (error : Error) (s t : EngineState) (os : ℕ → State) : Type 0 where
   pub alive : has_failed t ≡ false
   pub later : IsLater s.pipes.disk t.pipes.disk
@@ -94,8 +96,8 @@ pub record TurnedDown (q : ℕ × Request) (error : Error) (s t : EngineState) (
   pub why : (home : LogDirectories) (m : LogMap) (pending : List LogRecordValue) (W : World) → Represents home s m pending
       → Means (taken m pending) W → AreOutlines os W → WasTurnedDown q error s t
 
--- The engine failed at a request because a file call failed. Its log is left with the request's record, or without
--- it.
+-- The engine failed at a request, because a file system call failed. The log's files can be opened, with the request's
+-- record or without it.
 pub record Broke (q : ℕ × Request) (s t : EngineState) (os : ℕ → State) : Type 0 where
   pub said : List LogRecordValue
   pub short : length said ≤ 1

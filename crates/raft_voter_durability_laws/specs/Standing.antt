@@ -1,4 +1,5 @@
--- Which voters an engine keeps, and which may be left on a disk.
+-- Which voters an engine's log stores, and which voters a recovery may find on a disk. The voter of a Raft group is
+-- its term, vote and entries at the receiving side; a world `W` has one for each group.
 use Rattle.std.specs.Prelude.{◌≡◌, ℕ, List, []}
 use Rattle.raft_log_fs.specs.Disk.{Disk}
 use Rattle.raft_log_engine_laws.specs.EngineState.{LogDirectories, LogMap, EngineState}
@@ -10,23 +11,25 @@ use Rattle.raft_voter.specs.Rounds.{World}
 use Rattle.raft_voter_records.specs.Voters.{Means}
 use Rattle.raft_voter_records.specs.Among.{MeansAmong}
 
--- between calls: an engine's log is a map that means these voters, and nothing is pending
+-- Between calls, the log of engine `s` in the directories `home` stores the voters of world `W`, and nothing is
+-- pending.
 pub record Keeps (home : LogDirectories) (s : EngineState) (W : World) : Type 0 where
   pub map : LogMap
   pub holds : Represents home s map []
   pub means : Means map W
 
--- on a disk: a log was left there, and whatever a stop leaves of it means voters that pass the test
+-- A log's files are on disk `d` and can be opened. However many of the first pending batches a crash keeps, the log
+-- then stores voters for which `P` holds.
 pub record IsLeftAmong (home : LogDirectories) (d : Disk) (P : World → Type 0) : Type 0 where
   pub map : LogMap
   pub pending : List LogRecordValue
   pub left : IsRecoverableAs home d map pending
   pub among : MeansAmong P map pending
 
--- a log was left that means these voters, whatever a stop leaves of it
+-- a log's files are on disk `d` and can be opened; whatever a crash keeps of them, the log stores the voters of `W`
 abbrev pub IsLeftWith : LogDirectories → Disk → World → Type 0
 IsLeftWith home d W = IsLeftAmong home d (λ X. X ≡ W)
 
--- each group's outline is that of its voter
+-- each group's outline is its voter in `W` without the data of its entries
 abbrev pub AreOutlines : (ℕ → State) → World → Type 0
 AreOutlines os W = (g : ℕ) → os g ≡ without_bytes (W g)

@@ -32,7 +32,7 @@ NumberedInQueue = (a b : FileId) → a.queue ≡ b.queue → file_cmp a b ≡ na
 abbrev pub OrderAgreesWithEquality : Type 0
 OrderAgreesWithEquality = (a b : FileId) → (file_cmp a b ≡ Equal) ↔ (a ≡ b)
 
--- the number of a format's version
+-- the number of a format version
 abbrev pub version_number : Version → ℕ
 version_number V1 = 1
 version_number V2 = 2

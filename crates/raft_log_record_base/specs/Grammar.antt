@@ -45,7 +45,7 @@ unfoldable pub Times : {A : Type 0} → (List ℕ → A → Type 0) → ℕ → 
 Times P zero = IsKnown []
 Times P (suc n) = Then P (λ x. Then (Times P n) (λ xs. IsKnown (x ∷ xs)))
 
--- reads n values, one after another
+-- reads `n` values with `read`, one after another
 unfoldable pub times_at : {A E : Type 0} → Reader A E → ℕ → Reader (List A) E
 times_at read zero bytes = Ok ([], bytes)
 times_at read (suc n) bytes = do

@@ -77,7 +77,7 @@ plain_operation Del key value = del_of key
 abbrev pub plain_key_value : KeyValue → KeyValue
 plain_key_value kv = plain_operation kv.op_type kv.key (value_of kv)
 
--- the content without its places
+-- the content without the places of entries or the file of a key
 abbrev pub plain_content : LogItemContent → LogItemContent
 plain_content (contents.EntryIndexes es) = contents.EntryIndexes (map unplaced es)
 plain_content (contents.Command c) = contents.Command c

@@ -74,8 +74,8 @@ renumbered first at [] = []
 renumbered first at (r ∷ rs) =
     record r { first = first; at = at } ∷ renumbered (first + r.count) (at + width r) rs
 
--- The invariant of a list of runs and its starts. Entries are numbered from `front`, and starts from `base`. The runs
--- have `len` entries in total, and as many starts as are stored. No number reaches 2 ^ 64.
+-- The invariant of a list of runs and its starts. Entries are numbered from `front`, and starts from `base`, which is
+-- at most `front`. The runs have `len` entries in total, and as many starts as are stored. No number reaches 2 ^ 64.
 pub record IsSound (front base len : ℕ) (rs : List Run) (starts : List ℕ) : Type 0 where
   pub numbered : IsNumbered front base rs
   pub count : counts rs ≡ len

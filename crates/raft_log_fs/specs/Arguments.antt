@@ -1,5 +1,5 @@
--- Which arguments of a call are wrong in which state of the disk, with which errors, and the error of every call
--- after the file system has stopped.
+-- The wrong arguments: in which states of the disk a call has one, and which error the call returns. Also the error
+-- of every call after the file system has stopped.
 use Rattle.std.specs.Prelude.{◌≡◌, ℕ, ◌⊎◌, true, false, None, List}
 use Rattle.std.specs.declared.io.ErrorKind.{ErrorKind}
 use Rattle.std.specs.declared.io.ErrorKind.TheVariants.{NotFound, AlreadyExists, PermissionDenied, IsADirectory, InvalidInput, OutOfMemory, Other}

@@ -73,7 +73,8 @@ abbrev pub at_stop : Disk → Disk
 at_stop d = record d { stopped = true }
 
 -- What a write may leave if it fails after some bytes. The bytes outside of its range are unchanged, and inside it
--- there may be any bytes. The file doesn't shrink, nor grow beyond its old end and the end of the write.
+-- there may be any bytes. The file doesn't shrink, and doesn't grow beyond the later of its old end and the write's
+-- end.
 pub record IsTorn (at : ℕ) (bytes old new : List ℕ) : Type 0 where
   pub outside : (place : ℕ) → place < length old → (place < at) ⊎ (at + length bytes ≤ place)
       → slice_index new place ≡ slice_index old place
@@ -146,9 +147,9 @@ pub record IsToldAtStop (kind error : ErrorKind) : Type 0 where
 -- - After a stop, nothing changes, and the error is `Other`.
 -- - An argument is wrong: nothing changes, and no failure is counted. The error says which argument.
 -- - No argument is wrong: a failure is counted, and the call may have been done in part. The error may be of any
--- kind, and the kind is recorded.
+--   kind, and the kind is recorded.
 -- - The file system stops at this call: nothing was done, or, if no argument is wrong, some or all of it. The error
--- may be of any kind but `OutOfMemory`, and is not recorded.
+--   may be of any kind but `OutOfMemory`, and is not recorded.
 pub data Refused (part done : Disk → Type 0) (wrong : ErrorKind
     → Type 0) (error : ErrorKind) (old new : Disk) : Type 0 where
   after_stop : old.stopped ≡ true → new ≡ old → error ≡ Other → Refused part done wrong error old new

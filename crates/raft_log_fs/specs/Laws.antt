@@ -30,8 +30,8 @@ ImageOfImage = (d image later : Disk) → IsImage d image → IsImage image late
 abbrev pub ImageIsSound : Type 0
 ImageIsSound = (d image : Disk) → IsSound d → IsImage d image → IsSound image
 
--- If a crash may leave `bytes` of a file, it may also leave them with any other byte at an offset that an unsynced
--- change touches.
+-- If a crash may leave `bytes` of a file, it may also leave other bytes at the offsets that an unsynced change
+-- touches.
 abbrev pub AnyByteLeft : Type 0
 AnyByteLeft = (file : File) (bytes : List ℕ) (change : Change) (place byte : ℕ)
     → Contains file.changes change → Touches change place

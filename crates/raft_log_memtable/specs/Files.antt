@@ -54,8 +54,8 @@ noted_after (Some least) old new = noting least old new
 abbrev pub with_group : Raw → GroupFiles → Shown
 with_group t files = record (shown t) { noted = Some (noted_after (least_rewritten t) t.noted files) }
 
--- the table `u` is `v` after it recorded an atomic group in these files; old ones are dropped if nothing of Rewrite
--- is in their files
+-- `u` is the table `v` after it recorded an atomic group in these files. Files recorded before are dropped if nothing
+-- of Rewrite is in them.
 abbrev pub NotesGroup : GroupFiles → Shown → Shown → Type 0
 NotesGroup files v u =
     (least : Option ℕ) × IsLeastRewritten v least

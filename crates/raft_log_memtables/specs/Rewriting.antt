@@ -77,7 +77,7 @@ pub record TakesRewritten (gate : Option ℕ) (n : ℕ) (old new : MemTables) (x
   pub ends : (g : ℕ) → span (shown_of new g) ≡ span (shown_of old g)
   pub promise : (g : ℕ) → promise_of new g ≡ without_moves (promise_of old g) (entries_of g xs)
 
--- The item is an allowed copy. A run has the bytes of the table's entries, starts at an entry of Rewrite or right
+-- The item is an allowed copy. A run has the bytes of the table's entries. It starts at an entry of Rewrite or right
 -- after them, and ends at or after the last. Past them, it has only entries that the gate allows, and only if the
 -- table owes neither a Clean nor a Compact. A put has the key's value, which the gate allows. If the value is in
 -- Append, the table owes neither a Clean nor the key's Del.

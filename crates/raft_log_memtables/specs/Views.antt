@@ -54,8 +54,8 @@ pub record ViewCarries {E : Type 0} (at : Located → E) (n : ℕ) (v u : ℕ �
   pub carries : CarriesTo xs n (view_of v m) (view_of u m)
   pub meant : AreMeant at u m
 
--- If the copies are allowed in each group and go to files up to `n`, applying them to the tables changes the view as
--- their record does.
+-- Suppose the copies are allowed in each group and go to files up to `n`. Then applying them to the tables changes
+-- the view as their record does.
 abbrev pub CopiesCarryTheView : Type 0 → Type 0
 CopiesCarryTheView E = (at : Located → E) (n : ℕ) (v : ℕ → Shown) (m : Map E (List ℕ)) (moves : ℕ → List Move)
     (xs : List (Tagged E (List ℕ))) → AreMeant at v m → ((g : ℕ) → CanAllMove at (v g) (moves g))
@@ -83,8 +83,8 @@ pub record GroupEnd : Type 0 where
 abbrev pub ended : GroupEnd → (ℕ → Shown) → ℕ → Shown
 ended e v g = if e.about g then with_note (all_moved (v g) (e.moves g)) (e.least g) e.files else v g
 
--- In raft group `g`, the copies of the atomic group are allowed, and are in its files. The items of all its records
--- have the same effect as these copies.
+-- In raft group `g`, the copies of the atomic group are allowed, and are in files up to its last one. After them,
+-- nothing of Rewrite is below the file `least`. The items of all its records have the same effect as these copies.
 pub record MayEndIn {E : Type 0} (at : Located → E) (e : GroupEnd) (v : ℕ → Shown)
     (items : List (Tagged E (List ℕ))) (g : ℕ) : Type 0 where
   pub can : CanAllMove at (v g) (e.moves g)

@@ -23,7 +23,7 @@ abbrev pub ◌>>=◌ : {A B E : Type 0} → Result A E → (A → Result B E) �
 (Ok x) >>= f = f x
 (Err e) >>= f = Err e
 
--- no bytes spell the value `x`, and nothing else spells anything
+-- the empty list of bytes spells `x`, and there is no other spelling
 abbrev pub IsKnown : {A : Type 0} → A → List ℕ → A → Type 0
 IsKnown x bytes y = (bytes ≡ []) × (y ≡ x)
 

@@ -19,7 +19,8 @@ abbrev pub NoRecordIsLonger : Type 0
 NoRecordIsLonger =
     (items : List LogItem) (entries : List ℕ) → record_len items entries ≤ record_bound items entries
 
--- Upper limits on how much each addition raises the bound of a batch. The bound of an empty batch is 34.
+-- How much each addition raises the upper bound of a batch: for entries at most, otherwise exactly, by what is given
+-- here. The bound of an empty batch is 34.
 pub record AdditionsRaise : Type 0 where
   pub nothing : (capacity buffer : ℕ) → batch_bound (empty_batch capacity buffer) ≡ 34
   pub entries : (old new : Batch) (g : ℕ) (indexes : List ℕ) (entries : List (List ℕ))
@@ -49,7 +50,7 @@ abbrev pub HasLenAndBound : List LogItem → List ℕ → ℕ → ℕ → Type 0
 HasLenAndBound items entries len bound = (record_len items entries ≡ len) × (record_bound items entries ≡ bound)
 
 -- Two examples. The record of a `Clean` of group 1 has 24 bytes, and its bound is 66. The record of two entries of
--- group 7, with indexes 5 and 6 and two and three bytes, has 36 bytes, and its bound is 91.
+-- group 7, which have two and three bytes, has 36 bytes, and its bound is 91.
 pub record WorkedRecords : Type 0 where
   pub clean : HasLenAndBound (command_item 1 commands.Clean ∷ []) [] 24 66
   pub two : HasLenAndBound

@@ -64,8 +64,8 @@ FramesTakeBytes =
 abbrev pub BlockIsRead : Type 0
 BlockIsRead = (bytes entries : List ℕ) → ((block_of bytes ≡ Ok entries) ↔ IsBlock bytes entries)
 
--- Reading `bytes` as a footer succeeds with `items` if and only if `bytes` is a footer of these items, whose entries
--- fill a block of `len` bytes.
+-- Reading `bytes` as a footer succeeds with `items` in one case only. `bytes` is then a footer of these items, and
+-- their entries fill a block of `len` bytes.
 abbrev pub FooterIsRead : Type 0
 FooterIsRead =
     (signature : Option ℕ) (len : ℕ) (bytes : List ℕ) (items : List LogItem)
@@ -81,16 +81,16 @@ PlacedFooterIsRead =
 
 -- What begins at the front of any bytes.
 
--- Reading a frame from `input` succeeds with `front` if and only if the first `front.len` bytes are a frame with the
--- items and the block of `front`.
+-- Reading a frame from `input` succeeds with `front` in one case only. The first `front.len` bytes are then a frame
+-- with the items and the block of `front`.
 abbrev pub FrameIsRead : Type 0
 FrameIsRead =
     (signature : Option ℕ) (input : List ℕ) (front : Front)
     → ((frame_at signature input ≡ Ok front)
     ↔ ((front.len ≤ length input) × IsFrame signature (take front.len input) front.items front.bytes))
 
--- Reading a record from `input` succeeds with `front` if and only if the first `front.len` bytes are a record with
--- the items and the entries of `front`.
+-- Reading a record from `input` succeeds with `front` in one case only. The first `front.len` bytes are then a record
+-- with the items and the entries of `front`.
 abbrev pub RecordIsRead : Type 0
 RecordIsRead =
     (signature : Option ℕ) (input : List ℕ) (front : Front)

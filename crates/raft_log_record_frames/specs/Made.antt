@@ -8,8 +8,9 @@ use Rattle.raft_log_record_items.specs.Items.{AreItems}
 use Rattle.raft_log_record_items.specs.Writing.{items_bytes, plain_item}
 use Rattle.raft_log_record_frames.specs.Record.{IsFooter, block_bytes, record_bytes, record_len}
 
--- `buffer` is the record of these items and entries, with this signature. `checksum` is the CRC of its items, before
--- the signature is applied. The signature is below 2 ^ 32, and the record's length below 2 ^ 56.
+-- `buffer` is the record of these items and entries, with this signature. `checksum` is the CRC of the items' bytes,
+-- without the signature. These bytes decode to the items. The signature is below 2 ^ 32, and the record's length
+-- below 2 ^ 56.
 pub record HoldsRecordBytes (signature : Option ℕ) (buffer : List ℕ) (checksum : ℕ) (items : List LogItem)
     (entries : List ℕ) : Type 0 where
   pub bytes : buffer ≡ record_bytes signature items entries

@@ -5,8 +5,8 @@ use Rattle.raft_log_record_base.specs.declared.pipe_log.Version.TheVariants.{V2}
 use Rattle.raft_log_record_base.specs.Files.{signature}
 use Rattle.raft_log_record_frames.specs.Record.{IsFooter}
 
--- A footer in file number `a` of format V2 is also valid in file number `b` if and only if the low 32 bits of `a` and
--- `b` are equal.
+-- A footer of file number `a`, in format V2, is valid in file number `b` exactly if the low 32 bits of both numbers
+-- are equal.
 abbrev pub SignatureSeparatesFiles : Type 0
 SignatureSeparatesFiles =
     (a b : ℕ) (bytes : List ℕ) (items : List LogItem) → IsFooter (signature V2 a) bytes items

@@ -59,8 +59,8 @@ written_item handle x = record x { content = written_content handle x.content }
 abbrev pub written : FileBlockHandle → List LogItem → List LogItem
 written handle xs = map (written_item handle) xs
 
--- the items of a record whose entry block is at `handle`, with the places of entries and the files of keys set; the
--- first entry is at offset 0
+-- The items of a record whose entry block is at `handle`, with the places of their entries and the files of their
+-- keys. The first entry is at offset 0.
 abbrev pub placed : FileBlockHandle → List LogItem → List LogItem
 placed handle items = written handle (laid_out 0 items)
 

@@ -22,8 +22,10 @@ pub record HasReadSegments {M E : Type 0} (holds : ℕ → List Batch → E → 
   pub read : reads (all_batches batches) machine
 
 -- Why reading the segments from number `first` on, below `last`, fails. All segments before the failure were read.
--- There are four cases: memory ran out; a segment can't be read; a machine fails at the first batches of a segment;
--- two machines aren't merged, because of the batches that they have read.
+-- - Memory ran out.
+-- - A segment can't be read.
+-- - A machine fails at the first batches of a segment, after some batches before it.
+-- - Two machines aren't merged, because of batches that they have read.
 pub data IsRefusedIn {E : Type 0} (holds : ℕ → List Batch → E → Type 0) (begins : ℕ → List Batch → Type 0)
     (refuses : ℕ → Error → Type 0) (declines : List Batch → Error → Type 0) (first last : ℕ) (error : Error)
     : Type 0 where

@@ -39,7 +39,7 @@ ArePlain [] = Unit {0}
 ArePlain (r ∷ rs) = (is_plain r.taken ≡ true) × ArePlain rs
 
 -- A raft group counts if an item of it took effect after its last Clean. This is claimed only if no record touches
--- the raft groups of an open atomic group, and what takes effect leaves no hole and no index too high.
+-- the raft groups of an open atomic group. In the group, what takes effect must leave no hole and no index too high.
 abbrev pub AreCounting : List ReadRecord → (ℕ → Bool) → Type 0
 AreCounting rs counting =
     Tidy (records_of rs) → (g : ℕ) → AreHealthy (counted g rs) → counting g ≡ counts_at_end false (counted g rs)

@@ -120,8 +120,8 @@ abbrev pub file_in : Content Located KeyValue → ℕ
 file_in (Entry p) = p.place.file
 file_in (Value v) = v.file
 
--- Some record in file `n` or a later one starts a suffix of `rs` whose items touch slot `s` of group `g`, and take
--- effect even without the records before.
+-- Some suffix of `rs` begins with a record in file `n` or a later one. Of the items that take effect if only the
+-- suffix is read, one touches slot `s` of group `g`.
 pub record CountsFrom (rs : List ReadRecord) (g n : ℕ) (s : Slot) : Type 0 where
   pub front : List ReadRecord
   pub first : ReadRecord
@@ -130,8 +130,9 @@ pub record CountsFrom (rs : List ReadRecord) (g n : ℕ) (s : Slot) : Type 0 whe
   pub from : n ≤ first.file
   pub spoken : IsSpoken (says s (counted g (first ∷ back)))
 
--- Each slot of raft group `g` that has content is still touched if a replay starts at a later file. The replay must
--- start at the file itself or, if an atomic group may reach into it, at the first recorded file.
+-- Suppose a slot of raft group `g` has content. A suffix of the records has an item that takes effect and touches the
+-- slot. The suffix begins in a certain file or later: the content's own or, if an atomic group may reach into that,
+-- the first recorded one.
 abbrev pub NotesCover : List ReadRecord → ℕ → Option GroupFiles → Type 0
 NotesCover rs g noted =
     (s : Slot) (c : Content Located KeyValue) → says s (counted g rs) ≡ Some (Some c)

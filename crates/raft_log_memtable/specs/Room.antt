@@ -52,7 +52,7 @@ module _ {E V : Type 0} where
   count_of (Run f es) = length es
   count_of _ = 0
 
-  -- the reservation after the item was prepared too
+  -- the reservation, extended for one more item: for its places, its key's slot, and the range of indexes after it
   abbrev pub promised : Promise → Item E V → Promise
   promised q (Run f es) =
       record q { wanted = q.wanted + length es; ends = next_span {E = E} {V = V} q.ends (Run f es) }

@@ -39,7 +39,7 @@ pub record IsPrepared {E V : Type 0} (old new : MemTables) (x : Tagged E V) : Ty
   pub promised : promise_of new x.group ≡ promised (promise_of old x.group) x.item
   pub others : (g : ℕ) → (x.group == g) ≡ false → promise_of new g ≡ promise_of old g
 
--- the reservation after these items were prepared, one after another
+-- the reservation, extended for these items, one after another
 abbrev pub all_promised : {E V : Type 0} → Promise → List (Item E V) → Promise
 all_promised q [] = q
 all_promised q (x ∷ xs) = all_promised (promised q x) xs

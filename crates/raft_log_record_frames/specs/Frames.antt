@@ -64,15 +64,15 @@ FramesTakeBytes =
 abbrev pub BlockIsRead : Type 0
 BlockIsRead = (bytes entries : List ℕ) → ((block_of bytes ≡ Ok entries) ↔ IsBlock bytes entries)
 
--- Reading `bytes` as a footer succeeds with `items` in one case only. `bytes` is then a footer of these items, and
--- their entries fill a block of `len` bytes.
+-- Reading `bytes` as a footer succeeds with `items` exactly if it is a footer of these whose entries fill a block of
+-- `len` bytes.
 abbrev pub FooterIsRead : Type 0
 FooterIsRead =
     (signature : Option ℕ) (len : ℕ) (bytes : List ℕ) (items : List LogItem)
     → ((footer_of signature len bytes ≡ Ok items) ↔ IsFooterOf signature len bytes items)
 
--- Reading `bytes` as a footer with places succeeds with `there` in one case only. `bytes` is then a footer whose
--- entries fill the block, and `there` is its items with their places in the block.
+-- Reading `bytes` as a footer with places succeeds exactly if it is a footer whose entries fill the block. The result
+-- is its items, with their places in the block.
 abbrev pub PlacedFooterIsRead : Type 0
 PlacedFooterIsRead =
     (signature : Option ℕ) (block : FileBlockHandle) (bytes : List ℕ) (there : List LogItem)
@@ -81,16 +81,16 @@ PlacedFooterIsRead =
 
 -- What begins at the front of any bytes.
 
--- Reading a frame from `input` succeeds with `front` in one case only. The first `front.len` bytes are then a frame
--- with the items and the block of `front`.
+-- Reading a frame from `input` succeeds with `front` exactly if the first `front.len` bytes are a frame with its
+-- items and block.
 abbrev pub FrameIsRead : Type 0
 FrameIsRead =
     (signature : Option ℕ) (input : List ℕ) (front : Front)
     → ((frame_at signature input ≡ Ok front)
     ↔ ((front.len ≤ length input) × IsFrame signature (take front.len input) front.items front.bytes))
 
--- Reading a record from `input` succeeds with `front` in one case only. The first `front.len` bytes are then a record
--- with the items and the entries of `front`.
+-- Reading a record from `input` succeeds with `front` exactly if the first `front.len` bytes are a record with its
+-- items and entries.
 abbrev pub RecordIsRead : Type 0
 RecordIsRead =
     (signature : Option ℕ) (input : List ℕ) (front : Front)

@@ -5,8 +5,7 @@ use Rattle.raft_log_record_base.specs.declared.pipe_log.Version.TheVariants.{V2}
 use Rattle.raft_log_record_base.specs.Files.{signature}
 use Rattle.raft_log_record_frames.specs.Record.{IsFooter}
 
--- A footer of file number `a`, in format V2, is valid in file number `b` exactly if the low 32 bits of both numbers
--- are equal.
+-- In format V2, a footer of file number `a` is valid in file number `b` exactly if their low 32 bits are equal.
 abbrev pub SignatureSeparatesFiles : Type 0
 SignatureSeparatesFiles =
     (a b : ℕ) (bytes : List ℕ) (items : List LogItem) → IsFooter (signature V2 a) bytes items

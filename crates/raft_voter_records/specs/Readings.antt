@@ -18,8 +18,8 @@ abbrev pub run_content : ℕ → List (List ℕ) → ℕ → Option (Content (Li
 run_content first texts i = if nat_le first i then option_map Entry (slice_get texts (i - first)) else None
 
 -- Reading the group finds the state `s` and the entries `es`. The voter's key is its only key, and its value encodes
--- `s`. Its entries have consecutive indexes right after the base of `s`, and encode `es`. The last index is below 2 ^
--- 63.
+-- `s`. Its entries have consecutive indexes right after the base of `s`, and encode `es`. The last index is below
+-- 2 ^ 63.
 pub record IsReadAs (grp : Group) (s : VoterState) (es : List VoterEntry) : Type 0 where
   pub bytes : List ℕ
   pub head : grp (Key voter_key) ≡ Some (Value bytes)

@@ -58,7 +58,8 @@ pub record CountedRefusalTellsItsKind (wrong : ErrorKind → Type 0) (done : Dis
       → IsRight wrong → new.stopped ≡ false → RefusedWhole done wrong error old new
       → new.kinds ≡ error ∷ old.kinds
 
--- the states before and after such a failed call determine its error
+-- If a call with right arguments fails and the file system still runs, the disks before and after it determine its
+-- error.
 pub record CountedRefusalHasOneKind (wrong : ErrorKind → Type 0) (done : Disk → Type 0) : Type 0 where
   pub change : (id : ℕ) (change : Change) (a b : ErrorKind) (old new : Disk)
       → IsRight wrong → new.stopped ≡ false → RefusedChange id change wrong a old new

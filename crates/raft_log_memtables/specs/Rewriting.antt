@@ -1,4 +1,5 @@
--- How the tables of all groups change when copies are written to Rewrite.
+-- How the tables of all groups change when copies are written to Rewrite. The gate of a purge is the last file of
+-- Append whose content it may copy. Without a gate, only content of Rewrite is copied.
 use Rattle.std.specs.Prelude.{◌≡◌, ℕ, ◌+◌, ◌≤◌, ◌==◌, ◌⊎◌, Bool, true, false, if◌then◌else◌, List, [], ◌∷◌, drop, length, map, Option, Some}
 use Rattle.raft_log_model_laws.specs.Item.{Item, Tagged}
 use Rattle.raft_log_model_laws.specs.Item.Item.{Run, Clean, Compact, Put, Del}

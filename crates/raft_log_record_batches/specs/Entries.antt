@@ -143,8 +143,8 @@ IsMergeRefusal e entries others = IsRoomRefusal e max_entries_len (length entrie
 abbrev pub slices_bytes : List (Bor (List ℕ)) → List (List ℕ)
 slices_bytes slices = map (λ s. s.now) slices
 
--- the run of entries with these indexes and the lengths of these slices, with offsets one after another from `offset`
--- on
+-- the entries with these indexes and the lengths of these slices; their bytes follow one another in the block, from
+-- `offset` on
 abbrev pub laid_slices : ℕ → List EntryIndex → List (Bor (List ℕ)) → List EntryIndex
 laid_slices offset indexes slices = laid_run offset (entries_of (indexes_of indexes) (slices_bytes slices))
 
@@ -161,8 +161,8 @@ IsSlicesRefusal e b indexes slices =
 abbrev pub sized : {E : Type 0} → (E → List ℕ) → List EntryIndex → List E → List EntryIndex
 sized spelling indexes entries = entries_of (indexes_of indexes) (map spelling entries)
 
--- the run of `entries`, with their `index` and the lengths of their `spelling`, and with offsets one after another
--- from `offset` on
+-- the entries with the `index` and the length of the `spelling` of each of `entries`; their bytes follow one another
+-- in the block, from `offset` on
 abbrev pub laid_messages : {E : Type 0} → (E → ℕ) → (E → List ℕ) → ℕ → List E → List EntryIndex
 laid_messages index spelling offset entries =
     laid_run offset (entries_of (map index entries) (map spelling entries))

@@ -37,6 +37,7 @@ FailsToAddFrom e b first texts = IsRefusalFrom e (length b.entries) first texts
 abbrev pub entries_at : ℕ → List (List ℕ) → List EntryIndex
 entries_at first texts = entries_of (indexes_at first texts) texts
 
--- the run of these entries, with offsets one after another from `offset` on
+-- the entries with these bytes, the first at index `first`; the bytes follow one another in the block, from `offset`
+-- on
 abbrev pub laid_from_index : ℕ → ℕ → List (List ℕ) → List EntryIndex
 laid_from_index offset first texts = laid_run offset (entries_at first texts)

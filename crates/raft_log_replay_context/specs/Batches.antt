@@ -19,8 +19,8 @@ use Rattle.raft_log_replay_context.specs.Pieces.{invalid_mark}
 use Rattle.raft_log_replay_context.specs.Context.{tables_of, written_to, HasRead}
 use Rattle.raft_log_replay_context.specs.Written.{written_by}
 
--- The records are in order. While an atomic group is open, no other record touches the same raft groups. In each raft
--- group, what counts of the records leaves no hole and no index too high.
+-- The records are in order. Between the begin and the end of an atomic group, nothing takes effect for its raft
+-- groups. In each raft group, what takes effect of the records leaves no hole and no index too high.
 pub record AreOrderly (rs : List ReadRecord) : Type 0 where
   pub tidy : Tidy (records_of rs)
   pub healthy : (g : ℕ) → AreHealthy (counted g rs)

@@ -38,8 +38,9 @@ abbrev pub ArePlain : List ReadRecord → Type 0
 ArePlain [] = Unit {0}
 ArePlain (r ∷ rs) = (is_plain r.taken ≡ true) × ArePlain rs
 
--- A raft group counts if an item of it took effect after its last Clean. This is claimed only if no record touches
--- the raft groups of an open atomic group. In the group, what takes effect must leave no hole and no index too high.
+-- A raft group counts if an item of it took effect after its last Clean. This is claimed under two conditions.
+-- Between the begin and the end of an atomic group, nothing takes effect for its raft groups. In the raft group, what
+-- takes effect leaves no hole and no index too high.
 abbrev pub AreCounting : List ReadRecord → (ℕ → Bool) → Type 0
 AreCounting rs counting =
     Tidy (records_of rs) → (g : ℕ) → AreHealthy (counted g rs) → counting g ≡ counts_at_end false (counted g rs)
@@ -114,8 +115,8 @@ pub record IsOverAt (rewrite append : List ReadRecord) (m : MemTables) (g : ℕ)
   pub counting : counts m g ≡ counts_at_end (counts_at_end false (counted g rewrite)) (counted g append)
 
 -- In every raft group, the tables show what was read of Append over what was read of Rewrite. This is claimed under
--- two conditions. In both queues, no record touches the raft groups of an open atomic group. In the raft group, what
--- takes effect leaves no hole and no index too high.
+-- two conditions, for both queues. Between the begin and the end of an atomic group, nothing takes effect for its
+-- raft groups. In the raft group, what takes effect leaves no hole and no index too high.
 abbrev pub ComesOver : List ReadRecord → List ReadRecord → MemTables → Type 0
 ComesOver rewrite append m =
     Tidy (records_of rewrite) → Tidy (records_of append) → (g : ℕ)
@@ -128,8 +129,9 @@ abbrev pub meant_by : {E : Type 0} → (Located → E) → List ReadRecord → L
 meant_by at rewrite append g s =
     directory s (map (told at) (counted g rewrite)) (map (told at) (counted g append))
 
--- The records are well formed for group `g`. In both queues, no record touches the raft groups of an open atomic
--- group. What takes effect leaves no hole and no index too high. The resulting entries have consecutive indexes.
+-- The records are well formed for group `g`. In both queues, nothing takes effect for the raft groups of an atomic
+-- group between its begin and its end. What takes effect in `g` leaves no hole and no index too high. The resulting
+-- entries have consecutive indexes.
 pub record IsSoundFor {E : Type 0} (at : Located → E) (rewrite append : List ReadRecord) (g : ℕ) : Type 0 where
   pub tidy : Tidy (records_of rewrite)
   pub tidy_append : Tidy (records_of append)

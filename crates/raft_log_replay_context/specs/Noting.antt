@@ -138,7 +138,8 @@ NotesCover rs g noted =
     (s : Slot) (c : Content Located KeyValue) → says s (counted g rs) ≡ Some (Some c)
     → CountsFrom rs g (start_of (file_in c) noted) s
 
--- for each raft group whose records are in order, the recorded files suffice to recover what the records leave in it
+-- Suppose each record has its content in the file that it was read from, and the records are in order. Then the
+-- recorded files of each raft group cover its content, as the definition above says.
 abbrev pub AreNotedRead : List ReadRecord → (ℕ → Replayed) → Type 0
 AreNotedRead rs z =
     AreWhereRead rs → Tidy (records_of rs) → (g : ℕ) → AreHealthy (counted g rs)

@@ -34,7 +34,7 @@ abbrev pub IsSameInSlots : List (Option OpenGroup) → List (Option OpenGroup) �
 IsSameInSlots old new =
     (begun_in new ≡ begun_in old) × ((i : ℕ) → get_or new i None ≡ get_or old i None)
 
--- the group in slot `i` got the record `p` at its end
+-- the group in slot `i` got the further record `p`
 pub record HasMoreAt (i : ℕ) (p : GroupPart) (old new : List (Option OpenGroup)) : Type 0 where
   pub before : OpenGroup
   pub after : OpenGroup
@@ -52,7 +52,7 @@ abbrev pub without_begun : ℕ → List Begun → List Begun
 without_begun n [] = []
 without_begun n (u ∷ us) = if u.0 == n then without_begun n us else u ∷ without_begun n us
 
--- the list, in which the group with number `n` got the record `p` at its end
+-- the list, in which the group with number `n` has the further record `p`
 abbrev pub with_part : ℕ → GroupPart → List Begun → List Begun
 with_part n p [] = []
 with_part n p (u ∷ us) = (if u.0 == n then (u.0, u.1 ++ p ∷ []) else u) ∷ with_part n p us

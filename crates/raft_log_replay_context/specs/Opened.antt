@@ -43,8 +43,8 @@ FilesHold at rs (f ∷ fs) =
     × (f.records ≡ told_records at here) × FilesHold at rest fs
 
 -- `rs` are the records of the files `fs`, whose numbers rise. Their entries and values are in the files that they
--- were read from. They are in order: no record touches the raft groups of an open atomic group, and there is no hole
--- or index too high.
+-- were read from. Between the begin and the end of an atomic group, nothing takes effect for its raft groups. In each
+-- raft group, what takes effect leaves no hole and no index too high.
 pub record IsWhatWasRead {E : Type 0} (at : Located → E) (rs : List ReadRecord)
     (fs : List (LogFile E (List ℕ))) : Type 0 where
   pub files : FilesHold at rs fs

@@ -175,7 +175,8 @@ pub record CarryOn (old : List (Unfinished Located KeyValue)) (before : ℕ → 
   pub left : new ≡ carried_on old before
   pub heads : (n : ℕ) → then_head (head n [] rs) (after n) ≡ then_head (head n [] rs) (before n)
 
--- the groups that `old` leaves open continue in this way, whatever function `φ` is applied to their records
+-- The groups that `old` leaves open continue in the next segment, which does with each what `heads` says. This holds
+-- for every function `φ` of their records.
 abbrev pub CarriesOn : GroupPieces → (Reading → ℕ → Head Located KeyValue) → GroupPieces
     → (Reading → ℕ → Head Located KeyValue) → List (Vec GroupPart) → Type 0
 CarriesOn old heads new left done =

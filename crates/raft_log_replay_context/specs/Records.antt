@@ -72,8 +72,9 @@ RunsFit (x ∷ xs) = Fits x × RunsFit xs
 abbrev pub AreHealthy : {E V : Type 0} → List (Item E V) → Type 0
 AreHealthy xs = NoHole nothing xs × RunsFit xs
 
--- The result of the replay in each raft group is that of the items that take effect. This is claimed only if no
--- record touches the raft groups of an open atomic group, and the items are healthy: no hole, and no index too high.
+-- The result of the replay in each raft group is that of the items that take effect. This is claimed under two
+-- conditions. Between the begin and the end of an atomic group, nothing takes effect for its raft groups. In the raft
+-- group, what takes effect leaves no hole and no index too high.
 abbrev pub AreReplayed : Bool → List ReadRecord → (ℕ → Replayed) → Type 0
 AreReplayed q rs z =
     Tidy (records_of rs) → (g : ℕ) → AreHealthy (counted g rs) → IsReplayed q (counted g rs) (z g)

@@ -16,7 +16,7 @@ first_file Append v = option_map (λ p. p.file) (slice_get v.places v.rewritten)
 first_file Rewrite v =
     if nat_lt 0 v.rewritten then option_map (λ p. p.file) (slice_get v.places 0) else None
 
--- the same for the fields of a table
+-- the file of the first entry in `queue` for a table with these fields, if it has one there
 abbrev pub first_place : LogQueue → Raw → Option ℕ
 first_place queue t = first_file queue (shown t)
 

@@ -102,13 +102,14 @@ IsEntriesRefusal errors.Full held indexes entries =
     IsRunWith indexes entries × (max_entries_len < held + bytes_len entries)
 IsEntriesRefusal _ held indexes entries = ⊥
 
--- Why adding these `entries` to a batch with `held` bytes of entries fails: `InvalidArgument`, `Full` or `Memory`, as
--- above. Each has its `index` and the bytes that `spelling` gives for it.
+-- Why adding these `entries` to a batch with `held` bytes of entries fails. Their indexes aren't a run, the bytes
+-- exceed the limit, or memory ran out. Each entry has its `index` and the bytes that `spelling` gives for it.
 abbrev pub IsMessagesRefusal : {E : Type 0} → (E → ℕ) → (E → List ℕ) → Error → ℕ → List E → Type 0
 IsMessagesRefusal index spelling e held entries =
     IsEntriesRefusal e held (map index entries) (map spelling entries)
 
--- the same for the batch `b`
+-- why adding these `entries`, each with its `index` and its `spelling`, to the batch `b` fails: a bad run, too many
+-- bytes, or lack of memory
 abbrev pub FailsToAddEntries : {E : Type 0} → (E → ℕ) → (E → List ℕ) → Error → Batch → List E → Type 0
 FailsToAddEntries index spelling e b entries = IsMessagesRefusal index spelling e (length b.entries) entries
 
@@ -161,8 +162,8 @@ IsSlicesRefusal e b indexes slices =
 abbrev pub sized : {E : Type 0} → (E → List ℕ) → List EntryIndex → List E → List EntryIndex
 sized spelling indexes entries = entries_of (indexes_of indexes) (map spelling entries)
 
--- the entries with the `index` and the length of the `spelling` of each of `entries`; their bytes follow one another
--- in the block, from `offset` on
+-- The entries with the `index`, and the length of the `spelling`, of each of `entries`. Their bytes follow one
+-- another in the block, from `offset` on.
 abbrev pub laid_messages : {E : Type 0} → (E → ℕ) → (E → List ℕ) → ℕ → List E → List EntryIndex
 laid_messages index spelling offset entries =
     laid_run offset (entries_of (map index entries) (map spelling entries))

@@ -80,8 +80,8 @@ head_of φ (code.GoesOn ps) = GoesOn (parts_seen φ ps.items)
 head_of φ (code.Ends ps) = Ends (parts_seen φ ps.items)
 head_of φ code.BeginsAnew = BeginsAnew
 
--- The same, for an entry of a table of pieces. Without an entry, the segment has no record of the group, and so
--- continues it with nothing.
+-- What a segment does with an atomic group, from the group's entry in the segment's pieces. Without an entry, the
+-- segment has no record of the group, and so continues it with nothing.
 abbrev pub head_in : Reading → Option GroupHead → Head Located KeyValue
 head_in φ None = GoesOn []
 head_in φ (Some h) = head_of φ h
